@@ -1,0 +1,4 @@
+pub mod Varints
+pub mod Groups
+pub mod Signs
+pub mod Fixed

@@ -1,0 +1,4 @@
+pub mod Reading
+pub mod Varint
+pub mod Zigzag
+pub mod LittleEndian

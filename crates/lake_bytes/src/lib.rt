@@ -1,0 +1,20 @@
+//! Numbers in bytes: varints, zigzag and little-endian numbers, read from a cursor and written to a
+//! vector. It knows nothing of what the numbers are for.
+#![tactic(auto)]
+
+mod cursor;
+mod fault;
+mod laws;
+mod varint;
+mod writing;
+
+pub use cursor::Cursor;
+pub use fault::ByteFault;
+pub use laws::{
+    little_endian_is_read_again, one_varint_in_front, varint_is_read_again, varint_is_shortest,
+    zigzag_is_read_again,
+};
+pub use writing::{write_i32_le, write_i64_le, write_u32_le, write_varint, write_zigzag};
+
+#[cfg(test)]
+mod tests;
