@@ -1,0 +1,4 @@
+pub mod Calls
+pub mod Memory
+pub mod ObjectLaws
+pub mod Objects

@@ -1,0 +1,44 @@
+-- What a call of a store tells and leaves, also of a store that loses calls.
+-- Of a store two things are told: its objects, and its puts in flight. A put in flight was sent, its answer was lost,
+-- and it may take effect at any later time.
+use Rattle.std.specs.Prelude.{◌≡◌, ◌<◌, ◌-◌, ◌^◌, ◌⊎◌, ◌++◌, ◌∷◌, [], ℕ, List, Option, None, Some, Result, Ok, Err}
+use Rattle.store_core.specs.Objects.{Objects, with_object}
+use Rattle.store_core.specs.declared.store.Put.{Put}
+use Rattle.store_core.specs.declared.store.Put.TheVariants.{Created, Exists}
+use Rattle.store_core.specs.declared.fault.StoreFault.{StoreFault}
+use Rattle.store_core.specs.declared.fault.StoreFault.TheVariants.{Lost, Memory}
+
+-- the puts in flight, in the order in which they were sent: names with bytes
+abbrev pub Flight : Type 0
+Flight = List (List ℕ × List ℕ)
+
+-- what a put is told where no call is lost or repeated, by what stands under the name
+abbrev pub put_told : Option (List ℕ) → Put
+put_told None = Created
+put_told (Some bytes) = Exists
+
+-- the put has taken effect
+abbrev pub HasLanded : List ℕ → List ℕ → Objects × Flight → Objects × Flight → Type 0
+HasLanded name bytes old new = (new.0 ≡ with_object old.0 name bytes) × (new.1 ≡ old.1)
+
+-- the put is in flight: it may take effect later
+abbrev pub GoesInFlight : List ℕ → List ℕ → Objects × Flight → Objects × Flight → Type 0
+GoesInFlight name bytes old new = (new.0 ≡ old.0) × (new.1 ≡ old.1 ++ (name, bytes) ∷ [])
+
+-- nothing changed, so a put that left this never lands
+abbrev pub IsUntouched : Objects × Flight → Objects × Flight → Type 0
+IsUntouched old new = (new.0 ≡ old.0) × (new.1 ≡ old.1)
+
+-- what may have become of a put that was lost
+abbrev pub MayHaveLanded : List ℕ → List ℕ → Objects × Flight → Objects × Flight → Type 0
+MayHaveLanded name bytes old new = HasLanded name bytes old new ⊎ (GoesInFlight name bytes old new ⊎ IsUntouched old new)
+
+-- a count of faults rose. At the greatest number it stays, and counts as risen
+abbrev pub HasRisen : ℕ → ℕ → Type 0
+HasRisen old new = (old < new) ⊎ ((old ≡ 2 ^ 64 - 1) × (new ≡ old))
+
+-- the count of faults rises in a call that is lost, and in no other
+abbrev pub CountsFault : {X : Type 0} → Result X StoreFault → ℕ → ℕ → Type 0
+CountsFault (Ok x) old new = new ≡ old
+CountsFault (Err Lost) old new = HasRisen old new
+CountsFault (Err Memory) old new = new ≡ old

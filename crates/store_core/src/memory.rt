@@ -1,0 +1,133 @@
+//! A store in memory, which loses no call.
+ghost use Rattle.std.specs.Prelude.{◌≡◌, [], None, Ok, map, IfOk, OnOk, OnErr, IsErrOf};
+ghost use Rattle.std.specs.Option.{option_map};
+ghost use Rattle.std.specs.BTreeMap.{IsOrdered};
+ghost use Rattle.std.specs.String.{string_bytes, string_cmp};
+ghost use Rattle.store_core.specs.Objects.{object_at, names_of};
+ghost use Rattle.store_core.specs.Calls.{HasLanded, put_told};
+ghost use Rattle.store_core.specs.Memory.{objects_of, stored_objects};
+
+use crate::{Put, Store, StoreFault};
+use std::alloc::Global;
+use std::collections::BTreeMap;
+use std::marker::Model;
+
+/// A store in memory, seen as the finite map from names to bytes that stands. No call is lost.
+#[derive(Drop)]
+pub struct MemoryStore {
+    alloc: Global,
+    objects: BTreeMap<String, Vec<u8>>,
+}
+
+impl Model for MemoryStore {
+    ghost use Rattle.std.specs.FinMap as finite;
+    ghost use Rattle.std.specs.Coded.{coded_ℕ, coded_list};
+    ghost use Rattle.std.specs.BTreeMap.{IsOrdered};
+    ghost use Rattle.std.specs.String.{string_cmp};
+    ghost use Rattle.store_core.specs.Memory.{Stored, stored_of};
+
+    ghost Value = { Stored };
+
+    ghost coded = { finite.code (coded_list coded_ℕ) (coded_list coded_ℕ) };
+
+    ghost view = { λ store. stored_of store.objects };
+
+    ghost invariant = { λ store. IsOrdered string_cmp store.objects };
+}
+
+impl MemoryStore {
+    /// A store in which nothing stands. It and all that it answers lie in this memory.
+    pub fn new(alloc: Global) -> Self
+        ensures { stored_objects result ≡ [] }
+    {
+        MemoryStore {
+            alloc,
+            objects: BTreeMap::new(alloc),
+        }
+    }
+}
+
+impl Store for MemoryStore {
+    ghost use Rattle.std.specs.Prelude.{[]};
+    ghost use Rattle.store_core.specs.Memory.{IsInOrder-stored, stored_objects};
+
+    ghost objects = { stored_objects };
+
+    ghost in_flight = { λ _. [] };
+
+    ghost fault_count = { λ _. 0 };
+
+    ghost is_reliable = { λ _. Unit {0} };
+
+    /// Copies the names, in time linear in their bytes.
+    fn list(&mut self) -> Result<Vec<String>, StoreFault> {
+        names_in(self.alloc, &self.objects)
+    }
+
+    /// Copies the object's bytes. Finding it takes time logarithmic in the number of names.
+    fn get(&mut self, name: &str) -> Result<Option<Vec<u8>>, StoreFault> {
+        copy_of(self.alloc, &self.objects, name)
+    }
+
+    /// Copies the name and moves the bytes, in time logarithmic in the number of names.
+    fn put_absent(&mut self, name: &str, bytes: Vec<u8>) -> Result<Put, StoreFault> {
+        put_in(self.alloc, &mut self.objects, name, bytes)
+    }
+
+    fn faults(&self) -> u64 {
+        0
+    }
+
+    ghost in_order = { IsInOrder-stored };
+}
+
+// Copies of the names, in order.
+fn names_in(alloc: Global, objects: &BTreeMap<String, Vec<u8>>) -> Result<Vec<String>, StoreFault>
+    ensures names { IfOk result (λ names. map string_bytes names.items ≡ names_of (objects_of objects.now)) }
+    ensures never_lost { IsErrOf result StoreFault.Lost → ⊥ }
+{
+    let mut names = Vec::with_capacity(alloc, objects.len())?;
+    for name in objects.keys() {
+        names.push(String::from_str(alloc, name)?)?;
+    }
+    Ok(names)
+}
+
+// A copy of the bytes under a name.
+#[tactic(auto, using(crate::proofs::Trees::object_at_tree))]
+fn copy_of(
+    alloc: Global,
+    objects: &BTreeMap<String, Vec<u8>>,
+    name: &str,
+) -> Result<Option<Vec<u8>>, StoreFault>
+    ensures object { IfOk result (λ found. option_map (λ bytes. bytes.items) found
+        ≡ object_at (objects_of objects.now) name.now) }
+    ensures never_lost { IsErrOf result StoreFault.Lost → ⊥ }
+{
+    match objects.get(name) {
+        Some(bytes) => Ok(Some(bytes.to_vec(alloc)?)),
+        None => Ok(None),
+    }
+}
+
+// Puts bytes under a name that is absent.
+fn put_in(
+    alloc: Global,
+    objects: &mut BTreeMap<String, Vec<u8>>,
+    name: &str,
+    bytes: Vec<u8>,
+) -> Result<Put, StoreFault>
+    requires { IsOrdered string_cmp objects.old }
+    ensures told { IfOk result (λ put. put ≡ put_told (object_at (objects_of objects.old) name.now)) }
+    ensures created { result ≡ Ok Put.Created → object_at (objects_of objects.old) name.now ≡ None }
+    ensures landed { OnOk result (HasLanded name.now bytes.items (objects_of objects.old, []) (objects_of objects.new, [])) }
+    ensures memory { OnErr result (objects_of objects.new ≡ objects_of objects.old) }
+    ensures never_lost { IsErrOf result StoreFault.Lost → ⊥ }
+    ensures ordered { IsOrdered string_cmp objects.new }
+{
+    if objects.contains_key(name) {
+        return Ok(Put::Exists);
+    }
+    objects.insert(String::from_str(alloc, name)?, bytes)?;
+    Ok(Put::Created)
+}
