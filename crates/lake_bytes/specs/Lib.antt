@@ -2,3 +2,4 @@ pub mod Reading
 pub mod Varint
 pub mod Zigzag
 pub mod LittleEndian
+pub mod Texts

@@ -1,5 +1,5 @@
 -- Signed numbers as varints, by zigzag: 0, -1, 1, -2 are 0, 1, 2, 3.
-use Rattle.std.specs.Prelude.{ℕ, ◌+◌, ◌*◌, ◌/◌, ◌%◌, ◌^◌, ◌<◌, ◌==◌, List, Result, Ok, Err, nat_lt, if◌then◌else◌, ℤ, pos, negsuc}
+use Rattle.std.specs.Prelude.{◌≡◌, ℕ, ◌+◌, ◌*◌, ◌/◌, ◌%◌, ◌^◌, ◌<◌, ◌≤◌, ◌++◌, ◌==◌, List, Result, Ok, Err, nat_lt, if◌then◌else◌, ℤ, pos, negsuc}
 use Rattle.lake_bytes.specs.Reading.{◌>>=◌}
 use Rattle.lake_bytes.specs.Varint.{SpellsNumber, varint_at}
 use Rattle.lake_bytes.specs.declared.fault.ByteFault.{ByteFault}
@@ -18,6 +18,15 @@ unzigzag n = if n % 2 == 0 then pos (n / 2) else negsuc (n / 2)
 pub record SpellsSigned (width : ℕ) (bytes : List ℕ) (z : ℤ) : Type 0 where
   pub number : SpellsNumber bytes (zigzag z)
   pub fits : zigzag z < 2 ^ width
+
+-- a front spells a number that needs more than so many bits
+pub record IsTooWide (width : ℕ) (bytes : List ℕ) : Type 0 where
+  pub front : List ℕ
+  pub rest : List ℕ
+  pub number : ℕ
+  pub spelled : SpellsNumber front number
+  pub past : 2 ^ width ≤ number
+  pub split : bytes ≡ front ++ rest
 
 -- Reading a signed number of so many bits: the varint of its zigzag number, which has to fit them.
 unfoldable pub signed_at : ℕ → List ℕ → Result (ℤ × List ℕ) ByteFault

@@ -1,10 +1,10 @@
 //! A cursor over bytes: each read takes a value from the front of what is left.
 
-ghost use Rattle.std.specs.Prelude.{◌≡◌, ◌<◌, ◌≤◌, ◌+◌, ◌^◌, ◌↔◌, ℕ, ℤ, List, length, drop, take, IfOk, OnErr, OnOk, IsErrOf, IsOkAnd};
+ghost use Rattle.std.specs.Prelude.{◌≡◌, ◌<◌, ◌≤◌, ◌+◌, ◌^◌, ◌↔◌, ◌⊎◌, ℕ, ℤ, List, [], length, drop, take, IfOk, OnErr, OnOk, IsErrOf, IsOkAnd};
 ghost use Rattle.std.specs.Int.{w32, w64};
 ghost use Rattle.lake_bytes.specs.Reading.{Gives, id, byte_at, ReadsFront, ReadsWhatStands, bytes_at};
 ghost use Rattle.lake_bytes.specs.Varint.{IsBytes, SpellsNumber, IsCutShort, GoesPastTen, IsTooLarge, varint_at};
-ghost use Rattle.lake_bytes.specs.Zigzag.{SpellsSigned, signed_at, zigzag, unzigzag};
+ghost use Rattle.lake_bytes.specs.Zigzag.{SpellsSigned, IsTooWide, signed_at, zigzag, unzigzag};
 ghost use Rattle.lake_bytes.specs.LittleEndian.{little_at, signed_little_at};
 
 use crate::fault::ByteFault;
@@ -58,6 +58,8 @@ impl<'a> Cursor<'a> {
 
     /// The next byte. B1 where none is left.
     pub fn byte(&mut self) -> Result<u8, ByteFault>
+        ensures short { IsErrOf result ByteFault.Short ↔ (self.old ≡ []) }
+        ensures unchanged { OnErr result (self.new ≡ self.old) }
         ensures exact { Gives id (byte_at self.old) self.old result self.new }
     {
         let Some((first, rest)) = self.rest.split_first() else {
@@ -103,6 +105,10 @@ impl<'a> Cursor<'a> {
     pub fn zigzag_i64(&mut self) -> Result<i64, ByteFault>
         ensures read { IfOk result (λ z. ReadsFront (SpellsSigned 64) self.old z self.new) }
         ensures whatever_stands { ReadsWhatStands (SpellsSigned 64) self.old result self.new }
+
+        ensures short { IsErrOf result ByteFault.Short ↔ IsCutShort self.old }
+        ensures too_long { IsErrOf result ByteFault.VarintTooLong ↔ GoesPastTen self.old }
+        ensures out_of_range { IsErrOf result ByteFault.OutOfRange ↔ (IsTooLarge self.old ⊎ IsTooWide 64 self.old) }
         ensures unchanged { OnErr result (self.new ≡ self.old) }
         ensures exact { Gives id (signed_at 64 self.old) self.old result self.new }
     {
@@ -113,6 +119,10 @@ impl<'a> Cursor<'a> {
     pub fn zigzag_i32(&mut self) -> Result<i32, ByteFault>
         ensures read { IfOk result (λ z. ReadsFront (SpellsSigned 32) self.old z self.new) }
         ensures whatever_stands { ReadsWhatStands (SpellsSigned 32) self.old result self.new }
+
+        ensures short { IsErrOf result ByteFault.Short ↔ IsCutShort self.old }
+        ensures too_long { IsErrOf result ByteFault.VarintTooLong ↔ GoesPastTen self.old }
+        ensures out_of_range { IsErrOf result ByteFault.OutOfRange ↔ (IsTooLarge self.old ⊎ IsTooWide 32 self.old) }
         ensures unchanged { OnErr result (self.new ≡ self.old) }
         ensures exact { Gives id (signed_at 32 self.old) self.old result self.new }
     {
@@ -123,6 +133,10 @@ impl<'a> Cursor<'a> {
     pub fn zigzag_i16(&mut self) -> Result<i16, ByteFault>
         ensures read { IfOk result (λ z. ReadsFront (SpellsSigned 16) self.old z self.new) }
         ensures whatever_stands { ReadsWhatStands (SpellsSigned 16) self.old result self.new }
+
+        ensures short { IsErrOf result ByteFault.Short ↔ IsCutShort self.old }
+        ensures too_long { IsErrOf result ByteFault.VarintTooLong ↔ GoesPastTen self.old }
+        ensures out_of_range { IsErrOf result ByteFault.OutOfRange ↔ (IsTooLarge self.old ⊎ IsTooWide 16 self.old) }
         ensures unchanged { OnErr result (self.new ≡ self.old) }
         ensures exact { Gives id (signed_at 16 self.old) self.old result self.new }
     {
@@ -175,6 +189,7 @@ impl<'a> Cursor<'a> {
     #[tactic(auto, unfolding(crate::specs::LittleEndian::little_at))]
     pub fn u32_le(&mut self) -> Result<u32, ByteFault>
         ensures short { IsErrOf result ByteFault.Short ↔ (length self.old < 4) }
+        ensures unchanged { OnErr result (self.new ≡ self.old) }
         ensures exact { Gives id (little_at w32 self.old) self.old result self.new }
     {
         let Some((bytes, rest)) = self.rest.split_first_chunk::<4>() else {
@@ -189,6 +204,7 @@ impl<'a> Cursor<'a> {
     #[tactic(auto, unfolding(crate::specs::LittleEndian::little_at, crate::specs::LittleEndian::signed_little_at))]
     pub fn i32_le(&mut self) -> Result<i32, ByteFault>
         ensures short { IsErrOf result ByteFault.Short ↔ (length self.old < 4) }
+        ensures unchanged { OnErr result (self.new ≡ self.old) }
         ensures exact { Gives id (signed_little_at w32 self.old) self.old result self.new }
     {
         let Some((bytes, rest)) = self.rest.split_first_chunk::<4>() else {
@@ -203,6 +219,7 @@ impl<'a> Cursor<'a> {
     #[tactic(auto, unfolding(crate::specs::LittleEndian::little_at, crate::specs::LittleEndian::signed_little_at))]
     pub fn i64_le(&mut self) -> Result<i64, ByteFault>
         ensures short { IsErrOf result ByteFault.Short ↔ (length self.old < 8) }
+        ensures unchanged { OnErr result (self.new ≡ self.old) }
         ensures exact { Gives id (signed_little_at w64 self.old) self.old result self.new }
     {
         let Some((bytes, rest)) = self.rest.split_first_chunk::<8>() else {

@@ -2,13 +2,27 @@
 
 ghost use Rattle.std.specs.Prelude.{◌≡◌, ℕ, ℤ, ◌<◌, ◌≤◌, ◌^◌, ◌++◌, List, Ok, length, FitsSigned};
 ghost use Rattle.std.specs.Int.{w32, w64, to_le_bytes, cast_unsigned};
-ghost use Rattle.lake_bytes.specs.Varint.{IsVarint, SpellsNumber, varint_bytes, varint_at};
-ghost use Rattle.lake_bytes.specs.Zigzag.{zigzag, signed_at};
+ghost use Rattle.lake_bytes.specs.Reading.{ReadsFront};
+ghost use Rattle.lake_bytes.specs.Varint.{IsBytes, IsVarint, SpellsNumber, varint_bytes, varint_at};
+ghost use Rattle.lake_bytes.specs.Zigzag.{SpellsSigned, zigzag, signed_at};
 ghost use Rattle.lake_bytes.specs.LittleEndian.{little_at, signed_little_at};
 
 /// No varint begins another, so bytes have one reading at most.
 pub fn one_varint_in_front()
     ensures { (a b x y : List ℕ) (m n : ℕ) → IsVarint a m → IsVarint b n → a ++ x ≡ b ++ y → (a ≡ b) × (x ≡ y) × (m ≡ n) }
+{}
+
+/// No spelling of a signed number begins another.
+pub fn one_signed_number_in_front()
+    ensures { (width : ℕ) (a b x y : List ℕ) (m n : ℤ) → SpellsSigned width a m → SpellsSigned width b n → a ++ x ≡ b ++ y → (a ≡ b) × (x ≡ y) × (m ≡ n) }
+{}
+
+/// Reading from the left gives a number exactly where a front of the bytes spells it.
+pub fn a_number_is_read_where_it_stands()
+    ensures found { (bytes rest : List ℕ) (n : ℕ) → IsBytes bytes → varint_at bytes ≡ Ok (n, rest) → ReadsFront SpellsNumber bytes n rest }
+    ensures stands { (front rest : List ℕ) (n : ℕ) → SpellsNumber front n → varint_at (front ++ rest) ≡ Ok (n, rest) }
+    ensures signed_found { (width : ℕ) (bytes rest : List ℕ) (z : ℤ) → IsBytes bytes → signed_at width bytes ≡ Ok (z, rest) → ReadsFront (SpellsSigned width) bytes z rest }
+    ensures signed_stands { (width : ℕ) (front rest : List ℕ) (z : ℤ) → SpellsSigned width front z → signed_at width (front ++ rest) ≡ Ok (z, rest) }
 {}
 
 /// What is written for a number spells it, and no spelling of it is shorter.

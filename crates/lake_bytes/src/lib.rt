@@ -11,8 +11,8 @@ mod writing;
 pub use cursor::Cursor;
 pub use fault::ByteFault;
 pub use laws::{
-    little_endian_is_read_again, one_varint_in_front, varint_is_read_again, varint_is_shortest,
-    zigzag_is_read_again,
+    a_number_is_read_where_it_stands, little_endian_is_read_again, one_signed_number_in_front,
+    one_varint_in_front, varint_is_read_again, varint_is_shortest, zigzag_is_read_again,
 };
 pub use writing::{write_i32_le, write_i64_le, write_u32_le, write_varint, write_zigzag};
 

@@ -1,5 +1,5 @@
 -- A tree from names to bytes, and its objects.
-use Rattle.std.proofs.Common.{◌≡◌, ℕ, true, false, cond, List, [], ◌∷◌, Option, None, Some, Vec, String, refl, sym, ◌∙◌, ap, map}
+use Rattle.std.proofs.Common.{◌≡◌, ℕ, true, false, cond, List, [], ◌∷◌, Option, None, Some, Vec, String, refl, sym, ◌∙◌, ap, subst, map, Result, Ok, Err}
 use Rattle.std.specs.Global.{Global}
 use Rattle.std.specs.declared.cmp.Ordering.TheVariants.{Less, Equal, Greater}
 use Rattle.std.specs.Ordering.{is_eq, match_ordering, nat_cmp}
@@ -12,8 +12,12 @@ use Rattle.std.specs.BTreeMap.{IsOrdered, insert_entry, is_at, get_by_text}
 use Rattle.std.specs.String.{string_bytes, string_cmp}
 use Rattle.std.specs.FinMap as finite
 use Rattle.std.proofs.lemmas.Map.Text.{is_eq-slice_cmp}
-use Rattle.store_core.specs.Objects.{IsInOrder, name_order, object_at, names_of, with_object}
-use Rattle.store_core.specs.ObjectLaws.{sorted_from_in_order, T_from_true, with_object_absent}
+use Rattle.std.specs.Prelude.{unwrap_or, IfOk, OnOk}
+use Rattle.store_core.specs.Calls.{HasLanded, StandsAfter, put_told}
+use Rattle.store_core.specs.declared.store.Put.{Put}
+use Rattle.store_core.specs.declared.fault.StoreFault.{StoreFault}
+use Rattle.store_core.specs.Objects.{Objects, IsInOrder, name_order, object_at, names_of, with_object}
+use Rattle.store_core.specs.ObjectLaws.{sorted_from_in_order, T_from_true, with_object_absent, object_at-with_object_same}
 use Rattle.store_core.specs.Memory.{Tree, Stored, object_of, objects_of, stored_objects, stored_of}
 
 -- the entries of a tree
@@ -84,3 +88,18 @@ landed_in_tree old new key name bytes e absent h =
     ap (map object_of) h ∙ objects_inserted old.entries key bytes
     ∙ ap (λ k. insert_entry name_order (objects_of old) k bytes.items) e
     ∙ sym (with_object_absent (objects_of old) name bytes.items absent)
+
+-- what stands under the name after a put
+pub stands_after : (put : Put) (objects new : Objects) (name bytes : List ℕ) → put ≡ put_told (object_at objects name) → new ≡ with_object objects name bytes → StandsAfter put bytes (object_at new name)
+stands_after put objects new name bytes told landed =
+    let now : object_at new name ≡ Some (unwrap_or (object_at objects name) bytes) = ap (λ (o : Objects). object_at o name) landed ∙ object_at-with_object_same objects name bytes in
+    subst (λ (p : Put). StandsAfter p bytes (object_at new name)) (sym told) (by_found (object_at objects name) refl now)
+  where
+    by_found : (found : Option (List ℕ)) → object_at objects name ≡ found → object_at new name ≡ Some (unwrap_or (object_at objects name) bytes) → StandsAfter (put_told found) bytes (object_at new name)
+    by_found None h now = now ∙ ap (λ (f : Option (List ℕ)). Some (unwrap_or f bytes)) h
+    by_found (Some kept) h now = ap is_some now
+
+pub stands_where_told : (r : Result Put StoreFault) (objects new : Objects) (name bytes : List ℕ) → IfOk r (λ put. put ≡ put_told (object_at objects name)) → OnOk r (HasLanded name bytes (objects, []) (new, []))
+    → IfOk r (λ put. StandsAfter put bytes (object_at new name))
+stands_where_told (Ok put) objects new name bytes told landed = stands_after put objects new name bytes told landed.0
+stands_where_told (Err e) objects new name bytes told landed = tt

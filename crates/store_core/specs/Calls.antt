@@ -1,7 +1,7 @@
 -- What a call of a store tells and leaves, also of a store that loses calls.
 -- Of a store two things are told: its objects, and its puts in flight. A put in flight was sent, its answer was lost,
--- and it may take effect at any later time.
-use Rattle.std.specs.Prelude.{◌≡◌, ◌<◌, ◌-◌, ◌^◌, ◌⊎◌, ◌++◌, ◌∷◌, [], ℕ, List, Option, None, Some, Result, Ok, Err}
+-- and it may take effect later, between two calls.
+use Rattle.std.specs.Prelude.{◌≡◌, ◌<◌, ◌-◌, ◌^◌, ◌⊎◌, ◌++◌, ◌∷◌, [], ℕ, List, Option, None, Some, IsSome, Result, Ok, Err}
 use Rattle.store_core.specs.Objects.{Objects, with_object}
 use Rattle.store_core.specs.declared.store.Put.{Put}
 use Rattle.store_core.specs.declared.store.Put.TheVariants.{Created, Exists}
@@ -16,6 +16,12 @@ Flight = List (List ℕ × List ℕ)
 abbrev pub put_told : Option (List ℕ) → Put
 put_told None = Created
 put_told (Some bytes) = Exists
+
+-- what stands under the name after a put: the bytes that were put where it was told that it created them, and
+-- something in any case
+abbrev pub StandsAfter : Put → List ℕ → Option (List ℕ) → Type 0
+StandsAfter Created bytes found = found ≡ Some bytes
+StandsAfter Exists bytes found = IsSome found
 
 -- the put has taken effect
 abbrev pub HasLanded : List ℕ → List ℕ → Objects × Flight → Objects × Flight → Type 0

@@ -2,3 +2,4 @@ pub mod Calls
 pub mod Memory
 pub mod ObjectLaws
 pub mod Objects
+pub mod Texts

@@ -4,7 +4,7 @@ ghost use Rattle.std.specs.Option.{option_map};
 ghost use Rattle.std.specs.String.{string_bytes};
 ghost use Rattle.std.specs.List.Sorted.{IsStrictlySortedBy};
 ghost use Rattle.store_core.specs.Objects.{Objects, object_at, names_of, name_order, IsInOrder};
-ghost use Rattle.store_core.specs.Calls.{Flight, HasLanded, MayHaveLanded, IsUntouched, CountsFault, put_told};
+ghost use Rattle.store_core.specs.Calls.{Flight, HasLanded, MayHaveLanded, IsUntouched, CountsFault, StandsAfter, put_told};
 
 use crate::StoreFault;
 
@@ -25,8 +25,8 @@ pub trait Store {
     /// The finite map from names to bytes that stands.
     ghost objects: { Self → Objects };
 
-    /// The puts whose answers were lost and that may take effect at any later time, in the order in which they were
-    /// sent.
+    /// The puts whose answers were lost and that the store's own type may let take effect later, between two calls,
+    /// in the order in which they were sent.
     ghost in_flight: { Self → Flight };
 
     /// How often a call was lost. At 2^64 - 1 it stays.
@@ -60,6 +60,7 @@ pub trait Store {
     /// Puts bytes under a name, unless the name stands. A put that is lost may have landed, or land later, or never.
     fn put_absent(&mut self, name: &str, bytes: Vec<u8>) -> Result<Put, StoreFault>
         ensures created { result ≡ Ok Put.Created → object_at (objects self.old) name.now ≡ None }
+        ensures stands { IfOk result (λ put. StandsAfter put bytes.items (object_at (objects self.new) name.now)) }
         ensures landed { OnOk result (HasLanded name.now bytes.items
             (objects self.old, in_flight self.old) (objects self.new, in_flight self.new)) }
         ensures lost { IsErrOf result StoreFault.Lost → MayHaveLanded name.now bytes.items
