@@ -1,0 +1,58 @@
+-- From one line's reply to what a whole script is told.
+use Rattle.std.proofs.Common.{◌≡◌, ℕ, ◌+◌, ◌<◌, ◌≤◌, ◌∷◌, [], ◌++◌, List, Option, None, Some, Bor, IfSome, option_map, length, true, false, refl, ap, subst, sym, ◌∙◌, arith, append_assoc, append-nil}
+use Rattle.std.specs.Io.KnownBytes.{Appends}
+use Rattle.std.proofs.lemmas.Bool.{cond-true, cond-false}
+use Rattle.lake.specs.Lines.{reading_of}
+use Rattle.lake.specs.Told.{reply_to, is_bad, told_from, first_bad_from, lines_left}
+use Rattle.lake.proofs.StreamLemmas.{Appends-both, Towards}
+
+module _ (old now new : Option (List ℕ)) (number : ℕ) (line : List ℕ) (lines : List (List ℕ)) (whole : List ℕ) where
+  -- a line that isn't bad leaves the rest to be told
+  pub towards_next : Towards old now (told_from number (line ∷ lines)) whole → Appends now new (reply_to number (reading_of line)) → is_bad (reading_of line) ≡ false → Towards old new (told_from (number + 1) lines) whole
+  unfolding told_from
+  towards_next t added goes_on =
+      record {
+        front = t.front ++ reply_to number (reading_of line);
+        added = Appends-both old now new t.front _ t.added added;
+        joins = append_assoc t.front _ _ ∙ ap (λ u. t.front ++ (reply_to number (reading_of line) ++ u)) (sym (cond-false _ _ _ goes_on)) ∙ t.joins;
+      }
+
+  -- behind a bad line nothing is told
+  pub towards_bad : Towards old now (told_from number (line ∷ lines)) whole → Appends now new (reply_to number (reading_of line)) → is_bad (reading_of line) ≡ true → Appends old new whole
+  unfolding told_from
+  towards_bad t added ends =
+      let last = ap (λ u. reply_to number (reading_of line) ++ u) (cond-true (is_bad (reading_of line)) [] (told_from (number + 1) lines) ends) ∙ append-nil _ in
+      subst (λ u. Appends old new u) (ap (λ u. t.front ++ u) (sym last) ∙ t.joins) (Appends-both old now new t.front _ t.added added)
+
+-- the number of the first bad line, from one line on
+module _ (number : ℕ) (line : List ℕ) (lines : List (List ℕ)) where
+  pub first_bad_next : is_bad (reading_of line) ≡ false → first_bad_from number (line ∷ lines) ≡ first_bad_from (number + 1) lines
+  unfolding first_bad_from
+  first_bad_next goes_on = cond-false _ _ _ goes_on
+
+  pub first_bad_here : is_bad (reading_of line) ≡ true → first_bad_from number (line ∷ lines) ≡ Some number
+  unfolding first_bad_from
+  first_bad_here ends = cond-true _ _ _ ends
+
+-- how many lines may still come
+abbrev pub lines_at_most : Option (List ℕ) → ℕ
+lines_at_most None = 0
+lines_at_most (Some text) = length text + 1
+
+-- behind a line fewer may come
+pub lines_at_most-after : (text : List ℕ) (after : Option (Bor (List ℕ))) → IfSome after (λ a. length a.now < length text) → lines_at_most (option_map (λ a. a.now) after) ≤ length text
+lines_at_most-after text None h = omega arith
+lines_at_most-after text (Some a) h = omega arith
+
+-- nothing is left where there is no text
+pub lines_left_none : (rest : Option (Bor (List ℕ))) → ((x : Bor (List ℕ)) → rest ≡ Some x → ⊥) → lines_left (option_map (λ a. a.now) rest) ≡ []
+lines_left_none None h = refl
+lines_left_none (Some x) h = absurd (h x refl)
+
+pub told_from-none : (number : ℕ) → told_from number [] ≡ []
+unfolding told_from
+told_from-none number = refl
+
+pub first_bad_from-none : (number : ℕ) → first_bad_from number [] ≡ None
+unfolding first_bad_from
+first_bad_from-none number = refl

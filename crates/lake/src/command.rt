@@ -1,0 +1,82 @@
+// One command, from its words to its exit status.
+ghost use Rattle.std.specs.Prelude.{◌≡◌, ◌≢◌, ℕ, [], map, IfSome};
+ghost use Rattle.std.specs.Io.KnownBytes.{Appends};
+ghost use Rattle.clap.specs.Words.{fault_of, kind_of};
+ghost use Rattle.lake.specs.declared.words.Command.{Command};
+ghost use Rattle.lake.specs.Status.{status_of, status_at, status_of_kind};
+ghost use Rattle.lake.specs.Streams.{held, unread};
+ghost use Rattle.lake.specs.Told.{told, first_bad};
+ghost use Rattle.lake.specs.Words.{commands, Spells};
+
+use crate::fault::{Fault, Refusal};
+use crate::input::Input;
+use crate::output::Output;
+use crate::run::{End, run};
+use crate::words::{Command, read_words};
+use clap::Error;
+use clap::error::ErrorKind;
+use std::alloc::Global;
+use std::convert::AsStr;
+use std::io::{Read, Write};
+
+/// The exit status of a command that was done.
+pub const DONE: u8 = 0;
+
+/// The exit status of a command that was refused.
+pub const REFUSED: u8 = 1;
+
+/// The exit status of words or of a line that can't be read.
+pub const MISUSED: u8 = 2;
+
+// The status of words that ask for help, that are refused, or that were too much to read.
+fn misused(error: &Error) -> u8
+    ensures { result ≡ status_of_kind (kind_of error.now) }
+{
+    match error.kind() {
+        ErrorKind::DisplayHelp | ErrorKind::DisplayVersion => DONE,
+        ErrorKind::OutOfMemory => REFUSED,
+        _ => MISUSED,
+    }
+}
+
+// The status of a script that ended so. A fault of the program itself is told on `err`; where that
+// fails too, nothing is left to tell it on.
+fn ended<E: Write>(end: End, err: &mut E) -> u8
+    ensures { result ≡ status_of end }
+{
+    let fault = match end {
+        End::Done => return DONE,
+        End::BadLine(_number) => return MISUSED,
+        End::NotRead => Fault::NotRead,
+        End::NotWritten => Fault::NotWritten,
+    };
+    let _ = err.writeln(Refusal(fault));
+    REFUSED
+}
+
+/// Runs the command that the words ask for, and gives the exit status. Replies go to `output`. What
+/// `clap` says of the words and the program's own faults go to `err`.
+pub fn command<S: AsStr, R: Read, W: Write, E: Write>(
+    alloc: Global,
+    words: &[S],
+    input: &mut Input<R>,
+    output: &mut Output<W>,
+    err: &mut E,
+) -> u8
+    // A script that isn't refused writes what it is told.
+    ensures told { (c : Command) → Spells (map S.text words.now) c → result ≢ REFUSED
+        → IfSome (unread R.remaining input.old) (λ text. (result ≡ status_at (first_bad text))
+        × Appends (held W.contents output.old) (W.contents output.new.writer) (told text)) }
+
+    // Words that can't be read run nothing.
+    ensures unread { fault_of commands (map S.text words.now) ≢ [] → (input.new ≡ input.old) × (output.new ≡ output.old) }
+{
+    match read_words(alloc, words) {
+        Ok(Command::Script { restore }) => ended(run(alloc, input, output, restore).end, err),
+        Err(error) => {
+            let status = misused(&error);
+            let _ = err.write_fmt(error);
+            status
+        }
+    }
+}
