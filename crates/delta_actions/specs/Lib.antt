@@ -1,0 +1,9 @@
+pub mod Wrong
+pub mod Kinds
+pub mod Fields
+pub mod Entry
+pub mod Actions
+pub mod Commit
+pub mod Reading
+pub mod Printing
+pub mod FaultTexts

@@ -1,0 +1,10 @@
+pub mod Steps
+pub mod Texts
+pub mod Lines
+pub mod Commits
+pub mod Lookup
+pub mod Depths
+pub mod Again
+pub mod PrintedLines
+pub mod Readable
+pub mod OneLine
