@@ -1,1 +1,24 @@
+//! The Thrift compact protocol: bytes read as a tree of values, and a tree written as bytes. It knows
+//! nothing of what the structs are for.
 #![tactic(auto)]
+
+mod fault;
+mod field;
+mod laws;
+mod reading;
+mod shape;
+mod source;
+mod value;
+mod wire;
+mod writing;
+
+pub use fault::{ReadError, ThriftFault};
+pub use laws::one_tree_in_front;
+pub use reading::{MAX_DEPTH, MAX_NODES, read_struct};
+pub use shape::{FieldShape, Shape};
+pub use value::{Entry, Field, TValue};
+pub use wire::WireType;
+pub use writing::write_struct;
+
+#[cfg(test)]
+mod tests;

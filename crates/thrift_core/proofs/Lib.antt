@@ -1,0 +1,12 @@
+pub mod Loop
+pub mod Views
+pub mod Takes
+pub mod FoundHeaders
+pub mod Found
+pub mod AgainHeaders
+pub mod Again
+pub mod Told
+pub mod FieldsLast
+pub mod Shapes
+pub mod Written
+pub mod WrittenSpells

@@ -1,0 +1,45 @@
+use Rattle.std.proofs.Common.{◌≡◌, length, pos, ◌+◌, ◌-◌, ◌*◌}
+use Rattle.thrift_core.specs.Reading.{value_ahead, repeated, entry_ahead, fields_ahead}
+use Rattle.thrift_core.specs.View.{views, entry_views, field_views}
+use Rattle.thrift_core.proofs.Loop.{with_front}
+use Rattle.thrift_core.proofs.source.Source.+read.Given as goal
+
+abbrev pub decreases-value : goal.decreases-value
+decreases-value l = 6 * l.depth
+
+abbrev pub decreases-entry : goal.decreases-entry
+decreases-entry l = 6 * l.depth + 3
+
+abbrev pub decreases-field : goal.decreases-field
+decreases-field l = 6 * l.depth + 3
+
+abbrev pub decreases-members : goal.decreases-members
+decreases-members l = 6 * l.depth + 4
+
+abbrev pub decreases-entries : goal.decreases-entries
+decreases-entries l = 6 * l.depth + 4
+
+abbrev pub decreases-fields : goal.decreases-fields
+decreases-fields l = 6 * l.depth + 4
+
+abbrev pub decreases-list : goal.decreases-list
+decreases-list l = 6 * l.depth + 5
+
+abbrev pub decreases-map : goal.decreases-map
+decreases-map l = 6 * l.depth + 5
+
+abbrev pub decreases-structure : goal.decreases-structure
+decreases-structure l = 6 * l.depth + 5
+
+-- what was read and what is still read are what is read from the start
+abbrev pub invariant-members-loop : goal.invariant-members-loop
+invariant-members-loop l =
+    with_front (views l.members.items) (repeated (value_ahead l.depth l.wire) (l.size - l.counter) l.self) ≡ repeated (value_ahead l.depth l.wire) l.size l.fn.self
+
+abbrev pub invariant-entries-loop : goal.invariant-entries-loop
+invariant-entries-loop l =
+    with_front (entry_views l.entries.items) (repeated (entry_ahead (value_ahead l.depth) l.key l.value) (l.size - l.counter) l.self) ≡ repeated (entry_ahead (value_ahead l.depth) l.key l.value) l.size l.fn.self
+
+abbrev pub invariant-fields-loop : goal.invariant-fields-loop
+invariant-fields-loop l =
+    with_front (field_views l.fields.items) (fields_ahead (value_ahead l.depth) l.last (l.end - l.counter) l.self) ≡ fields_ahead (value_ahead l.depth) (pos 0) (length l.fn.self.cursor) l.fn.self

@@ -1,0 +1,13 @@
+-- The printed form of a fault: its code, its name and its field.
+use Rattle.std.specs.Prelude.{ℕ, List, ◌++◌, codes}
+use Rattle.std.specs.Fmt.{signed_decimal}
+use Rattle.lake_bytes.specs.Texts as numbers
+use Rattle.thrift_core.specs.declared.fault.ThriftFault.{ThriftFault}
+use Rattle.thrift_core.specs.declared.fault.ThriftFault.TheVariants.{Bytes, BadType, TooDeep, TooMany, MissingField}
+
+abbrev pub fault_text : ThriftFault → List ℕ
+fault_text (Bytes fault) = numbers.fault_text fault
+fault_text BadType = codes "TH1 BadType"
+fault_text TooDeep = codes "TH2 TooDeep"
+fault_text TooMany = codes "TH3 TooMany"
+fault_text (MissingField id) = codes "TH4 MissingField " ++ signed_decimal id

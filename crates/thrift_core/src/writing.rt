@@ -1,0 +1,228 @@
+//! Trees, written in the shortest forms.
+
+ghost use Rattle.std.specs.Prelude.{◌≡◌, ◌↔◌, IsTrue, List, ℕ, length, ◌<◌, ◌≤◌, ◌++◌, Ok, pos, option_map, IfOk, OnOk};
+ghost use Rattle.lake_bytes.specs.Varint.{varint_bytes};
+ghost use Rattle.thrift_core.specs.Shape.{form, one_field_form, field_forms, form_at, number_of};
+ghost use Rattle.thrift_core.specs.Tree.{trees_of, entries_of, fields_of, depth, nodes};
+ghost use Rattle.thrift_core.specs.View.{view, views, entry_views, field_view, field_views};
+ghost use Rattle.thrift_core.specs.Writing.{integer_bytes, list_header_bytes, map_header_bytes, field_header_bytes, field_number, written, written_members, written_entries, written_field, written_fields, HasForm, wire_of};
+ghost use Rattle.thrift_core.specs.Reading.{struct_at};
+ghost use Rattle.thrift_core.specs.Spelling.{Spells};
+ghost use Rattle.thrift_core.specs.declared.wire.WireType.TheVariants as wire;
+
+use crate::shape::{FieldShape, Shape};
+use crate::value::{Entry, Field, TValue};
+use lake_bytes::{write_varint, write_zigzag};
+use std::alloc::{AllocError, Global};
+
+/// The bytes of a struct (Thrift compact protocol, "Struct encoding"), with the types that the shape names.
+///
+/// Each form is the shortest: varints without needless bytes, a size below 15 and a rise of an id up to 15 in
+/// their headers. A boolean in a list or a map is 1 or 2, and its type there 2.
+///
+/// The tree has to be of the shape: the ids of each struct rise from 1 and stand in the shape, which may name
+/// more; each value is of the type named for it; sizes are below 2 ^ 31; nothing is skipped. Of another tree
+/// some bytes are written, which may spell no tree.
+///
+/// The time is linear in the bytes that are written, and in the fields that the shape names for each field.
+pub fn write_struct(alloc: Global, tree: &TValue, shape: &Shape) -> Result<Vec<u8>, AllocError>
+    // The bytes spell the tree.
+    ensures spells { HasForm (form shape.now) (view tree.now) → wire_of (form shape.now) ≡ wire.Struct
+        → IfOk result (λ bytes. Spells wire.Struct bytes.items (view tree.now)) }
+    // Whatever follows them, they are read again as the tree, if it keeps the limits.
+    ensures read_again { HasForm (form shape.now) (view tree.now) → wire_of (form shape.now) ≡ wire.Struct
+        → depth (view tree.now) ≤ 32 → nodes (view tree.now) ≤ 262144
+        → IfOk result (λ bytes. (rest : List ℕ) → struct_at (bytes.items ++ rest) ≡ Ok (view tree.now, rest)) }
+    // Which bytes they are.
+    ensures exact { IfOk result (λ bytes. bytes.items ≡ written (form shape.now) (view tree.now)) }
+{
+    let mut out = Vec::new(alloc);
+    write_value(&mut out, tree, shape)?;
+    Ok(out)
+}
+
+/// A whole number, in the bytes of its type.
+fn write_integer(out: &mut Vec<u8>, shape: &Shape, number: i64) -> Result<(), AllocError>
+    ensures { OnOk result (out.new.items ≡ out.old.items ++ integer_bytes (form shape.now) number) }
+{
+    if let Shape::Byte = shape {
+        out.push((number.cast_unsigned() % 256) as u8)?;
+        return Ok(());
+    }
+    write_zigzag(out, number)
+}
+
+#[tactic(auto, unfolding(crate::specs::Writing::list_header_bytes))]
+fn write_list_header(out: &mut Vec<u8>, number: u8, size: usize) -> Result<(), AllocError>
+    requires { number < 16 }
+    ensures { OnOk result (out.new.items ≡ out.old.items ++ list_header_bytes number size) }
+{
+    if size < 15 {
+        out.push(16 * size as u8 + number)?;
+        return Ok(());
+    }
+    out.push(240 + number)?;
+    write_varint(out, size as u64)
+}
+
+#[tactic(auto, unfolding(crate::specs::Writing::map_header_bytes))]
+fn write_map_header(out: &mut Vec<u8>, key: u8, value: u8, size: usize) -> Result<(), AllocError>
+    requires key_fits { key < 16 }
+    requires value_fits { value < 16 }
+    ensures { OnOk result (out.new.items ≡ out.old.items ++ map_header_bytes key value size) }
+{
+    if size == 0 {
+        out.push(0)?;
+        return Ok(());
+    }
+    write_varint(out, size as u64)?;
+    out.push(16 * key + value)?;
+    Ok(())
+}
+
+#[tactic(auto, unfolding(crate::specs::Writing::field_header_bytes))]
+fn write_field_header(out: &mut Vec<u8>, last: i16, id: i16, number: u8) -> Result<(), AllocError>
+    requires { number < 16 }
+    ensures { OnOk result (out.new.items ≡ out.old.items ++ field_header_bytes last id number) }
+{
+    let rise = id.abs_diff(last);
+    if rise == 0 || rise > 15 {
+        out.push(number)?;
+        return write_zigzag(out, i64::from(id));
+    }
+    out.push(16 * rise as u8 + number)?;
+    Ok(())
+}
+
+/// The number of a field's type, which for a boolean is its value.
+fn number_in_field(shape: &Shape, value: &TValue) -> u8
+    ensures number { result ≡ field_number (form shape.now) (view value.now) }
+    ensures fits { result < 16 }
+{
+    match value {
+        TValue::Bool(true) => 1,
+        TValue::Bool(false) => 2,
+        _ => shape.number(),
+    }
+}
+
+/// The type of the field of this id.
+fn shape_at(shapes: &[FieldShape], id: i16) -> Option<&Shape>
+    ensures { option_map (λ s. form s.now) result ≡ form_at id (field_forms shapes.now) }
+{
+    for field in shapes {
+        if is_field(field, id) {
+            return Some(&field.shape);
+        }
+    }
+    None
+}
+
+fn is_field(field: &FieldShape, id: i16) -> bool
+    ensures { IsTrue result ↔ ((one_field_form field.now).0 ≡ id) }
+{
+    field.id == id
+}
+
+/// A value, with its types. Where a value is of another type than the one named for it, nothing is written
+/// for a list, a map or a struct.
+#[cycle(write)]
+fn write_value(out: &mut Vec<u8>, value: &TValue, shape: &Shape) -> Result<(), AllocError>
+    ensures { OnOk result (out.new.items ≡ out.old.items ++ written (form shape.now) (view value.now)) }
+{
+    match value {
+        TValue::Bool(true) => out.push(1)?,
+        TValue::Bool(false) => out.push(2)?,
+        TValue::Int(number) => write_integer(out, shape, *number)?,
+        TValue::Bytes(text) => write_binary(out, text)?,
+        TValue::List(members) => {
+            if let Some(member) = shape.member() {
+                write_members(out, members, member)?;
+            }
+        }
+        TValue::Map(entries) => {
+            if let Some((key, value)) = shape.entry() {
+                write_entries(out, entries, key, value)?;
+            }
+        }
+        TValue::Struct(fields) => {
+            if let Some(shapes) = shape.fields() {
+                write_fields(out, fields, shapes)?;
+            }
+        }
+        TValue::Skipped => {}
+    }
+    Ok(())
+}
+
+fn write_binary(out: &mut Vec<u8>, text: &[u8]) -> Result<(), AllocError>
+    ensures { OnOk result (out.new.items ≡ out.old.items ++ (varint_bytes (length text.now) ++ text.now)) }
+{
+    write_varint(out, text.len() as u64)?;
+    out.extend_from_slice(text)
+}
+
+#[cycle(write)]
+fn write_members(out: &mut Vec<u8>, members: &[TValue], shape: &Shape) -> Result<(), AllocError>
+    ensures { OnOk result (out.new.items ≡ out.old.items ++ (list_header_bytes (number_of (form shape.now)) (length members.now) ++ written_members (form shape.now) (trees_of (views members.now)))) }
+{
+    write_list_header(out, shape.number(), members.len())?;
+    for member in members {
+        write_value(out, member, shape)?;
+    }
+    Ok(())
+}
+
+#[cycle(write)]
+fn write_entries(
+    out: &mut Vec<u8>,
+    entries: &[Entry],
+    key: &Shape,
+    value: &Shape,
+) -> Result<(), AllocError>
+    ensures { OnOk result (out.new.items ≡ out.old.items ++ (map_header_bytes (number_of (form key.now)) (number_of (form value.now)) (length entries.now) ++ written_entries (form key.now) (form value.now) (entries_of (entry_views entries.now)))) }
+{
+    write_map_header(out, key.number(), value.number(), entries.len())?;
+    for entry in entries {
+        write_value(out, &entry.key, key)?;
+        write_value(out, &entry.value, value)?;
+    }
+    Ok(())
+}
+
+#[cycle(write)]
+fn write_fields(
+    out: &mut Vec<u8>,
+    fields: &[Field],
+    shapes: &[FieldShape],
+) -> Result<(), AllocError>
+    ensures { OnOk result (out.new.items ≡ out.old.items ++ written_fields (field_forms shapes.now) (pos 0) (fields_of (field_views fields.now))) }
+{
+    let mut last = 0;
+    for field in fields {
+        write_field(out, field, shapes, last)?;
+        last = field.id;
+    }
+    out.push(0)?;
+    Ok(())
+}
+
+#[cycle(write)]
+fn write_field(
+    out: &mut Vec<u8>,
+    field: &Field,
+    shapes: &[FieldShape],
+    last: i16,
+) -> Result<(), AllocError>
+    ensures { OnOk result (out.new.items ≡ out.old.items ++ written_field (field_forms shapes.now) last (field_view field.now).0 (field_view field.now).1) }
+{
+    let Some(shape) = shape_at(shapes, field.id) else {
+        return Ok(());
+    };
+    let number = number_in_field(shape, &field.value);
+    write_field_header(out, last, field.id, number)?;
+    match field.value {
+        TValue::Bool(_) => Ok(()),
+        _ => write_value(out, &field.value, shape),
+    }
+}
