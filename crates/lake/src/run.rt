@@ -173,9 +173,9 @@ fn answer_text<W: Write>(alloc: Global, text: &[u8], output: &mut Output<W>) -> 
     }
 }
 
-/// Runs a script: reads its input to the end, then answers each line, up to the first bad one. The
-/// table is restored from a checkpoint where `restore` is true. Time is linear in the input, and
-/// many replies go in one write.
+/// Runs a script: reads its input to the end, then answers each line, up to the first bad one. Where
+/// `restore` is false, tables are to be replayed from version 0; no line needs a table yet. Time is
+/// linear in the input, and many replies go in one write.
 pub fn run<R: Read, W: Write>(
     alloc: Global,
     input: &mut Input<R>,
