@@ -9,4 +9,6 @@ pub mod Told
 pub mod FieldsLast
 pub mod Shapes
 pub mod Written
+pub mod AsSpells
 pub mod WrittenSpells
+pub mod Shortest

@@ -1,4 +1,4 @@
--- What is written spells the tree.
+-- What is written spells the tree, with the types named.
 use Rattle.std.proofs.Common.{◌≡◌, ◌≢◌, ℕ, zero, suc, ◌+◌, ◌-◌, ◌*◌, ◌%◌, ◌^◌, ◌<◌, ℤ, pos, negsuc, ◌+ℤ◌, ◌-ℤ◌, ◌<ℤ◌, ◌≤ℤ◌, Bool, true, false, cond, List, [], ◌∷◌, ◌++◌, length, refl, sym, subst, arith, inl, inr, FitsSigned, unsigned_abs, w8, w16, w32, w64}
 use Rattle.std.specs.Int.{cast_unsigned, cast_signed}
 use Rattle.std.proofs.lemmas.Int.{ints, to_z_pos}
@@ -10,10 +10,12 @@ use Rattle.lake_bytes.proofs.Groups.{SpellsNumber-varint_bytes}
 use Rattle.thrift_core.specs.Tree.{Tree, boolean, integer, binary, list, map, struct, skipped, Trees, no_trees, tree, Entries, no_entries, entry, Fields, no_fields, field, count_of_trees, count_of_entries}
 use Rattle.thrift_core.specs.Wire.{announced, Announces}
 use Rattle.thrift_core.specs.Shape.{Form, boolean_form, byte_form, int16_form, int32_form, int64_form, binary_form, list_form, map_form, struct_form, Forms, number_of}
-use Rattle.thrift_core.specs.Spelling.{SpellsBoolean, one, two, SpellsInteger, ListHeader, small_size, size_behind, MapHeader, empty_map, filled_map, FieldHeader, id_rises, id_behind, FieldValue, is_true, is_false, apart, Spells, SpellsMembers, SpellsEntries, SpellsFields}
+use Rattle.thrift_core.specs.Spelling.{SpellsBoolean, one, two, SpellsInteger, ListHeader, small_size, size_behind, MapHeader, empty_map, filled_map, FieldHeader, id_rises, id_behind, FieldValue, is_true, is_false, apart, Spells}
+use Rattle.thrift_core.specs.SpellsAs.{SpellsAs, SpellsMembersAs, SpellsEntriesAs, SpellsFieldsAs}
 use Rattle.thrift_core.specs.Writing.{boolean_number, integer_bytes, list_header_bytes, map_header_bytes, field_header_bytes, field_number, is_boolean, written, written_members, written_entries, written_fields, IntegerHasForm, HasForm, MembersHaveForm, EntriesHaveForm, FieldsHaveForm, wire_of}
 use Rattle.thrift_core.specs.declared.wire.WireType.{WireType}
 use Rattle.thrift_core.specs.declared.wire.WireType.TheVariants as wire
+use Rattle.thrift_core.proofs.AsSpells.{as_spells}
 
 number_announces : (f : Form) → Announces (number_of f) (wire_of f)
 unfolding announced
@@ -131,8 +133,20 @@ boolean_spelled : (b : Bool) → SpellsBoolean (boolean_number b ∷ []) b
 boolean_spelled true = one refl refl
 boolean_spelled false = two refl refl
 
+-- a field's number, which for a boolean is its value
+field_number_announces : (f : Form) (v : Tree) → HasForm f v → Announces (field_number f v) (wire_of f)
+unfolding announced
+field_number_announces f (boolean true) h = rw h (record { fits = omega arith; is = refl })
+field_number_announces f (boolean false) h = rw h (record { fits = omega arith; is = refl })
+field_number_announces f (integer z) h = number_announces f
+field_number_announces f (binary text) h = number_announces f
+field_number_announces f (list ts) h = number_announces f
+field_number_announces f (map es) h = number_announces f
+field_number_announces f (struct fs) h = number_announces f
+field_number_announces f skipped h = absurd h
+
 -- a field's value, where the value by itself is spelled
-in_field : (f : Form) (v : Tree) → HasForm f v → Spells (wire_of f) (written f v) v → FieldValue (λ type inside. Spells type inside v) (field_number f v) v (cond (is_boolean v) [] (written f v))
+in_field : (f : Form) (v : Tree) → HasForm f v → SpellsAs f (written f v) v → FieldValue (λ type inside. SpellsAs f inside v) (field_number f v) v (cond (is_boolean v) [] (written f v))
 in_field f (boolean true) h spelled = is_true refl refl refl
 in_field f (boolean false) h spelled = is_false refl refl refl
 in_field f (integer z) h spelled = apart (wire_of f) (integer_number f z h) (number_announces f) spelled
@@ -146,29 +160,29 @@ positive_still : (last id : ℤ) → pos 0 ≤ℤ last → last <ℤ id → pos 
 positive_still last id start lt = omega (arith, ints)
 
 mutual
-  pub written_spells : (f : Form) (t : Tree) → HasForm f t → Spells (wire_of f) (written f t) t
-  written_spells f (boolean b) h = subst (λ (g : Form). Spells (wire_of g) (written g (boolean b)) (boolean b)) (sym h) (refl, boolean_spelled b)
+  pub written_spells : (f : Form) (t : Tree) → HasForm f t → SpellsAs f (written f t) t
+  written_spells f (boolean b) h = subst (λ (g : Form). SpellsAs g (written g (boolean b)) (boolean b)) (sym h) (refl, boolean_spelled b)
   written_spells f (integer z) h = integer_spelled f z h
   written_spells f (binary text) h =
       let wide : length text < 2 ^ 64 = omega (arith, h.1) in
-      subst (λ (g : Form). Spells (wire_of g) (written g (binary text)) (binary text)) (sym h.0)
+      subst (λ (g : Form). SpellsAs g (written g (binary text)) (binary text)) (sym h.0)
       (refl, record { front = varint_bytes (length text); back = text; first = SpellsNumber-varint_bytes (length text) wide; second = refl; whole = refl })
   written_spells f (list ts) h =
-      subst (λ (g : Form). Spells (wire_of g) (written g (list ts)) (list ts)) (sym h.1)
-      (refl, wire_of h.0, record { front = list_header_bytes (number_of h.0) (count_of_trees ts); back = written_members h.0 ts; first = list_header_spelled h.0 (count_of_trees ts) h.2; second = members_spell h.0 ts h.3; whole = refl })
+      subst (λ (g : Form). SpellsAs g (written g (list ts)) (list ts)) (sym h.1)
+      (h.0, refl, record { front = list_header_bytes (number_of h.0) (count_of_trees ts); back = written_members h.0 ts; first = list_header_spelled h.0 (count_of_trees ts) h.2; second = members_spell h.0 ts h.3; whole = refl })
   written_spells f (map es) h =
-      subst (λ (g : Form). Spells (wire_of g) (written g (map es)) (map es)) (sym h.2)
-      (refl, wire_of h.0, wire_of h.1, record { front = map_header_bytes (number_of h.0) (number_of h.1) (count_of_entries es); back = written_entries h.0 h.1 es; first = map_header_spelled h.0 h.1 (count_of_entries es) h.3; second = entries_spell h.0 h.1 es h.4; whole = refl })
+      subst (λ (g : Form). SpellsAs g (written g (map es)) (map es)) (sym h.2)
+      (h.0, h.1, refl, record { front = map_header_bytes (number_of h.0) (number_of h.1) (count_of_entries es); back = written_entries h.0 h.1 es; first = map_header_spelled h.0 h.1 (count_of_entries es) h.3; second = entries_spell h.0 h.1 es h.4; whole = refl })
   written_spells f (struct fs) h =
-      subst (λ (g : Form). Spells (wire_of g) (written g (struct fs)) (struct fs)) (sym h.1)
-      (refl, fields_spell h.0 (pos 0) fs (omega (arith, ints)) h.2)
+      subst (λ (g : Form). SpellsAs g (written g (struct fs)) (struct fs)) (sym h.1)
+      (h.0, refl, fields_spell h.0 (pos 0) fs (omega (arith, ints)) h.2)
   written_spells f skipped h = absurd h
 
-  members_spell : (f : Form) (ts : Trees) → MembersHaveForm f ts → SpellsMembers (wire_of f) (written_members f ts) ts
+  members_spell : (f : Form) (ts : Trees) → MembersHaveForm f ts → SpellsMembersAs f (written_members f ts) ts
   members_spell f no_trees h = refl
   members_spell f (tree t ts) h = record { front = written f t; back = written_members f ts; first = written_spells f t h.0; second = members_spell f ts h.1; whole = refl }
 
-  entries_spell : (k v : Form) (es : Entries) → EntriesHaveForm k v es → SpellsEntries (wire_of k) (wire_of v) (written_entries k v es) es
+  entries_spell : (k v : Form) (es : Entries) → EntriesHaveForm k v es → SpellsEntriesAs k v (written_entries k v es) es
   entries_spell k v no_entries h = refl
   entries_spell k v (entry key value es) h = record {
     front = written k key ++ written v value;
@@ -178,13 +192,16 @@ mutual
     whole = refl;
   }
 
-  fields_spell : (forms : Forms) (last : ℤ) (fs : Fields) → pos 0 ≤ℤ last → FieldsHaveForm forms last fs → SpellsFields last (written_fields forms last fs) fs
+  fields_spell : (forms : Forms) (last : ℤ) (fs : Fields) → pos 0 ≤ℤ last → FieldsHaveForm forms last fs → SpellsFieldsAs forms last (written_fields forms last fs) fs
   fields_spell forms last no_fields start h = refl
   fields_spell forms last (field id v fs) start h =
       let f = h.2 in
       let header = field_header_bytes last id (field_number f v) in
       let value = cond (is_boolean v) [] (written f v) in (
         field_number f v,
+        f,
+        h.3,
+        field_number_announces f v h.4,
         record {
           front = header ++ value;
           back = written_fields forms id fs;
@@ -194,7 +211,8 @@ mutual
         },
       )
 
+-- of a struct, as a value of that type
 pub struct_written : (f : Form) (t : Tree) (bytes : List ℕ) → HasForm f t → wire_of f ≡ wire.Struct → bytes ≡ written f t → Spells wire.Struct bytes t
 struct_written f t bytes h is same =
-    let one : Spells wire.Struct (written f t) t = subst (λ (type : WireType). Spells type (written f t) t) is (written_spells f t h) in
+    let one : Spells wire.Struct (written f t) t = subst (λ (type : WireType). Spells type (written f t) t) is (as_spells f t (written f t) (written_spells f t h)) in
     subst (λ (b : List ℕ). Spells wire.Struct b t) (sym same) one

@@ -5,4 +5,5 @@ pub mod Reading
 pub mod View
 pub mod Shape
 pub mod Writing
+pub mod SpellsAs
 pub mod FaultTexts

@@ -41,6 +41,10 @@ abbrev pub is_boolean : Tree → Bool
 is_boolean (boolean b) = true
 is_boolean other = false
 
+-- one field behind one of the id `last`, where `value` gives the bytes of its value in a form
+abbrev pub field_bytes : (Form → List ℕ) → Forms → ℤ → ℤ → Tree → List ℕ
+field_bytes value forms last id v = bytes_for (λ f. field_header_bytes last id (field_number f v) ++ (if is_boolean v then [] else value f)) (form_at id forms)
+
 abbrev mutual
   pub written : Form → Tree → List ℕ
   written f (boolean b) = boolean_number b ∷ []
@@ -62,11 +66,11 @@ abbrev mutual
   -- fields behind one of this id
   pub written_fields : Forms → ℤ → Fields → List ℕ
   written_fields forms last no_fields = 0 ∷ []
-  written_fields forms last (field id v fs) = bytes_for (λ f. field_header_bytes last id (field_number f v) ++ (if is_boolean v then [] else written f v)) (form_at id forms) ++ written_fields forms id fs
+  written_fields forms last (field id v fs) = field_bytes (λ f. written f v) forms last id v ++ written_fields forms id fs
 
 -- one field behind one of the id `last`
 abbrev pub written_field : Forms → ℤ → ℤ → Tree → List ℕ
-written_field forms last id v = bytes_for (λ f. field_header_bytes last id (field_number f v) ++ (if is_boolean v then [] else written f v)) (form_at id forms)
+written_field forms last id v = field_bytes (λ f. written f v) forms last id v
 
 -- whole numbers that fit the type, which is one of whole numbers
 abbrev pub IntegerHasForm : Form → ℤ → Type 0

@@ -2,7 +2,7 @@
 
 use super::*;
 use lake_bytes::{ByteFault, Cursor};
-use std::alloc::Global;
+use std::alloc::{AllocError, Global};
 use std::test::*;
 
 /// The footer of a Parquet file with one column `x` and the rows 1 and -1.
@@ -78,6 +78,71 @@ fn footer_chunk(rt: HostRuntime) -> Result<(), Fail> {
     assert_eq!(rt; integer(data, 5), Some(2));
     assert_eq!(rt; integer(data, 9), Some(4));
     assert!(rt; matches!(data.required(11), Err(ThriftFault::MissingField { id: 11 })));
+    Ok(())
+}
+
+fn field(id: i16, value: TValue) -> Field {
+    Field { id, value }
+}
+
+fn text(alloc: Global, bytes: &[u8]) -> Result<TValue, AllocError> {
+    Ok(TValue::Bytes(Vec::from_slice(alloc, bytes)?))
+}
+
+/// SchemaElement of the root, which has one child, and of the required INT64 column `x`.
+fn footer_schema(alloc: Global) -> Result<TValue, Fail> {
+    let root = vec![in alloc; field(4, text(alloc, b"schema")?), field(5, TValue::Int(1))]?;
+    let column = vec![in alloc;
+        field(1, TValue::Int(2)),
+        field(3, TValue::Int(0)),
+        field(4, text(alloc, b"x")?),
+    ]?;
+    Ok(TValue::List(vec![in alloc; TValue::Struct(root), TValue::Struct(column)]?))
+}
+
+/// ColumnChunk with its ColumnMetaData: the page is PLAIN, its levels RLE, 33 bytes from offset 4 on.
+fn footer_column(alloc: Global) -> Result<TValue, Fail> {
+    let encodings = vec![in alloc; TValue::Int(0), TValue::Int(3)]?;
+    let path = vec![in alloc; text(alloc, b"x")?]?;
+    let data = vec![in alloc;
+        field(1, TValue::Int(2)),
+        field(2, TValue::List(encodings)),
+        field(3, TValue::List(path)),
+        field(4, TValue::Int(0)),
+        field(5, TValue::Int(2)),
+        field(6, TValue::Int(33)),
+        field(7, TValue::Int(33)),
+        field(9, TValue::Int(4)),
+    ]?;
+    let chunk = vec![in alloc; field(2, TValue::Int(4)), field(3, TValue::Struct(data))]?;
+    Ok(TValue::Struct(chunk))
+}
+
+/// FileMetaData: version 1, two rows in one row group of 33 bytes, and the writer's name.
+fn footer_tree(alloc: Global) -> Result<TValue, Fail> {
+    let columns = vec![in alloc; footer_column(alloc)?]?;
+    let group = vec![in alloc;
+        field(1, TValue::List(columns)),
+        field(2, TValue::Int(33)),
+        field(3, TValue::Int(2)),
+    ]?;
+    let groups = vec![in alloc; TValue::Struct(group)]?;
+    let file = vec![in alloc;
+        field(1, TValue::Int(1)),
+        field(2, footer_schema(alloc)?),
+        field(3, TValue::Int(2)),
+        field(4, TValue::List(groups)),
+        field(6, text(alloc, b"lake version 1")?),
+    ]?;
+    Ok(TValue::Struct(file))
+}
+
+/// The footer is the whole tree that Parquet's definitions say, written down by hand.
+#[test]
+fn footer_whole(rt: HostRuntime) -> Result<(), Fail> {
+    let tree = read(rt.alloc(), &FOOTER)?;
+    let expected = footer_tree(rt.alloc())?;
+    assert_eq!(rt; tree, expected);
     Ok(())
 }
 

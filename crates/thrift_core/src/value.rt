@@ -2,7 +2,7 @@
 
 /// A value of the Thrift compact protocol: a tree, which owns what is in it.
 #[cycle(tree)]
-#[derive(Debug, Drop)]
+#[derive(Debug, Drop, PartialEq, Eq)]
 pub enum TValue {
     /// A truth value.
     Bool(bool),
@@ -22,7 +22,7 @@ pub enum TValue {
 
 /// A key of a map and its value.
 #[cycle(tree)]
-#[derive(Debug, Drop)]
+#[derive(Debug, Drop, PartialEq, Eq)]
 pub struct Entry {
     /// The key.
     pub key: TValue,
@@ -32,7 +32,7 @@ pub struct Entry {
 
 /// A field of a struct.
 #[cycle(tree)]
-#[derive(Debug, Drop)]
+#[derive(Debug, Drop, PartialEq, Eq)]
 pub struct Field {
     /// The field's id.
     pub id: i16,

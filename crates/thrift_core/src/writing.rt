@@ -8,6 +8,7 @@ ghost use Rattle.thrift_core.specs.View.{view, views, entry_views, field_view, f
 ghost use Rattle.thrift_core.specs.Writing.{integer_bytes, list_header_bytes, map_header_bytes, field_header_bytes, field_number, written, written_members, written_entries, written_field, written_fields, HasForm, wire_of};
 ghost use Rattle.thrift_core.specs.Reading.{struct_at};
 ghost use Rattle.thrift_core.specs.Spelling.{Spells};
+ghost use Rattle.thrift_core.specs.SpellsAs.{SpellsAs};
 ghost use Rattle.thrift_core.specs.declared.wire.WireType.TheVariants as wire;
 
 use crate::shape::{FieldShape, Shape};
@@ -29,12 +30,25 @@ pub fn write_struct(alloc: Global, tree: &TValue, shape: &Shape) -> Result<Vec<u
     // The bytes spell the tree.
     ensures spells { HasForm (form shape.now) (view tree.now) → wire_of (form shape.now) ≡ wire.Struct
         → IfOk result (λ bytes. Spells wire.Struct bytes.items (view tree.now)) }
+    // They spell it with the types that the shape names.
+    ensures with_these_types { HasForm (form shape.now) (view tree.now)
+        → IfOk result (λ bytes. SpellsAs (form shape.now) bytes.items (view tree.now)) }
+    // No bytes that spell the tree with these types are fewer.
+    ensures shortest { IfOk result (λ bytes. (other : List ℕ) → SpellsAs (form shape.now) other (view tree.now)
+        → length bytes.items ≤ length other) }
     // Whatever follows them, they are read again as the tree, if it keeps the limits.
     ensures read_again { HasForm (form shape.now) (view tree.now) → wire_of (form shape.now) ≡ wire.Struct
         → depth (view tree.now) ≤ 32 → nodes (view tree.now) ≤ 262144
         → IfOk result (λ bytes. (rest : List ℕ) → struct_at (bytes.items ++ rest) ≡ Ok (view tree.now, rest)) }
     // Which bytes they are.
     ensures exact { IfOk result (λ bytes. bytes.items ≡ written (form shape.now) (view tree.now)) }
+{
+    struct_bytes(alloc, tree, shape)
+}
+
+/// The bytes of a struct, as its definition has them.
+fn struct_bytes(alloc: Global, tree: &TValue, shape: &Shape) -> Result<Vec<u8>, AllocError>
+    ensures { IfOk result (λ bytes. bytes.items ≡ written (form shape.now) (view tree.now)) }
 {
     let mut out = Vec::new(alloc);
     write_value(&mut out, tree, shape)?;

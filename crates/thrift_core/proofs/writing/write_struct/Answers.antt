@@ -1,21 +1,32 @@
-use Rattle.std.proofs.Common.{◌≡◌, ◌∙◌, refl}
+use Rattle.std.proofs.Common.{ℕ, ◌≤◌, List, length, sym, subst}
+use Rattle.std.proofs.lemmas.Result.{IfOk-weaker}
 use Rattle.thrift_core.specs.Shape.{form}
+use Rattle.thrift_core.specs.SpellsAs.{SpellsAs}
 use Rattle.thrift_core.specs.View.{view}
-use Rattle.thrift_core.specs.Writing.{written}
 use Rattle.thrift_core.proofs.Again.{struct_at_again}
-use Rattle.thrift_core.proofs.WrittenSpells.{struct_written}
+use Rattle.thrift_core.proofs.Shortest.{shortest}
+use Rattle.thrift_core.proofs.WrittenSpells.{written_spells, struct_written}
 use Rattle.thrift_core.proofs.writing.write_struct.Goals as goal
 
 pub returns-clause-spells : goal.returns-clause-spells
 returns-clause-spells c = λ of_shape is_struct.
+    IfOk-weaker c.struct_bytes.result _ _ (λ bytes is. struct_written (form c.args.shape.now) (view c.args.tree.now) bytes.items of_shape is_struct is) c.struct_bytes.ensures
+
+pub returns-clause-with_these_types : goal.returns-clause-with_these_types
+returns-clause-with_these_types c = λ of_shape.
     let f = form c.args.shape.now in
     let t = view c.args.tree.now in
-    let bytes : c.write_value.new.out.items ≡ written f t = c.in_ok-write_value.ensures ∙ rw c.new-out.ensures.items refl in
-    struct_written f t c.write_value.new.out.items of_shape is_struct bytes
+    IfOk-weaker c.struct_bytes.result _ _ (λ bytes is. subst (λ (b : List ℕ). SpellsAs f b t) (sym is) (written_spells f t of_shape)) c.struct_bytes.ensures
+
+pub returns-clause-shortest : goal.returns-clause-shortest
+returns-clause-shortest c =
+    let f = form c.args.shape.now in
+    let t = view c.args.tree.now in
+    IfOk-weaker c.struct_bytes.result _ _ (λ bytes is other spelled. subst (λ (b : List ℕ). length b ≤ length other) (sym is) (shortest f t other spelled)) c.struct_bytes.ensures
 
 pub returns-clause-read_again : goal.returns-clause-read_again
-returns-clause-read_again c = λ of_shape is_struct nesting values rest.
+returns-clause-read_again c = λ of_shape is_struct nesting values.
     let f = form c.args.shape.now in
     let t = view c.args.tree.now in
-    let bytes : c.write_value.new.out.items ≡ written f t = c.in_ok-write_value.ensures ∙ rw c.new-out.ensures.items refl in
-    struct_at_again c.write_value.new.out.items t rest (record { spelled = struct_written f t c.write_value.new.out.items of_shape is_struct bytes; nesting = nesting; values = values })
+    IfOk-weaker c.struct_bytes.result _ _
+    (λ bytes is rest. struct_at_again bytes.items t rest (record { spelled = struct_written f t bytes.items of_shape is_struct is; nesting = nesting; values = values })) c.struct_bytes.ensures
