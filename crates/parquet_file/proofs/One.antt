@@ -1,0 +1,42 @@
+-- Bytes are a file of one list of rows, and of one column.
+use Rattle.std.proofs.Common.{◌≡◌, ℕ, ◌+◌, ℤ, List, [], ◌∷◌, ◌++◌, length, take, Ok, sym, ap, subst, ◌∙◌, arith}
+use Rattle.std.proofs.lemmas.List.{append_cancel_left}
+use Rattle.thrift_core.specs.declared.wire.WireType.TheVariants as wire
+use Rattle.thrift_core.proofs.Told.{one_tree}
+use Rattle.parquet_file.specs.Metadata.{Element, Metadata, metadata_of}
+use Rattle.parquet_file.specs.File.{magic, Says, IsLongColumn, IsFile}
+use Rattle.parquet_file.specs.Reading.{rows_of}
+use Rattle.parquet_file.proofs.OnlyGroups.{rows_again}
+use Rattle.parquet_file.proofs.OnlyFrame.{Parts, parts_again}
+use Rattle.parquet_file.proofs.FoundSteps.{ok_is}
+
+one_frame : (bytes pages footer others second : List ℕ) → Parts bytes pages footer → Parts bytes others second → (magic ++ pages ≡ magic ++ others) × (footer ≡ second)
+one_frame bytes pages footer others second p q =
+    let as_long : length pages ≡ length others = omega (arith, p.long, q.long, p.counted, q.counted) in
+    let front : magic ++ pages ≡ magic ++ others = sym p.front ∙ ap (λ (n : ℕ). take (n + 4) bytes) as_long ∙ q.front in
+    let both : (magic ++ pages) ++ footer ≡ (magic ++ pages) ++ second = sym p.before ∙ q.before ∙ ap (λ (t : List ℕ). t ++ second) (sym front) in
+    (front, append_cancel_left (magic ++ pages) footer second both)
+
+one_metadata : (footer : List ℕ) (metadata other : Metadata) → Says footer metadata → Says footer other → metadata ≡ other
+one_metadata footer metadata other s t =
+    let tree : s.tree ≡ t.tree = (one_tree wire.Struct s.front t.front s.rest t.rest s.tree t.tree s.spelled.spelled t.spelled.spelled (sym s.parts ∙ t.parts)).1 in
+    ok_is metadata other (sym s.stands ∙ ap metadata_of tree ∙ t.stands)
+
+one_name : (name other : List ℕ) (schema : List Element) → IsLongColumn name schema → IsLongColumn other schema → name ≡ other
+one_name name other [] p q = absurd p
+one_name name other (root ∷ []) p q = absurd p
+one_name name other (root ∷ leaf ∷ []) p q = sym p.1.named ∙ q.1.named
+one_name name other (root ∷ leaf ∷ third ∷ more) p q = absurd p
+
+pub rows-one : (bytes name other : List ℕ) (rows others : List ℤ) → IsFile bytes name rows → IsFile bytes other others → (name ≡ other) × (rows ≡ others)
+rows-one bytes name other rows others f g =
+    let first : Parts bytes f.pages f.footer = rw f.frame (parts_again f.pages f.footer f.length_fits) in
+    let second : Parts bytes g.pages g.footer = rw g.frame (parts_again g.pages g.footer g.length_fits) in
+    let frame = one_frame bytes f.pages f.footer g.pages g.footer first second in
+    let metadata : f.metadata ≡ g.metadata = one_metadata g.footer f.metadata g.metadata (subst (λ (t : List ℕ). Says t f.metadata) frame.1 f.says) g.says in
+    let table : IsLongColumn name g.metadata.schema = subst (λ (m : Metadata). IsLongColumn name m.schema) metadata f.table in
+    let named : name ≡ other = one_name name other g.metadata.schema table g.table in
+    let one = rows_again (magic ++ f.pages) name f.metadata rows f.table f.groups f.counted f.conform in
+    let two = rows_again (magic ++ g.pages) other g.metadata others g.table g.groups g.counted g.conform in
+    let read : rows_of (magic ++ f.pages) name f.metadata ≡ Ok others = rw (frame.0, named, metadata) two in
+    (named, ok_is rows others (sym one ∙ read))

@@ -1,0 +1,10 @@
+use Rattle.std.proofs.Common.{◌≡◌, drop}
+use Rattle.thrift_core.specs.Tree.{trees_of}
+use Rattle.thrift_core.specs.View.{views}
+use Rattle.parquet_file.specs.Fields.{all_as, as_text}
+use Rattle.parquet_file.specs.Views.{texts_view}
+use Rattle.parquet_file.proofs.CodeLoops.{with_texts}
+use Rattle.parquet_file.proofs.fields.texts.Given as goal
+
+abbrev pub invariant-loop-member : goal.invariant-loop-member
+invariant-loop-member l = with_texts (texts_view l.texts.items) (all_as as_text (trees_of (views (drop l.member-index l.member-items)))) ≡ all_as as_text (trees_of (views l.member-items))

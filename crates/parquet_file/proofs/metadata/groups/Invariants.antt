@@ -1,0 +1,10 @@
+use Rattle.std.proofs.Common.{◌≡◌, drop}
+use Rattle.thrift_core.specs.View.{views}
+use Rattle.parquet_file.specs.Fields.{each}
+use Rattle.parquet_file.specs.Metadata.{group_of}
+use Rattle.parquet_file.specs.Views.{group_views}
+use Rattle.parquet_file.proofs.CodeLoops.{with_front}
+use Rattle.parquet_file.proofs.metadata.groups.Given as goal
+
+abbrev pub invariant-loop-member : goal.invariant-loop-member
+invariant-loop-member l = with_front (group_views l.groups.items) (each group_of (views (drop l.member-index l.members))) ≡ each group_of (views l.members)

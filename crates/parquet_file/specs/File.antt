@@ -1,0 +1,98 @@
+-- Which bytes are a Parquet file of a table's rows, for a table of one required long column (Parquet, File Format).
+use Rattle.std.specs.Prelude.{◌≡◌, ℕ, ◌<◌, ◌≤◌, ◌^◌, ℤ, pos, List, [], ◌∷◌, ◌++◌, length, Some, Ok, codes, FitsSigned, ◌⊎◌}
+use Rattle.std.specs.List.{AllByRecursion}
+use Rattle.std.specs.Int.{w32, w64, to_le_bytes}
+use Rattle.thrift_core.specs.Tree.{Tree}
+use Rattle.thrift_core.specs.Spelling.{SpellsStruct}
+use Rattle.parquet_file.specs.Metadata.{Element, Chunk, Group, Metadata, metadata_of}
+use Rattle.parquet_file.specs.Pages.{HasPages}
+
+-- the bytes at both ends of a file
+abbrev pub magic : List ℕ
+magic = codes "PAR1"
+
+-- The file is `magic`, the pages, the footer, its length in four bytes, and `magic`.
+abbrev pub framed : List ℕ → List ℕ → List ℕ
+framed pages footer = magic ++ (pages ++ (footer ++ (to_le_bytes w32 (length footer) ++ magic)))
+
+-- A front of the footer spells the struct that says this of the file.
+pub record Says (footer : List ℕ) (metadata : Metadata) : Type 0 where
+  pub front : List ℕ
+  pub rest : List ℕ
+  pub tree : Tree
+  pub parts : footer ≡ front ++ rest
+  pub spelled : SpellsStruct front tree
+  pub stands : metadata_of tree ≡ Ok metadata
+
+-- The bytes are framed, and their footer says this of the file.
+pub record HasFooter (bytes : List ℕ) (metadata : Metadata) : Type 0 where
+  pub pages : List ℕ
+  pub footer : List ℕ
+  pub frame : bytes ≡ framed pages footer
+  pub length_fits : length footer < 2 ^ 32
+  pub says : Says footer metadata
+
+-- A required leaf of this name and of type INT64: type 2, repetition 0, no children.
+pub record IsLongLeaf (name : List ℕ) (leaf : Element) : Type 0 where
+  pub named : leaf.name ≡ name
+  pub int64 : leaf.physical ≡ Some (pos 2)
+  pub required : leaf.repetition ≡ Some (pos 0)
+  pub childless : leaf.children ≡ 0
+
+-- The schema is a root with one child, a required long leaf of this name.
+abbrev pub IsLongColumn : List ℕ → List Element → Type 0
+IsLongColumn name [] = ⊥
+IsLongColumn name (root ∷ []) = ⊥
+IsLongColumn name (root ∷ leaf ∷ []) = (root.children ≡ 1) × IsLongLeaf name leaf
+IsLongColumn name (root ∷ leaf ∷ other ∷ more) = ⊥
+
+-- The first chunk with this path.
+abbrev pub IsChunkOf : List (List ℕ) → List Chunk → Chunk → Type 0
+IsChunkOf path [] chunk = ⊥
+IsChunkOf path (first ∷ others) chunk = ((first.path ≡ path) × (chunk ≡ first)) ⊎ ((first.path ≡ path → ⊥) × IsChunkOf path others chunk)
+
+-- The pages of an uncompressed chunk hold these values.
+pub record Holds (bytes : List ℕ) (chunk : Chunk) (values : List ℤ) : Type 0 where
+  pub uncompressed : chunk.codec ≡ pos 0
+  pub counted : chunk.values ≡ length values
+  pub pages : HasPages bytes chunk.page values
+
+-- The rows of one group: the values of its chunk of the column.
+pub record IsGroup (bytes name : List ℕ) (group : Group) (rows : List ℤ) : Type 0 where
+  pub chunk : Chunk
+  pub found : IsChunkOf (name ∷ []) group.chunks chunk
+  pub held : Holds bytes chunk rows
+  pub counted : group.rows ≡ length rows
+
+-- the rows of several groups, one group behind the other
+abbrev pub AreGroups : List ℕ → List ℕ → List Group → List ℤ → Type 0
+AreGroups bytes name [] rows = rows ≡ []
+AreGroups bytes name (group ∷ groups) rows = (first others : List ℤ) × IsGroup bytes name group first × AreGroups bytes name groups others × (rows ≡ first ++ others)
+
+-- These bytes are a Parquet file of these rows, for a table of one required long column of this name.
+pub record IsFile (bytes name : List ℕ) (rows : List ℤ) : Type 0 where
+  pub pages : List ℕ
+  pub footer : List ℕ
+  pub metadata : Metadata
+  pub frame : bytes ≡ framed pages footer
+  pub length_fits : length footer < 2 ^ 32
+  pub says : Says footer metadata
+  pub table : IsLongColumn name metadata.schema
+  pub groups : AreGroups (magic ++ pages) name metadata.groups rows
+  pub counted : metadata.rows ≡ length rows
+  pub conform : AllByRecursion (FitsSigned w64) rows
+
+-- The limits of what is read: 64 MiB, and 4,194,304 rows.
+pub record KeepsLimits (bytes : List ℕ) (rows : List ℤ) : Type 0 where
+  pub size : length bytes ≤ 67108864
+  pub most_rows : length rows ≤ 4194304
+
+-- no group claims more rows than a file may have
+abbrev pub GroupsClaimFew : List Group → Type 0
+GroupsClaimFew [] = Unit {0}
+GroupsClaimFew (group ∷ groups) = (group.rows ≤ 4194304) × GroupsClaimFew groups
+
+-- Neither the file nor one of its groups claims more rows than a file may have.
+pub record ClaimsFew (metadata : Metadata) : Type 0 where
+  pub rows : metadata.rows ≤ 4194304
+  pub groups : GroupsClaimFew metadata.groups

@@ -1,0 +1,38 @@
+-- A footer without where it lies in memory.
+use Rattle.std.specs.Prelude.{ℕ, List, map, Vec}
+use Rattle.std.specs.declared.alloc.Global.{Global}
+use Rattle.parquet_file.specs.Pages.{Header}
+use Rattle.parquet_file.specs.declared.header.PageHeader.{PageHeader}
+use Rattle.parquet_file.specs.Metadata.{Element, Chunk, Group, Metadata}
+use Rattle.parquet_file.specs.declared.footer.SchemaElement.{SchemaElement}
+use Rattle.parquet_file.specs.declared.footer.ColumnChunk.{ColumnChunk}
+use Rattle.parquet_file.specs.declared.footer.RowGroup.{RowGroup}
+use Rattle.parquet_file.specs.declared.footer.Footer.{Footer}
+
+abbrev pub element_view : SchemaElement → Element
+element_view e = record { physical = e.physical; repetition = e.repetition; name = e.name.items; children = e.children }
+
+abbrev pub element_views : List SchemaElement → List Element
+element_views es = map element_view es
+
+abbrev pub texts_view : List (Vec ℕ Global) → List (List ℕ)
+texts_view ts = map (λ t. t.items) ts
+
+abbrev pub chunk_view : ColumnChunk → Chunk
+chunk_view c = record { path = texts_view c.path.items; codec = c.codec; values = c.values; page = c.page }
+
+abbrev pub chunk_views : List ColumnChunk → List Chunk
+chunk_views cs = map chunk_view cs
+
+abbrev pub group_view : RowGroup → Group
+group_view g = record { chunks = chunk_views g.chunks.items; rows = g.rows }
+
+abbrev pub group_views : List RowGroup → List Group
+group_views gs = map group_view gs
+
+abbrev pub footer_view : Footer → Metadata
+footer_view f = record { schema = element_views f.schema.items; rows = f.rows; groups = group_views f.groups.items }
+
+-- a page's header
+abbrev pub header_view : PageHeader → Header
+header_view h = record { kind = h.kind; uncompressed = h.uncompressed; compressed = h.compressed; values = h.values; encoding = h.encoding }

@@ -1,0 +1,183 @@
+//! A footer's bytes, read as what they say of the file.
+
+ghost use Rattle.std.specs.Prelude.{◌≡◌};
+ghost use Rattle.lake_bytes.specs.Reading.{IsReading};
+ghost use Rattle.thrift_core.specs.View.{view, views};
+ghost use Rattle.parquet_file.specs.Fields.{each};
+ghost use Rattle.parquet_file.specs.Metadata.{root_of, node_of, physical_of, schema_of, chunk_of, group_of, metadata_of};
+ghost use Rattle.parquet_file.specs.Outcome.{Gives, TreeGives};
+ghost use Rattle.parquet_file.specs.Reading.{says_at, within_limits, claim_few};
+ghost use Rattle.parquet_file.specs.declared.fault.FileFault.TheVariants.{BadFooter};
+ghost use Rattle.parquet_file.specs.Views.{element_view, element_views, chunk_view, chunk_views, group_view, group_views, footer_view};
+
+use crate::fault::{FileError, FileFault};
+use crate::fields::{count, integer, natural, optional_integer, structs, structure, text, texts};
+use crate::footer::{ColumnChunk, Footer, RowGroup, SchemaElement};
+use lake_bytes::Cursor;
+use std::alloc::Global;
+use thrift_core::{ReadError, TValue, ThriftFault, read_struct};
+
+/// The most rows of a file, and of each of its groups.
+pub const MAX_FILE_ROWS: u64 = 4_194_304;
+
+/// What the footer's bytes say. P2 with what is wrong with them, and P9 for a claim of more than
+/// [`MAX_FILE_ROWS`].
+#[tactic(auto, unfolding(crate::specs::Reading::says_at))]
+pub(crate) fn read_metadata(alloc: Global, footer: &[u8]) -> Result<Footer, FileError>
+    ensures exact { Gives footer_view result (says_at footer.now) }
+{
+    let mut cursor = Cursor::new(footer);
+    let tree = read_struct(alloc, &mut cursor).map_err(in_footer)?;
+    let metadata = metadata(alloc, &tree).map_err(in_footer)?;
+    Ok(within_limits(metadata)?)
+}
+
+/// A fault of a footer's tree.
+fn in_footer(error: ReadError) -> FileError
+    ensures memory { error ≡ ReadError.Memory → result ≡ FileError.Memory }
+    ensures fault { (fault : ThriftFault) → error ≡ ReadError.Fault fault → result ≡ FileError.Fault (BadFooter fault) }
+{
+    match error {
+        ReadError::Memory => FileError::Memory,
+        ReadError::Fault(fault) => FileError::Fault(FileFault::BadFooter { fault }),
+    }
+}
+
+/// The same footer, where it and its groups claim no more rows than a file may have.
+#[tactic(auto, unfolding(crate::specs::Reading::within_limits))]
+fn within_limits(footer: Footer) -> Result<Footer, FileFault>
+    ensures { IsReading footer_view result (within_limits (footer_view footer)) }
+{
+    if footer.rows > MAX_FILE_ROWS || !claim_few(&footer.groups) {
+        return Err(FileFault::TooLarge);
+    }
+    Ok(footer)
+}
+
+/// No group claims more rows than a file may have.
+fn claim_few(groups: &[RowGroup]) -> bool
+    ensures { result ≡ claim_few (group_views groups.now) }
+{
+    groups.iter().all(|group| group.rows <= MAX_FILE_ROWS)
+}
+
+/// What a tree says of its file.
+#[tactic(auto, unfolding(crate::specs::Metadata::metadata_of))]
+fn metadata(alloc: Global, tree: &TValue) -> Result<Footer, ReadError>
+    ensures { TreeGives footer_view result (metadata_of (view tree.now)) }
+{
+    let schema = schema(alloc, structs(tree, 2)?)?;
+    let rows = count(tree, 3)?;
+    let groups = groups(alloc, structs(tree, 4)?)?;
+    Ok(Footer {
+        schema,
+        rows,
+        groups,
+    })
+}
+
+/// The nodes of the schema, of which the first is the root.
+fn schema(alloc: Global, nodes: &[TValue]) -> Result<Vec<SchemaElement>, ReadError>
+    ensures { TreeGives (λ elements. element_views elements.items) result (schema_of (views nodes.now)) }
+{
+    let mut elements = Vec::new(alloc);
+    let Some((first, others)) = nodes.split_first() else {
+        return Ok(elements);
+    };
+    elements.push(root(alloc, first)?)?;
+    for other in others {
+        elements.push(node(alloc, other)?)?;
+    }
+    Ok(elements)
+}
+
+/// The root: a name and a count of children.
+#[tactic(auto, unfolding(crate::specs::Metadata::root_of))]
+fn root(alloc: Global, tree: &TValue) -> Result<SchemaElement, ReadError>
+    ensures { TreeGives element_view result (root_of (view tree.now)) }
+{
+    let name = text(tree, 4)?;
+    let children = count(tree, 5)?;
+    Ok(SchemaElement {
+        physical: optional_integer(tree, 1),
+        repetition: optional_integer(tree, 3),
+        name: Vec::from_slice(alloc, name)?,
+        children,
+    })
+}
+
+/// Another node: a name and a repetition, and for a leaf a physical type.
+#[tactic(auto, unfolding(crate::specs::Metadata::node_of))]
+fn node(alloc: Global, tree: &TValue) -> Result<SchemaElement, ReadError>
+    ensures { TreeGives element_view result (node_of (view tree.now)) }
+{
+    let children = optional_integer(tree, 5).unwrap_or(0);
+    let physical = physical(tree, children)?;
+    let repetition = integer(tree, 3)?;
+    let name = text(tree, 4)?;
+    Ok(SchemaElement {
+        physical,
+        repetition: Some(repetition),
+        children: natural(children)?,
+        name: Vec::from_slice(alloc, name)?,
+    })
+}
+
+/// The physical type of a node with so many children. A leaf has to have one.
+#[tactic(auto, unfolding(crate::specs::Metadata::physical_of))]
+fn physical(tree: &TValue, children: i64) -> Result<Option<i64>, ThriftFault>
+    ensures { result ≡ physical_of children (view tree.now) }
+{
+    if children == 0 {
+        return Ok(Some(integer(tree, 1)?));
+    }
+    Ok(optional_integer(tree, 1))
+}
+
+/// The row groups, in order.
+fn groups(alloc: Global, members: &[TValue]) -> Result<Vec<RowGroup>, ReadError>
+    ensures { TreeGives (λ groups. group_views groups.items) result (each group_of (views members.now)) }
+{
+    let mut groups = Vec::new(alloc);
+    for member in members {
+        groups.push(group(alloc, member)?)?;
+    }
+    Ok(groups)
+}
+
+#[tactic(auto, unfolding(crate::specs::Metadata::group_of))]
+fn group(alloc: Global, tree: &TValue) -> Result<RowGroup, ReadError>
+    ensures { TreeGives group_view result (group_of (view tree.now)) }
+{
+    let chunks = chunks(alloc, structs(tree, 1)?)?;
+    let rows = count(tree, 3)?;
+    Ok(RowGroup { chunks, rows })
+}
+
+/// The chunks of a group, in order.
+fn chunks(alloc: Global, members: &[TValue]) -> Result<Vec<ColumnChunk>, ReadError>
+    ensures { TreeGives (λ chunks. chunk_views chunks.items) result (each chunk_of (views members.now)) }
+{
+    let mut chunks = Vec::new(alloc);
+    for member in members {
+        chunks.push(chunk(alloc, member)?)?;
+    }
+    Ok(chunks)
+}
+
+#[tactic(auto, unfolding(crate::specs::Metadata::chunk_of))]
+fn chunk(alloc: Global, tree: &TValue) -> Result<ColumnChunk, ReadError>
+    ensures { TreeGives chunk_view result (chunk_of (view tree.now)) }
+{
+    let column = structure(tree, 3)?;
+    let path = texts(alloc, column, 3)?;
+    let codec = integer(column, 4)?;
+    let values = count(column, 5)?;
+    let page = integer(column, 9)?;
+    Ok(ColumnChunk {
+        path,
+        codec,
+        values,
+        page,
+    })
+}

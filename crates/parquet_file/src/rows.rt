@@ -1,0 +1,184 @@
+//! The rows of a file, by what its footer says.
+
+ghost use Rattle.std.specs.Prelude.{◌≡◌, List, ℤ, option_map, length, IfOk, string_bytes};
+ghost use Rattle.lake_bytes.specs.Reading.{IsReading};
+ghost use Rattle.parquet_file.specs.File.{IsFile, KeepsLimits};
+ghost use Rattle.parquet_file.specs.Frame.{frame_of};
+ghost use Rattle.parquet_file.specs.Outcome.{Gives, AddsRows, Finds, Refuses};
+ghost use Rattle.parquet_file.specs.Reading.{rows_at, rows_of, rows_of_groups, rows_of_group, values_of_chunk, first_place, chunk_at, is_path, is_long_column, is_long_leaf, is_number};
+ghost use Rattle.parquet_file.specs.Views.{footer_view, group_view, group_views, chunk_view, chunk_views, texts_view, element_view, element_views};
+
+use crate::fault::{FileError, FileFault};
+use crate::footer::{ColumnChunk, Footer, RowGroup, SchemaElement};
+use crate::frame::split_file;
+use crate::metadata::read_metadata;
+use crate::pages::add_pages;
+use std::alloc::Global;
+
+/// Reads the rows of a file, for a table of one required column of type long with this name (Parquet, File Format).
+///
+/// P9, P1, P2 and P9 again as [`crate::Footer::read`] has them. P8 where the file's columns aren't the table's. Then
+/// row group by row group: P8 where it has no chunk of the column, and P3 for the chunk's codec; page by page P6 for
+/// one that begins before byte 4 or not before the footer, P11 for its header, P5 for its type, P6 where it runs into
+/// the footer, P7 for two sizes that differ, P4 for its encoding, P11 for too few bytes, and P7 for bytes behind its
+/// values or more values than the chunk has; P7 where the chunk hasn't as many values as the group has rows. At last P7
+/// where the groups haven't as many rows as the file.
+///
+/// The time is linear in the footer's bytes and in those of the pages of each group; pages that several groups
+/// state are read once for each.
+pub fn read_rows(alloc: Global, column: &str, bytes: &[u8]) -> Result<Vec<i64>, FileError>
+    // The bytes are a file of these rows, within the limits.
+    ensures found { IfOk result (λ rows. IsFile bytes.now column.now rows.items × KeepsLimits bytes.now rows.items) }
+    // The rows that the bytes are a file of, within the limits, are read, unless memory runs out.
+    ensures only { (rows : List ℤ) → IsFile bytes.now column.now rows → KeepsLimits bytes.now rows → Finds (λ rows. rows.items) rows result }
+    // A fault of the frame is answered whatever the memory.
+    ensures early { Refuses result (frame_of bytes.now) }
+    // Which fault it is: the first one in the order of the tests.
+    ensures exact { Gives (λ rows. rows.items) result (rows_at bytes.now column.now) }
+{
+    rows_in(alloc, column, bytes)
+}
+
+/// The rows of a file, in the order of the tests.
+#[tactic(auto, unfolding(crate::specs::Reading::rows_at))]
+fn rows_in(alloc: Global, column: &str, bytes: &[u8]) -> Result<Vec<i64>, FileError>
+    ensures exact { Gives (λ rows. rows.items) result (rows_at bytes.now column.now) }
+    ensures early { Refuses result (frame_of bytes.now) }
+{
+    let (front, footer) = split_file(bytes)?;
+    let footer = read_metadata(alloc, footer)?;
+    rows_by_footer(alloc, column, front, &footer)
+}
+
+/// The rows that a footer says stand in the bytes before it.
+#[tactic(auto, unfolding(crate::specs::Reading::rows_of))]
+fn rows_by_footer(
+    alloc: Global,
+    column: &str,
+    bytes: &[u8],
+    footer: &Footer,
+) -> Result<Vec<i64>, FileError>
+    ensures { Gives (λ rows. rows.items) result (rows_of bytes.now column.now (footer_view footer.now)) }
+{
+    if !is_long_column(column, &footer.schema) {
+        return Err(FileFault::SchemaMismatch.into());
+    }
+    let most = footer.rows.min(bytes.len() as u64 / 8);
+    let mut rows = Vec::with_capacity(alloc, most as usize)?;
+    add_groups(alloc, column, bytes, &footer.groups, &mut rows)?;
+    if rows.len() as u64 != footer.rows {
+        return Err(FileFault::CountMismatch.into());
+    }
+    Ok(rows)
+}
+
+/// The rows of several groups, added to the rows.
+fn add_groups(
+    alloc: Global,
+    column: &str,
+    bytes: &[u8],
+    groups: &[RowGroup],
+    rows: &mut Vec<i64>,
+) -> Result<(), FileError>
+    ensures { AddsRows (rows_of_groups bytes.now column.now (group_views groups.now)) rows.old.items result rows.new.items }
+{
+    for group in groups {
+        add_group(alloc, column, bytes, group, rows)?;
+    }
+    Ok(())
+}
+
+/// The rows of one group, added to the rows.
+#[tactic(auto, unfolding(crate::specs::Reading::rows_of_group))]
+fn add_group(
+    alloc: Global,
+    column: &str,
+    bytes: &[u8],
+    group: &RowGroup,
+    rows: &mut Vec<i64>,
+) -> Result<(), FileError>
+    ensures { AddsRows (rows_of_group bytes.now column.now (group_view group.now)) rows.old.items result rows.new.items }
+{
+    let Some(chunk) = chunk_of(column, &group.chunks) else {
+        return Err(FileFault::SchemaMismatch.into());
+    };
+    add_chunk(alloc, bytes, chunk, rows)?;
+    if chunk.values != group.rows {
+        return Err(FileFault::CountMismatch.into());
+    }
+    Ok(())
+}
+
+/// The values of a chunk, added to the rows. P3 for its codec, and P6 where it begins before byte 4.
+#[tactic(auto, unfolding(crate::specs::Reading::values_of_chunk))]
+fn add_chunk(
+    alloc: Global,
+    bytes: &[u8],
+    chunk: &ColumnChunk,
+    rows: &mut Vec<i64>,
+) -> Result<(), FileError>
+    ensures { AddsRows (values_of_chunk bytes.now (chunk_view chunk.now)) rows.old.items result rows.new.items }
+{
+    if chunk.codec != UNCOMPRESSED {
+        return Err(FileFault::Codec { n: chunk.codec }.into());
+    }
+    if chunk.values == 0 {
+        return Ok(());
+    }
+    let place = first_place(chunk.page)?;
+    add_pages(alloc, bytes, place, chunk.values, rows)
+}
+
+/// The number of the codec UNCOMPRESSED, of the type INT64 and of the repetition REQUIRED.
+const UNCOMPRESSED: i64 = 0;
+
+const INT64: i64 = 2;
+
+const REQUIRED: i64 = 0;
+
+/// The place where a chunk's first page begins, behind the magic bytes.
+#[tactic(auto, unfolding(crate::specs::Reading::first_place))]
+fn first_place(page: i64) -> Result<usize, FileFault>
+    ensures { IsReading (λ place. place) result (first_place page) }
+{
+    if page < 4 {
+        return Err(FileFault::BadOffset);
+    }
+    Ok(page as usize)
+}
+
+/// The first chunk of the column.
+fn chunk_of<'a>(column: &str, chunks: &'a [ColumnChunk]) -> Option<&'a ColumnChunk>
+    ensures { option_map (λ chunk. chunk_view chunk.now) result ≡ chunk_at column.now (chunk_views chunks.now) }
+{
+    chunks.iter().find(|chunk| is_path(column, &chunk.path))
+}
+
+/// The path of a column at the top.
+fn is_path(column: &str, path: &[Vec<u8>]) -> bool
+    ensures { result ≡ is_path column.now (texts_view path.now) }
+{
+    match path {
+        [name] => name.as_slice() == column.as_bytes(),
+        _ => false,
+    }
+}
+
+/// A root with one child, a required leaf of type INT64 with this name.
+fn is_long_column(column: &str, schema: &[SchemaElement]) -> bool
+    ensures { result ≡ is_long_column column.now (element_views schema.now) }
+{
+    match schema {
+        [root, leaf] => root.children == 1 && is_long_leaf(column, leaf),
+        _ => false,
+    }
+}
+
+fn is_long_leaf(column: &str, leaf: &SchemaElement) -> bool
+    ensures { result ≡ is_long_leaf column.now (element_view leaf.now) }
+{
+    leaf.name.as_slice() == column.as_bytes()
+        && leaf.physical == Some(INT64)
+        && leaf.repetition == Some(REQUIRED)
+        && leaf.children == 0
+}
