@@ -1,0 +1,13 @@
+pub mod Batches
+pub mod Grown
+pub mod Handed
+pub mod HoldingNames
+pub mod HoldingOne
+pub mod HoldingPuts
+pub mod HoldingSchema
+pub mod Kept
+pub mod Places
+pub mod Read
+pub mod Resumed
+pub mod Same
+pub mod Seen

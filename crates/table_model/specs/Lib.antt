@@ -1,0 +1,11 @@
+pub mod Rows
+pub mod Table
+pub mod Appends
+pub mod Reads
+pub mod Lawful
+pub mod Views
+pub mod Resumed
+pub mod Names
+pub mod Schema
+pub mod Commits
+pub mod Holds

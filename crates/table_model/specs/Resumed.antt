@@ -1,0 +1,46 @@
+-- Reads that go on where the last one ended, while the table grows.
+use Rattle.std.specs.Prelude.{ℕ, List, [], ◌∷◌, ◌++◌}
+use Rattle.table_model.specs.Rows.{Row}
+use Rattle.table_model.specs.Table.{Entry}
+use Rattle.table_model.specs.Reads.{Answer, handed, beyond, bad_place, read}
+use Rattle.table_model.specs.declared.reading.Place.{Place}
+
+-- What several reads handed out together, the place where the next read begins, and the table that the last one read.
+pub record Handed : Type 0 where
+  pub out : List Row
+  pub next : Place
+  pub final : List Entry
+
+-- the rows of an answer: a read that is refused hands out none
+abbrev pub rows_of : Answer → List Row
+rows_of (handed out next) = out
+rows_of (beyond next) = []
+rows_of (bad_place version) = []
+
+-- where the next read begins: a read that is refused leaves its place
+abbrev pub next_after : Place → Answer → Place
+next_after place (handed out next) = next
+next_after place (beyond next) = place
+next_after place (bad_place version) = place
+
+-- the same with the rows of earlier reads in front
+abbrev pub with_earlier : List Row → Handed → Handed
+with_earlier out later = record { out = out ++ later.out; next = later.next; final = later.final }
+
+-- A reader reads again and again. Before each read the table grows by some entries, or by none; each read has its own
+-- limit, and begins where the last one ended.
+abbrev pub reads_on : List (ℕ × List Entry) → Place → List Entry → Handed
+reads_on [] place entries = record { out = []; next = place; final = entries }
+reads_on (r ∷ later) place entries =
+    let table = entries ++ r.1 in
+    let answer = read r.0 place table in
+    with_earlier (rows_of answer) (reads_on later (next_after place answer) table)
+
+-- all that the table grew by
+abbrev pub growth : List (ℕ × List Entry) → List Entry
+growth [] = []
+growth (r ∷ later) = r.1 ++ growth later
+
+-- where the first read begins: the place before all rows
+abbrev pub beginning : Place
+beginning = record { version = 0; file = 0; row = 0 }

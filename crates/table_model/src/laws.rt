@@ -1,0 +1,98 @@
+//! Laws of the plain table, each a function with an empty body whose contract is the law.
+
+ghost use Rattle.std.specs.Prelude.{◌≡◌, ◌↔◌, ◌<◌, ◌≤◌, ◌-◌, ◌⊎◌, IsTrue, ℕ, List, [], ◌∷◌, ◌++◌, length, take, drop, true};
+ghost use Rattle.table_model.specs.Rows.{Row, same_rows};
+ghost use Rattle.table_model.specs.Table.{Batch, Entry, creation, batch, batches_by, rows};
+ghost use Rattle.table_model.specs.Appends.{appended, with_batch, with_close};
+ghost use Rattle.table_model.specs.Reads.{read, handed, position, is_place, end};
+ghost use Rattle.table_model.specs.Resumed.{reads_on, growth, beginning};
+ghost use Rattle.table_model.specs.Lawful.{IsLawful};
+ghost use Rattle.table_model.specs.declared.reading.Place.{Place};
+ghost use Rattle.table_model.specs.declared.table.Appended.TheVariants.{Already};
+
+/// Rows are the same exactly where they are equal.
+pub fn equal_rows_are_the_same()
+    ensures { (xs ys : List Row) → IsTrue (same_rows xs ys) ↔ (xs ≡ ys) }
+{}
+
+/// A table that was just created is lawful.
+pub fn a_new_table_is_lawful()
+    ensures { IsLawful (creation ∷ []) }
+{}
+
+/// An append leaves a lawful table lawful, whatever it answers.
+pub fn appends_keep_lawful()
+    ensures { (b : Batch) (first : Entry) (entries : List Entry) → IsLawful (first ∷ entries) → IsLawful (with_batch (appended b (first ∷ entries)) b (first ∷ entries)) }
+{}
+
+/// So does a close.
+pub fn closes_keep_lawful()
+    ensures { (application : List ℕ) (first : Entry) (entries : List Entry) → IsLawful (first ∷ entries) → IsLawful (with_close application (first ∷ entries)) }
+{}
+
+/// The last batch of an application stands already when it is handed in again, whatever others wrote behind it and
+/// also behind its stream's close; and then the table stays as it was.
+pub fn a_committed_batch_stands_already()
+    ensures answer { (b : Batch) (entries more : List Entry) → batches_by b.application more ≡ [] → appended b (entries ++ batch b ∷ more) ≡ Already b.number }
+    ensures left { (b : Batch) (entries more : List Entry) → batches_by b.application more ≡ []
+        → with_batch (appended b (entries ++ batch b ∷ more)) b (entries ++ batch b ∷ more) ≡ entries ++ batch b ∷ more }
+{}
+
+/// In a lawful table no batch stands twice: of two batches of one application, the later one has the greater number.
+pub fn numbers_stand_once()
+    ensures { (before between after : List Entry) (b c : Batch) → IsLawful (before ++ batch b ∷ between ++ batch c ∷ after)
+        → b.application ≡ c.application → b.number < c.number }
+{}
+
+/// What a read hands out are the table's rows from its place up to the next one, in the order of the log: `max` of
+/// them, or all up to the log's end. The next place is one that a read can begin at.
+pub fn a_read_hands_the_rows_between_its_places()
+    ensures rows { (max : ℕ) (place next : Place) (entries : List Entry) (out : List Row) → read max place entries ≡ handed out next
+        → out ≡ take (position next entries - position place entries) (drop (position place entries) (rows entries)) }
+    ensures onward { (max : ℕ) (place next : Place) (entries : List Entry) (out : List Row) → read max place entries ≡ handed out next
+        → (position place entries ≤ position next entries) × (is_place next entries ≡ true) }
+    ensures as_many { (max : ℕ) (place next : Place) (entries : List Entry) (out : List Row) → read max place entries ≡ handed out next
+        → (length out ≡ max) ⊎ (position next entries ≡ length (rows entries)) }
+    ensures at_end { (max : ℕ) (place next : Place) (entries : List Entry) (out : List Row) → read max place entries ≡ handed out next
+        → (length out ≡ max) ⊎ (next ≡ end entries) }
+    ensures at_most { (max : ℕ) (place next : Place) (entries : List Entry) (out : List Row) → read max place entries ≡ handed out next
+        → length out ≤ max }
+{}
+
+/// A place that a read can begin at stays one while the table grows, and as many rows stand before it. So a read that
+/// begins there later is never refused.
+pub fn places_stay()
+    ensures stay { (place : Place) (entries more : List Entry) → is_place place entries ≡ true
+        → (is_place place (entries ++ more) ≡ true) × (position place (entries ++ more) ≡ position place entries) }
+    ensures answered { (max : ℕ) (place : Place) (entries more : List Entry) → is_place place entries ≡ true
+        → (out : List Row) × (next : Place) × (read max place (entries ++ more) ≡ handed out next) }
+{}
+
+/// Reads that each go on where the last one ended, while the table grows between them, hand out together the final
+/// table's rows from the first place up to the one where the next read begins: each once, in the order of the log,
+/// whatever the limits of the reads.
+pub fn resumed_reads_hand_out_the_log()
+    ensures final_table { (reads : List (ℕ × List Entry)) (place : Place) (entries : List Entry) → (reads_on reads place entries).final ≡ entries ++ growth reads }
+    ensures rows { (reads : List (ℕ × List Entry)) (place : Place) (entries : List Entry) → is_place place entries ≡ true
+        → let all = reads_on reads place entries in
+        all.out ≡ take (position all.next all.final - position place entries) (drop (position place entries) (rows all.final)) }
+    ensures onward { (reads : List (ℕ × List Entry)) (place : Place) (entries : List Entry) → is_place place entries ≡ true
+        → let all = reads_on reads place entries in
+        (position place entries ≤ position all.next all.final) × (is_place all.next all.final ≡ true) }
+    ensures from_beginning { (reads : List (ℕ × List Entry)) (entries : List Entry)
+        → let all = reads_on reads beginning entries in
+        all.out ≡ take (position all.next all.final) (rows all.final) }
+{}
+
+/// Reads from the beginning that come to the end of the log hand out all of its rows, each once and in order,
+/// whatever the limits of the reads: where the next read would begin at the log's end, and where the last read
+/// handed out fewer rows than its limit.
+pub fn reads_to_the_end_hand_out_all()
+    ensures at_end { (reads : List (ℕ × List Entry)) (entries : List Entry)
+        → let all = reads_on reads beginning entries in
+        all.next ≡ end all.final → all.out ≡ rows all.final }
+    ensures short { (earlier : List (ℕ × List Entry)) (max : ℕ) (more entries : List Entry) (out : List Row) (next : Place)
+        → let before = reads_on earlier beginning entries in
+        let all = reads_on (earlier ++ (max, more) ∷ []) beginning entries in
+        read max before.next (before.final ++ more) ≡ handed out next → length out < max → all.out ≡ rows all.final }
+{}
