@@ -4,3 +4,10 @@ pub mod Texts
 pub mod LineLemmas
 pub mod RunLemmas
 pub mod WordLemmas
+pub mod Moments
+pub mod CommitLemmas
+pub mod ReplyLemmas
+pub mod SchemaLemmas
+pub mod PutLemmas
+pub mod NameLemmas
+pub mod RunsLemmas

@@ -2,27 +2,44 @@
 use Rattle.std.proofs.Common.{◌≡◌, ℕ, ◌+◌, ◌<◌, ◌≤◌, ◌∷◌, [], ◌++◌, List, Option, None, Some, Bor, IfSome, option_map, length, true, false, refl, ap, subst, sym, ◌∙◌, arith, append_assoc, append-nil}
 use Rattle.std.specs.Io.KnownBytes.{Appends}
 use Rattle.std.proofs.lemmas.Bool.{cond-true, cond-false}
-use Rattle.lake.specs.Lines.{reading_of}
-use Rattle.lake.specs.Told.{reply_to, is_bad, told_from, first_bad_from, lines_left}
+use Rattle.store_core.specs.Objects.{Objects}
+use Rattle.lake.specs.Lines.{Reading, skipped, bad, asks, reading_of}
+use Rattle.lake.specs.Told.{reply_to, left_by, is_bad, told_from, left_from, first_bad_from, lines_left}
 use Rattle.lake.proofs.StreamLemmas.{Appends-both, Towards}
 
-module _ (old now new : Option (List ℕ)) (number : ℕ) (line : List ℕ) (lines : List (List ℕ)) (whole : List ℕ) where
+module _ (old now new : Option (List ℕ)) (number : ℕ) (objects : Objects) (line : List ℕ) (lines : List (List ℕ)) (whole : List ℕ) where
   -- a line that isn't bad leaves the rest to be told
-  pub towards_next : Towards old now (told_from number (line ∷ lines)) whole → Appends now new (reply_to number (reading_of line)) → is_bad (reading_of line) ≡ false → Towards old new (told_from (number + 1) lines) whole
+  pub towards_next : Towards old now (told_from number objects (line ∷ lines)) whole → Appends now new (reply_to number objects (reading_of line)) → is_bad (reading_of line) ≡ false → Towards old new (told_from (number + 1) (left_by objects (reading_of line)) lines) whole
   unfolding told_from
   towards_next t added goes_on =
       record {
-        front = t.front ++ reply_to number (reading_of line);
+        front = t.front ++ reply_to number objects (reading_of line);
         added = Appends-both old now new t.front _ t.added added;
-        joins = append_assoc t.front _ _ ∙ ap (λ u. t.front ++ (reply_to number (reading_of line) ++ u)) (sym (cond-false _ _ _ goes_on)) ∙ t.joins;
+        joins = append_assoc t.front _ _ ∙ ap (λ u. t.front ++ (reply_to number objects (reading_of line) ++ u)) (sym (cond-false _ _ _ goes_on)) ∙ t.joins;
       }
 
   -- behind a bad line nothing is told
-  pub towards_bad : Towards old now (told_from number (line ∷ lines)) whole → Appends now new (reply_to number (reading_of line)) → is_bad (reading_of line) ≡ true → Appends old new whole
+  pub towards_bad : Towards old now (told_from number objects (line ∷ lines)) whole → Appends now new (reply_to number objects (reading_of line)) → is_bad (reading_of line) ≡ true → Appends old new whole
   unfolding told_from
   towards_bad t added ends =
-      let last = ap (λ u. reply_to number (reading_of line) ++ u) (cond-true (is_bad (reading_of line)) [] (told_from (number + 1) lines) ends) ∙ append-nil _ in
+      let last = ap (λ u. reply_to number objects (reading_of line) ++ u) (cond-true (is_bad (reading_of line)) [] (told_from (number + 1) (left_by objects (reading_of line)) lines) ends) ∙ append-nil _ in
       subst (λ u. Appends old new u) (ap (λ u. t.front ++ u) (sym last) ∙ t.joins) (Appends-both old now new t.front _ t.added added)
+
+-- the objects that stand behind lines, from one line on
+module _ (objects : Objects) (line : List ℕ) (lines : List (List ℕ)) where
+  pub left_next : is_bad (reading_of line) ≡ false → left_from objects (line ∷ lines) ≡ left_from (left_by objects (reading_of line)) lines
+  unfolding left_from
+  left_next goes_on = cond-false _ _ _ goes_on
+
+  pub left_here : is_bad (reading_of line) ≡ true → left_from objects (line ∷ lines) ≡ objects
+  unfolding left_from
+  left_here ends = cond-true _ _ _ ends
+
+-- a bad line leaves the objects as they are
+pub left_by_bad : (objects : Objects) (r : Reading) → is_bad r ≡ true → left_by objects r ≡ objects
+left_by_bad objects skipped h = refl
+left_by_bad objects bad h = refl
+left_by_bad objects (asks wish) h = cc
 
 -- the number of the first bad line, from one line on
 module _ (number : ℕ) (line : List ℕ) (lines : List (List ℕ)) where
@@ -49,9 +66,13 @@ pub lines_left_none : (rest : Option (Bor (List ℕ))) → ((x : Bor (List ℕ))
 lines_left_none None h = refl
 lines_left_none (Some x) h = absurd (h x refl)
 
-pub told_from-none : (number : ℕ) → told_from number [] ≡ []
+pub told_from-none : (number : ℕ) (objects : Objects) → told_from number objects [] ≡ []
 unfolding told_from
-told_from-none number = refl
+told_from-none number objects = refl
+
+pub left_from-none : (objects : Objects) → left_from objects [] ≡ objects
+unfolding left_from
+left_from-none objects = refl
 
 pub first_bad_from-none : (number : ℕ) → first_bad_from number [] ≡ None
 unfolding first_bad_from

@@ -1,7 +1,12 @@
+pub mod Commits
+pub mod Creating
 pub mod Fields
 pub mod Lines
 pub mod Names
 pub mod Replies
+pub mod ReplyView
+pub mod Runs
+pub mod Schema
 pub mod Streams
 pub mod Told
 pub mod Words

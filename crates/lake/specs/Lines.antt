@@ -1,5 +1,5 @@
 -- The lines of a script: which bytes spell which line.
-use Rattle.std.specs.Prelude.{◌==◌, ℕ, ◌||◌, Bool, List, Option, Some, None, codes, nat_eq, option_map, if◌then◌else◌}
+use Rattle.std.specs.Prelude.{◌==◌, ℕ, ◌<◌, ◌^◌, ◌||◌, Bool, List, ⊤, Option, Some, None, codes, nat_eq, option_map, if◌then◌else◌}
 use Rattle.std.specs.List.{list_all, starts_with}
 use Rattle.std.specs.Str.{is_utf8}
 use Rattle.serde_json.specs.Data.{Items}
@@ -215,6 +215,11 @@ wish_view (line.Finish actor) = finish actor.now
 wish_view (line.Die actor) = die actor.now
 wish_view (line.Land put) = land put
 wish_view (line.Foreign version action) = foreign version action.now
+
+-- a moment fits where a commit keeps one
+abbrev pub IsTimely : Wish → Type 0
+IsTimely (create id at schema) = at < 2 ^ 63
+IsTimely _ = ⊤
 
 -- what the code took a line for
 abbrev pub reading_view : readings.Reading → Reading

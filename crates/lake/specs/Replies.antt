@@ -2,13 +2,26 @@
 use Rattle.std.specs.Prelude.{ℕ, List, [], ◌∷◌, ◌++◌, codes}
 use Rattle.std.specs.Fmt.{decimal}
 use Rattle.lake.specs.declared.fault.Fault.{Fault}
-use Rattle.lake.specs.declared.fault.Fault.TheVariants.{NotYet, NotRead, NotWritten}
+use Rattle.lake.specs.declared.fault.Fault.TheVariants.{NotYet, NoSuchName, NotRead, NotWritten}
+use Rattle.lake.specs.declared.fault.CreateFault.{CreateFault}
+use Rattle.lake.specs.declared.fault.CreateFault.TheVariants as creating
 
 -- a fault: its code and its name
 abbrev pub fault_text : Fault → List ℕ
 fault_text NotYet = codes "N1 NotYet"
+fault_text NoSuchName = codes "Q1 NoSuchName"
 fault_text NotRead = codes "F3 NotRead"
 fault_text NotWritten = codes "F4 NotWritten"
+
+-- why a table isn't created
+abbrev pub create_fault_text : CreateFault → List ℕ
+create_fault_text creating.NotYet = fault_text NotYet
+create_fault_text creating.TableExists = codes "E1 TableExists"
+create_fault_text creating.BadSchema = codes "E2 BadSchema G1 BadJson"
+create_fault_text creating.BadId = codes "E3 BadId"
+create_fault_text creating.Memory = codes "E4 Memory"
+create_fault_text creating.Lost = codes "E5 Lost"
+create_fault_text creating.TooLarge = codes "E6 TooLarge"
 
 -- a fault's text, as it is told
 abbrev pub refused : List ℕ → List ℕ
@@ -21,3 +34,7 @@ line_of text = text ++ 10 ∷ []
 -- the reply to a line that is none, by its number
 abbrev pub bad_line : ℕ → List ℕ
 bad_line number = line_of (codes "bad line " ++ decimal number)
+
+-- the reply where version 0 was put
+abbrev pub created : List ℕ
+created = codes "Created 0"

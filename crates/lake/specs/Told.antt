@@ -1,11 +1,16 @@
 -- What a script is told.
-use Rattle.std.specs.Prelude.{◌==◌, ◌+◌, ◌++◌, ℕ, Bool, true, false, List, [], ◌∷◌, Option, Some, None, ⊤, if◌then◌else◌}
+use Rattle.std.specs.Prelude.{◌==◌, ◌+◌, ◌++◌, ℕ, Bool, true, false, List, [], ◌∷◌, Option, Some, None, Result, Ok, Err, ⊤, if◌then◌else◌}
 use Rattle.std.specs.List.{slice_split}
+use Rattle.hex.specs.Hex.{encode_lower}
+use Rattle.store_core.specs.Objects.{Objects, object_at}
 use Rattle.lake.specs.declared.run.End.{End}
 use Rattle.lake.specs.declared.run.End.TheVariants.{Done, BadLine, NotRead, NotWritten}
-use Rattle.lake.specs.declared.fault.Fault.TheVariants.{NotYet}
-use Rattle.lake.specs.Lines.{Wish, Reading, skipped, bad, asks, reading_of}
-use Rattle.lake.specs.Replies.{fault_text, refused, line_of, bad_line}
+use Rattle.lake.specs.declared.fault.Fault.TheVariants.{NotYet, NoSuchName}
+use Rattle.lake.specs.declared.fault.CreateFault.{CreateFault}
+use Rattle.lake.specs.Commits.{commit_name}
+use Rattle.lake.specs.Creating.{commit_from, created_by, with_creation}
+use Rattle.lake.specs.Lines.{Wish, create, show, hex, Reading, skipped, bad, asks, reading_of}
+use Rattle.lake.specs.Replies.{fault_text, create_fault_text, created, refused, line_of, bad_line}
 
 -- a newline
 abbrev pub is_newline : ℕ → Bool
@@ -20,15 +25,48 @@ abbrev pub lines_left : Option (List ℕ) → List (List ℕ)
 lines_left None = []
 lines_left (Some text) = lines_of text
 
--- the reply to what a line asks for
-abbrev pub reply_to_wish : Wish → List ℕ
-reply_to_wish wish = line_of (refused (fault_text NotYet))
+-- the reply to a line that creates a table
+abbrev pub created_reply : Result (List ℕ) CreateFault → List ℕ
+created_reply (Ok bytes) = line_of created
+created_reply (Err refusal) = line_of (refused (create_fault_text refusal))
 
--- the reply to a line of that number
-abbrev pub reply_to : ℕ → Reading → List ℕ
-reply_to number skipped = []
-reply_to number bad = bad_line number
-reply_to number (asks wish) = reply_to_wish wish
+-- an object, as it stands
+abbrev pub shown : Option (List ℕ) → List ℕ
+shown None = line_of (refused (fault_text NoSuchName))
+shown (Some bytes) = bytes
+
+-- an object, in hexadecimal
+abbrev pub in_hex : Option (List ℕ) → List ℕ
+in_hex None = line_of (refused (fault_text NoSuchName))
+in_hex (Some bytes) = line_of (encode_lower bytes)
+
+-- the reply to what isn't there yet
+abbrev pub not_yet : List ℕ
+not_yet = line_of (refused (fault_text NotYet))
+
+-- the reply to what a line asks for, over the objects that stand
+abbrev pub reply_to_wish : Objects → Wish → List ℕ
+reply_to_wish objects (create id at schema) = created_reply (created_by objects id at schema)
+reply_to_wish objects (show version) = shown (object_at objects (commit_name version))
+reply_to_wish objects (hex name) = in_hex (object_at objects name)
+reply_to_wish objects _ = not_yet
+
+-- the objects that stand once a line has what it asks for
+abbrev pub left_by_wish : Objects → Wish → Objects
+left_by_wish objects (create id at schema) = with_creation objects (commit_from id at schema)
+left_by_wish objects _ = objects
+
+-- the reply to a line of that number, over the objects that stand
+abbrev pub reply_to : ℕ → Objects → Reading → List ℕ
+reply_to number objects skipped = []
+reply_to number objects bad = bad_line number
+reply_to number objects (asks wish) = reply_to_wish objects wish
+
+-- the objects that stand behind a line
+abbrev pub left_by : Objects → Reading → Objects
+left_by objects skipped = objects
+left_by objects bad = objects
+left_by objects (asks wish) = left_by_wish objects wish
 
 -- a bad line ends a run
 abbrev pub is_bad : Reading → Bool
@@ -37,11 +75,17 @@ is_bad bad = true
 is_bad (asks wish) = false
 
 -- what is told for these lines, of which the first has that number; nothing is told behind a bad line
-unfoldable pub told_from : ℕ → List (List ℕ) → List ℕ
-told_from number [] = []
-told_from number (line ∷ lines) =
-    reply_to number (reading_of line)
-    ++ (if is_bad (reading_of line) then [] else told_from (number + 1) lines)
+unfoldable pub told_from : ℕ → Objects → List (List ℕ) → List ℕ
+told_from number objects [] = []
+told_from number objects (line ∷ lines) =
+    reply_to number objects (reading_of line)
+    ++ (if is_bad (reading_of line) then [] else told_from (number + 1) (left_by objects (reading_of line)) lines)
+
+-- the objects that stand behind these lines; a bad line ends them
+unfoldable pub left_from : Objects → List (List ℕ) → Objects
+left_from objects [] = objects
+left_from objects (line ∷ lines) =
+    if is_bad (reading_of line) then objects else left_from (left_by objects (reading_of line)) lines
 
 -- the number of the first bad line among these, if there is one
 unfoldable pub first_bad_from : ℕ → List (List ℕ) → Option ℕ
@@ -49,9 +93,13 @@ first_bad_from number [] = None
 first_bad_from number (line ∷ lines) =
     if is_bad (reading_of line) then Some number else first_bad_from (number + 1) lines
 
--- what is told for a script, whose lines are counted from 1
-abbrev pub told : List ℕ → List ℕ
-told text = told_from 1 (lines_of text)
+-- what is told for a script over these objects, its lines counted from 1
+abbrev pub told : Objects → List ℕ → List ℕ
+told objects text = told_from 1 objects (lines_of text)
+
+-- the objects that stand behind a script
+abbrev pub left : Objects → List ℕ → Objects
+left objects text = left_from objects (lines_of text)
 
 -- the number of a script's first bad line, if it has one
 abbrev pub first_bad : List ℕ → Option ℕ

@@ -1,8 +1,9 @@
 // One command, from its words to its exit status.
-ghost use Rattle.std.specs.Prelude.{◌≡◌, ◌≢◌, ℕ, [], map, IfSome};
+ghost use Rattle.std.specs.Prelude.{◌≡◌, ◌≢◌, ℕ, [], false, map, IfSome};
 ghost use Rattle.std.specs.Io.KnownBytes.{Appends};
 ghost use Rattle.clap.specs.Words.{fault_of, kind_of};
 ghost use Rattle.lake.specs.declared.words.Command.{Command};
+ghost use Rattle.lake.specs.Runs.{MayBeTold, Tells};
 ghost use Rattle.lake.specs.Status.{status_of, status_at, status_of_kind};
 ghost use Rattle.lake.specs.Streams.{held, unread};
 ghost use Rattle.lake.specs.Told.{told, first_bad};
@@ -18,6 +19,7 @@ use clap::error::ErrorKind;
 use std::alloc::Global;
 use std::convert::AsStr;
 use std::io::{Read, Write};
+use store_core::MemoryStore;
 
 /// The exit status of a command that was done.
 pub const DONE: u8 = 0;
@@ -27,6 +29,15 @@ pub const REFUSED: u8 = 1;
 
 /// The exit status of words or of a line that can't be read.
 pub const MISUSED: u8 = 2;
+
+/// How a command ended.
+#[derive(Clone, Copy, Debug, PartialEq, Eq)]
+pub struct Exit {
+    /// The exit status.
+    pub status: u8,
+    /// Whether a growth was refused on the way.
+    pub is_short: bool,
+}
 
 // The status of words that ask for help, that are refused, or that were too much to read.
 fn misused(error: &Error) -> u8
@@ -54,29 +65,43 @@ fn ended<E: Write>(end: End, err: &mut E) -> u8
     REFUSED
 }
 
-/// Runs the command that the words ask for, and gives the exit status. Replies go to `output`. What
-/// `clap` says of the words and the program's own faults go to `err`.
+/// Runs the command that the words ask for, over a store in which nothing stands yet. Replies go to
+/// `output`. What `clap` says of the words and the program's own faults go to `err`.
 pub fn command<S: AsStr, R: Read, W: Write, E: Write>(
     alloc: Global,
     words: &[S],
     input: &mut Input<R>,
     output: &mut Output<W>,
     err: &mut E,
-) -> u8
-    // A script that isn't refused writes what it is told.
-    ensures told { (c : Command) → Spells (map S.text words.now) c → result ≢ REFUSED
-        → IfSome (unread R.remaining input.old) (λ text. (result ≡ status_at (first_bad text))
-        × Appends (held W.contents output.old) (W.contents output.new.writer) (told text)) }
+) -> Exit
+    // A script that isn't refused writes what it is told; the lines that met a refused growth are
+    // told so.
+    ensures told { (c : Command) → Spells (map S.text words.now) c → result.status ≢ REFUSED → result.is_short ≡ false
+        → IfSome (unread R.remaining input.old) (λ text.
+        Appends (held W.contents output.old) (W.contents output.new.writer) (told [] text)) }
+    ensures tells { (c : Command) → Spells (map S.text words.now) c → result.status ≢ REFUSED
+        → IfSome (unread R.remaining input.old) (λ text.
+        Tells (held W.contents output.old) (W.contents output.new.writer) (MayBeTold [] text)) }
+    ensures status { (c : Command) → Spells (map S.text words.now) c → result.status ≢ REFUSED
+        → IfSome (unread R.remaining input.old) (λ text. result.status ≡ status_at (first_bad text)) }
 
     // Words that can't be read run nothing.
     ensures unread { fault_of commands (map S.text words.now) ≢ [] → (input.new ≡ input.old) × (output.new ≡ output.old) }
 {
     match read_words(alloc, words) {
-        Ok(Command::Script { restore }) => ended(run(alloc, input, output, restore).end, err),
+        Ok(Command::Script { restore }) => {
+            let mut store = MemoryStore::new(alloc);
+            let outcome = run(alloc, input, output, &mut store, restore);
+            Exit {
+                status: ended(outcome.end, err),
+                is_short: outcome.is_short,
+            }
+        }
         Err(error) => {
             let status = misused(&error);
+            let is_short = error.kind() == ErrorKind::OutOfMemory;
             let _ = err.write_fmt(error);
-            status
+            Exit { status, is_short }
         }
     }
 }

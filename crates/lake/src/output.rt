@@ -103,4 +103,19 @@ impl<W: Write> Output<W> {
         }
         Ok(())
     }
+
+    /// Gives bytes as they are. They are written with the replies that wait once they are many.
+    pub fn show(&mut self, bytes: &[u8]) -> Result<(), OutputError>
+        ensures held { OnOk result (Appends (held W.contents self.old) (held W.contents self.new) bytes.now) }
+        ensures stands { OnErr result (StandsIn (held W.contents self.old) (W.contents self.new.writer) []) }
+        ensures unbroken { OnOk result (self.new.is_broken ≡ self.old.is_broken) }
+        ensures broken { result ≡ Err OutputError.Broken → self.new.is_broken ≡ true }
+        ensures memory { result ≡ Err OutputError.Memory → self.new.is_broken ≡ self.old.is_broken }
+    {
+        if self.pending.len() >= FULL {
+            self.flush()?;
+        }
+        self.pending.extend_from_slice(bytes)?;
+        Ok(())
+    }
 }

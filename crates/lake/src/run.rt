@@ -2,17 +2,18 @@
 ghost use Rattle.std.specs.Prelude.{◌≡◌, ◌≢◌, ◌+◌, ◌<◌, ◌≤◌, ◌^◌, [], ◌∷◌, ◌⊎◌, true, false, not, length, position, option_map, OnOk, OnErr, IfOk, IfErr, IfSome};
 ghost use Rattle.std.specs.Io.KnownBytes.{Appends};
 ghost use Rattle.lake.specs.declared.input.TheConstants.{MOST_BYTES, MOST_READS};
-ghost use Rattle.lake.specs.Lines.{reading_of, wish_view};
+ghost use Rattle.lake.specs.Lines.{reading_of};
+ghost use Rattle.lake.specs.Runs.{MayBeTold, Replies, Runs, Tells, TellsFront};
 ghost use Rattle.lake.specs.Streams.{held, unread, StandsIn};
-ghost use Rattle.lake.specs.Told.{lines_of, lines_left, is_newline, reply_to_wish, reply_to, is_bad, told, first_bad, Finishes};
+ghost use Rattle.lake.specs.Told.{lines_of, lines_left, is_newline, reply_to, left_by, is_bad, told, left, first_bad, Finishes};
 
-use crate::fault::{Fault, Refusal};
 use crate::input::{Input, InputError};
-use crate::line::Line;
 use crate::output::{Output, OutputError};
 use crate::reading::{Reading, reading_of};
+use crate::reply::grant;
 use std::alloc::Global;
 use std::io::{Read, Write};
+use store_core::Store;
 
 /// How a run ended.
 #[derive(Clone, Copy, Debug, PartialEq, Eq)]
@@ -32,6 +33,8 @@ pub enum End {
 #[derive(Clone, Copy, Debug, PartialEq, Eq)]
 pub struct Outcome {
     pub end: End,
+    /// Whether a growth was refused on the way. A run that ends by itself may have met one: its
+    /// lines that did are told so.
     pub is_short: bool,
 }
 
@@ -61,26 +64,23 @@ fn first_line(text: &[u8]) -> (&[u8], Option<&[u8]>)
     }
 }
 
-// Does what a line asks for, and replies.
-fn grant<W: Write>(line: Line<'_>, output: &mut Output<W>) -> Result<(), OutputError>
-    ensures told { OnOk result (Appends (held W.contents output.old) (held W.contents output.new) (reply_to_wish (wish_view line.entry))) }
-    ensures stands { OnErr result (StandsIn (held W.contents output.old) (W.contents output.new.writer) []) }
-    ensures unbroken { OnOk result (output.new.is_broken ≡ output.old.is_broken) }
-    ensures broken { result ≡ Err OutputError.Broken → output.new.is_broken ≡ true }
-    ensures memory { result ≡ Err OutputError.Memory → output.new.is_broken ≡ output.old.is_broken }
-{
-    drop(line);
-    output.say(Refusal(Fault::NotYet))
-}
-
-// Answers one line. False where the line is bad.
-fn answer<W: Write>(
+// Answers one line. False where the line is bad. Where a growth was refused, it says so.
+fn answer<S: Store, W: Write>(
     alloc: Global,
     number: u64,
     line: &[u8],
+    store: &mut S,
     output: &mut Output<W>,
+    is_short: &mut bool,
 ) -> Result<bool, OutputError>
-    ensures told { OnOk result (Appends (held W.contents output.old) (held W.contents output.new) (reply_to number (reading_of line.now))) }
+    ensures told { S.is_reliable store.old → is_short.new ≡ false → OnOk result (Appends (held W.contents output.old) (held W.contents output.new)
+        (reply_to number (S.objects store.old) (reading_of line.now))) }
+    ensures left { S.is_reliable store.old → is_short.new ≡ false
+        → OnOk result (S.objects store.new ≡ left_by (S.objects store.old) (reading_of line.now)) }
+    ensures tells { S.is_reliable store.old → OnOk result (Tells (held W.contents output.old) (held W.contents output.new)
+        (λ reply. Replies number (S.objects store.old) (reading_of line.now) reply (S.objects store.new))) }
+    ensures reliable { S.is_reliable store.old → S.is_reliable store.new }
+    ensures remembers { is_short.new ≡ false → is_short.old ≡ false }
     ensures goes_on { IfOk result (λ goes_on. goes_on ≡ not (is_bad (reading_of line.now))) }
     ensures stands { OnErr result (StandsIn (held W.contents output.old) (W.contents output.new.writer) []) }
     ensures unbroken { OnOk result (output.new.is_broken ≡ output.old.is_broken) }
@@ -94,23 +94,37 @@ fn answer<W: Write>(
             Ok(false)
         }
         Reading::Asks(line) => {
-            grant(line, output)?;
+            let reply = grant(alloc, line, store);
+            if reply.is_short() {
+                *is_short = true;
+            }
+            reply.give(output)?;
             Ok(true)
         }
     }
 }
 
 // Answers the lines of a text, and writes the replies. The result is the number of the bad line
-// that ended it.
-fn answer_all<W: Write>(
+// that ended it. Where a growth was refused, it says so.
+fn answer_all<S: Store, W: Write>(
     alloc: Global,
     text: &[u8],
+    store: &mut S,
     output: &mut Output<W>,
+    is_short: &mut bool,
 ) -> Result<Option<u64>, OutputError>
     requires { length text.now ≤ 2 ^ 30 }
-    ensures told { OnOk result (Appends (held W.contents output.old) (held W.contents output.new) (told text.now)) }
+    ensures told { S.is_reliable store.old → is_short.new ≡ false
+        → OnOk result (Appends (held W.contents output.old) (held W.contents output.new) (told (S.objects store.old) text.now)) }
+    ensures left { S.is_reliable store.old → is_short.new ≡ false
+        → OnOk result (S.objects store.new ≡ left (S.objects store.old) text.now) }
+    ensures tells { S.is_reliable store.old → OnOk result (Tells (held W.contents output.old) (held W.contents output.new)
+        (λ written. Runs 1 (S.objects store.old) (lines_of text.now) written (S.objects store.new))) }
     ensures bad { IfOk result (λ bad. bad ≡ first_bad text.now) }
-    ensures stands { OnErr result (StandsIn (held W.contents output.old) (W.contents output.new.writer) (told text.now)) }
+    ensures stands { S.is_reliable store.old → is_short.new ≡ false
+        → OnErr result (StandsIn (held W.contents output.old) (W.contents output.new.writer) (told (S.objects store.old) text.now)) }
+    ensures front { S.is_reliable store.old → OnErr result (TellsFront (held W.contents output.old) (W.contents output.new.writer)
+        (MayBeTold (S.objects store.old) text.now)) }
     ensures unbroken { OnOk result (output.new.is_broken ≡ output.old.is_broken) }
     ensures broken { result ≡ Err OutputError.Broken → output.new.is_broken ≡ true }
     ensures memory { result ≡ Err OutputError.Memory → output.new.is_broken ≡ output.old.is_broken }
@@ -119,7 +133,7 @@ fn answer_all<W: Write>(
     let mut rest = Some(text);
     while let Some(text) = rest {
         let (line, after) = first_line(text);
-        if !answer(alloc, number, line, output)? {
+        if !answer(alloc, number, line, store, output, is_short)? {
             return Ok(Some(number));
         }
         number += 1;
@@ -129,65 +143,102 @@ fn answer_all<W: Write>(
 }
 
 // Answers the lines of a text, and writes what waits then.
-fn answer_and_flush<W: Write>(
+fn answer_and_flush<S: Store, W: Write>(
     alloc: Global,
     text: &[u8],
+    store: &mut S,
     output: &mut Output<W>,
+    is_short: &mut bool,
 ) -> Result<Option<u64>, OutputError>
     requires { length text.now ≤ 2 ^ 30 }
-    ensures told { OnOk result (Appends (held W.contents output.old) (W.contents output.new.writer) (told text.now)) }
+    ensures told { S.is_reliable store.old → is_short.new ≡ false
+        → OnOk result (Appends (held W.contents output.old) (W.contents output.new.writer) (told (S.objects store.old) text.now)) }
+    ensures left { S.is_reliable store.old → is_short.new ≡ false
+        → OnOk result (S.objects store.new ≡ left (S.objects store.old) text.now) }
+    ensures tells { S.is_reliable store.old → OnOk result (Tells (held W.contents output.old) (W.contents output.new.writer)
+        (λ written. Runs 1 (S.objects store.old) (lines_of text.now) written (S.objects store.new))) }
     ensures bad { IfOk result (λ bad. bad ≡ first_bad text.now) }
-    ensures stands { OnErr result (StandsIn (held W.contents output.old) (W.contents output.new.writer) (told text.now)) }
+    ensures stands { S.is_reliable store.old → is_short.new ≡ false
+        → OnErr result (StandsIn (held W.contents output.old) (W.contents output.new.writer) (told (S.objects store.old) text.now)) }
+    ensures front { S.is_reliable store.old → OnErr result (TellsFront (held W.contents output.old) (W.contents output.new.writer)
+        (MayBeTold (S.objects store.old) text.now)) }
     ensures unbroken { OnOk result (output.new.is_broken ≡ output.old.is_broken) }
     ensures broken { result ≡ Err OutputError.Broken → output.new.is_broken ≡ true }
 {
-    let bad = answer_all(alloc, text, output)?;
+    let bad = answer_all(alloc, text, store, output, is_short)?;
     output.flush()?;
     Ok(bad)
 }
 
 // Answers the lines of a text, and tells how that ended.
-fn answer_text<W: Write>(alloc: Global, text: &[u8], output: &mut Output<W>) -> Outcome
+fn answer_text<S: Store, W: Write>(
+    alloc: Global,
+    text: &[u8],
+    store: &mut S,
+    output: &mut Output<W>,
+) -> Outcome
     requires { length text.now ≤ 2 ^ 30 }
-    ensures finished { Finishes result.end (λ bad. (bad ≡ first_bad text.now)
-        × Appends (held W.contents output.old) (W.contents output.new.writer) (told text.now)
-        × (result.is_short ≡ false) × (output.new.is_broken ≡ output.old.is_broken)) }
-    ensures stands { result.end ≡ End.NotWritten
-        → StandsIn (held W.contents output.old) (W.contents output.new.writer) (told text.now) }
+    ensures told { S.is_reliable store.old → result.is_short ≡ false → Finishes result.end
+        (λ _. Appends (held W.contents output.old) (W.contents output.new.writer) (told (S.objects store.old) text.now)
+        × (S.objects store.new ≡ left (S.objects store.old) text.now)) }
+    ensures tells { S.is_reliable store.old → Finishes result.end (λ _. Tells (held W.contents output.old) (W.contents output.new.writer)
+        (λ written. Runs 1 (S.objects store.old) (lines_of text.now) written (S.objects store.new))) }
+    ensures finished { Finishes result.end (λ bad. (bad ≡ first_bad text.now) × (output.new.is_broken ≡ output.old.is_broken)) }
+    ensures stands { S.is_reliable store.old → result.is_short ≡ false → result.end ≡ End.NotWritten
+        → StandsIn (held W.contents output.old) (W.contents output.new.writer) (told (S.objects store.old) text.now) }
+    ensures front { S.is_reliable store.old → result.end ≡ End.NotWritten
+        → TellsFront (held W.contents output.old) (W.contents output.new.writer) (MayBeTold (S.objects store.old) text.now) }
     ensures not_written { result.end ≡ End.NotWritten → (output.new.is_broken ≡ true) ⊎ (result.is_short ≡ true) }
     ensures read { result.end ≢ End.NotRead }
 {
-    match answer_and_flush(alloc, text, output) {
+    let mut is_short = false;
+    match answer_and_flush(alloc, text, store, output, &mut is_short) {
         Ok(None) => Outcome {
             end: End::Done,
-            is_short: false,
+            is_short,
         },
         Ok(Some(number)) => Outcome {
             end: End::BadLine(number),
-            is_short: false,
+            is_short,
         },
         Err(error) => Outcome {
             end: End::NotWritten,
-            is_short: error == OutputError::Memory,
+            is_short: is_short || error == OutputError::Memory,
         },
     }
 }
 
-/// Runs a script: reads its input to the end, then answers each line, up to the first bad one. Where
-/// `restore` is false, tables are to be replayed from version 0; no line needs a table yet. Time is
-/// linear in the input, and many replies go in one write.
-pub fn run<R: Read, W: Write>(
+/// Runs a script over a store: reads its input to the end, then answers each line, up to the first
+/// bad one. Where `restore` is false, tables are to be replayed from version 0; no line replays a
+/// table yet. Time is linear in the input and in the objects that are put and shown, but for the
+/// store's own; many replies go in one write.
+pub fn run<R: Read, W: Write, S: Store>(
     alloc: Global,
     input: &mut Input<R>,
     output: &mut Output<W>,
+    store: &mut S,
     restore: bool,
 ) -> Outcome
-    // What is written is what is told for the text that is read.
-    ensures told { Finishes result.end (λ bad. IfSome (unread R.remaining input.old) (λ text. (bad ≡ first_bad text)
-        × Appends (held W.contents output.old) (W.contents output.new.writer) (told text))) }
-    ensures stands { result.end ≡ End.NotWritten → IfSome (unread R.remaining input.old)
-        (λ text. StandsIn (held W.contents output.old) (W.contents output.new.writer) (told text)) }
-    ensures nothing { result.end ≡ End.NotRead → output.new ≡ output.old }
+    // Where no growth was refused and the store loses no call, what is written is what is told for
+    // the text that is read, and the objects are what the text leaves.
+    ensures told { S.is_reliable store.old → result.is_short ≡ false
+        → Finishes result.end (λ _. IfSome (unread R.remaining input.old) (λ text.
+        Appends (held W.contents output.old) (W.contents output.new.writer) (told (S.objects store.old) text)
+        × (S.objects store.new ≡ left (S.objects store.old) text))) }
+
+    // Where a growth was refused, the lines that met it are told so, and leave the objects as they
+    // were.
+    ensures tells { S.is_reliable store.old → Finishes result.end (λ _. IfSome (unread R.remaining input.old) (λ text.
+        Tells (held W.contents output.old) (W.contents output.new.writer)
+        (λ written. Runs 1 (S.objects store.old) (lines_of text) written (S.objects store.new)))) }
+    ensures front { S.is_reliable store.old → result.end ≡ End.NotWritten → IfSome (unread R.remaining input.old) (λ text.
+        TellsFront (held W.contents output.old) (W.contents output.new.writer) (MayBeTold (S.objects store.old) text)) }
+
+    ensures bad { Finishes result.end (λ bad. IfSome (unread R.remaining input.old) (λ text. bad ≡ first_bad text)) }
+    ensures stands { S.is_reliable store.old → result.is_short ≡ false → result.end ≡ End.NotWritten
+        → IfSome (unread R.remaining input.old)
+        (λ text. StandsIn (held W.contents output.old) (W.contents output.new.writer) (told (S.objects store.old) text)) }
+    ensures nothing { result.end ≡ End.NotRead → (output.new ≡ output.old) × (store.new ≡ store.old) }
 
     // When a run does not finish.
     ensures not_read { result.end ≡ End.NotRead → (input.new.is_broken ≡ true) ⊎ ((result.is_short ≡ true)
@@ -196,11 +247,10 @@ pub fn run<R: Read, W: Write>(
     ensures too_long { IfSome (unread R.remaining input.old) (λ text. MOST_BYTES < length text → result.end ≡ End.NotRead) }
     ensures not_written { result.end ≡ End.NotWritten → (output.new.is_broken ≡ true) ⊎ (result.is_short ≡ true) }
     ensures broken_output { Finishes result.end (λ _. output.new.is_broken ≡ output.old.is_broken) }
-    ensures not_short { Finishes result.end (λ _. result.is_short ≡ false) }
 {
     let _ = restore;
     match input.read_to_end(alloc) {
-        Ok(text) => answer_text(alloc, text.as_slice(), output),
+        Ok(text) => answer_text(alloc, text.as_slice(), store, output),
         Err(error) => Outcome {
             end: End::NotRead,
             is_short: error == InputError::Memory,

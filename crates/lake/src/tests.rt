@@ -7,13 +7,15 @@ use std::alloc::Global;
 use std::io;
 use std::io::{ErrorKind, Read, Write};
 use std::test::Fail;
+use store_core::MemoryStore;
 
 const NOT_YET: &str = "refused N1 NotYet\n";
 
 fn outcome(alloc: Global, text: &[u8], told: &mut Vec<u8>) -> Outcome {
     let mut input = Input::new(text);
     let mut output = Output::new(alloc, told);
-    run(alloc, &mut input, &mut output, true)
+    let mut store = MemoryStore::new(alloc);
+    run(alloc, &mut input, &mut output, &mut store, true)
 }
 
 fn status<R: Read, W: Write>(
@@ -29,11 +31,11 @@ where
 {
     let mut input = Input::new(reader);
     let mut output = Output::new(alloc, writer);
-    command(alloc, words, &mut input, &mut output, err)
+    command(alloc, words, &mut input, &mut output, err).status
 }
 
-// A line of each kind, and some of its spellings.
-static LINES: [&str; 28] = [
+// A line of each kind that isn't there yet, and some of its spellings.
+static LINES: [&str; 25] = [
     "create 00000000-0000-4000-8000-000000000001 0 {\"type\":\"struct\"}",
     "append a 0 5 [{\"x\":1},{\"x\":-1}]",
     "append  +007 999999999999999 [ ]\r",
@@ -46,9 +48,6 @@ static LINES: [&str; 28] = [
     "tail 0 {}",
     "tail 65536 ",
     "tail 5 a b",
-    "show 18446744073709551615",
-    "hex ",
-    "hex part-61.parquet",
     "tries 1",
     "tries +064",
     "fault twice",
@@ -65,7 +64,7 @@ static LINES: [&str; 28] = [
 ];
 
 #[test]
-fn answers_each_kind_of_line(rt: HostRuntime) -> Result<(), Fail> {
+fn refuses_what_is_not_there_yet(rt: HostRuntime) -> Result<(), Fail> {
     for line in LINES {
         let mut told = Vec::new(rt.alloc());
         let outcome = outcome(rt.alloc(), line.as_bytes(), &mut told);

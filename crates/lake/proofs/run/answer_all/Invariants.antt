@@ -1,18 +1,24 @@
-use Rattle.std.proofs.Common.{◌≡◌, ◌+◌, ◌≤◌, ◌^◌, option_map}
+use Rattle.std.proofs.Common.{◌≡◌, ◌+◌, ◌≤◌, ◌^◌, false, option_map}
 use Rattle.lake.specs.Streams.{held}
-use Rattle.lake.specs.Told.{lines_left, told_from, first_bad_from, told, first_bad}
+use Rattle.lake.specs.Runs.{Tells}
+use Rattle.lake.specs.Told.{lines_of, lines_left, told_from, left_from, first_bad_from, told, left, first_bad}
 use Rattle.lake.proofs.RunLemmas.{lines_at_most}
+use Rattle.lake.proofs.RunsLemmas.{Onward}
 use Rattle.lake.proofs.StreamLemmas.{Towards}
 use Rattle.lake.proofs.run.answer_all.Given as goal
 
 abbrev pub invariant-loop-rest : goal.invariant-loop-rest
 invariant-loop-rest g l =
-    let left = option_map (λ text. text.now) l.rest in
+    let lines = option_map (λ text. text.now) l.rest in
+    let objects = g.S.Store.objects in
     record {
-      said : Towards (held g.W.Write.contents l.fn.output) (held g.W.Write.contents l.output) (told_from l.number (lines_left left)) (told l.fn.text);
-      found : first_bad_from l.number (lines_left left) ≡ first_bad l.fn.text;
+      said : g.S.Store.is_reliable l.fn.store → l.is_short ≡ false → Towards (held g.W.Write.contents l.fn.output) (held g.W.Write.contents l.output) (told_from l.number (objects l.store) (lines_left lines)) (told (objects l.fn.store) l.fn.text);
+      leaves : g.S.Store.is_reliable l.fn.store → l.is_short ≡ false → left_from (objects l.store) (lines_left lines) ≡ left (objects l.fn.store) l.fn.text;
+      so_far : g.S.Store.is_reliable l.fn.store → Tells (held g.W.Write.contents l.fn.output) (held g.W.Write.contents l.output) (Onward (objects l.fn.store) (lines_of l.fn.text) l.number (objects l.store) (lines_left lines));
+      reliable : g.S.Store.is_reliable l.fn.store → g.S.Store.is_reliable l.store;
+      found : first_bad_from l.number (lines_left lines) ≡ first_bad l.fn.text;
       unbroken : l.output.is_broken ≡ l.fn.output.is_broken;
-      counted : l.number + lines_at_most left ≤ 2 ^ 30 + 2;
+      counted : l.number + lines_at_most lines ≤ 2 ^ 30 + 2;
     }
 
 abbrev pub decreases-loop-rest : goal.decreases-loop-rest

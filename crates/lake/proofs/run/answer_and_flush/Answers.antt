@@ -1,0 +1,6 @@
+use Rattle.lake.proofs.RunsLemmas.{tells_through}
+use Rattle.lake.proofs.run.answer_and_flush.Goals as goal
+
+pub returns-clause-tells : goal.returns-clause-tells
+returns-clause-tells g c = λ reliable.
+    tells_through _ _ _ _ _ (c.in_ok-bad.ensures.tells reliable) c.in_ok-flush.ensures.held c.in_ok-flush.ensures.through

@@ -1,0 +1,57 @@
+-- What a script may be told where growths are refused: some lines are told just that, and leave the objects as they were.
+use Rattle.std.specs.Prelude.{◌≡◌, ◌⊎◌, ◌+◌, ◌++◌, ℕ, true, false, List, [], ◌∷◌, Option}
+use Rattle.std.specs.Io.KnownBytes.{Appends}
+use Rattle.store_core.specs.Objects.{Objects}
+use Rattle.store_core.specs.Texts as stores
+use Rattle.store_core.specs.declared.fault.StoreFault.TheVariants as store_faults
+use Rattle.lake.specs.declared.fault.CreateFault.TheVariants as create_faults
+use Rattle.lake.specs.Lines.{Wish, create, show, hex, Reading, skipped, bad, asks, reading_of}
+use Rattle.lake.specs.Replies.{create_fault_text, refused, line_of, bad_line}
+use Rattle.lake.specs.Streams.{StandsIn}
+use Rattle.lake.specs.Told.{lines_of, is_bad, reply_to_wish, left_by_wish}
+
+-- the reply to a line that creates a table, and to one that shows an object, where a growth was refused
+abbrev pub no_room_to_create : List ℕ
+no_room_to_create = line_of (refused (create_fault_text create_faults.Memory))
+
+abbrev pub no_room_to_show : List ℕ
+no_room_to_show = line_of (refused (stores.fault_text store_faults.Memory))
+
+-- the reply to a line whose growth was refused; other lines need none
+abbrev pub IsWantOfMemory : Wish → List ℕ → Type 0
+IsWantOfMemory (create id at schema) reply = reply ≡ no_room_to_create
+IsWantOfMemory (show version) reply = reply ≡ no_room_to_show
+IsWantOfMemory (hex name) reply = reply ≡ no_room_to_show
+IsWantOfMemory _ reply = ⊥
+
+-- a line has what it asks for, or is told of want of memory and leaves the objects as they were
+abbrev pub Grants : Objects → Wish → List ℕ → Objects → Type 0
+Grants objects wish reply after =
+    ((reply ≡ reply_to_wish objects wish) × (after ≡ left_by_wish objects wish)) ⊎ (IsWantOfMemory wish reply × (after ≡ objects))
+
+-- the reply to a line of that number, and the objects behind it
+abbrev pub Replies : ℕ → Objects → Reading → List ℕ → Objects → Type 0
+Replies number objects skipped reply after = (reply ≡ []) × (after ≡ objects)
+Replies number objects bad reply after = (reply ≡ bad_line number) × (after ≡ objects)
+Replies number objects (asks wish) reply after = Grants objects wish reply after
+
+-- what is told for these lines, of which the first has that number, and the objects behind them; a bad line ends them
+pub data Runs : ℕ → Objects → List (List ℕ) → List ℕ → Objects → Type 0 where
+  done : {number : ℕ} {objects : Objects} → Runs number objects [] [] objects
+  stops : {number : ℕ} {objects : Objects} {line : List ℕ} {lines : List (List ℕ)} {reply : List ℕ} {after : Objects}
+      → is_bad (reading_of line) ≡ true → Replies number objects (reading_of line) reply after → Runs number objects (line ∷ lines) reply after
+  goes_on : {number : ℕ} {objects final : Objects} {line : List ℕ} {lines : List (List ℕ)} (reply rest : List ℕ) (after : Objects)
+      → is_bad (reading_of line) ≡ false → Replies number objects (reading_of line) reply after → Runs (number + 1) after lines rest final
+      → Runs number objects (line ∷ lines) (reply ++ rest) final
+
+-- this may be told for a script over these objects, its lines counted from 1
+abbrev pub MayBeTold : Objects → List ℕ → List ℕ → Type 0
+MayBeTold objects text written = (after : Objects) × Runs 1 objects (lines_of text) written after
+
+-- what a writer holds now is what it held, with some bytes behind it of which this is so
+abbrev pub Tells : Option (List ℕ) → Option (List ℕ) → (List ℕ → Type 0) → Type 0
+Tells old new Holds = (bytes : List ℕ) × Appends old new bytes × Holds bytes
+
+-- what a writer holds now is a front of what it held, with some bytes behind it of which this is so
+abbrev pub TellsFront : Option (List ℕ) → Option (List ℕ) → (List ℕ → Type 0) → Type 0
+TellsFront old new Holds = (bytes : List ℕ) × StandsIn old new bytes × Holds bytes
