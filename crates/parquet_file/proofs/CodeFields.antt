@@ -7,7 +7,7 @@ use Rattle.thrift_core.specs.Tree as trees
 use Rattle.thrift_core.specs.View.{view, views}
 use Rattle.thrift_core.specs.declared.value.TValue.{TValue}
 use Rattle.parquet_file.specs.Fields.{as_struct, all_as, as_list, needed, or_missing}
-use Rattle.parquet_file.specs.Reading.{claim_few, chunk_at, is_path}
+use Rattle.parquet_file.specs.Reading.{claims_within_limit, chunk_at, is_path}
 use Rattle.parquet_file.specs.Views.{group_views, chunk_view, chunk_views}
 use Rattle.parquet_file.specs.declared.footer.ColumnChunk.{ColumnChunk}
 use Rattle.parquet_file.specs.declared.footer.RowGroup.{RowGroup}
@@ -33,13 +33,13 @@ all_structs ms b e = structs_tested (views ms) ∙ ap (λ (c : Bool). cond c (So
 
 -- ---- groups and chunks
 
-pub few_claimed : (gs : List RowGroup) → list_all (λ g. not (nat_lt 4194304 g.rows)) gs ≡ claim_few (group_views gs)
-few_claimed [] = refl
-few_claimed (g ∷ gs) = ap (λ (b : Bool). not (nat_lt 4194304 g.rows) && b) (few_claimed gs)
+pub within_limit : (gs : List RowGroup) → list_all (λ g. not (nat_lt 4194304 g.num_rows)) gs ≡ claims_within_limit (group_views gs)
+within_limit [] = refl
+within_limit (g ∷ gs) = ap (λ (b : Bool). not (nat_lt 4194304 g.num_rows) && b) (within_limit gs)
 
-pub chunk_found : (name : List ℕ) (cs : List ColumnChunk) → option_map chunk_view (find (λ c. is_path name (chunk_view c).path) cs) ≡ chunk_at name (chunk_views cs)
+pub chunk_found : (name : List ℕ) (cs : List ColumnChunk) → option_map chunk_view (find (λ c. is_path name (chunk_view c).path_in_schema) cs) ≡ chunk_at name (chunk_views cs)
 chunk_found name [] = refl
-chunk_found name (c ∷ cs) = elim (is_path name (chunk_view c).path) as (λ (b : Bool). option_map chunk_view (cond b (Some c) (find (λ c. is_path name (chunk_view c).path) cs)) ≡ cond b (Some (chunk_view c)) (chunk_at name (chunk_views cs))) [
+chunk_found name (c ∷ cs) = elim (is_path name (chunk_view c).path_in_schema) as (λ (b : Bool). option_map chunk_view (cond b (Some c) (find (λ c. is_path name (chunk_view c).path_in_schema) cs)) ≡ cond b (Some (chunk_view c)) (chunk_at name (chunk_views cs))) [
   | true ↦ refl
   | false ↦ chunk_found name cs
 ]

@@ -44,6 +44,20 @@ pub rows_not_added : {E : Type 0} (old : List ℤ) (e : E) (read : Result (List 
 rows_not_added old e (Ok values) h = cc
 rows_not_added old e (Err f) h = h
 
+-- ---- values that aren't kept
+
+-- a reading without what it gives
+abbrev pub unkept : {A E : Type 0} → Result A E → Result (Unit {0}) E
+unkept read = read >>= λ value. Ok tt
+
+pub unkept_ok : {A E : Type 0} (read : Result A E) → unkept read ≡ Ok tt → (value : A) × (read ≡ Ok value)
+unkept_ok (Ok value) h = (value, refl)
+unkept_ok (Err e) h = absurd cc
+
+pub unkept_err : {A E : Type 0} (e : E) (read : Result A E) → unkept read ≡ Err e → read ≡ Err e
+unkept_err e (Ok value) h = absurd cc
+unkept_err e (Err f) h = cc
+
 -- ---- PLAIN values
 
 regroup_values : {A E : Type 0} (rows : List ℤ) (value : ℤ) (read : Result (List ℤ × A) E) → behind rows (read >>= λ r. Ok (value ∷ r.0, r.1)) ≡ behind (rows ++ value ∷ []) read

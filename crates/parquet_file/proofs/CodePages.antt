@@ -10,7 +10,7 @@ use Rattle.parquet_file.specs.declared.fault.FileError.{FileError}
 use Rattle.parquet_file.specs.declared.fault.FileError.TheVariants as errors
 use Rattle.parquet_file.specs.declared.fault.FileFault.{FileFault}
 use Rattle.parquet_file.specs.declared.fault.FileFault.TheVariants.{BadOffset, CountMismatch}
-use Rattle.parquet_file.proofs.CodeLoops.{rows_behind, rows_not_added}
+use Rattle.parquet_file.proofs.CodeLoops.{rows_behind, rows_not_added, unkept, unkept_ok, unkept_err}
 
 regroup_rows : {E : Type 0} (rows first : List ℤ) (read : Result (List ℤ) E) → rows_behind rows (read >>= λ others. Ok (first ++ others)) ≡ rows_behind (rows ++ first) read
 regroup_rows rows first (Ok others) = ap (λ (xs : List ℤ). Ok xs) (simp append_assoc)
@@ -88,3 +88,30 @@ unfolding rows_of_groups
 groups_done rows bytes name groups total none so_far =
     let one : rows_behind rows (rows_of_groups bytes name groups) ≡ Ok rows = rw none (ap (λ (xs : List ℤ). Ok xs) (append-nil rows)) in
     sym so_far ∙ one
+
+-- ---- groups whose rows aren't kept
+
+unkept_twice : {E : Type 0} (first : List ℤ) (read : Result (List ℤ) E) → unkept (read >>= λ others. Ok (first ++ others)) ≡ unkept read
+unkept_twice first (Ok others) = refl
+unkept_twice first (Err e) = refl
+
+pub test_goes_on : (bytes name : List ℕ) (groups rest : List Group) (group : Group) (values : List ℤ) (total : Result (Unit {0}) FileFault) → groups ≡ group ∷ rest → rows_of_group bytes name group ≡ Ok values
+    → unkept (rows_of_groups bytes name groups) ≡ total → unkept (rows_of_groups bytes name rest) ≡ total
+unfolding rows_of_groups
+test_goes_on bytes name groups rest group values total here h so_far =
+    let one : unkept (rows_of_groups bytes name groups) ≡ unkept (rows_of_groups bytes name rest) = rw (here, h) (unkept_twice values (rows_of_groups bytes name rest)) in
+    sym one ∙ so_far
+
+pub test_ends : (e : FileError) (bytes name : List ℕ) (groups rest : List Group) (group : Group) (read : Result (List ℤ) FileFault) → groups ≡ group ∷ rest → Fails e (rows_of_group bytes name group)
+    → unkept (rows_of_groups bytes name groups) ≡ unkept read → Fails e read
+unfolding rows_of_groups
+test_ends errors.Memory bytes name groups rest group read here h so_far = tt
+test_ends (errors.Fault fault) bytes name groups rest group read here h so_far =
+    let one : unkept (rows_of_groups bytes name groups) ≡ Err fault = rw (here, h) refl in
+    unkept_err fault read (sym so_far ∙ one)
+
+pub test_done : (bytes name : List ℕ) (groups : List Group) (read : Result (List ℤ) FileFault) → groups ≡ [] → unkept (rows_of_groups bytes name groups) ≡ unkept read → (values : List ℤ) × (read ≡ Ok values)
+unfolding rows_of_groups
+test_done bytes name groups read none so_far =
+    let one : unkept (rows_of_groups bytes name groups) ≡ Ok tt = rw none refl in
+    unkept_ok read (sym so_far ∙ one)

@@ -7,7 +7,7 @@ use Rattle.thrift_core.specs.Spelling.{SpellsStruct}
 use Rattle.thrift_core.specs.Writing.{HasForm}
 use Rattle.thrift_core.proofs.WrittenSpells.{struct_written}
 use Rattle.parquet_file.specs.File.{Says}
-use Rattle.parquet_file.specs.Metadata.{Element, Chunk, Group, Metadata, metadata_of, root_of, node_of, physical_of, chunk_of, group_of}
+use Rattle.parquet_file.specs.Metadata.{Element, Chunk, Group, Metadata, metadata_of, root_of, node_of, physical_type_of, chunk_of, group_of}
 use Rattle.parquet_file.specs.Writing.{whole, members, fields, element_form, root_tree, leaf_tree, column_form, column_tree, chunk_form, group_form, group_tree, groups_tree, footer_form, footer_tree, footer_bytes}
 use Rattle.parquet_file.proofs.WrittenForms.{struct_has_form, fits_32, fits_64}
 use Rattle.parquet_file.proofs.WrittenGroups.{footer_around, one_group}
@@ -68,26 +68,26 @@ footer_spelled name values size short few fits =
 -- ---- what it says
 
 abbrev pub the_root : Element
-the_root = record { physical = None; repetition = None; name = codes "schema"; children = 1 }
+the_root = record { physical_type = None; repetition_type = None; name = codes "schema"; num_children = 1 }
 
 abbrev pub the_leaf : List ℕ → Element
-the_leaf name = record { physical = Some (pos 2); repetition = Some (pos 0); name = name; children = 0 }
+the_leaf name = record { physical_type = Some (pos 2); repetition_type = Some (pos 0); name = name; num_children = 0 }
 
 abbrev pub the_chunk : List ℕ → ℕ → Chunk
-the_chunk name values = record { path = name ∷ []; codec = pos 0; values = values; page = pos 4 }
+the_chunk name values = record { path_in_schema = name ∷ []; codec = pos 0; num_values = values; data_page_offset = pos 4 }
 
 abbrev pub the_group : List ℕ → ℕ → Group
-the_group name values = record { chunks = the_chunk name values ∷ []; rows = values }
+the_group name values = record { columns = the_chunk name values ∷ []; num_rows = values }
 
 abbrev pub the_metadata : List ℕ → ℕ → List Group → Metadata
-the_metadata name values groups = record { schema = the_root ∷ the_leaf name ∷ []; rows = values; groups = groups }
+the_metadata name values groups = record { schema = the_root ∷ the_leaf name ∷ []; num_rows = values; row_groups = groups }
 
 says_none : (name : List ℕ) (size : ℕ) → metadata_of (footer_tree name 0 size) ≡ Ok (the_metadata name 0 [])
-unfolding metadata_of root_of physical_of node_of chunk_of group_of
+unfolding metadata_of root_of physical_type_of node_of chunk_of group_of
 says_none name size = refl
 
 says_one : (name : List ℕ) (values size : ℕ) → metadata_of (footer_around name values (members (group_tree name values size ∷ []))) ≡ Ok (the_metadata name values (the_group name values ∷ []))
-unfolding metadata_of root_of physical_of node_of chunk_of group_of
+unfolding metadata_of root_of physical_type_of node_of chunk_of group_of
 says_one name values size = refl
 
 abbrev pub groups_said : List ℕ → ℕ → List Group

@@ -5,7 +5,7 @@ use Rattle.thrift_core.specs.Shape.{Form, forms, struct_form, int32_form}
 use Rattle.thrift_core.specs.Spelling.{SpellsStruct}
 use Rattle.thrift_core.specs.Writing.{HasForm}
 use Rattle.thrift_core.proofs.WrittenSpells.{struct_written}
-use Rattle.parquet_file.specs.Pages.{header_of, content_of_kind, content_of, plain_header}
+use Rattle.parquet_file.specs.Pages.{header_of, content_of_type, content_of, plain_header}
 use Rattle.parquet_file.specs.Writing.{whole, fields, header_form, header_tree, header_bytes}
 use Rattle.parquet_file.proofs.WrittenForms.{struct_has_form, fits_32}
 
@@ -29,5 +29,5 @@ pub header_spelled : (n : ℕ) → n ≤ 4096 → SpellsStruct (header_bytes n) 
 header_spelled n few = record { spelled = struct_written header_form (header_tree n) (header_bytes n) (header_has_form n few) refl refl; nesting = omega arith; values = omega arith }
 
 pub header_says : (n : ℕ) → header_of (header_tree n) ≡ Ok (plain_header n)
-unfolding header_of content_of_kind content_of
+unfolding header_of content_of_type content_of
 header_says n = refl

@@ -35,34 +35,34 @@ pub record HasFooter (bytes : List ℕ) (metadata : Metadata) : Type 0 where
 -- A required leaf of this name and of type INT64: type 2, repetition 0, no children.
 pub record IsLongLeaf (name : List ℕ) (leaf : Element) : Type 0 where
   pub named : leaf.name ≡ name
-  pub int64 : leaf.physical ≡ Some (pos 2)
-  pub required : leaf.repetition ≡ Some (pos 0)
-  pub childless : leaf.children ≡ 0
+  pub int64 : leaf.physical_type ≡ Some (pos 2)
+  pub required : leaf.repetition_type ≡ Some (pos 0)
+  pub childless : leaf.num_children ≡ 0
 
 -- The schema is a root with one child, a required long leaf of this name.
 abbrev pub IsLongColumn : List ℕ → List Element → Type 0
 IsLongColumn name [] = ⊥
 IsLongColumn name (root ∷ []) = ⊥
-IsLongColumn name (root ∷ leaf ∷ []) = (root.children ≡ 1) × IsLongLeaf name leaf
+IsLongColumn name (root ∷ leaf ∷ []) = (root.num_children ≡ 1) × IsLongLeaf name leaf
 IsLongColumn name (root ∷ leaf ∷ other ∷ more) = ⊥
 
 -- The first chunk with this path.
 abbrev pub IsChunkOf : List (List ℕ) → List Chunk → Chunk → Type 0
 IsChunkOf path [] chunk = ⊥
-IsChunkOf path (first ∷ others) chunk = ((first.path ≡ path) × (chunk ≡ first)) ⊎ ((first.path ≡ path → ⊥) × IsChunkOf path others chunk)
+IsChunkOf path (first ∷ others) chunk = ((first.path_in_schema ≡ path) × (chunk ≡ first)) ⊎ ((first.path_in_schema ≡ path → ⊥) × IsChunkOf path others chunk)
 
 -- The pages of an uncompressed chunk hold these values.
 pub record Holds (bytes : List ℕ) (chunk : Chunk) (values : List ℤ) : Type 0 where
   pub uncompressed : chunk.codec ≡ pos 0
-  pub counted : chunk.values ≡ length values
-  pub pages : HasPages bytes chunk.page values
+  pub counted : chunk.num_values ≡ length values
+  pub pages : HasPages bytes chunk.data_page_offset values
 
 -- The rows of one group: the values of its chunk of the column.
 pub record IsGroup (bytes name : List ℕ) (group : Group) (rows : List ℤ) : Type 0 where
   pub chunk : Chunk
-  pub found : IsChunkOf (name ∷ []) group.chunks chunk
+  pub found : IsChunkOf (name ∷ []) group.columns chunk
   pub held : Holds bytes chunk rows
-  pub counted : group.rows ≡ length rows
+  pub counted : group.num_rows ≡ length rows
 
 -- the rows of several groups, one group behind the other
 abbrev pub AreGroups : List ℕ → List ℕ → List Group → List ℤ → Type 0
@@ -78,8 +78,8 @@ pub record IsFile (bytes name : List ℕ) (rows : List ℤ) : Type 0 where
   pub length_fits : length footer < 2 ^ 32
   pub says : Says footer metadata
   pub table : IsLongColumn name metadata.schema
-  pub groups : AreGroups (magic ++ pages) name metadata.groups rows
-  pub counted : metadata.rows ≡ length rows
+  pub groups : AreGroups (magic ++ pages) name metadata.row_groups rows
+  pub counted : metadata.num_rows ≡ length rows
   pub conform : AllByRecursion (FitsSigned w64) rows
 
 -- The limits of what is read: 64 MiB, and 4,194,304 rows.
@@ -88,11 +88,11 @@ pub record KeepsLimits (bytes : List ℕ) (rows : List ℤ) : Type 0 where
   pub most_rows : length rows ≤ 4194304
 
 -- no group claims more rows than a file may have
-abbrev pub GroupsClaimFew : List Group → Type 0
-GroupsClaimFew [] = Unit {0}
-GroupsClaimFew (group ∷ groups) = (group.rows ≤ 4194304) × GroupsClaimFew groups
+abbrev pub GroupsWithinLimit : List Group → Type 0
+GroupsWithinLimit [] = Unit {0}
+GroupsWithinLimit (group ∷ groups) = (group.num_rows ≤ 4194304) × GroupsWithinLimit groups
 
 -- Neither the file nor one of its groups claims more rows than a file may have.
-pub record ClaimsFew (metadata : Metadata) : Type 0 where
-  pub rows : metadata.rows ≤ 4194304
-  pub groups : GroupsClaimFew metadata.groups
+pub record ClaimsWithinLimit (metadata : Metadata) : Type 0 where
+  pub rows : metadata.num_rows ≤ 4194304
+  pub groups : GroupsWithinLimit metadata.row_groups

@@ -26,7 +26,12 @@ abbrev pub AddsRows : {X : Type 0} → Result (List ℤ) FileFault → List ℤ 
 AddsRows read old (Ok x) new = (values : List ℤ) × (read ≡ Ok values) × (new ≡ old ++ values)
 AddsRows read old (Err e) new = Fails e read
 
--- the same of functions on trees alone
+-- The reading was done, and nothing of it was kept; or the fault.
+abbrev pub Tests : {X A : Type 0} → Result A FileFault → Result X FileError → Type 0
+Tests {A = A} read (Ok x) = (value : A) × (read ≡ Ok value)
+Tests read (Err e) = Fails e read
+
+-- what is given, of functions on trees alone
 abbrev pub TreeFails : {A : Type 0} → ReadError → Result A ThriftFault → Type 0
 TreeFails trees.Memory read = Unit {0}
 TreeFails (trees.Fault fault) read = read ≡ Err fault

@@ -8,40 +8,40 @@ use Rattle.thrift_core.specs.declared.fault.ThriftFault.{ThriftFault}
 use Rattle.parquet_file.specs.Fields.{as_integer, as_struct, needed, count}
 use Rattle.parquet_file.specs.Plain.{plain}
 
--- A page's header (PageHeader with the header of its kind): its kind, its two sizes, and for a data page and a
+-- A page's header (PageHeader with the header of its type): its type, its two sizes, and for a data page and a
 -- dictionary page how many values it has and their encoding.
 pub record Header : Type 0 where
-  pub kind : ℤ
-  pub uncompressed : ℕ
-  pub compressed : ℕ
-  pub values : ℕ
+  pub page_type : ℤ
+  pub uncompressed_page_size : ℕ
+  pub compressed_page_size : ℕ
+  pub num_values : ℕ
   pub encoding : ℤ
 
 -- how many values there are, and their encoding (DataPageHeader, DictionaryPageHeader)
 unfoldable pub content_of : Tree → Result (ℕ × ℤ) ThriftFault
 content_of t = do
-  values ← count (pos 1) t
+  num_values ← count (pos 1) t
   encoding ← needed as_integer (pos 2) t
-  Ok (values, encoding)
+  Ok (num_values, encoding)
 
--- The header of its kind: 0 is a data page, 2 a dictionary page. Nothing is asked of another kind, and what stands
+-- The header of its type: 0 is a data page, 2 a dictionary page. Nothing is asked of another type, and what stands
 -- here for it is never used.
-unfoldable pub content_of_kind : ℤ → Tree → Result (ℕ × ℤ) ThriftFault
-content_of_kind kind t =
-    if int_eq kind (pos 0) then (needed as_struct (pos 5) t >>= content_of) else
-    (if int_eq kind (pos 2) then (needed as_struct (pos 7) t >>= content_of) else Ok (0, pos 0))
+unfoldable pub content_of_type : ℤ → Tree → Result (ℕ × ℤ) ThriftFault
+content_of_type page_type t =
+    if int_eq page_type (pos 0) then (needed as_struct (pos 5) t >>= content_of) else
+    (if int_eq page_type (pos 2) then (needed as_struct (pos 7) t >>= content_of) else Ok (0, pos 0))
 
 unfoldable pub header_of : Tree → Result Header ThriftFault
 header_of t = do
-  kind ← needed as_integer (pos 1) t
-  uncompressed ← count (pos 2) t
-  compressed ← count (pos 3) t
-  content ← content_of_kind kind t
-  Ok (record { kind = kind; uncompressed = uncompressed; compressed = compressed; values = content.0; encoding = content.1 })
+  page_type ← needed as_integer (pos 1) t
+  uncompressed_page_size ← count (pos 2) t
+  compressed_page_size ← count (pos 3) t
+  content ← content_of_type page_type t
+  Ok (record { page_type = page_type; uncompressed_page_size = uncompressed_page_size; compressed_page_size = compressed_page_size; num_values = content.0; encoding = content.1 })
 
 -- the header of an uncompressed data page of so many PLAIN values of eight bytes
 abbrev pub plain_header : ℕ → Header
-plain_header values = record { kind = pos 0; uncompressed = 8 * values; compressed = 8 * values; values = values; encoding = pos 0 }
+plain_header num_values = record { page_type = pos 0; uncompressed_page_size = 8 * num_values; compressed_page_size = 8 * num_values; num_values = num_values; encoding = pos 0 }
 
 -- In these bytes a data page begins at this place. It holds these values and nothing behind them, and what follows it begins at `next`.
 pub record IsPage (bytes : List ℕ) (place : ℕ) (values : List ℤ) (next : ℕ) : Type 0 where

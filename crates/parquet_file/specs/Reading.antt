@@ -26,22 +26,22 @@ bytes_told_as fault (Err f) = Err (fault (Bytes f))
 -- ---- the footer
 
 -- no group claims more rows than a file may have
-abbrev pub claim_few : List Group → Bool
-claim_few [] = true
-claim_few (group ∷ groups) = not (nat_lt 4194304 group.rows) && claim_few groups
+abbrev pub claims_within_limit : List Group → Bool
+claims_within_limit [] = true
+claims_within_limit (group ∷ groups) = not (nat_lt 4194304 group.num_rows) && claims_within_limit groups
 
 unfoldable pub within_limits : Metadata → Result Metadata FileFault
-within_limits m = if nat_lt 4194304 m.rows then Err TooLarge else (if claim_few m.groups then Ok m else Err TooLarge)
+within_limits m = if nat_lt 4194304 m.num_rows then Err TooLarge else (if claims_within_limit m.row_groups then Ok m else Err TooLarge)
 
 -- what a footer says, up to the tests of the table's schema
-unfoldable pub says_at : List ℕ → Result Metadata FileFault
-says_at footer = do
+unfoldable pub metadata_at : List ℕ → Result Metadata FileFault
+metadata_at footer = do
   read ← told_as BadFooter (struct_at footer)
   metadata ← told_as BadFooter (metadata_of read.0)
   within_limits metadata
 
 unfoldable pub footer_at : List ℕ → Result Metadata FileFault
-footer_at bytes = frame_of bytes >>= λ parts. says_at parts.1
+footer_at bytes = frame_of bytes >>= λ parts. metadata_at parts.1
 
 -- ---- the schema
 
@@ -52,13 +52,13 @@ is_number z (Some y) = int_eq y z
 
 -- a required leaf of type INT64 with this name
 abbrev pub is_long_leaf : List ℕ → Element → Bool
-is_long_leaf name leaf = bytes_eq leaf.name name && (is_number (pos 2) leaf.physical && (is_number (pos 0) leaf.repetition && leaf.children == 0))
+is_long_leaf name leaf = bytes_eq leaf.name name && (is_number (pos 2) leaf.physical_type && (is_number (pos 0) leaf.repetition_type && leaf.num_children == 0))
 
 -- a root with this one leaf
 abbrev pub is_long_column : List ℕ → List Element → Bool
 is_long_column name [] = false
 is_long_column name (root ∷ []) = false
-is_long_column name (root ∷ leaf ∷ []) = root.children == 1 && is_long_leaf name leaf
+is_long_column name (root ∷ leaf ∷ []) = root.num_children == 1 && is_long_leaf name leaf
 is_long_column name (root ∷ leaf ∷ other ∷ more) = false
 
 -- ---- pages
@@ -68,15 +68,15 @@ unfoldable pub header_at : List ℕ → Result (Header × List ℕ) FileFault
 header_at bytes = do
   read ← told_as BadPage (struct_at bytes)
   header ← told_as BadPage (header_of read.0)
-  if int_eq header.kind (pos 0) then Ok (header, read.1) else Err (PageKind header.kind)
+  if int_eq header.page_type (pos 0) then Ok (header, read.1) else Err (PageKind header.page_type)
 
 -- the values of a page with this header, in front of these bytes
 unfoldable pub values_at : Header → List ℕ → Result (List ℤ) FileFault
 values_at header bytes =
-    if nat_lt (length bytes) header.compressed then Err BadOffset else
-    (if not (header.uncompressed == header.compressed) then Err CountMismatch else
+    if nat_lt (length bytes) header.compressed_page_size then Err BadOffset else
+    (if not (header.uncompressed_page_size == header.compressed_page_size) then Err CountMismatch else
     (if not (int_eq header.encoding (pos 0)) then Err (Encoding header.encoding) else (do
-      values ← bytes_told_as BadPage (plain_at header.values (take header.compressed bytes))
+      values ← bytes_told_as BadPage (plain_at header.num_values (take header.compressed_page_size bytes))
       if length values.1 == 0 then Ok values.0 else Err CountMismatch)))
 
 -- the values of the page at this place, and the place behind it
@@ -84,7 +84,7 @@ unfoldable pub page_at : List ℕ → ℕ → Result (List ℤ × ℕ) FileFault
 page_at bytes place = if not (nat_lt place (length bytes)) then Err BadOffset else (do
   header ← header_at (drop place bytes)
   values ← values_at header.0 header.1
-  Ok (values, length bytes - length header.1 + header.0.compressed))
+  Ok (values, length bytes - length header.1 + header.0.compressed_page_size))
 
 -- The values of the pages from this place on, up to so many values. Each page takes a byte at least, so there
 -- are at most as many as there are bytes, and `most` never runs out before the place is past the end.
@@ -101,12 +101,12 @@ pages_at (suc most) bytes place (suc left) = do
 
 -- a chunk's first page may not begin before byte 4
 unfoldable pub first_place : ℤ → Result ℕ FileFault
-first_place page = if le_z (pos 4) page then Ok (unsigned_abs page) else Err BadOffset
+first_place offset = if le_z (pos 4) offset then Ok (unsigned_abs offset) else Err BadOffset
 
 unfoldable pub values_of_chunk : List ℕ → Chunk → Result (List ℤ) FileFault
 values_of_chunk bytes chunk =
     if not (int_eq chunk.codec (pos 0)) then Err (Codec chunk.codec) else
-    (if chunk.values == 0 then Ok [] else (first_place chunk.page >>= λ place. pages_at (length bytes) bytes place chunk.values))
+    (if chunk.num_values == 0 then Ok [] else (first_place chunk.data_page_offset >>= λ place. pages_at (length bytes) bytes place chunk.num_values))
 
 -- the path of a column at the top
 abbrev pub is_path : List ℕ → List (List ℕ) → Bool
@@ -117,7 +117,7 @@ is_path name (first ∷ second ∷ others) = false
 -- the first chunk of the column
 abbrev pub chunk_at : List ℕ → List Chunk → Option Chunk
 chunk_at name [] = None
-chunk_at name (chunk ∷ others) = if is_path name chunk.path then Some chunk else chunk_at name others
+chunk_at name (chunk ∷ others) = if is_path name chunk.path_in_schema then Some chunk else chunk_at name others
 
 abbrev pub or_mismatch : Option Chunk → Result Chunk FileFault
 or_mismatch None = Err SchemaMismatch
@@ -125,9 +125,9 @@ or_mismatch (Some chunk) = Ok chunk
 
 unfoldable pub rows_of_group : List ℕ → List ℕ → Group → Result (List ℤ) FileFault
 rows_of_group bytes name group = do
-  chunk ← or_mismatch (chunk_at name group.chunks)
+  chunk ← or_mismatch (chunk_at name group.columns)
   values ← values_of_chunk bytes chunk
-  if chunk.values == group.rows then Ok values else Err CountMismatch
+  if chunk.num_values == group.num_rows then Ok values else Err CountMismatch
 
 unfoldable pub rows_of_groups : List ℕ → List ℕ → List Group → Result (List ℤ) FileFault
 rows_of_groups bytes name [] = Ok []
@@ -136,16 +136,21 @@ rows_of_groups bytes name (group ∷ groups) = do
   others ← rows_of_groups bytes name groups
   Ok (first ++ others)
 
+-- how many rows several groups claim together
+abbrev pub claimed_rows : List Group → ℕ
+claimed_rows [] = 0
+claimed_rows (group ∷ groups) = group.num_rows + claimed_rows groups
+
 -- ---- the file
 
 unfoldable pub rows_of : List ℕ → List ℕ → Metadata → Result (List ℤ) FileFault
 rows_of bytes name metadata = if not (is_long_column name metadata.schema) then Err SchemaMismatch else (do
-  rows ← rows_of_groups bytes name metadata.groups
-  if length rows == metadata.rows then Ok rows else Err CountMismatch)
+  rows ← rows_of_groups bytes name metadata.row_groups
+  if length rows == metadata.num_rows then Ok rows else Err CountMismatch)
 
 -- the rows of a table of one required long column of this name
 unfoldable pub rows_at : List ℕ → List ℕ → Result (List ℤ) FileFault
 rows_at bytes name = do
   parts ← frame_of bytes
-  metadata ← says_at parts.1
+  metadata ← metadata_at parts.1
   rows_of parts.0 name metadata

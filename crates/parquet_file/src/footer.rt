@@ -1,7 +1,7 @@
 //! The footer: what a file says of itself.
 
 ghost use Rattle.std.specs.Prelude.{◌≡◌, ◌≤◌, length, IfOk};
-ghost use Rattle.parquet_file.specs.File.{HasFooter, ClaimsFew};
+ghost use Rattle.parquet_file.specs.File.{HasFooter, ClaimsWithinLimit};
 ghost use Rattle.parquet_file.specs.Frame.{frame_of};
 ghost use Rattle.parquet_file.specs.Metadata.{Metadata};
 ghost use Rattle.parquet_file.specs.Outcome.{Gives, Finds, Refuses};
@@ -19,44 +19,44 @@ pub struct Footer {
     /// The nodes of the schema, depth first. The first is the root.
     pub schema: Vec<SchemaElement>,
     /// How many rows the file has.
-    pub rows: u64,
+    pub num_rows: u64,
     /// Its row groups.
-    pub groups: Vec<RowGroup>,
+    pub row_groups: Vec<RowGroup>,
 }
 
 /// A node of the schema (Parquet, SchemaElement).
 #[derive(Debug, Drop)]
 pub struct SchemaElement {
     /// The physical type, by its number: 2 is INT64. A leaf has one.
-    pub physical: Option<i64>,
+    pub physical_type: Option<i64>,
     /// 0 for required, 1 for optional, 2 for repeated. Each node but the root has one.
-    pub repetition: Option<i64>,
+    pub repetition_type: Option<i64>,
     /// The name, in the bytes of the file.
     pub name: Vec<u8>,
     /// How many children follow, none behind a leaf.
-    pub children: u64,
+    pub num_children: u64,
 }
 
 /// A row group (Parquet, RowGroup).
 #[derive(Debug, Drop)]
 pub struct RowGroup {
     /// Its column chunks.
-    pub chunks: Vec<ColumnChunk>,
+    pub columns: Vec<ColumnChunk>,
     /// How many rows it has.
-    pub rows: u64,
+    pub num_rows: u64,
 }
 
 /// One column of a row group (Parquet, ColumnChunk with its ColumnMetaData).
 #[derive(Debug, Drop)]
 pub struct ColumnChunk {
     /// The names from below the root to the leaf, in the bytes of the file.
-    pub path: Vec<Vec<u8>>,
+    pub path_in_schema: Vec<Vec<u8>>,
     /// The codec, by its number: 0 is UNCOMPRESSED.
     pub codec: i64,
     /// How many values it has, nulls among them.
-    pub values: u64,
-    /// The place of its first data page in the file, as the file states it.
-    pub page: i64,
+    pub num_values: u64,
+    /// The offset of its first data page in the file, as the file states it.
+    pub data_page_offset: i64,
 }
 
 impl Footer {
@@ -71,9 +71,9 @@ impl Footer {
     /// The time is linear in the footer's bytes, the memory in its values.
     pub fn read(alloc: Global, bytes: &[u8]) -> Result<Footer, FileError>
         // The bytes are framed, and a front of their footer spells what was read, within the limits.
-        ensures found { IfOk result (λ footer. HasFooter bytes.now (footer_view footer) × ClaimsFew (footer_view footer)) }
+        ensures found { IfOk result (λ footer. HasFooter bytes.now (footer_view footer) × ClaimsWithinLimit (footer_view footer)) }
         // What the footer of a framed file says is read, unless memory runs out.
-        ensures only { (metadata : Metadata) → HasFooter bytes.now metadata → length bytes.now ≤ 67108864 → ClaimsFew metadata → Finds footer_view metadata result }
+        ensures only { (metadata : Metadata) → HasFooter bytes.now metadata → length bytes.now ≤ 67108864 → ClaimsWithinLimit metadata → Finds footer_view metadata result }
         // A fault of the frame is answered whatever the memory.
         ensures early { Refuses result (frame_of bytes.now) }
         // Which fault it is: the first one in the order of the tests.

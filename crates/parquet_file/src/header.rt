@@ -3,7 +3,7 @@
 ghost use Rattle.std.specs.Prelude.{◌≡◌, ◌≤◌, length, IfOk};
 ghost use Rattle.thrift_core.specs.View.{view};
 ghost use Rattle.parquet_file.specs.Outcome.{Gives};
-ghost use Rattle.parquet_file.specs.Pages.{content_of, content_of_kind, header_of};
+ghost use Rattle.parquet_file.specs.Pages.{content_of, content_of_type, header_of};
 ghost use Rattle.parquet_file.specs.Reading.{header_at};
 ghost use Rattle.parquet_file.specs.declared.fault.FileFault.TheVariants.{BadPage};
 ghost use Rattle.parquet_file.specs.Views.{header_view};
@@ -18,10 +18,10 @@ use thrift_core::{ReadError, TValue, ThriftFault, read_struct};
 /// What the header of a data page says (Parquet, PageHeader and DataPageHeader).
 #[derive(Clone, Copy)]
 pub(crate) struct PageHeader {
-    pub(crate) kind: i64,
-    pub(crate) uncompressed: u64,
-    pub(crate) compressed: u64,
-    pub(crate) values: u64,
+    pub(crate) page_type: i64,
+    pub(crate) uncompressed_page_size: u64,
+    pub(crate) compressed_page_size: u64,
+    pub(crate) num_values: u64,
     pub(crate) encoding: i64,
 }
 
@@ -31,7 +31,7 @@ const DATA_PAGE: i64 = 0;
 const DICTIONARY_PAGE: i64 = 2;
 
 /// The header of a data page in front of the bytes, and the bytes behind it. P11 where it can't be read or
-/// lacks a field, and P5 for a page of another kind.
+/// lacks a field, and P5 for a page of another type.
 #[tactic(auto, unfolding(crate::specs::Reading::header_at))]
 pub(crate) fn read_header(alloc: Global, bytes: &[u8]) -> Result<(PageHeader, &[u8]), FileError>
     ensures exact { Gives (λ x. (header_view x.0, x.1.now)) result (header_at bytes.now) }
@@ -40,8 +40,11 @@ pub(crate) fn read_header(alloc: Global, bytes: &[u8]) -> Result<(PageHeader, &[
     let mut cursor = Cursor::new(bytes);
     let tree = read_struct(alloc, &mut cursor).map_err(in_page)?;
     let header = header(&tree).map_err(bad_page)?;
-    if header.kind != DATA_PAGE {
-        return Err(FileFault::PageKind { n: header.kind }.into());
+    if header.page_type != DATA_PAGE {
+        return Err(FileFault::PageKind {
+            n: header.page_type,
+        }
+        .into());
     }
     Ok((header, cursor.left()))
 }
@@ -68,25 +71,25 @@ pub(crate) fn bad_page(fault: ThriftFault) -> FileFault
 fn header(tree: &TValue) -> Result<PageHeader, ThriftFault>
     ensures { IsReading header_view result (header_of (view tree.now)) }
 {
-    let kind = integer(tree, 1)?;
-    let uncompressed = count(tree, 2)?;
-    let compressed = count(tree, 3)?;
-    let (values, encoding) = content_of_kind(tree, kind)?;
+    let page_type = integer(tree, 1)?;
+    let uncompressed_page_size = count(tree, 2)?;
+    let compressed_page_size = count(tree, 3)?;
+    let (num_values, encoding) = content_of_type(tree, page_type)?;
     Ok(PageHeader {
-        kind,
-        uncompressed,
-        compressed,
-        values,
+        page_type,
+        uncompressed_page_size,
+        compressed_page_size,
+        num_values,
         encoding,
     })
 }
 
-/// How many values a page of this kind has, and their encoding; nothing of a kind that isn't read.
-#[tactic(auto, unfolding(crate::specs::Pages::content_of_kind))]
-fn content_of_kind(tree: &TValue, kind: i64) -> Result<(u64, i64), ThriftFault>
-    ensures { result ≡ content_of_kind kind (view tree.now) }
+/// How many values a page of this type has, and their encoding; nothing of a type that isn't read.
+#[tactic(auto, unfolding(crate::specs::Pages::content_of_type))]
+fn content_of_type(tree: &TValue, page_type: i64) -> Result<(u64, i64), ThriftFault>
+    ensures { result ≡ content_of_type page_type (view tree.now) }
 {
-    match kind {
+    match page_type {
         DATA_PAGE => content(structure(tree, 5)?),
         DICTIONARY_PAGE => content(structure(tree, 7)?),
         _ => Ok((0, 0)),

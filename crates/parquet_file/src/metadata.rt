@@ -4,9 +4,9 @@ ghost use Rattle.std.specs.Prelude.{◌≡◌};
 ghost use Rattle.lake_bytes.specs.Reading.{IsReading};
 ghost use Rattle.thrift_core.specs.View.{view, views};
 ghost use Rattle.parquet_file.specs.Fields.{each};
-ghost use Rattle.parquet_file.specs.Metadata.{root_of, node_of, physical_of, schema_of, chunk_of, group_of, metadata_of};
+ghost use Rattle.parquet_file.specs.Metadata.{root_of, node_of, physical_type_of, schema_of, chunk_of, group_of, metadata_of};
 ghost use Rattle.parquet_file.specs.Outcome.{Gives, TreeGives};
-ghost use Rattle.parquet_file.specs.Reading.{says_at, within_limits, claim_few};
+ghost use Rattle.parquet_file.specs.Reading.{metadata_at, within_limits, claims_within_limit};
 ghost use Rattle.parquet_file.specs.declared.fault.FileFault.TheVariants.{BadFooter};
 ghost use Rattle.parquet_file.specs.Views.{element_view, element_views, chunk_view, chunk_views, group_view, group_views, footer_view};
 
@@ -22,9 +22,9 @@ pub const MAX_FILE_ROWS: u64 = 4_194_304;
 
 /// What the footer's bytes say. P2 with what is wrong with them, and P9 for a claim of more than
 /// [`MAX_FILE_ROWS`].
-#[tactic(auto, unfolding(crate::specs::Reading::says_at))]
+#[tactic(auto, unfolding(crate::specs::Reading::metadata_at))]
 pub(crate) fn read_metadata(alloc: Global, footer: &[u8]) -> Result<Footer, FileError>
-    ensures exact { Gives footer_view result (says_at footer.now) }
+    ensures exact { Gives footer_view result (metadata_at footer.now) }
 {
     let mut cursor = Cursor::new(footer);
     let tree = read_struct(alloc, &mut cursor).map_err(in_footer)?;
@@ -48,17 +48,17 @@ fn in_footer(error: ReadError) -> FileError
 fn within_limits(footer: Footer) -> Result<Footer, FileFault>
     ensures { IsReading footer_view result (within_limits (footer_view footer)) }
 {
-    if footer.rows > MAX_FILE_ROWS || !claim_few(&footer.groups) {
+    if footer.num_rows > MAX_FILE_ROWS || !claims_within_limit(&footer.row_groups) {
         return Err(FileFault::TooLarge);
     }
     Ok(footer)
 }
 
 /// No group claims more rows than a file may have.
-fn claim_few(groups: &[RowGroup]) -> bool
-    ensures { result ≡ claim_few (group_views groups.now) }
+fn claims_within_limit(groups: &[RowGroup]) -> bool
+    ensures { result ≡ claims_within_limit (group_views groups.now) }
 {
-    groups.iter().all(|group| group.rows <= MAX_FILE_ROWS)
+    groups.iter().all(|group| group.num_rows <= MAX_FILE_ROWS)
 }
 
 /// What a tree says of its file.
@@ -67,12 +67,12 @@ fn metadata(alloc: Global, tree: &TValue) -> Result<Footer, ReadError>
     ensures { TreeGives footer_view result (metadata_of (view tree.now)) }
 {
     let schema = schema(alloc, structs(tree, 2)?)?;
-    let rows = count(tree, 3)?;
-    let groups = groups(alloc, structs(tree, 4)?)?;
+    let num_rows = count(tree, 3)?;
+    let row_groups = groups(alloc, structs(tree, 4)?)?;
     Ok(Footer {
         schema,
-        rows,
-        groups,
+        num_rows,
+        row_groups,
     })
 }
 
@@ -97,12 +97,12 @@ fn root(alloc: Global, tree: &TValue) -> Result<SchemaElement, ReadError>
     ensures { TreeGives element_view result (root_of (view tree.now)) }
 {
     let name = text(tree, 4)?;
-    let children = count(tree, 5)?;
+    let num_children = count(tree, 5)?;
     Ok(SchemaElement {
-        physical: optional_integer(tree, 1),
-        repetition: optional_integer(tree, 3),
+        physical_type: optional_integer(tree, 1),
+        repetition_type: optional_integer(tree, 3),
         name: Vec::from_slice(alloc, name)?,
-        children,
+        num_children,
     })
 }
 
@@ -111,24 +111,24 @@ fn root(alloc: Global, tree: &TValue) -> Result<SchemaElement, ReadError>
 fn node(alloc: Global, tree: &TValue) -> Result<SchemaElement, ReadError>
     ensures { TreeGives element_view result (node_of (view tree.now)) }
 {
-    let children = optional_integer(tree, 5).unwrap_or(0);
-    let physical = physical(tree, children)?;
-    let repetition = integer(tree, 3)?;
+    let num_children = optional_integer(tree, 5).unwrap_or(0);
+    let physical_type = physical_type(tree, num_children)?;
+    let repetition_type = integer(tree, 3)?;
     let name = text(tree, 4)?;
     Ok(SchemaElement {
-        physical,
-        repetition: Some(repetition),
-        children: natural(children)?,
+        physical_type,
+        repetition_type: Some(repetition_type),
+        num_children: natural(num_children)?,
         name: Vec::from_slice(alloc, name)?,
     })
 }
 
 /// The physical type of a node with so many children. A leaf has to have one.
-#[tactic(auto, unfolding(crate::specs::Metadata::physical_of))]
-fn physical(tree: &TValue, children: i64) -> Result<Option<i64>, ThriftFault>
-    ensures { result ≡ physical_of children (view tree.now) }
+#[tactic(auto, unfolding(crate::specs::Metadata::physical_type_of))]
+fn physical_type(tree: &TValue, num_children: i64) -> Result<Option<i64>, ThriftFault>
+    ensures { result ≡ physical_type_of num_children (view tree.now) }
 {
-    if children == 0 {
+    if num_children == 0 {
         return Ok(Some(integer(tree, 1)?));
     }
     Ok(optional_integer(tree, 1))
@@ -149,9 +149,9 @@ fn groups(alloc: Global, members: &[TValue]) -> Result<Vec<RowGroup>, ReadError>
 fn group(alloc: Global, tree: &TValue) -> Result<RowGroup, ReadError>
     ensures { TreeGives group_view result (group_of (view tree.now)) }
 {
-    let chunks = chunks(alloc, structs(tree, 1)?)?;
-    let rows = count(tree, 3)?;
-    Ok(RowGroup { chunks, rows })
+    let columns = chunks(alloc, structs(tree, 1)?)?;
+    let num_rows = count(tree, 3)?;
+    Ok(RowGroup { columns, num_rows })
 }
 
 /// The chunks of a group, in order.
@@ -170,14 +170,14 @@ fn chunk(alloc: Global, tree: &TValue) -> Result<ColumnChunk, ReadError>
     ensures { TreeGives chunk_view result (chunk_of (view tree.now)) }
 {
     let column = structure(tree, 3)?;
-    let path = texts(alloc, column, 3)?;
+    let path_in_schema = texts(alloc, column, 3)?;
     let codec = integer(column, 4)?;
-    let values = count(column, 5)?;
-    let page = integer(column, 9)?;
+    let num_values = count(column, 5)?;
+    let data_page_offset = integer(column, 9)?;
     Ok(ColumnChunk {
-        path,
+        path_in_schema,
         codec,
-        values,
-        page,
+        num_values,
+        data_page_offset,
     })
 }

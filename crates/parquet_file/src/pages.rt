@@ -65,7 +65,7 @@ fn add_page(
     let (header, behind) = read_header(alloc, page)?;
     let before = rows.len();
     add_values(&header, behind, rows)?;
-    let next = bytes.len() - behind.len() + header.compressed as usize;
+    let next = bytes.len() - behind.len() + header.compressed_page_size as usize;
     Ok(((rows.len() - before) as u64, next))
 }
 
@@ -73,20 +73,20 @@ fn add_page(
 #[tactic(auto, unfolding(crate::specs::Reading::values_at))]
 fn add_values(header: &PageHeader, bytes: &[u8], rows: &mut Vec<i64>) -> Result<(), FileError>
     ensures added { AddsRows (values_at (header_view header.now) bytes.now) rows.old.items result rows.new.items }
-    ensures fits { IfOk result (λ _. header.now.compressed ≤ length bytes.now) }
+    ensures fits { IfOk result (λ _. header.now.compressed_page_size ≤ length bytes.now) }
 {
-    if header.compressed > bytes.len() as u64 {
+    if header.compressed_page_size > bytes.len() as u64 {
         return Err(FileFault::BadOffset.into());
     }
-    if header.uncompressed != header.compressed {
+    if header.uncompressed_page_size != header.compressed_page_size {
         return Err(FileFault::CountMismatch.into());
     }
     if header.encoding != PLAIN {
         return Err(FileFault::Encoding { n: header.encoding }.into());
     }
-    let (body, _) = bytes.split_at(header.compressed as usize);
+    let (body, _) = bytes.split_at(header.compressed_page_size as usize);
     let mut cursor = Cursor::new(body);
-    add_plain(&mut cursor, header.values, rows)?;
+    add_plain(&mut cursor, header.num_values, rows)?;
     if !cursor.left().is_empty() {
         return Err(FileFault::CountMismatch.into());
     }

@@ -1,11 +1,11 @@
 //! The rows of a file, by what its footer says.
 
-ghost use Rattle.std.specs.Prelude.{◌≡◌, List, ℤ, option_map, length, IfOk, string_bytes};
+ghost use Rattle.std.specs.Prelude.{◌≡◌, ◌==◌, List, ℤ, option_map, length, IfOk, string_bytes};
 ghost use Rattle.lake_bytes.specs.Reading.{IsReading};
 ghost use Rattle.parquet_file.specs.File.{IsFile, KeepsLimits};
 ghost use Rattle.parquet_file.specs.Frame.{frame_of};
-ghost use Rattle.parquet_file.specs.Outcome.{Gives, AddsRows, Finds, Refuses};
-ghost use Rattle.parquet_file.specs.Reading.{rows_at, rows_of, rows_of_groups, rows_of_group, values_of_chunk, first_place, chunk_at, is_path, is_long_column, is_long_leaf, is_number};
+ghost use Rattle.parquet_file.specs.Outcome.{Gives, AddsRows, Finds, Refuses, Tests};
+ghost use Rattle.parquet_file.specs.Reading.{rows_at, rows_of, claimed_rows, rows_of_groups, rows_of_group, values_of_chunk, first_place, chunk_at, is_path, is_long_column, is_long_leaf, is_number};
 ghost use Rattle.parquet_file.specs.Views.{footer_view, group_view, group_views, chunk_view, chunk_views, texts_view, element_view, element_views};
 
 use crate::fault::{FileError, FileFault};
@@ -25,7 +25,8 @@ use std::alloc::Global;
 /// where the groups haven't as many rows as the file.
 ///
 /// The time is linear in the footer's bytes and in those of the pages of each group; pages that several groups
-/// state are read once for each.
+/// state are read once for each. Beside the footer the memory holds at most the rows that the file claims and those
+/// of one row group.
 pub fn read_rows(alloc: Global, column: &str, bytes: &[u8]) -> Result<Vec<i64>, FileError>
     // The bytes are a file of these rows, within the limits.
     ensures found { IfOk result (λ rows. IsFile bytes.now column.now rows.items × KeepsLimits bytes.now rows.items) }
@@ -63,13 +64,44 @@ fn rows_by_footer(
     if !is_long_column(column, &footer.schema) {
         return Err(FileFault::SchemaMismatch.into());
     }
-    let most = footer.rows.min(bytes.len() as u64 / 8);
-    let mut rows = Vec::with_capacity(alloc, most as usize)?;
-    add_groups(alloc, column, bytes, &footer.groups, &mut rows)?;
-    if rows.len() as u64 != footer.rows {
+    if !claims_add_up(&footer.row_groups, footer.num_rows) {
+        test_groups(alloc, column, bytes, &footer.row_groups)?;
         return Err(FileFault::CountMismatch.into());
     }
+    let most = footer.num_rows.min(bytes.len() as u64 / 8);
+    let mut rows = Vec::with_capacity(alloc, most as usize)?;
+    add_groups(alloc, column, bytes, &footer.row_groups, &mut rows)?;
     Ok(rows)
+}
+
+/// Several groups claim so many rows together.
+fn claims_add_up(groups: &[RowGroup], rows: u64) -> bool
+    ensures { result ≡ (claimed_rows (group_views groups.now) == rows) }
+{
+    let mut left = rows;
+    for group in groups {
+        if group.num_rows > left {
+            return false;
+        }
+        left -= group.num_rows;
+    }
+    left == 0
+}
+
+/// Reads the rows of several groups, and keeps none of them.
+fn test_groups(
+    alloc: Global,
+    column: &str,
+    bytes: &[u8],
+    groups: &[RowGroup],
+) -> Result<(), FileError>
+    ensures { Tests (rows_of_groups bytes.now column.now (group_views groups.now)) result }
+{
+    for group in groups {
+        let mut rows = Vec::new(alloc);
+        add_group(alloc, column, bytes, group, &mut rows)?;
+    }
+    Ok(())
 }
 
 /// The rows of several groups, added to the rows.
@@ -99,11 +131,11 @@ fn add_group(
 ) -> Result<(), FileError>
     ensures { AddsRows (rows_of_group bytes.now column.now (group_view group.now)) rows.old.items result rows.new.items }
 {
-    let Some(chunk) = chunk_of(column, &group.chunks) else {
+    let Some(chunk) = chunk_of(column, &group.columns) else {
         return Err(FileFault::SchemaMismatch.into());
     };
     add_chunk(alloc, bytes, chunk, rows)?;
-    if chunk.values != group.rows {
+    if chunk.num_values != group.num_rows {
         return Err(FileFault::CountMismatch.into());
     }
     Ok(())
@@ -122,11 +154,11 @@ fn add_chunk(
     if chunk.codec != UNCOMPRESSED {
         return Err(FileFault::Codec { n: chunk.codec }.into());
     }
-    if chunk.values == 0 {
+    if chunk.num_values == 0 {
         return Ok(());
     }
-    let place = first_place(chunk.page)?;
-    add_pages(alloc, bytes, place, chunk.values, rows)
+    let place = first_place(chunk.data_page_offset)?;
+    add_pages(alloc, bytes, place, chunk.num_values, rows)
 }
 
 /// The number of the codec UNCOMPRESSED, of the type INT64 and of the repetition REQUIRED.
@@ -136,22 +168,24 @@ const INT64: i64 = 2;
 
 const REQUIRED: i64 = 0;
 
-/// The place where a chunk's first page begins, behind the magic bytes.
+/// The place where a chunk's first page begins, by its offset. P6 for one before byte 4.
 #[tactic(auto, unfolding(crate::specs::Reading::first_place))]
-fn first_place(page: i64) -> Result<usize, FileFault>
-    ensures { IsReading (λ place. place) result (first_place page) }
+fn first_place(offset: i64) -> Result<usize, FileFault>
+    ensures { IsReading (λ place. place) result (first_place offset) }
 {
-    if page < 4 {
+    if offset < 4 {
         return Err(FileFault::BadOffset);
     }
-    Ok(page as usize)
+    Ok(offset as usize)
 }
 
 /// The first chunk of the column.
 fn chunk_of<'a>(column: &str, chunks: &'a [ColumnChunk]) -> Option<&'a ColumnChunk>
     ensures { option_map (λ chunk. chunk_view chunk.now) result ≡ chunk_at column.now (chunk_views chunks.now) }
 {
-    chunks.iter().find(|chunk| is_path(column, &chunk.path))
+    chunks
+        .iter()
+        .find(|chunk| is_path(column, &chunk.path_in_schema))
 }
 
 /// The path of a column at the top.
@@ -169,7 +203,7 @@ fn is_long_column(column: &str, schema: &[SchemaElement]) -> bool
     ensures { result ≡ is_long_column column.now (element_views schema.now) }
 {
     match schema {
-        [root, leaf] => root.children == 1 && is_long_leaf(column, leaf),
+        [root, leaf] => root.num_children == 1 && is_long_leaf(column, leaf),
         _ => false,
     }
 }
@@ -178,7 +212,7 @@ fn is_long_leaf(column: &str, leaf: &SchemaElement) -> bool
     ensures { result ≡ is_long_leaf column.now (element_view leaf.now) }
 {
     leaf.name.as_slice() == column.as_bytes()
-        && leaf.physical == Some(INT64)
-        && leaf.repetition == Some(REQUIRED)
-        && leaf.children == 0
+        && leaf.physical_type == Some(INT64)
+        && leaf.repetition_type == Some(REQUIRED)
+        && leaf.num_children == 0
 }

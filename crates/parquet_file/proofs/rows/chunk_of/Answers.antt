@@ -8,5 +8,5 @@ use Rattle.parquet_file.proofs.rows.chunk_of.Goals as goal
 
 pub returns : goal.returns
 returns c =
-    let found = find_from_yields_List (λ x. is_path c.args.column.now (chunk_view x).path) _ _ c.find.result c.find.ensures.ran (YieldsList-from_slice c.args.chunks.now cc) (λ x b q k. search (rules, tests)) in
+    let found = find_from_yields_List (λ x. is_path c.args.column.now (chunk_view x).path_in_schema) _ _ c.find.result c.find.ensures.ran (YieldsList-from_slice c.args.chunks.now cc) (λ x b q k. search (rules, tests)) in
     map_twice chunk_view (λ x. x.now) c.find.result ∙ ap (option_map chunk_view) found ∙ chunk_found c.args.column.now c.args.chunks.now
