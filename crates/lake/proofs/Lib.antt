@@ -6,8 +6,11 @@ pub mod RunLemmas
 pub mod WordLemmas
 pub mod Moments
 pub mod CommitLemmas
-pub mod ReplyLemmas
 pub mod SchemaLemmas
 pub mod PutLemmas
 pub mod NameLemmas
 pub mod RunsLemmas
+pub mod RefusalLemmas
+pub mod RowLemmas
+pub mod LogLemmas
+pub mod AppendLemmas

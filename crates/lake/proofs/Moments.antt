@@ -3,8 +3,8 @@ use Rattle.std.proofs.Common.{◌≡◌, ℕ, ◌<◌, ◌≤◌, ◌^◌, ◌&&
 use Rattle.std.proofs.lemmas.Bool.{cases_Bool, cond-true, cond-false, and_parts, leb-true}
 use Rattle.lake.specs.declared.verb.Verb.{Verb}
 use Rattle.lake.specs.declared.verb.Verb.TheVariants as verb
-use Rattle.lake.specs.Fields.{◌>>=◌, word_and_rest, number_of, number_between, moment_of}
-use Rattle.lake.specs.Lines.{Wish, IsTimely, create, task, show, tries, fault, start, step, land, foreign, asks, asked, bare_wish, wish_from, wish_split, wish_of, create_from, start_from, step_from, foreign_from, text_of, is_blank, is_comment, reading_of}
+use Rattle.lake.specs.Fields.{◌>>=◌, word_and_rest, number_of, number_between, moment_of, max_of, array_of}
+use Rattle.lake.specs.Lines.{Wish, append_head, append_from, close_from, tail_from, Task, IsTimelyTask, IsTimely, append, close, tail, create, task, show, tries, fault, start, step, land, foreign, asks, asked, bare_wish, wish_from, wish_split, wish_of, create_from, start_from, step_from, foreign_from, text_of, is_blank, is_comment, reading_of}
 
 kept_high : (low high : ℕ) (found : Option ℕ) (n : ℕ) → (found >>= λ m. if nat_le low m && nat_le m high then Some m else None) ≡ Some n → n ≤ high
 kept_high low high None n h = cc
@@ -32,6 +32,49 @@ bind_timely (Some a) f all w h = all a w refl h
 map_timely : {A : Type 0} (x : Option A) (f : A → Wish) → ((a : A) → IsTimely (f a)) → (w : Wish) → option_map f x ≡ Some w → IsTimely w
 map_timely None f all w h = cc
 map_timely (Some a) f all w h = some_timely (f a) w (all a) h
+
+-- what every way to an answer gives, the answer has
+bind_all : {A B : Type 0} (P : B → Type 0) (x : Option A) (f : A → Option B) → ((a : A) (b : B) → x ≡ Some a → f a ≡ Some b → P b) → (b : B) → (x >>= f) ≡ Some b → P b
+bind_all P None f all b h = cc
+bind_all P (Some a) f all b h = all a b refl h
+
+some_all : {B : Type 0} (P : B → Type 0) (v b : B) → P v → Some v ≡ Some b → P b
+some_all P v b t h = let is : v ≡ b = cc in subst P is t
+
+task_timely : (x : Option Task) → ((t : Task) → x ≡ Some t → IsTimelyTask t) → (w : Wish) → option_map task x ≡ Some w → IsTimely w
+task_timely None all w h = cc
+task_timely (Some t) all w h = some_timely (task t) w (all t refl) h
+
+head_timely : (text : List ℕ) (head : List ℕ × ℕ × ℕ × List ℕ) → append_head text ≡ Some head → head.2 < 2 ^ 63
+unfolding append_head
+head_timely text head h =
+    bind_all (λ head. head.2 < 2 ^ 63) (word_and_rest text) _
+    (λ application u _ h1. bind_all (λ head. head.2 < 2 ^ 63) (word_and_rest application.1) _
+    (λ digits v _ h2. bind_all (λ head. head.2 < 2 ^ 63) (number_of digits.0) _
+    (λ number x _ h3. bind_all (λ head. head.2 < 2 ^ 63) (word_and_rest digits.1) _
+    (λ moment y _ h4. bind_all (λ head. head.2 < 2 ^ 63) (moment_of moment.0) _
+    (λ at z is h5. some_all (λ head. head.2 < 2 ^ 63) (application.0, number, at, moment.1) z (moment_small moment.0 at is) h5) y h4) x h3) v h2) u h1) head h
+
+append_timely : (text : List ℕ) (t : Task) → append_from text ≡ Some t → IsTimelyTask t
+unfolding append_from
+append_timely text t h =
+    bind_all IsTimelyTask (append_head text) _
+    (λ head u is h1. bind_all IsTimelyTask (array_of head.3) _
+    (λ rows v _ h2. some_all IsTimelyTask (append head.0 head.1 head.2 rows) v (head_timely text head is) h2) u h1) t h
+
+close_timely : (text : List ℕ) (t : Task) → close_from text ≡ Some t → IsTimelyTask t
+unfolding close_from
+close_timely text t h =
+    bind_all IsTimelyTask (word_and_rest text) _
+    (λ application u _ h1. bind_all IsTimelyTask (moment_of application.1) _
+    (λ at v _ h2. some_all IsTimelyTask (close application.0 at) v tt h2) u h1) t h
+
+tail_timely : (text : List ℕ) (t : Task) → tail_from text ≡ Some t → IsTimelyTask t
+unfolding tail_from
+tail_timely text t h =
+    bind_all IsTimelyTask (word_and_rest text) _
+    (λ digits u _ h1. bind_all IsTimelyTask (max_of digits.0) _
+    (λ max v _ h2. some_all IsTimelyTask (tail max digits.1) v tt h2) u h1) t h
 
 create_timely : (text : List ℕ) (w : Wish) → create_from text ≡ Some w → IsTimely w
 unfolding create_from
@@ -78,12 +121,12 @@ bare_timely verb.Foreign w h = cc
 
 from_timely : (v : Verb) (text : List ℕ) (w : Wish) → wish_from v text ≡ Some w → IsTimely w
 from_timely verb.Create text w h = create_timely text w h
-from_timely verb.Append text w h = map_timely _ task (λ _. tt) w h
-from_timely verb.Close text w h = map_timely _ task (λ _. tt) w h
+from_timely verb.Append text w h = task_timely _ (append_timely text) w h
+from_timely verb.Close text w h = task_timely _ (close_timely text) w h
 from_timely verb.Checkpoint text w h = cc
 from_timely verb.Snapshot text w h = cc
 from_timely verb.History text w h = cc
-from_timely verb.Tail text w h = map_timely _ task (λ _. tt) w h
+from_timely verb.Tail text w h = task_timely _ (tail_timely text) w h
 from_timely verb.Show text w h = map_timely _ show (λ _. tt) w h
 from_timely verb.Hex text w h = some_timely _ w tt h
 from_timely verb.Tries text w h = map_timely _ tries (λ _. tt) w h

@@ -11,3 +11,7 @@ pub mod Streams
 pub mod Told
 pub mod Words
 pub mod Status
+pub mod Refusals
+pub mod RowsIn
+pub mod Log
+pub mod Appending

@@ -217,8 +217,13 @@ wish_view (line.Land put) = land put
 wish_view (line.Foreign version action) = foreign version action.now
 
 -- a moment fits where a commit keeps one
+abbrev pub IsTimelyTask : Task → Type 0
+IsTimelyTask (append application number at rows) = at < 2 ^ 63
+IsTimelyTask _ = ⊤
+
 abbrev pub IsTimely : Wish → Type 0
 IsTimely (create id at schema) = at < 2 ^ 63
+IsTimely (task job) = IsTimelyTask job
 IsTimely _ = ⊤
 
 -- what the code took a line for

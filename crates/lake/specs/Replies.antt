@@ -38,3 +38,7 @@ bad_line number = line_of (codes "bad line " ++ decimal number)
 -- the reply where version 0 was put
 abbrev pub created : List ℕ
 created = codes "Created 0"
+
+-- the reply where a batch was put with the commit of that version
+abbrev pub committed_at : ℕ → List ℕ
+committed_at version = codes "Committed " ++ decimal version

@@ -1,18 +1,25 @@
--- What a script may be told where growths are refused: some lines are told just that, and leave the objects as they were.
+-- What a script may be told where growths are refused: some lines are told just that, and leave the objects as they
+-- were, but for a batch's file, which may stand.
 use Rattle.std.specs.Prelude.{◌≡◌, ◌⊎◌, ◌+◌, ◌++◌, ℕ, true, false, List, [], ◌∷◌, Option}
 use Rattle.std.specs.Io.KnownBytes.{Appends}
 use Rattle.store_core.specs.Objects.{Objects}
 use Rattle.store_core.specs.Texts as stores
 use Rattle.store_core.specs.declared.fault.StoreFault.TheVariants as store_faults
 use Rattle.lake.specs.declared.fault.CreateFault.TheVariants as create_faults
-use Rattle.lake.specs.Lines.{Wish, create, show, hex, Reading, skipped, bad, asks, reading_of}
+use Rattle.lake.specs.Appending.{settled, MayHoldFile}
+use Rattle.lake.specs.Lines.{append, Wish, create, task, show, hex, Reading, skipped, bad, asks, reading_of}
+use Rattle.lake.specs.Refusals.{refusal_text, memory}
 use Rattle.lake.specs.Replies.{create_fault_text, refused, line_of, bad_line}
 use Rattle.lake.specs.Streams.{StandsIn}
 use Rattle.lake.specs.Told.{lines_of, is_bad, reply_to_wish, left_by_wish}
 
--- the reply to a line that creates a table, and to one that shows an object, where a growth was refused
+-- the reply to a line that creates a table, to one that appends a batch, and to one that shows an object, where a
+-- growth was refused
 abbrev pub no_room_to_create : List ℕ
 no_room_to_create = line_of (refused (create_fault_text create_faults.Memory))
+
+abbrev pub no_room_to_append : List ℕ
+no_room_to_append = line_of (refused (refusal_text memory))
 
 abbrev pub no_room_to_show : List ℕ
 no_room_to_show = line_of (refused (stores.fault_text store_faults.Memory))
@@ -20,14 +27,20 @@ no_room_to_show = line_of (refused (stores.fault_text store_faults.Memory))
 -- the reply to a line whose growth was refused; other lines need none
 abbrev pub IsWantOfMemory : Wish → List ℕ → Type 0
 IsWantOfMemory (create id at schema) reply = reply ≡ no_room_to_create
+IsWantOfMemory (task (append application number at rows)) reply = reply ≡ no_room_to_append
 IsWantOfMemory (show version) reply = reply ≡ no_room_to_show
 IsWantOfMemory (hex name) reply = reply ≡ no_room_to_show
 IsWantOfMemory _ reply = ⊥
 
--- a line has what it asks for, or is told of want of memory and leaves the objects as they were
+-- the objects behind a line whose growth was refused: as they were, or with the file of the batch that it appends
+abbrev pub MayLeave : Objects → Wish → Objects → Type 0
+MayLeave objects (task (append application number at rows)) after = MayHoldFile objects (settled objects application number at rows) after
+MayLeave objects _ after = after ≡ objects
+
+-- a line has what it asks for, or is told of want of memory and leaves the objects as they were, but for a batch's file
 abbrev pub Grants : Objects → Wish → List ℕ → Objects → Type 0
 Grants objects wish reply after =
-    ((reply ≡ reply_to_wish objects wish) × (after ≡ left_by_wish objects wish)) ⊎ (IsWantOfMemory wish reply × (after ≡ objects))
+    ((reply ≡ reply_to_wish objects wish) × (after ≡ left_by_wish objects wish)) ⊎ (IsWantOfMemory wish reply × MayLeave objects wish after)
 
 -- the reply to a line of that number, and the objects behind it
 abbrev pub Replies : ℕ → Objects → Reading → List ℕ → Objects → Type 0

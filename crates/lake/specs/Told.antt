@@ -7,10 +7,12 @@ use Rattle.lake.specs.declared.run.End.{End}
 use Rattle.lake.specs.declared.run.End.TheVariants.{Done, BadLine, NotRead, NotWritten}
 use Rattle.lake.specs.declared.fault.Fault.TheVariants.{NotYet, NoSuchName}
 use Rattle.lake.specs.declared.fault.CreateFault.{CreateFault}
+use Rattle.lake.specs.Appending.{appended_by, settled, with_append}
 use Rattle.lake.specs.Commits.{commit_name}
 use Rattle.lake.specs.Creating.{commit_from, created_by, with_creation}
-use Rattle.lake.specs.Lines.{Wish, create, show, hex, Reading, skipped, bad, asks, reading_of}
-use Rattle.lake.specs.Replies.{fault_text, create_fault_text, created, refused, line_of, bad_line}
+use Rattle.lake.specs.Lines.{append, Wish, create, task, show, hex, Reading, skipped, bad, asks, reading_of}
+use Rattle.lake.specs.Refusals.{Refusal, refusal_text}
+use Rattle.lake.specs.Replies.{fault_text, create_fault_text, created, committed_at, refused, line_of, bad_line}
 
 -- a newline
 abbrev pub is_newline : ℕ → Bool
@@ -30,6 +32,11 @@ abbrev pub created_reply : Result (List ℕ) CreateFault → List ℕ
 created_reply (Ok bytes) = line_of created
 created_reply (Err refusal) = line_of (refused (create_fault_text refusal))
 
+-- the reply to a line that appends a batch
+abbrev pub appended_reply : Result ℕ Refusal → List ℕ
+appended_reply (Ok version) = line_of (committed_at version)
+appended_reply (Err refusal) = line_of (refused (refusal_text refusal))
+
 -- an object, as it stands
 abbrev pub shown : Option (List ℕ) → List ℕ
 shown None = line_of (refused (fault_text NoSuchName))
@@ -47,6 +54,7 @@ not_yet = line_of (refused (fault_text NotYet))
 -- the reply to what a line asks for, over the objects that stand
 abbrev pub reply_to_wish : Objects → Wish → List ℕ
 reply_to_wish objects (create id at schema) = created_reply (created_by objects id at schema)
+reply_to_wish objects (task (append application number at rows)) = appended_reply (appended_by objects application number at rows)
 reply_to_wish objects (show version) = shown (object_at objects (commit_name version))
 reply_to_wish objects (hex name) = in_hex (object_at objects name)
 reply_to_wish objects _ = not_yet
@@ -54,6 +62,7 @@ reply_to_wish objects _ = not_yet
 -- the objects that stand once a line has what it asks for
 abbrev pub left_by_wish : Objects → Wish → Objects
 left_by_wish objects (create id at schema) = with_creation objects (commit_from id at schema)
+left_by_wish objects (task (append application number at rows)) = with_append objects (settled objects application number at rows)
 left_by_wish objects _ = objects
 
 -- the reply to a line of that number, over the objects that stand

@@ -1,4 +1,4 @@
-// Scripts that create a table and show its objects, from text to text.
+// Scripts that create a table, append to it and show its objects, from text to text.
 use crate::input::Input;
 use crate::output::Output;
 use crate::run::{End, Outcome, run};
@@ -30,6 +30,31 @@ fn shows_what_it_creates(rt: HostRuntime) -> Result<(), Fail> {
     let mut told = Vec::new(rt.alloc());
     let outcome = outcome(rt.alloc(), &text, &mut told);
     assert_eq!(rt; outcome.end, End::Done);
+    assert_eq!(rt; told.as_slice(), wanted.as_bytes());
+    Ok(())
+}
+
+const APPEND: &str = r#"append a 0 5 [{"x":1},{"x":-1}]"#;
+
+const BATCH: &str = r#"{"commitInfo":{"operation":"STREAMING UPDATE","timestamp":5}}
+{"txn":{"appId":"a","lastUpdated":5,"version":0}}
+{"add":{"dataChange":true,"modificationTime":5,"partitionValues":{},"path":"part-61-00000000000000000000.parquet","size":121,"stats":"{\"numRecords\":2}"}}
+"#;
+
+#[test]
+fn appends_to_what_it_creates(rt: HostRuntime) -> Result<(), Fail> {
+    let large = r#"append b 0 5 [{"x":9223372036854775808}]"#;
+    let bounds = "append  +007 999999999999999 [ ]\r\nappend a 18446744073709551615 0 []";
+    let text = format!(in rt.alloc();
+        "{APPEND}\n{CREATE}\n{APPEND}\nshow 1\n{APPEND}\n{large}\n{bounds}"
+    )?;
+    let wanted = format!(in rt.alloc();
+        "refused S9 BadLog 0\nCreated 0\nCommitted 1\n{BATCH}refused N1 NotYet\nrefused S7 BadRow 0 V3 OutOfRange x\nrefused S11 BadApp\nrefused S8 TooLarge\n"
+    )?;
+    let mut told = Vec::new(rt.alloc());
+    let outcome = outcome(rt.alloc(), &text, &mut told);
+    assert_eq!(rt; outcome.end, End::Done);
+    assert!(rt; !outcome.short());
     assert_eq!(rt; told.as_slice(), wanted.as_bytes());
     Ok(())
 }

@@ -227,7 +227,7 @@ pub fn run<R: Read, W: Write, S: Store>(
         × (S.objects store.new ≡ left (S.objects store.old) text))) }
 
     // Where a growth was refused, the lines that met it are told so, and leave the objects as they
-    // were.
+    // were, but for a batch's file, which may stand.
     ensures tells { S.is_reliable store.old → Finishes result.end (λ _. IfSome (unread R.remaining input.old) (λ text.
         Tells (held W.contents output.old) (W.contents output.new.writer)
         (λ written. Runs 1 (S.objects store.old) (lines_of text) written (S.objects store.new)))) }
