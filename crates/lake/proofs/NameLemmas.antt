@@ -1,7 +1,7 @@
 -- A number printed in twenty digits.
 use Rattle.std.proofs.Common.{◌≡◌, ℕ, ◌-◌, ◌^◌, ◌++◌, length, replicate, ap₂, append-nil, arith}
 use Rattle.std.specs.Fmt.{decimal, padded_integral, format_spec, char_count, styled_decimal}
-use Rattle.lake.specs.Commits.{twenty_digits}
+use Rattle.table_model.specs.Names.{twenty_digits}
 
 pub twenty_digits_printed : (n : ℕ) → styled_decimal (format_spec 32 0 4 20 (2 ^ 64 - 1)) n ≡ twenty_digits n
 unfolding padded_integral char_count

@@ -4,6 +4,7 @@ use Rattle.std.specs.Io.KnownBytes.{Appends}
 use Rattle.std.proofs.lemmas.Bool.{cond-true, cond-false}
 use Rattle.store_core.specs.Objects.{Objects}
 use Rattle.lake.specs.Lines.{Reading, skipped, bad, asks, reading_of}
+use Rattle.lake.specs.Sound.{IsSound, AreSound, UnlessBad}
 use Rattle.lake.specs.Told.{reply_to, left_by, is_bad, told_from, left_from, first_bad_from, lines_left}
 use Rattle.lake.proofs.StreamLemmas.{Appends-both, Towards}
 
@@ -77,3 +78,17 @@ left_from-none objects = refl
 pub first_bad_from-none : (number : ℕ) → first_bad_from number [] ≡ None
 unfolding first_bad_from
 first_bad_from-none number = refl
+
+-- what the lines put is well made, from one line on
+module _ (objects : Objects) (line : List ℕ) (lines : List (List ℕ)) (here : IsSound objects (reading_of line)) where
+  pub sound_next : is_bad (reading_of line) ≡ false → AreSound (left_by objects (reading_of line)) lines → AreSound objects (line ∷ lines)
+  unfolding AreSound
+  sound_next goes_on more = (here, subst (λ is. UnlessBad is (AreSound (left_by objects (reading_of line)) lines)) (sym goes_on) more)
+
+  pub sound_here : is_bad (reading_of line) ≡ true → AreSound objects (line ∷ lines)
+  unfolding AreSound
+  sound_here ends = (here, subst (λ is. UnlessBad is (AreSound (left_by objects (reading_of line)) lines)) (sym ends) tt)
+
+pub sound_none : (objects : Objects) → AreSound objects []
+unfolding AreSound
+sound_none objects = tt

@@ -42,3 +42,7 @@ created = codes "Created 0"
 -- the reply where a batch was put with the commit of that version
 abbrev pub committed_at : ℕ → List ℕ
 committed_at version = codes "Committed " ++ decimal version
+
+-- the reply where the application's last batch has that number, and stands already
+abbrev pub already : ℕ → List ℕ
+already number = codes "Already " ++ decimal number

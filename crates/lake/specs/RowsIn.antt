@@ -4,7 +4,8 @@ use Rattle.serde_json.specs.Data.{Data, null, boolean, number, string, array, ob
 use Rattle.serde_json.specs.Find.{as_number, as_i64, is_float}
 use Rattle.delta_actions.specs.Kinds.{field}
 use Rattle.lake.specs.declared.refusal.RowFault.TheVariants.{Missing, WrongKind, OutOfRange, Unknown}
-use Rattle.lake.specs.Refusals.{Refusal, bad_row, ◌>>=◌}
+use Rattle.lake.specs.Refusals.{Refusal, bad_row}
+use Rattle.lake.specs.Results.{◌>>=◌}
 
 -- a number of 64 bits; what JSON writes with a fraction or an exponent is of another kind
 abbrev pub long_or_fault : ℕ → List ℕ → Bool → Option ℤ → Result ℤ Refusal

@@ -7,10 +7,13 @@ use Rattle.store_core.specs.Texts as stores
 use Rattle.store_core.specs.declared.fault.StoreFault.TheVariants as store_faults
 use Rattle.lake.specs.declared.fault.CreateFault.TheVariants as create_faults
 use Rattle.lake.specs.Appending.{settled, MayHoldFile}
-use Rattle.lake.specs.Lines.{append, Wish, create, task, show, hex, Reading, skipped, bad, asks, reading_of}
+use Rattle.lake.specs.Histories.{unanswered}
+use Rattle.lake.specs.Lines.{append, tail, Wish, create, task, history, show, hex, Reading, skipped, bad, asks, reading_of}
 use Rattle.lake.specs.Refusals.{refusal_text, memory}
 use Rattle.lake.specs.Replies.{create_fault_text, refused, line_of, bad_line}
 use Rattle.lake.specs.Streams.{StandsIn}
+use Rattle.lake.specs.TailFaults as tail_texts
+use Rattle.lake.specs.Tailing as tails
 use Rattle.lake.specs.Told.{lines_of, is_bad, reply_to_wish, left_by_wish}
 
 -- the reply to a line that creates a table, to one that appends a batch, and to one that shows an object, where a
@@ -24,10 +27,18 @@ no_room_to_append = line_of (refused (refusal_text memory))
 abbrev pub no_room_to_show : List ℕ
 no_room_to_show = line_of (refused (stores.fault_text store_faults.Memory))
 
+abbrev pub no_room_to_read : List ℕ
+no_room_to_read = line_of (refused (tail_texts.refusal_text tails.memory))
+
+abbrev pub no_room_to_tell : List ℕ
+no_room_to_tell = line_of (refused (unanswered store_faults.Memory))
+
 -- the reply to a line whose growth was refused; other lines need none
 abbrev pub IsWantOfMemory : Wish → List ℕ → Type 0
 IsWantOfMemory (create id at schema) reply = reply ≡ no_room_to_create
 IsWantOfMemory (task (append application number at rows)) reply = reply ≡ no_room_to_append
+IsWantOfMemory (task (tail max offset)) reply = reply ≡ no_room_to_read
+IsWantOfMemory history reply = reply ≡ no_room_to_tell
 IsWantOfMemory (show version) reply = reply ≡ no_room_to_show
 IsWantOfMemory (hex name) reply = reply ≡ no_room_to_show
 IsWantOfMemory _ reply = ⊥

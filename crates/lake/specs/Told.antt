@@ -8,11 +8,17 @@ use Rattle.lake.specs.declared.run.End.TheVariants.{Done, BadLine, NotRead, NotW
 use Rattle.lake.specs.declared.fault.Fault.TheVariants.{NotYet, NoSuchName}
 use Rattle.lake.specs.declared.fault.CreateFault.{CreateFault}
 use Rattle.lake.specs.Appending.{appended_by, settled, with_append}
+use Rattle.lake.specs.declared.appending.Appended.{Appended}
+use Rattle.lake.specs.declared.appending.Appended.TheVariants.{Committed, Already}
 use Rattle.lake.specs.Commits.{commit_name}
 use Rattle.lake.specs.Creating.{commit_from, created_by, with_creation}
-use Rattle.lake.specs.Lines.{append, Wish, create, task, show, hex, Reading, skipped, bad, asks, reading_of}
+use Rattle.lake.specs.Histories.{history_of}
+use Rattle.lake.specs.Lines.{append, tail, Wish, create, task, history, show, hex, Reading, skipped, bad, asks, reading_of}
 use Rattle.lake.specs.Refusals.{Refusal, refusal_text}
-use Rattle.lake.specs.Replies.{fault_text, create_fault_text, created, committed_at, refused, line_of, bad_line}
+use Rattle.lake.specs.Replies.{fault_text, create_fault_text, created, committed_at, already, refused, line_of, bad_line}
+use Rattle.lake.specs.TailFaults as tail_texts
+use Rattle.lake.specs.Tailing as tails
+use Rattle.lake.specs.Tailing.{tailed}
 
 -- a newline
 abbrev pub is_newline : ℕ → Bool
@@ -33,9 +39,15 @@ created_reply (Ok bytes) = line_of created
 created_reply (Err refusal) = line_of (refused (create_fault_text refusal))
 
 -- the reply to a line that appends a batch
-abbrev pub appended_reply : Result ℕ Refusal → List ℕ
-appended_reply (Ok version) = line_of (committed_at version)
+abbrev pub appended_reply : Result Appended Refusal → List ℕ
+appended_reply (Ok (Committed version)) = line_of (committed_at version)
+appended_reply (Ok (Already number)) = line_of (already number)
 appended_reply (Err refusal) = line_of (refused (refusal_text refusal))
+
+-- the reply to a line that reads from an offset on
+abbrev pub tailed_reply : Result (List ℕ) tails.Refusal → List ℕ
+tailed_reply (Ok text) = text
+tailed_reply (Err refusal) = line_of (refused (tail_texts.refusal_text refusal))
 
 -- an object, as it stands
 abbrev pub shown : Option (List ℕ) → List ℕ
@@ -55,6 +67,8 @@ not_yet = line_of (refused (fault_text NotYet))
 abbrev pub reply_to_wish : Objects → Wish → List ℕ
 reply_to_wish objects (create id at schema) = created_reply (created_by objects id at schema)
 reply_to_wish objects (task (append application number at rows)) = appended_reply (appended_by objects application number at rows)
+reply_to_wish objects (task (tail max offset)) = tailed_reply (tailed objects max offset)
+reply_to_wish objects history = history_of objects
 reply_to_wish objects (show version) = shown (object_at objects (commit_name version))
 reply_to_wish objects (hex name) = in_hex (object_at objects name)
 reply_to_wish objects _ = not_yet

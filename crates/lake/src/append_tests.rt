@@ -1,5 +1,5 @@
 // Appends of batches, from calls to the objects that they leave.
-use crate::appending::append;
+use crate::appending::{Appended, append};
 use crate::creating::create;
 use crate::refusal::AppendFault;
 use serde_json::Value;
@@ -44,7 +44,8 @@ fn told(
         return Err("an array".into());
     };
     match append(alloc, store, application, number, 5, &rows) {
-        Ok(version) => Ok(format!(in alloc; "Committed {version}")?),
+        Ok(Appended::Committed(version)) => Ok(format!(in alloc; "Committed {version}")?),
+        Ok(Appended::Already(number)) => Ok(format!(in alloc; "Already {number}")?),
         Err(fault) => Ok(format!(in alloc; "refused {fault}")?),
     }
 }
@@ -138,8 +139,8 @@ fn refuses_ids_and_numbers(rt: HostRuntime) -> Result<(), Fail> {
         ("a", 1_000_000_000_000, "refused S8 TooLarge"),
         ("", 1_000_000_000_000, "refused S11 BadApp"),
         ("a", 7, "Committed 2"),
-        ("a", 7, "refused N1 NotYet"),
-        ("a", 6, "refused N1 NotYet"),
+        ("a", 7, "Already 7"),
+        ("a", 6, "refused S1 Stale 7"),
         ("b", 0, "Committed 3"),
         ("a", 8, "Committed 4"),
     ] {
@@ -203,6 +204,7 @@ fn prints_what_a_store_that_loses_calls_leaves(rt: HostRuntime) -> Result<(), Fa
         (AppendFault::Lost { version: None }, "S5 Lost -"),
         (AppendFault::Contended { version: 2 }, "S4 Contended 2"),
         (AppendFault::Memory, "S6 Memory"),
+        (AppendFault::FileTooLarge, "S8 TooLarge"),
     ] {
         let text = format!(in rt.alloc(); "{fault}")?;
         assert_eq!(rt; text.as_str(), wanted);

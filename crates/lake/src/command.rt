@@ -6,7 +6,8 @@ ghost use Rattle.lake.specs.declared.words.Command.{Command};
 ghost use Rattle.lake.specs.Runs.{MayBeTold, Tells};
 ghost use Rattle.lake.specs.Status.{status_of, status_at, status_of_kind};
 ghost use Rattle.lake.specs.Streams.{held, unread};
-ghost use Rattle.lake.specs.Told.{told, first_bad};
+ghost use Rattle.lake.specs.Tables.{told as told_by_table, AreOfTable};
+ghost use Rattle.lake.specs.Told.{lines_of, told, first_bad};
 ghost use Rattle.lake.specs.Words.{commands, Spells};
 
 use crate::fault::{Fault, Refusal};
@@ -35,7 +36,7 @@ pub const MISUSED: u8 = 2;
 pub struct Exit {
     /// The exit status.
     pub status: u8,
-    /// Whether a growth was refused on the way.
+    /// Whether a growth was refused on the way, or an object would have passed 64 MiB.
     pub is_short: bool,
 }
 
@@ -79,6 +80,10 @@ pub fn command<S: AsStr, R: Read, W: Write, E: Write>(
     ensures told { (c : Command) → Spells (map S.text words.now) c → result.status ≢ REFUSED → result.is_short ≡ false
         → IfSome (unread R.remaining input.old) (λ text.
         Appends (held W.contents output.old) (W.contents output.new.writer) (told [] text)) }
+    // Where no line shows an object, that is what the plain table tells.
+    ensures tables { (c : Command) → Spells (map S.text words.now) c → result.status ≢ REFUSED → result.is_short ≡ false
+        → IfSome (unread R.remaining input.old) (λ text. AreOfTable (lines_of text)
+        → Appends (held W.contents output.old) (W.contents output.new.writer) (told_by_table text)) }
     ensures tells { (c : Command) → Spells (map S.text words.now) c → result.status ≢ REFUSED
         → IfSome (unread R.remaining input.old) (λ text.
         Tells (held W.contents output.old) (W.contents output.new.writer) (MayBeTold [] text)) }

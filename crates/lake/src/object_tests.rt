@@ -49,7 +49,7 @@ fn appends_to_what_it_creates(rt: HostRuntime) -> Result<(), Fail> {
         "{APPEND}\n{CREATE}\n{APPEND}\nshow 1\n{APPEND}\n{large}\n{bounds}"
     )?;
     let wanted = format!(in rt.alloc();
-        "refused S9 BadLog 0\nCreated 0\nCommitted 1\n{BATCH}refused N1 NotYet\nrefused S7 BadRow 0 V3 OutOfRange x\nrefused S11 BadApp\nrefused S8 TooLarge\n"
+        "refused S9 BadLog 0\nCreated 0\nCommitted 1\n{BATCH}Already 0\nrefused S7 BadRow 0 V3 OutOfRange x\nrefused S11 BadApp\nrefused S8 TooLarge\n"
     )?;
     let mut told = Vec::new(rt.alloc());
     let outcome = outcome(rt.alloc(), &text, &mut told);

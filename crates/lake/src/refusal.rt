@@ -2,6 +2,7 @@
 ghost use Rattle.std.specs.Prelude.{Some};
 ghost use Rattle.lake.specs.Refusals.{refusal_text, refusal_view, row_fault_text};
 
+use crate::log::LogFault;
 use std::alloc::{AllocError, AllocFailed};
 use std::fmt;
 use std::fmt::{Display, Formatter};
@@ -37,12 +38,14 @@ impl Display for RowFault {
 /// Why a batch of rows isn't appended. Its texts are written by hand, so that contracts know them.
 #[derive(Debug, Drop, Error)]
 pub enum AppendFault {
-    /// More rows than a file has today, a table of other columns, or a number that isn't new.
+    /// More rows than a file has today, or a table of other columns.
     NotYet,
     /// The application's id has no bytes, or over 64.
     BadApp,
-    /// The number passes 999,999,999,999, or the file 64 MiB.
+    /// The number passes 999,999,999,999.
     TooLarge,
+    /// The file passes 64 MiB.
+    FileTooLarge,
     /// The commit of that version can't be read, or no commit says what the table's columns are.
     BadLog {
         version: u64,
@@ -53,6 +56,10 @@ pub enum AppendFault {
         index: u64,
         fault: RowFault,
         path: String,
+    },
+    /// The number is below the application's last one, which is this.
+    Stale {
+        last: u64,
     },
     /// Under the file's name stand other rows, or no file.
     Differs {
@@ -77,12 +84,13 @@ impl Display for AppendFault {
         match self {
             AppendFault::NotYet => f.write_str("N1 NotYet"),
             AppendFault::BadApp => f.write_str("S11 BadApp"),
-            AppendFault::TooLarge => f.write_str("S8 TooLarge"),
+            AppendFault::TooLarge | AppendFault::FileTooLarge => f.write_str("S8 TooLarge"),
             AppendFault::BadLog { version } => write!(f, "S9 BadLog {version}"),
             AppendFault::BadRow { index, fault, path } => write!(
                 f,
                 "S7 BadRow {index} {fault} {path}"
             ),
+            AppendFault::Stale { last } => write!(f, "S1 Stale {last}"),
             AppendFault::Differs { name } => write!(f, "S3 Differs {name}"),
             AppendFault::Contended { version } => write!(f, "S4 Contended {version}"),
             AppendFault::Lost {
@@ -125,6 +133,21 @@ impl From<StoreFault> for AppendFault {
         match fault {
             StoreFault::Lost => AppendFault::Lost { version: None },
             StoreFault::Memory => AppendFault::Memory,
+        }
+    }
+}
+
+impl From<LogFault> for AppendFault {
+    ghost from_gives = { λ fault e. IsLogFault fault e };
+
+    ghost use Rattle.lake.specs.Refusals.{IsLogFault};
+
+    fn from(fault: LogFault) -> AppendFault {
+        match fault {
+            LogFault::BadLog { version } => AppendFault::BadLog { version },
+            LogFault::NotYet => AppendFault::NotYet,
+            LogFault::Lost => AppendFault::Lost { version: None },
+            LogFault::Memory => AppendFault::Memory,
         }
     }
 }

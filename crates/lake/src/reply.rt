@@ -3,21 +3,26 @@ ghost use Rattle.std.specs.Prelude.{◌≡◌, ◌<◌, ◌^◌, [], false, OnOk
 ghost use Rattle.std.specs.Io.KnownBytes.{Appends};
 ghost use Rattle.serde_json.specs.View.{items_view};
 ghost use Rattle.store_core.specs.Objects.{object_at};
-ghost use Rattle.lake.specs.Appending.{appended_by, settled, with_append, MayHoldFile};
 ghost use Rattle.lake.specs.Commits.{commit_name};
-ghost use Rattle.lake.specs.Lines.{wish_view, IsTimely};
+ghost use Rattle.lake.specs.Histories.{history_of};
+ghost use Rattle.lake.specs.Lines.{append, create, task, wish_view, IsTimely};
 ghost use Rattle.lake.specs.ReplyView.{reply_text, is_short};
-ghost use Rattle.lake.specs.Runs.{IsWantOfMemory, MayLeave, no_room_to_append, no_room_to_show};
+ghost use Rattle.lake.specs.Runs.{Grants, no_room_to_read, no_room_to_show, no_room_to_tell};
+ghost use Rattle.lake.specs.Sound.{IsGranted};
 ghost use Rattle.lake.specs.Streams.{held, StandsIn};
-ghost use Rattle.lake.specs.Told.{appended_reply, shown, in_hex, reply_to_wish, left_by_wish};
+ghost use Rattle.lake.specs.Tailing.{tailed};
+ghost use Rattle.lake.specs.Told.{shown, in_hex, tailed_reply};
 
-use crate::appending::append;
+use crate::appending::{Appended, append};
 use crate::creating::create;
 use crate::fault::{CreateFault, Fault, Refusal};
+use crate::history::history;
 use crate::line::{Job, Line};
 use crate::output::{Output, OutputError};
 use crate::refusal::AppendFault;
 use crate::showing::{commit_at, hex_of};
+use crate::tail_fault::TailFault;
+use crate::tailing::tail;
 use serde_json::Value;
 use std::alloc::Global;
 use std::io::Write;
@@ -30,10 +35,14 @@ pub enum Reply {
     Created,
     /// The table was not created.
     NotCreated(CreateFault),
-    /// The batch was put, with the commit of that version.
-    Committed(u64),
+    /// The batch stands in the log.
+    Appended(Appended),
     /// The batch was not appended.
     NotAppended(AppendFault),
+    /// Nothing was handed out.
+    NotTailed(TailFault),
+    /// The store gave no answer, or no room was left, for the history.
+    NoHistory(StoreFault),
     /// The program refuses.
     Refused(Fault),
     /// The store gave no answer.
@@ -45,14 +54,16 @@ pub enum Reply {
 }
 
 impl Reply {
-    /// Whether a growth was refused.
+    /// Whether a growth was refused, or an object would pass 64 MiB.
     pub fn is_short(&self) -> bool
         ensures { result ≡ is_short self.now }
     {
         matches!(
             self,
-            Reply::NotCreated(CreateFault::Memory)
-                | Reply::NotAppended(AppendFault::Memory)
+            Reply::NotCreated(CreateFault::Memory | CreateFault::TooLarge)
+                | Reply::NotAppended(AppendFault::Memory | AppendFault::FileTooLarge)
+                | Reply::NotTailed(TailFault::Memory)
+                | Reply::NoHistory(StoreFault::Memory)
                 | Reply::Unanswered(StoreFault::Memory)
         )
     }
@@ -68,13 +79,34 @@ impl Reply {
         match self {
             Reply::Created => output.say("Created 0"),
             Reply::NotCreated(fault) => output.say(Refusal(*fault)),
-            Reply::Committed(version) => output.say(format_args!("Committed {version}")),
+            Reply::Appended(Appended::Committed(version)) => {
+                output.say(format_args!("Committed {version}"))
+            }
+            Reply::Appended(Appended::Already(number)) => {
+                output.say(format_args!("Already {number}"))
+            }
             Reply::NotAppended(fault) => output.say(Refusal(fault)),
+            Reply::NotTailed(fault) => output.say(Refusal(fault)),
+            Reply::NoHistory(StoreFault::Lost) => output.say("refused K5 Lost"),
+            Reply::NoHistory(StoreFault::Memory) => output.say("refused K6 Memory"),
             Reply::Refused(fault) => output.say(Refusal(*fault)),
             Reply::Unanswered(fault) => output.say(Refusal(*fault)),
             Reply::Bytes(bytes) => output.show(bytes.as_slice()),
             Reply::Digits(text) => output.say(text.as_str()),
         }
+    }
+}
+
+// The reply to a line that creates a table.
+fn create_table<S: Store>(alloc: Global, store: &mut S, id: &str, at: u64, schema: &str) -> Reply
+    requires { at < 2 ^ 63 }
+    ensures told { S.is_reliable store.old → Grants (S.objects store.old) (create id.now at schema.now) (reply_text result) (S.objects store.new) }
+    ensures whole { S.is_reliable store.old → is_short result ≡ false → IsGranted (S.objects store.old) (create id.now at schema.now) (reply_text result) (S.objects store.new) }
+    ensures reliable { S.is_reliable store.old → S.is_reliable store.new }
+{
+    match create(alloc, store, id, at, schema) {
+        Ok(()) => Reply::Created,
+        Err(fault) => Reply::NotCreated(fault),
     }
 }
 
@@ -88,19 +120,40 @@ fn append_batch<S: Store>(
     rows: &[Value],
 ) -> Reply
     requires { at < 2 ^ 63 }
-    ensures told { S.is_reliable store.old → is_short result ≡ false → reply_text result
-        ≡ appended_reply (appended_by (S.objects store.old) application.now number at (items_view rows.now)) }
-    ensures left { S.is_reliable store.old → is_short result ≡ false → S.objects store.new
-        ≡ with_append (S.objects store.old) (settled (S.objects store.old) application.now number at (items_view rows.now)) }
-    ensures wants { is_short result ≡ true → reply_text result ≡ no_room_to_append }
-    ensures short { S.is_reliable store.old → is_short result ≡ true
-        → MayHoldFile (S.objects store.old) (settled (S.objects store.old) application.now number at (items_view rows.now))
-        (S.objects store.new) }
+    ensures told { S.is_reliable store.old → Grants (S.objects store.old) (task (append application.now number at (items_view rows.now))) (reply_text result) (S.objects store.new) }
+    ensures whole { S.is_reliable store.old → is_short result ≡ false → IsGranted (S.objects store.old) (task (append application.now number at (items_view rows.now))) (reply_text result) (S.objects store.new) }
     ensures reliable { S.is_reliable store.old → S.is_reliable store.new }
 {
     match append(alloc, store, application, number, at, rows) {
-        Ok(version) => Reply::Committed(version),
+        Ok(answer) => Reply::Appended(answer),
         Err(fault) => Reply::NotAppended(fault),
+    }
+}
+
+// The reply to a line that reads from an offset on.
+fn read<S: Store>(alloc: Global, store: &mut S, max: u64, offset: &str) -> Reply
+    ensures told { S.is_reliable store.old → is_short result ≡ false
+        → reply_text result ≡ tailed_reply (tailed (S.objects store.old) max offset.now) }
+    ensures wants { is_short result ≡ true → reply_text result ≡ no_room_to_read }
+    ensures untouched { S.objects store.new ≡ S.objects store.old }
+    ensures reliable { S.is_reliable store.old → S.is_reliable store.new }
+{
+    match tail(alloc, store, max, offset) {
+        Ok(text) => Reply::Bytes(text),
+        Err(fault) => Reply::NotTailed(fault),
+    }
+}
+
+// The reply to a line that asks for what each version holds.
+fn tell_history<S: Store>(alloc: Global, store: &mut S) -> Reply
+    ensures told { S.is_reliable store.old → is_short result ≡ false → reply_text result ≡ history_of (S.objects store.old) }
+    ensures wants { is_short result ≡ true → reply_text result ≡ no_room_to_tell }
+    ensures untouched { S.objects store.new ≡ S.objects store.old }
+    ensures reliable { S.is_reliable store.old → S.is_reliable store.new }
+{
+    match history(alloc, store) {
+        Ok(text) => Reply::Bytes(text),
+        Err(fault) => Reply::NoHistory(fault),
     }
 }
 
@@ -137,20 +190,15 @@ fn show_in_hex<S: Store>(alloc: Global, store: &mut S, name: &str) -> Reply
 /// Does what a line asks for, and finds its reply.
 pub fn grant<S: Store>(alloc: Global, line: Line<'_>, store: &mut S) -> Reply
     requires { IsTimely (wish_view line) }
-    ensures told { S.is_reliable store.old → is_short result ≡ false
-        → reply_text result ≡ reply_to_wish (S.objects store.old) (wish_view line.entry) }
-    ensures left { S.is_reliable store.old → is_short result ≡ false
-        → S.objects store.new ≡ left_by_wish (S.objects store.old) (wish_view line.entry) }
-    ensures wants { is_short result ≡ true → IsWantOfMemory (wish_view line.entry) (reply_text result) }
-    ensures short { S.is_reliable store.old → is_short result ≡ true
-        → MayLeave (S.objects store.old) (wish_view line.entry) (S.objects store.new) }
+    // What was asked for is told and done, and what was put is well made.
+    ensures whole { S.is_reliable store.old → is_short result ≡ false
+        → IsGranted (S.objects store.old) (wish_view line.entry) (reply_text result) (S.objects store.new) }
+    // Where a growth was refused, the line may be told just that.
+    ensures told { S.is_reliable store.old → Grants (S.objects store.old) (wish_view line.entry) (reply_text result) (S.objects store.new) }
     ensures reliable { S.is_reliable store.old → S.is_reliable store.new }
 {
     match line {
-        Line::Create { id, at, schema } => match create(alloc, store, id, at, schema) {
-            Ok(()) => Reply::Created,
-            Err(fault) => Reply::NotCreated(fault),
-        },
+        Line::Create { id, at, schema } => create_table(alloc, store, id, at, schema),
         Line::Job(
             Job::Append {
                 application,
@@ -159,6 +207,8 @@ pub fn grant<S: Store>(alloc: Global, line: Line<'_>, store: &mut S) -> Reply
                 ref rows,
             },
         ) => append_batch(alloc, store, application, number, at, rows),
+        Line::Job(Job::Tail { max, offset }) => read(alloc, store, max, offset),
+        Line::History => tell_history(alloc, store),
         Line::Show { version } => show(alloc, store, version),
         Line::Hex { name } => show_in_hex(alloc, store, name),
         _ => Reply::Refused(Fault::NotYet),

@@ -4,7 +4,11 @@ ghost use Rattle.std.specs.Io.KnownBytes.{Appends};
 ghost use Rattle.lake.specs.declared.input.TheConstants.{MOST_BYTES, MOST_READS};
 ghost use Rattle.lake.specs.Lines.{reading_of};
 ghost use Rattle.lake.specs.Runs.{MayBeTold, Replies, Runs, Tells, TellsFront};
+ghost use Rattle.table_model.specs.Holds.{IsLawfulStore};
+ghost use Rattle.lake.specs.Scripts.{HoldsState, IsScript, ReadsOut};
+ghost use Rattle.lake.specs.Sound.{IsSound, AreSound};
 ghost use Rattle.lake.specs.Streams.{held, unread, StandsIn};
+ghost use Rattle.lake.specs.Tables.{told as told_by_table, left as table_left, AreOfTable};
 ghost use Rattle.lake.specs.Told.{lines_of, lines_left, is_newline, reply_to, left_by, is_bad, told, left, first_bad, Finishes};
 
 use crate::input::{Input, InputError};
@@ -33,13 +37,13 @@ pub enum End {
 #[derive(Clone, Copy, Debug, PartialEq, Eq)]
 pub struct Outcome {
     pub end: End,
-    /// Whether a growth was refused on the way. A run that ends by itself may have met one: its
-    /// lines that did are told so.
+    /// Whether a growth was refused on the way, or a commit or a file would have passed 64 MiB. A
+    /// run that ends by itself may have met one: its lines that did are told so.
     pub is_short: bool,
 }
 
 impl Outcome {
-    /// Whether a growth was refused.
+    /// Whether a growth was refused, or a commit or a file would have passed 64 MiB.
     pub fn short(&self) -> bool
         ensures { result ≡ self.now.is_short }
     {
@@ -77,6 +81,7 @@ fn answer<S: Store, W: Write>(
         (reply_to number (S.objects store.old) (reading_of line.now))) }
     ensures left { S.is_reliable store.old → is_short.new ≡ false
         → OnOk result (S.objects store.new ≡ left_by (S.objects store.old) (reading_of line.now)) }
+    ensures sound { S.is_reliable store.old → is_short.new ≡ false → OnOk result (IsSound (S.objects store.old) (reading_of line.now)) }
     ensures tells { S.is_reliable store.old → OnOk result (Tells (held W.contents output.old) (held W.contents output.new)
         (λ reply. Replies number (S.objects store.old) (reading_of line.now) reply (S.objects store.new))) }
     ensures reliable { S.is_reliable store.old → S.is_reliable store.new }
@@ -118,6 +123,7 @@ fn answer_all<S: Store, W: Write>(
         → OnOk result (Appends (held W.contents output.old) (held W.contents output.new) (told (S.objects store.old) text.now)) }
     ensures left { S.is_reliable store.old → is_short.new ≡ false
         → OnOk result (S.objects store.new ≡ left (S.objects store.old) text.now) }
+    ensures sound { S.is_reliable store.old → is_short.new ≡ false → OnOk result (AreSound (S.objects store.old) (lines_of text.now)) }
     ensures tells { S.is_reliable store.old → OnOk result (Tells (held W.contents output.old) (held W.contents output.new)
         (λ written. Runs 1 (S.objects store.old) (lines_of text.now) written (S.objects store.new))) }
     ensures bad { IfOk result (λ bad. bad ≡ first_bad text.now) }
@@ -155,6 +161,7 @@ fn answer_and_flush<S: Store, W: Write>(
         → OnOk result (Appends (held W.contents output.old) (W.contents output.new.writer) (told (S.objects store.old) text.now)) }
     ensures left { S.is_reliable store.old → is_short.new ≡ false
         → OnOk result (S.objects store.new ≡ left (S.objects store.old) text.now) }
+    ensures sound { S.is_reliable store.old → is_short.new ≡ false → OnOk result (AreSound (S.objects store.old) (lines_of text.now)) }
     ensures tells { S.is_reliable store.old → OnOk result (Tells (held W.contents output.old) (W.contents output.new.writer)
         (λ written. Runs 1 (S.objects store.old) (lines_of text.now) written (S.objects store.new))) }
     ensures bad { IfOk result (λ bad. bad ≡ first_bad text.now) }
@@ -180,9 +187,11 @@ fn answer_text<S: Store, W: Write>(
     requires { length text.now ≤ 2 ^ 30 }
     ensures told { S.is_reliable store.old → result.is_short ≡ false → Finishes result.end
         (λ _. Appends (held W.contents output.old) (W.contents output.new.writer) (told (S.objects store.old) text.now)
-        × (S.objects store.new ≡ left (S.objects store.old) text.now)) }
+        × (S.objects store.new ≡ left (S.objects store.old) text.now) × AreSound (S.objects store.old) (lines_of text.now)) }
     ensures tells { S.is_reliable store.old → Finishes result.end (λ _. Tells (held W.contents output.old) (W.contents output.new.writer)
         (λ written. Runs 1 (S.objects store.old) (lines_of text.now) written (S.objects store.new))) }
+    ensures script { S.is_reliable store.old → S.objects store.old ≡ [] → result.is_short ≡ false → Finishes result.end
+        (λ _. IsScript (held W.contents output.old) (W.contents output.new.writer) text.now (S.objects store.new)) }
     ensures finished { Finishes result.end (λ bad. (bad ≡ first_bad text.now) × (output.new.is_broken ≡ output.old.is_broken)) }
     ensures stands { S.is_reliable store.old → result.is_short ≡ false → result.end ≡ End.NotWritten
         → StandsIn (held W.contents output.old) (W.contents output.new.writer) (told (S.objects store.old) text.now) }
@@ -209,9 +218,12 @@ fn answer_text<S: Store, W: Write>(
 }
 
 /// Runs a script over a store: reads its input to the end, then answers each line, up to the first
-/// bad one. Where `restore` is false, tables are to be replayed from version 0; no line replays a
-/// table yet. Time is linear in the input and in the objects that are put and shown, but for the
-/// store's own; many replies go in one write.
+/// bad one. Each append, read and history replays the log from version 0, whether `restore` is true
+/// or not, since there are no checkpoints yet.
+///
+/// Time is linear in the input, the objects that are put and shown and the rows that are handed
+/// out, and for each line that replays the log in the log's bytes, but for the store's own; many
+/// replies go in one write.
 pub fn run<R: Read, W: Write, S: Store>(
     alloc: Global,
     input: &mut Input<R>,
@@ -225,6 +237,22 @@ pub fn run<R: Read, W: Write, S: Store>(
         → Finishes result.end (λ _. IfSome (unread R.remaining input.old) (λ text.
         Appends (held W.contents output.old) (W.contents output.new.writer) (told (S.objects store.old) text)
         × (S.objects store.new ≡ left (S.objects store.old) text))) }
+
+    // Over an empty store this is what the plain table tells, where no line shows an object.
+    ensures tables { S.is_reliable store.old → S.objects store.old ≡ [] → result.is_short ≡ false
+        → Finishes result.end (λ _. IfSome (unread R.remaining input.old) (λ text. AreOfTable (lines_of text)
+        → Appends (held W.contents output.old) (W.contents output.new.writer) (told_by_table text))) }
+
+    // The store then holds the table that was told, which is lawful.
+    ensures holds { S.is_reliable store.old → S.objects store.old ≡ [] → result.is_short ≡ false
+        → Finishes result.end (λ _. IfSome (unread R.remaining input.old) (λ text. HoldsState (S.objects store.new) (table_left text))) }
+    ensures lawful { S.is_reliable store.old → S.objects store.old ≡ [] → result.is_short ≡ false
+        → Finishes result.end (λ _. IfSome (unread R.remaining input.old) (λ text. IsLawfulStore (S.objects store.new))) }
+
+    // Reads over that store, each from the place where the one before ended, are answered and hand out the table's
+    // rows, whatever their limits.
+    ensures reads { S.is_reliable store.old → S.objects store.old ≡ [] → result.is_short ≡ false
+        → Finishes result.end (λ _. IfSome (unread R.remaining input.old) (λ text. ReadsOut (S.objects store.new) (table_left text))) }
 
     // Where a growth was refused, the lines that met it are told so, and leave the objects as they
     // were, but for a batch's file, which may stand.

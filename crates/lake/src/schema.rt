@@ -1,8 +1,8 @@
 // The schemas that a table is created with today: one required long column.
-ghost use Rattle.std.specs.Prelude.{◌≡◌, IfOk, option_map, string_bytes};
+ghost use Rattle.std.specs.Prelude.{◌≡◌, IfOk, Ok, Some, option_map, string_bytes};
 ghost use Rattle.serde_json.specs.View.{view, items_view, members_view};
-ghost use Rattle.serde_json.specs.Written.{compact_text};
-ghost use Rattle.lake.specs.Commits.{schema_data};
+ghost use Rattle.table_model.specs.Schema.{schema_data};
+ghost use Rattle.lake.specs.Commits.{schema_text};
 ghost use Rattle.lake.specs.Creating.{Gives, column_from};
 ghost use Rattle.lake.specs.Schema.{text_at, only_item, are_none, is_empty, is_nothing, column_in, column_of};
 
@@ -97,13 +97,14 @@ pub fn column_from(alloc: Global, schema: &str) -> Result<Option<String>, Create
 /// The text of the schema of a table of that column (Delta PROTOCOL.md, "Schema Serialization
 /// Format").
 pub fn schema_text(alloc: Global, column: &str) -> Result<String, AllocError>
-    ensures { IfOk result (λ text. string_bytes text ≡ compact_text (schema_data column.now)) }
+    ensures text { IfOk result (λ text. string_bytes text ≡ schema_text column.now) }
+    ensures readable { IfOk result (λ text. column_from (schema_text column.now) ≡ Ok (Some column.now)) }
 {
     schema_value(alloc, column)?.to_string(alloc)
 }
 
 fn schema_value(alloc: Global, column: &str) -> Result<Value, AllocError>
-    ensures { IfOk result (λ value. view value ≡ schema_data column.now) }
+    ensures { IfOk result (λ value. view value ≡ schema_data (record { column = column.now })) }
 {
     json!(in alloc; {
         "type": "struct",

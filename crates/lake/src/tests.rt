@@ -35,16 +35,12 @@ where
 }
 
 // A line of each kind that isn't there yet, and some of its spellings.
-static LINES: [&str; 22] = [
+static LINES: [&str; 18] = [
     "create 00000000-0000-4000-8000-000000000001 0 {\"type\":\"struct\"}",
     "close a 5",
     "close  0",
     "checkpoint",
     "snapshot",
-    "history",
-    "tail 0 {}",
-    "tail 65536 ",
-    "tail 5 a b",
     "tries 1",
     "tries +064",
     "fault twice",
@@ -135,7 +131,7 @@ fn stops_at_a_bad_line(rt: HostRuntime) -> Result<(), Fail> {
 #[test]
 fn skips_what_has_no_reply(rt: HostRuntime) -> Result<(), Fail> {
     let mut told = Vec::new(rt.alloc());
-    let text = b"# \xFF\n \t\r\n\n#checkpoint\r\nhistory\n   \nsnapshot";
+    let text = b"# \xFF\n \t\r\n\n#checkpoint\r\ntries 1\n   \nsnapshot";
     let outcome = outcome(rt.alloc(), text, &mut told);
     assert_eq!(rt; outcome.end, End::Done);
     assert!(rt; !outcome.short());
@@ -210,7 +206,7 @@ fn refuses_what_it_cannot_read(rt: HostRuntime) -> Result<(), Fail> {
 #[test]
 fn refuses_what_it_cannot_write(rt: HostRuntime) -> Result<(), Fail> {
     let mut err = Vec::new(rt.alloc());
-    let text = b"history\n".as_slice();
+    let text = b"snapshot\n".as_slice();
     let status = status(
         rt.alloc(),
         SCRIPT.as_slice(),
@@ -227,11 +223,11 @@ fn refuses_what_it_cannot_write(rt: HostRuntime) -> Result<(), Fail> {
 fn has_a_status_for_each_end(rt: HostRuntime) -> Result<(), Fail> {
     let script = ["lake", "script", "--no-checkpoint"];
     for (words, text, wanted) in [
-        (script.as_slice(), "history", 0),
-        (&script[..2], "history\nno\nhistory", 2),
-        (&script[..1], "history", 2),
-        (["lake", "--help"].as_slice(), "history", 0),
-        (["lake", "script", "now"].as_slice(), "history", 2),
+        (script.as_slice(), "snapshot", 0),
+        (&script[..2], "snapshot\nno\nsnapshot", 2),
+        (&script[..1], "snapshot", 2),
+        (["lake", "--help"].as_slice(), "snapshot", 0),
+        (["lake", "script", "now"].as_slice(), "snapshot", 2),
     ] {
         let mut told = Vec::new(rt.alloc());
         let mut err = Vec::new(rt.alloc());

@@ -1,11 +1,13 @@
 pub mod Batches
 pub mod Grown
 pub mod Handed
+pub mod HoldingLogs
 pub mod HoldingNames
 pub mod HoldingOne
 pub mod HoldingPuts
 pub mod HoldingSchema
 pub mod Kept
+pub mod NamesOnce
 pub mod Places
 pub mod Read
 pub mod Resumed

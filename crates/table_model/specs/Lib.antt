@@ -9,3 +9,4 @@ pub mod Names
 pub mod Schema
 pub mod Commits
 pub mod Holds
+pub mod Logs

@@ -12,8 +12,8 @@ mod table;
 mod value;
 
 pub use holding::{
-    a_commit_is_one_entry_more, a_data_file_changes_no_table, a_lawful_store_holds_lawful_tables,
-    one_table,
+    a_commit_is_one_entry_more, a_data_file_changes_no_table, a_held_table_is_its_log,
+    a_lawful_store_holds_lawful_tables, names_stand_apart, one_table,
 };
 pub use laws::{
     a_committed_batch_stands_already, a_new_table_is_lawful,

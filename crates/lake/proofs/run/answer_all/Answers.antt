@@ -2,8 +2,9 @@ use Rattle.std.proofs.Common.{◌≡◌, ◌∷◌, ℕ, List, option_map, Optio
 use Rattle.std.proofs.lemmas.Bool.{not-true, not-false}
 use Rattle.lake.specs.Streams.{held}
 use Rattle.lake.specs.Runs.{Tells}
+use Rattle.lake.specs.Sound.{AreSound}
 use Rattle.lake.specs.Told.{lines_of, lines_left, told_from, left_from, first_bad_from, told}
-use Rattle.lake.proofs.RunLemmas.{lines_at_most-after, towards_next, towards_bad, left_next, left_here, left_by_bad, first_bad_next, first_bad_here, lines_left_none, told_from-none, left_from-none, first_bad_from-none}
+use Rattle.lake.proofs.RunLemmas.{lines_at_most-after, towards_next, towards_bad, left_next, left_here, left_by_bad, first_bad_next, first_bad_here, lines_left_none, told_from-none, left_from-none, first_bad_from-none, sound_next, sound_here, sound_none}
 use Rattle.lake.proofs.RunsLemmas.{Onward, onward_next, onward_stops, onward_done, onward_front}
 use Rattle.lake.proofs.StreamLemmas.{Towards, towards_done, stands_in_whole}
 use Rattle.lake.proofs.run.answer_all.Goals as goal
@@ -30,6 +31,15 @@ returns-then-not-branch-clause-left g c = λ reliable whole.
     let ends = not-false _ (sym c.in_ok-answer.ensures.goes_on ∙ c.if-not-branch.true) in
     let leaves = ap (left_from (objects c.loop-rest.store)) (sym here) ∙ c.loop-rest.invariant.leaves reliable before in
     c.in_ok-answer.ensures.left (c.loop-rest.invariant.reliable reliable) whole ∙ (left_by_bad _ _ ends ∙ (sym (left_here _ _ _ ends) ∙ leaves))
+
+pub returns-then-not-branch-clause-sound : goal.returns-then-not-branch-clause-sound
+returns-then-not-branch-clause-sound g c = λ reliable whole.
+    let objects = g.S.Store.objects in
+    let before = c.in_ok-answer.ensures.remembers whole in
+    let here = split c.loop-rest.rest c.in-Some.text c.first_line.result.0 c.first_line.result.1 c.in-Some.is c.first_line.ensures.lines in
+    let ends = not-false _ (sym c.in_ok-answer.ensures.goes_on ∙ c.if-not-branch.true) in
+    let line = c.in_ok-answer.ensures.sound (c.loop-rest.invariant.reliable reliable) whole in
+    c.loop-rest.invariant.sound reliable before (subst (AreSound (objects c.loop-rest.store)) (sym here) (sound_here _ _ _ line ends))
 
 pub returns-then-not-branch-clause-tells : goal.returns-then-not-branch-clause-tells
 returns-then-not-branch-clause-tells g c = λ reliable.
@@ -61,6 +71,12 @@ loop-rest-preserved g c =
           let before = c.in_ok-answer.ensures.remembers whole in
           let now = c.in_ok-answer.ensures.left (c.loop-rest.invariant.reliable reliable) whole in
           ap (λ o. left_from o (lines_left (option_map (λ a. a.now) c.first_line.result.1))) now ∙ (sym (left_next _ _ _ goes_on) ∙ (ap (left_from (objects c.loop-rest.store)) (sym here) ∙ c.loop-rest.invariant.leaves reliable before));
+      sound = λ reliable whole more.
+          let before = c.in_ok-answer.ensures.remembers whole in
+          let now = c.in_ok-answer.ensures.left (c.loop-rest.invariant.reliable reliable) whole in
+          let line = c.in_ok-answer.ensures.sound (c.loop-rest.invariant.reliable reliable) whole in
+          let later = subst (λ o. AreSound o (lines_left (option_map (λ a. a.now) c.first_line.result.1))) now more in
+          c.loop-rest.invariant.sound reliable before (subst (AreSound (objects c.loop-rest.store)) (sym here) (sound_next _ _ _ line goes_on later));
       so_far = λ reliable.
           let so_far = subst (λ ls. Tells (held contents c.args.output.now) (held contents c.loop-rest.output) (Onward (objects c.args.store.now) (lines_of c.args.text.now) c.loop-rest.number (objects c.loop-rest.store) ls)) here (c.loop-rest.invariant.so_far reliable) in
           onward_next _ _ _ _ _ _ _ _ _ _ so_far goes_on (c.in_ok-answer.ensures.tells (c.loop-rest.invariant.reliable reliable));
@@ -84,6 +100,11 @@ pub returns-clause-left : goal.returns-clause-left
 returns-clause-left g c = λ reliable whole.
     let objects = g.S.Store.objects in
     sym (ap (left_from (objects c.loop-rest.store)) (lines_left_none c.loop-rest.rest c.in_default.not-Some) ∙ left_from-none _) ∙ c.loop-rest.invariant.leaves reliable whole
+
+pub returns-clause-sound : goal.returns-clause-sound
+returns-clause-sound g c = λ reliable whole.
+    let objects = g.S.Store.objects in
+    c.loop-rest.invariant.sound reliable whole (subst (AreSound (objects c.loop-rest.store)) (sym (lines_left_none c.loop-rest.rest c.in_default.not-Some)) (sound_none _))
 
 pub returns-clause-tells : goal.returns-clause-tells
 returns-clause-tells g c = λ reliable.

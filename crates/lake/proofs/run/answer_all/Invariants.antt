@@ -1,6 +1,7 @@
 use Rattle.std.proofs.Common.{◌≡◌, ◌+◌, ◌≤◌, ◌^◌, false, option_map}
 use Rattle.lake.specs.Streams.{held}
 use Rattle.lake.specs.Runs.{Tells}
+use Rattle.lake.specs.Sound.{AreSound}
 use Rattle.lake.specs.Told.{lines_of, lines_left, told_from, left_from, first_bad_from, told, left, first_bad}
 use Rattle.lake.proofs.RunLemmas.{lines_at_most}
 use Rattle.lake.proofs.RunsLemmas.{Onward}
@@ -14,6 +15,7 @@ invariant-loop-rest g l =
     record {
       said : g.S.Store.is_reliable l.fn.store → l.is_short ≡ false → Towards (held g.W.Write.contents l.fn.output) (held g.W.Write.contents l.output) (told_from l.number (objects l.store) (lines_left lines)) (told (objects l.fn.store) l.fn.text);
       leaves : g.S.Store.is_reliable l.fn.store → l.is_short ≡ false → left_from (objects l.store) (lines_left lines) ≡ left (objects l.fn.store) l.fn.text;
+      sound : g.S.Store.is_reliable l.fn.store → l.is_short ≡ false → AreSound (objects l.store) (lines_left lines) → AreSound (objects l.fn.store) (lines_of l.fn.text);
       so_far : g.S.Store.is_reliable l.fn.store → Tells (held g.W.Write.contents l.fn.output) (held g.W.Write.contents l.output) (Onward (objects l.fn.store) (lines_of l.fn.text) l.number (objects l.store) (lines_left lines));
       reliable : g.S.Store.is_reliable l.fn.store → g.S.Store.is_reliable l.store;
       found : first_bad_from l.number (lines_left lines) ≡ first_bad l.fn.text;

@@ -1,0 +1,115 @@
+-- What the puts of a batch leave of a store that keeps a table.
+use Rattle.std.proofs.Common.{◌≡◌, ℕ, suc, ◌+◌, Bool, true, false, List, [], ◌∷◌, ◌++◌, length, Option, Some, None, IsSome, refl, sym, ap, subst, ◌∙◌, arith, length-append}
+use Rattle.std.specs.Prelude.{bytes_eq, is_some, unwrap_or}
+use Rattle.std.specs.declared.cmp.Ordering.{Ordering}
+use Rattle.std.specs.declared.cmp.Ordering.TheVariants.{Less, Equal, Greater}
+use Rattle.std.specs.Ordering.{is_eq, match_ordering}
+use Rattle.std.specs.BTreeMap.{insert_entry}
+use Rattle.std.proofs.lemmas.List.Elements.{Contains-append_left, Contains-append_right}
+use Rattle.std.proofs.lemmas.Map.Text.{is_eq-slice_cmp}
+use Rattle.std.proofs.lemmas.Slice.Eq.{bytes_eq-Decides}
+use Rattle.store_core.specs.Objects.{Objects, name_order, object_at, names_of, with_object}
+use Rattle.store_core.specs.ObjectLaws.{with_object_absent, object_at-with_object_same, object_at-with_object_other, object_at-with_object_kept}
+use Rattle.table_model.specs.Names.{commit_name, data_file_name}
+use Rattle.table_model.specs.Holds.{Stands}
+use Rattle.table_model.specs.Lawful.{IsLawful}
+use Rattle.table_model.specs.Table.{Batch, Entry, creation, batch, close, batches}
+use Rattle.table_model.proofs.Batches.{batches-append}
+use Rattle.table_model.proofs.HoldingNames.{commit_name-data_file_name}
+use Rattle.lake.proofs.Kept.{IsFileOf, FileKept, IsCommitMade, KeptFrom, IsNamed, of_commit, of_file, IsKept}
+use Rattle.lake.proofs.KeptNames.{first_in}
+
+-- ---- what stood still stands
+
+module _ (objects : Objects) (name bytes : List ℕ) where
+  -- an object keeps its bytes
+  Stands-put : (other : List ℕ) (P : List ℕ → Type 0) → Stands objects other P → Stands (with_object objects name bytes) other P
+  Stands-put other P stands = (stands.0, object_at-with_object_kept objects name bytes other stands.0 stands.1, stands.2)
+
+  -- and so does a batch's file
+  FileKept-put : (column : List ℕ) (entry : Entry) → FileKept objects column entry → FileKept (with_object objects name bytes) column entry
+  FileKept-put column creation kept = tt
+  FileKept-put column (batch b) kept = Stands-put (data_file_name b.application b.number) (IsFileOf column b) kept
+  FileKept-put column (close application) kept = kept
+
+  -- a put takes nothing away
+  KeptFrom-put : (column : List ℕ) (version : ℕ) (entries : List Entry) → KeptFrom objects column version entries → KeptFrom (with_object objects name bytes) column version entries
+  KeptFrom-put column version [] kept = tt
+  KeptFrom-put column version (entry ∷ entries) kept =
+      (Stands-put (commit_name version) (IsCommitMade column entry) kept.0, FileKept-put column entry kept.1, KeptFrom-put column (suc version) entries kept.2)
+
+  -- what is put under a free name stands
+  put_stands : object_at objects name ≡ None → object_at (with_object objects name bytes) name ≡ Some bytes
+  put_stands free = object_at-with_object_same objects name bytes ∙ ap (λ (found : Option (List ℕ)). Some (unwrap_or found bytes)) free
+
+  -- a name that stands stood before, or is the one that was put
+  named_put : (P : List ℕ → Type 0) → ((other : List ℕ) → IsSome (object_at objects other) → P other) → P name → (other : List ℕ) → IsSome (object_at (with_object objects name bytes) other) → P other
+  named_put P before put other some = by_name (bytes_eq other name) refl
+    where
+      by_name : (same : Bool) → bytes_eq other name ≡ same → P other
+      by_name true is = subst P (sym ((bytes_eq-Decides other name).0 is)) put
+      by_name false is = before other (ap is_some (sym (object_at-with_object_other objects name bytes other (λ e. let one = (bytes_eq-Decides other name).1 e in cc))) ∙ some)
+
+-- the next version's commit, with its file, is one entry more
+KeptFrom-push : (objects : Objects) (column : List ℕ) (version next : ℕ) (entries : List Entry) (entry : Entry) → next ≡ version + length entries → KeptFrom objects column version entries
+    → Stands objects (commit_name next) (IsCommitMade column entry) → FileKept objects column entry → KeptFrom objects column version (entries ++ entry ∷ [])
+KeptFrom-push objects column version next [] entry at kept commit file =
+    let same : next ≡ version = omega (arith, at) in
+    (subst (λ (v : ℕ). Stands objects (commit_name v) (IsCommitMade column entry)) same commit, file, tt)
+KeptFrom-push objects column version next (first ∷ entries) entry at kept commit file =
+    (kept.0, kept.1, KeptFrom-push objects column (suc version) next entries entry (omega (arith, at)) kept.2 commit file)
+
+-- ---- how many names there are
+
+-- an entry under a free name is one name more
+names_inserted : (objects : Objects) (name bytes : List ℕ) → object_at objects name ≡ None → length (names_of (insert_entry name_order objects name bytes)) ≡ suc (length (names_of objects))
+names_inserted [] name bytes free = refl
+names_inserted (e ∷ es) name bytes free = by_order (names_inserted es name bytes) (name_order name e.0) refl
+  where
+    by_order : (object_at es name ≡ None → length (names_of (insert_entry name_order es name bytes)) ≡ suc (length (names_of es))) → (o : Ordering) → name_order name e.0 ≡ o → length (names_of (match_ordering o ((name, bytes) ∷ e ∷ es) ((e.0, bytes) ∷ es) (e ∷ insert_entry name_order es name bytes))) ≡ suc (suc (length (names_of es)))
+    by_order more Less is = refl
+    by_order more Equal is =
+        let same : bytes_eq name e.0 ≡ true = sym (is_eq-slice_cmp name e.0) ∙ ap is_eq is in
+        let found : Some e.1 ≡ None = rw same at free in
+        absurd cc
+    by_order more Greater is =
+        let other : bytes_eq name e.0 ≡ false = sym (is_eq-slice_cmp name e.0) ∙ ap is_eq is in
+        let later : object_at es name ≡ None = rw other at free in
+        ap suc (more later)
+
+-- a put of a free name is one name more
+names_put : (objects : Objects) (name bytes : List ℕ) → object_at objects name ≡ None → length (names_of (with_object objects name bytes)) ≡ suc (length (names_of objects))
+names_put objects name bytes free = ap (λ (os : Objects). length (names_of os)) (with_object_absent objects name bytes (ap is_some free)) ∙ names_inserted objects name bytes free
+
+-- ---- one batch more
+
+-- a name of a table is one of a table with an entry more
+named_more : (entries : List Entry) (b : Batch) (name : List ℕ) → IsNamed entries name → IsNamed (entries ++ batch b ∷ []) name
+named_more entries b name (of_commit version lt is) = of_commit version (omega (arith, lt, length-append entries (batch b ∷ []))) is
+named_more entries b name (of_file c has is) = of_file c (rw batches-append (Contains-append_left (batches entries) (b ∷ []) c has)) is
+
+-- A batch's file and then the next version's commit, put under free names, are one entry more.
+pub kept_more : (objects : Objects) (column : List ℕ) (entries : List Entry) (b : Batch) (file commit : List ℕ) → IsKept objects column entries → IsLawful (entries ++ batch b ∷ [])
+    → object_at objects (data_file_name b.application b.number) ≡ None → object_at objects (commit_name (length entries)) ≡ None → IsFileOf column b file → IsCommitMade column (batch b) commit
+    → IsKept (with_object (with_object objects (data_file_name b.application b.number) file) (commit_name (length entries)) commit) column (entries ++ batch b ∷ [])
+kept_more objects column entries b file commit kept lawful no_file no_commit is_file is_commit =
+    let name = data_file_name b.application b.number in
+    let next = commit_name (length entries) in
+    let filed : Objects = with_object objects name file in
+    let free : object_at filed next ≡ None = object_at-with_object_other objects name file next (commit_name-data_file_name (length entries) b.application b.number) ∙ no_commit in
+    let stands : FileKept filed column (batch b) = (file, put_stands objects name file no_file, is_file) in
+    let more : length (entries ++ batch b ∷ []) ≡ length entries + 1 = length-append entries (batch b ∷ []) in
+    let of_new : IsNamed (entries ++ batch b ∷ []) name = of_file b (rw batches-append (Contains-append_right (batches entries) (b ∷ []) b (first_in b []))) refl in
+    record {
+      kept = KeptFrom-push (with_object filed next commit) column 0 (length entries) entries (batch b) (omega arith)
+          (KeptFrom-put filed next commit column 0 entries (KeptFrom-put objects name file column 0 entries kept.kept))
+          (commit, put_stands filed next commit free, is_commit) (FileKept-put filed next commit column (batch b) stands);
+      rest = kept.rest ++ batch b ∷ [];
+      begins = ap (λ (es : List Entry). es ++ batch b ∷ []) kept.begins;
+      lawful = lawful;
+      named = named_put filed next commit (IsNamed (entries ++ batch b ∷ []))
+          (named_put objects name file (IsNamed (entries ++ batch b ∷ [])) (λ other some. named_more entries b other (kept.named other some)) of_new)
+          (of_commit (length entries) (omega (arith, more)) refl);
+      many = omega (arith, more, kept.many, names_put objects name file no_file, names_put filed next commit free);
+      readable = kept.readable;
+    }
