@@ -21,7 +21,6 @@ pub mod KeptTails
 pub mod LineLemmas
 pub mod LogLemmas
 pub mod Moments
-pub mod NameLemmas
 pub mod Numbers
 pub mod OffsetLemmas
 pub mod PieceLemmas

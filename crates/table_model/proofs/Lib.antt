@@ -1,12 +1,14 @@
 pub mod Batches
 pub mod Grown
 pub mod Handed
+pub mod HeldLemmas
 pub mod HoldingLogs
 pub mod HoldingNames
 pub mod HoldingOne
 pub mod HoldingPuts
 pub mod HoldingSchema
 pub mod Kept
+pub mod LawfulLemmas
 pub mod NamesOnce
 pub mod Places
 pub mod Read

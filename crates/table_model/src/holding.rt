@@ -10,7 +10,7 @@ ghost use Rattle.table_model.specs.Holds.{Holds, FileStands, IsLawfulStore};
 ghost use Rattle.table_model.specs.Lawful.{BeginsWithCreation, IsLawful};
 ghost use Rattle.table_model.specs.Logs.{IsLog, AreBatches, AreRows};
 ghost use Rattle.table_model.specs.Rows.{Row};
-ghost use Rattle.table_model.specs.Table.{Batch, Entry, batches, rows};
+ghost use Rattle.table_model.specs.Table.{Batch, Entry, batch, batches, rows};
 
 /// A store holds one table at most: one log of entries, and where the log begins with the creation, one schema. (A
 /// log of closes alone would tell no schema.)
@@ -59,4 +59,11 @@ pub fn a_held_table_is_its_log()
         → bs ≡ batches entries }
     ensures rows { (objects : Objects) (schema : Schema) (entries : List Entry) (log : List (List actions.Entry)) (rs : List Row) → Holds objects schema entries → IsLog objects log → AreRows objects schema log rs
         → rs ≡ rows entries }
+{}
+
+/// In the log of a lawful store no batch stands twice, and each application's numbers rise: of two batches of one
+/// application, the later one has the greater number.
+pub fn a_lawful_store_has_each_batch_once()
+    ensures { (objects : Objects) (schema : Schema) (before between after : List Entry) (b c : Batch) → IsLawfulStore objects
+        → Holds objects schema (before ++ batch b ∷ between ++ batch c ∷ after) → b.application ≡ c.application → b.number < c.number }
 {}

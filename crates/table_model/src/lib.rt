@@ -4,17 +4,23 @@
 //! small tables, for tests. The product calls no code of this crate.
 #![tactic(auto)]
 
+mod commit;
+mod held;
 mod holding;
+mod lawful;
 mod laws;
 mod placed;
 mod reading;
 mod table;
 mod value;
 
+pub use held::{Held, held_by};
 pub use holding::{
     a_commit_is_one_entry_more, a_data_file_changes_no_table, a_held_table_is_its_log,
-    a_lawful_store_holds_lawful_tables, names_stand_apart, one_table,
+    a_lawful_store_has_each_batch_once, a_lawful_store_holds_lawful_tables, names_stand_apart,
+    one_table,
 };
+pub use lawful::is_lawful;
 pub use laws::{
     a_committed_batch_stands_already, a_new_table_is_lawful,
     a_read_hands_the_rows_between_its_places, appends_keep_lawful, closes_keep_lawful,
@@ -25,5 +31,7 @@ pub use reading::{Answer, Place};
 pub use table::{Appended, Batch, Closing, Entry, Table};
 pub use value::Value;
 
+#[cfg(test)]
+mod held_tests;
 #[cfg(test)]
 mod tests;
