@@ -5,6 +5,7 @@ use Rattle.std.proofs.lemmas.List.Sums.{count_by-le-length}
 use Rattle.std.specs.Io.KnownBytes.{Appends}
 use Rattle.store_core.specs.Objects.{Objects}
 use Rattle.table_model.specs.Holds.{IsLawfulStore}
+use Rattle.table_model.proofs.LawfulLogLemmas.{lawful_log}
 use Rattle.lake.specs.Scripts.{HoldsState, IsScript, ReadsOut}
 use Rattle.lake.specs.Sound.{AreSound}
 use Rattle.lake.specs.Tables as tables
@@ -25,9 +26,11 @@ script_told old new text before after short empty said leaves sound =
     let is = sym (leaves ∙ ap (λ objects. left objects text) empty) in
     let small = left_is_short lines few in
     let keeps = left_is_kept lines_told lines few whole in
+    let lawful = subst IsLawfulStore is (left_is_lawful lines_told lines few whole) in
     record {
       by_table = λ of_table. subst (Appends old new) (ap (λ objects. told objects text) empty ∙ told_by_tables lines_told lines few whole of_table) said;
       holds = subst (λ objects. HoldsState objects (tables.left text)) is (kept_held _ (tables.left text) keeps small);
-      lawful = subst IsLawfulStore is (left_is_lawful lines_told lines few whole);
+      lawful = lawful;
+      lawful_log = lawful_log after lawful;
       reads = subst (λ objects. ReadsOut objects (tables.left text)) is (kept_reads_out _ (tables.left text) keeps small);
     }

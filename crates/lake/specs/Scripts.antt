@@ -4,6 +4,7 @@ use Rattle.std.specs.Io.KnownBytes.{Appends}
 use Rattle.store_core.specs.Objects.{Objects}
 use Rattle.table_model.specs.Holds.{Holds, IsLawfulStore}
 use Rattle.table_model.specs.Lawful.{IsLawful}
+use Rattle.table_model.specs.LawfulLogs.{HasLawfulLog}
 use Rattle.lake.specs.Tables.{State, nothing, table, told, left, entries_of, AreOfTable}
 use Rattle.lake.specs.Tails.{HandOutTheLog, HandOutAll, AreAnswered}
 use Rattle.lake.specs.Told.{lines_of}
@@ -31,4 +32,5 @@ pub record IsScript (held written : Option (List ℕ)) (text : List ℕ) (object
   pub by_table : AreOfTable (lines_of text) → Appends held written (told text)
   pub holds : HoldsState objects (left text)
   pub lawful : IsLawfulStore objects
+  pub lawful_log : HasLawfulLog objects
   pub reads : ReadsOut objects (left text)

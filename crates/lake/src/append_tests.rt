@@ -80,7 +80,7 @@ fn appends_no_rows(rt: HostRuntime) -> Result<(), Fail> {
 }
 
 // Rows of a batch, and what appending them to a fresh table is told.
-static ROWS: [(&str, &str); 19] = [
+static ROWS: [(&str, &str); 21] = [
     (r#"[{"x":1},{}]"#, "refused S7 BadRow 1 V1 Missing x"),
     (r#"[{"x":null}]"#, "refused S7 BadRow 0 V1 Missing x"),
     ("[null]", "refused S7 BadRow 0 V1 Missing "),
@@ -105,6 +105,14 @@ static ROWS: [(&str, &str); 19] = [
     (r#"[{"x":2,"x":1.5}]"#, "refused S7 BadRow 0 V2 WrongKind x"),
     (r#"[{"x":9223372036854775807}]"#, "Committed 1"),
     (r#"[{"x":-9223372036854775808}]"#, "Committed 1"),
+    (
+        r#"[{"x":-9223372036854775809}]"#,
+        "refused S7 BadRow 0 V2 WrongKind x",
+    ),
+    (
+        r#"[{"x":18446744073709551616}]"#,
+        "refused S7 BadRow 0 V2 WrongKind x",
+    ),
     (r#"[{"x":0}]"#, "Committed 1"),
 ];
 

@@ -5,6 +5,7 @@ ghost use Rattle.lake.specs.declared.input.TheConstants.{MOST_BYTES, MOST_READS}
 ghost use Rattle.lake.specs.Lines.{reading_of};
 ghost use Rattle.lake.specs.Runs.{MayBeTold, Replies, Runs, Tells, TellsFront};
 ghost use Rattle.table_model.specs.Holds.{IsLawfulStore};
+ghost use Rattle.table_model.specs.LawfulLogs.{HasLawfulLog};
 ghost use Rattle.lake.specs.Scripts.{HoldsState, IsScript, ReadsOut};
 ghost use Rattle.lake.specs.Sound.{IsSound, AreSound};
 ghost use Rattle.lake.specs.Streams.{held, unread, StandsIn};
@@ -247,7 +248,8 @@ pub fn run<R: Read, W: Write, S: Store>(
     ensures holds { S.is_reliable store.old → S.objects store.old ≡ [] → result.is_short ≡ false
         → Finishes result.end (λ _. IfSome (unread R.remaining input.old) (λ text. HoldsState (S.objects store.new) (table_left text))) }
     ensures lawful { S.is_reliable store.old → S.objects store.old ≡ [] → result.is_short ≡ false
-        → Finishes result.end (λ _. IfSome (unread R.remaining input.old) (λ text. IsLawfulStore (S.objects store.new))) }
+        → Finishes result.end (λ _. IfSome (unread R.remaining input.old)
+        (λ text. IsLawfulStore (S.objects store.new) × HasLawfulLog (S.objects store.new))) }
 
     // Reads over that store, each from the place where the one before ended, are answered and hand out the table's
     // rows, whatever their limits.

@@ -18,7 +18,7 @@ use Rattle.table_model.proofs.HoldingOne.{one_object, one_file, one_commit}
 -- ---- what tells only of the commit names no number and no file
 
 -- the numbers of a commit stand beside what tells of it
-numbers-beside_info : (made : List actions.Entry) → numbers (beside_info made) ≡ numbers made
+pub numbers-beside_info : (made : List actions.Entry) → numbers (beside_info made) ≡ numbers made
 numbers-beside_info [] = refl
 numbers-beside_info (commit_info d ∷ others) = numbers-beside_info others
 numbers-beside_info (protocol p ∷ others) = numbers-beside_info others

@@ -9,6 +9,7 @@ pub mod HoldingPuts
 pub mod HoldingSchema
 pub mod Kept
 pub mod LawfulLemmas
+pub mod LawfulLogLemmas
 pub mod NamesOnce
 pub mod Places
 pub mod Read

@@ -10,3 +10,4 @@ pub mod Schema
 pub mod Commits
 pub mod Holds
 pub mod Logs
+pub mod LawfulLogs

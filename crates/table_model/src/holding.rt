@@ -9,6 +9,7 @@ ghost use Rattle.table_model.specs.Commits.{IsCommitOf};
 ghost use Rattle.table_model.specs.Holds.{Holds, FileStands, IsLawfulStore};
 ghost use Rattle.table_model.specs.Lawful.{BeginsWithCreation, IsLawful};
 ghost use Rattle.table_model.specs.Logs.{IsLog, AreBatches, AreRows};
+ghost use Rattle.table_model.specs.LawfulLogs.{HasLawfulLog};
 ghost use Rattle.table_model.specs.Rows.{Row};
 ghost use Rattle.table_model.specs.Table.{Batch, Entry, batch, batches, rows};
 
@@ -66,4 +67,11 @@ pub fn a_held_table_is_its_log()
 pub fn a_lawful_store_has_each_batch_once()
     ensures { (objects : Objects) (schema : Schema) (before between after : List Entry) (b c : Batch) → IsLawfulStore objects
         → Holds objects schema (before ++ batch b ∷ between ++ batch c ∷ after) → b.application ≡ c.application → b.number < c.number }
+{}
+
+/// A lawful store's log is lawful in the protocol's own words: it is empty or begins with its creation, each later
+/// commit is a group of batches of different applications or the close of one stream, the file of each batch stands, no
+/// batch stands twice, each application's numbers rise, and none stands behind a close of its stream.
+pub fn a_lawful_store_has_a_lawful_log()
+    ensures { (objects : Objects) → IsLawfulStore objects → HasLawfulLog objects }
 {}
