@@ -5,25 +5,69 @@ use crate::run::{End, run};
 use std::alloc::Global;
 use std::test::Fail;
 use store_core::MemoryStore;
+use table_model::{Entry, Value, held_by, is_lawful};
 
 const CREATE: &str =
     r#"create 00000000-0000-4000-8000-000000000001 0 {"type":"struct","fields":[{"name":"x","type":"long","nullable":false,"metadata":{}}]}"#;
 
 const APPEND: &str = r#"append a 0 5 [{"x":1},{"x":-1}]"#;
 
-// What a script is told that isn't short of memory.
-fn told(alloc: Global, text: &str) -> Result<String, Fail> {
+// What a script is told that isn't short of memory, over a store in which nothing stands yet.
+fn told_over(alloc: Global, text: &str, store: &mut MemoryStore) -> Result<String, Fail> {
     let mut told = Vec::new(alloc);
-    let mut store = MemoryStore::new(alloc);
     let outcome = {
         let mut input = Input::new(text.as_bytes());
         let mut output = Output::new(alloc, &mut told);
-        run(alloc, &mut input, &mut output, &mut store, true)
+        run(alloc, &mut input, &mut output, store, true)
     };
     if outcome.end != End::Done || outcome.short() {
         return Err("a whole run".into());
     }
     Ok(String::from_utf8(told)?)
+}
+
+// The same, where the store that is left holds a lawful table.
+fn told(alloc: Global, text: &str) -> Result<String, Fail> {
+    let mut store = MemoryStore::new(alloc);
+    let told = told_over(alloc, text, &mut store)?;
+    let held = held_by(alloc, &mut store)?.ok_or("a table")?;
+    if !is_lawful(&held.entries) {
+        return Err("a lawful table".into());
+    }
+    Ok(told)
+}
+
+fn number_of(row: &Value) -> Option<i64> {
+    let Value::Struct(values) = row else {
+        return None;
+    };
+    match values.first() {
+        Some(Value::Whole(number)) => Some(*number),
+        _ => None,
+    }
+}
+
+// The entries of the table that a store holds, one a line.
+fn entries_of(alloc: Global, store: &mut MemoryStore) -> Result<String, Fail> {
+    let held = held_by(alloc, store)?.ok_or("a table")?;
+    let mut text = String::new(alloc);
+    for entry in &held.entries {
+        match entry {
+            Entry::Creation => text.push_str(&held.column)?,
+            Entry::Batch(batch) => {
+                text.push_str(&batch.application)?;
+                let number = batch.number;
+                text.push_str(&format!(in alloc; " {number}")?)?;
+                for row in &batch.rows {
+                    let number = number_of(row).ok_or("a row of one number")?;
+                    text.push_str(&format!(in alloc; " {number}")?)?;
+                }
+            }
+            Entry::Close(application) => text.push_str(application)?,
+        }
+        text.push('\n')?;
+    }
+    Ok(text)
 }
 
 // Lines behind the creation of a table and one append of two rows, and what they are told.
@@ -133,7 +177,8 @@ tail 1 {"file":0,"row":1,"version":1}
 tail 1 {"file":0,"row":2,"version":1}
 tail 1 {"file":0,"row":1,"version":3}"#;
     let text = format!(in rt.alloc(); "{CREATE}\n{APPEND}\n{reads}")?;
-    let told = told(rt.alloc(), &text)?;
+    let mut store = MemoryStore::new(rt.alloc());
+    let told = told_over(rt.alloc(), &text, &mut store)?;
     let wanted = r#"Created 0
 Committed 1
 Committed 2
@@ -147,6 +192,8 @@ next {"file":0,"row":1,"version":3}
 next {"file":0,"row":0,"version":4}
 "#;
     assert_eq!(rt; told.as_str(), wanted);
+    let entries = entries_of(rt.alloc(), &mut store)?;
+    assert_eq!(rt; entries.as_str(), "x\na 0 1 -1\na 1\na 2 7\n");
     Ok(())
 }
 
