@@ -248,3 +248,34 @@ fn reads_many_batches_and_a_long_one(rt: HostRuntime) -> Result<(), Fail> {
     assert!(rt; told == wanted);
     Ok(())
 }
+
+#[test]
+fn refuses_rows_and_goes_on(rt: HostRuntime) -> Result<(), Fail> {
+    let lines = r#"append a 0 0 [{"x":1},{}]
+append a 0 0 [{"x":1,"y":2}]
+append a 0 0 [{"x":9223372036854775808}]
+append a 0 0 [{"x":9223372036854775807},{"x":-9223372036854775808}]
+append a 1000000000000 0 []"#;
+    let text = format!(in rt.alloc(); "{CREATE}\n{lines}\n")?;
+    let told = told(rt.alloc(), &text)?;
+    let wanted = r#"Created 0
+refused S7 BadRow 1 V1 Missing x
+refused S7 BadRow 0 V5 Unknown y
+refused S7 BadRow 0 V3 OutOfRange x
+Committed 1
+refused S8 TooLarge
+"#;
+    assert_eq!(rt; told.as_str(), wanted);
+    Ok(())
+}
+
+#[test]
+fn tells_the_sizes_of_files(rt: HostRuntime) -> Result<(), Fail> {
+    let text = format!(in rt.alloc();
+        "{CREATE}\nappend a 0 5 []\nshow 1\nappend a 7 6 [{{\"x\":9}}]\nshow 2"
+    )?;
+    let told = told(rt.alloc(), &text)?;
+    assert!(rt; told.contains(r#""size":56,"stats":"{\"numRecords\":0}""#));
+    assert!(rt; told.contains(r#""size":113,"stats":"{\"numRecords\":1}""#));
+    Ok(())
+}
