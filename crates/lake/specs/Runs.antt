@@ -16,7 +16,7 @@ use Rattle.lake.specs.TailFaults as tail_texts
 use Rattle.lake.specs.Tailing as tails
 use Rattle.lake.specs.Told.{lines_of, is_bad, reply_to_wish, left_by_wish}
 
--- the reply to a line that creates a table, to one that appends a batch, and to one that shows an object, where a
+-- the replies to lines that create a table, append a batch, show an object, read rows and tell the history, where a
 -- growth was refused
 abbrev pub no_room_to_create : List ℕ
 no_room_to_create = line_of (refused (create_fault_text create_faults.Memory))
