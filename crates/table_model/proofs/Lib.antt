@@ -1,4 +1,5 @@
 pub mod Batches
+pub mod FileClaims
 pub mod Grown
 pub mod Handed
 pub mod HeldLemmas
@@ -10,9 +11,13 @@ pub mod HoldingSchema
 pub mod Kept
 pub mod LawfulLemmas
 pub mod LawfulLogLemmas
+pub mod LeftLemmas
 pub mod NamesOnce
 pub mod Places
 pub mod Read
 pub mod Resumed
 pub mod Same
+pub mod SameText
+pub mod SchemaText
 pub mod Seen
+pub mod Variants

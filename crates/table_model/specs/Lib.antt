@@ -9,5 +9,6 @@ pub mod Names
 pub mod Schema
 pub mod Commits
 pub mod Holds
+pub mod Found
 pub mod Logs
 pub mod LawfulLogs

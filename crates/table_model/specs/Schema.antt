@@ -5,7 +5,7 @@ use Rattle.serde_json.specs.Written.{compact_text}
 use Rattle.parquet_file.specs.File.{IsFile}
 use Rattle.table_model.specs.Rows.{Row, whole, structure, no_values, value}
 
--- the name of its column
+-- a schema: the name of its one column
 pub record Schema : Type 0 where
   pub column : List ℕ
 

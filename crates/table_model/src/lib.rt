@@ -4,11 +4,13 @@
 //! small tables, for tests. The product calls no code of this crate.
 #![tactic(auto)]
 
+mod column;
 mod commit;
 mod held;
 mod holding;
 mod lawful;
 mod laws;
+mod names;
 mod placed;
 mod reading;
 mod table;
