@@ -61,12 +61,12 @@ KeptFrom objects column version [] = Unit {0}
 KeptFrom objects column version (entry ∷ entries) = Stands objects (commit_name version) (IsCommitMade column entry)
     × FileKept objects column entry × KeptFrom objects column (suc version) entries
 
--- the name is that of a version's commit, or of a batch's file
+-- the name is that of a version's commit, or of a data file
 pub data IsNamed (entries : List Entry) (name : List ℕ) : Type 0 where
   of_commit : (version : ℕ) → version < length entries → name ≡ commit_name version → IsNamed entries name
-  of_file : (b : Batch) → Contains (batches entries) b → name ≡ data_file_name b.application b.number → IsNamed entries name
+  of_file : (application : List ℕ) (number : ℕ) → name ≡ data_file_name application number → IsNamed entries name
 
--- The store keeps the table of this column with these entries, and nothing else.
+-- The store keeps the table of this column with these entries. Data files may stand that are no batch's.
 pub record IsKept (objects : Objects) (column : List ℕ) (entries : List Entry) : Type 0 where
   pub kept : KeptFrom objects column 0 entries
   pub rest : List Entry
@@ -76,7 +76,15 @@ pub record IsKept (objects : Objects) (column : List ℕ) (entries : List Entry)
   pub many : length entries ≤ length (names_of objects)
   pub readable : column_from (schema_text column) ≡ Ok (Some column)
 
--- The store keeps what a script has made so far.
+-- the name is that of a batch's file
+abbrev pub IsOwn : List Entry → List ℕ → Type 0
+IsOwn entries name = (b : Batch) × Contains (batches entries) b × (name ≡ data_file_name b.application b.number)
+
+-- each data file that stands is a batch's
+abbrev pub HasNoOther : Objects → List Entry → Type 0
+HasNoOther objects entries = (application : List ℕ) (number : ℕ) → IsSome (object_at objects (data_file_name application number)) → IsOwn entries (data_file_name application number)
+
+-- The store keeps what a script has made so far, and nothing else.
 abbrev pub Keeps : Objects → State → Type 0
 Keeps objects nothing = objects ≡ []
-Keeps objects (table column entries) = IsKept objects column entries
+Keeps objects (table column entries) = IsKept objects column entries × HasNoOther objects entries

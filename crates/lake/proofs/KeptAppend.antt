@@ -32,11 +32,11 @@ use Rattle.lake.specs.Sound.{IsSoundWish}
 use Rattle.lake.specs.Tables as tables
 use Rattle.lake.specs.Tables.{State, nothing, table}
 use Rattle.lake.specs.Told.{reply_to_wish, left_by_wish, appended_reply}
-use Rattle.lake.proofs.Kept.{IsFileOf, FileKept, IsCommitMade, KeptFrom, IsKept, Keeps}
+use Rattle.lake.proofs.Kept.{IsFileOf, FileKept, IsCommitMade, KeptFrom, IsKept, HasNoOther, Keeps}
 use Rattle.lake.proofs.KeptFile.{last_stands, last_own, same_numbers}
 use Rattle.lake.proofs.KeptLog.{kept_log, made_length, made_number, log_of_nothing, none_behind}
 use Rattle.lake.proofs.KeptNames.{same_name, same_file_name, batch_stands, no_file}
-use Rattle.lake.proofs.KeptPuts.{kept_more}
+use Rattle.lake.proofs.KeptPuts.{kept_more, no_other_more}
 
 -- what an append does agrees with the batch that is handed in at the plain table
 abbrev Agrees : (objects : Objects) (column : List ℕ) (entries : List Entry) (number : ℕ) → Result Step Refusal → Result model.Batch Refusal → Type 0
@@ -50,7 +50,7 @@ IsSoundStep application number at step = PutsWell application number at step × 
 -- ---- the tests in front
 
 -- a number that was let through isn't too large
-small_number : (application : List ℕ) (number rows : ℕ) → checked application number rows ≡ Ok tt → number ≤ 999_999_999_999
+pub small_number : (application : List ℕ) (number rows : ℕ) → checked application number rows ≡ Ok tt → number ≤ 999_999_999_999
 unfolding checked
 small_number application number rows fine = by_tests (nat_lt 4_096 rows) (length application == 0 || nat_lt 64 (length application)) (nat_lt 999_999_999_999 number) refl fine
   where
@@ -61,23 +61,23 @@ small_number application number rows fine = by_tests (nat_lt 4_096 rows) (length
     by_tests false false false is fine = ltb-false 999_999_999_999 number is
 
 -- no stream of a kept table is closed
-stays_open : (objects : Objects) (column : List ℕ) (version : ℕ) (entries : List Entry) (application : List ℕ) → KeptFrom objects column version entries → is_closed application entries ≡ false
+pub stays_open : (objects : Objects) (column : List ℕ) (version : ℕ) (entries : List Entry) (application : List ℕ) → KeptFrom objects column version entries → is_closed application entries ≡ false
 stays_open objects column version [] application kept = refl
 stays_open objects column version (creation ∷ entries) application kept = stays_open objects column _ entries application kept.2
 stays_open objects column version (batch b ∷ entries) application kept = stays_open objects column _ entries application kept.2
 stays_open objects column version (close other ∷ entries) application kept = absurd kept.1
 
 -- the table behind an append is lawful
-lawful_after : (objects : Objects) (column : List ℕ) (entries : List Entry) (b : model.Batch) → IsKept objects column entries → IsLawful (with_batch (appended b entries) b entries)
+pub lawful_after : (objects : Objects) (column : List ℕ) (entries : List Entry) (b : model.Batch) → IsKept objects column entries → IsLawful (with_batch (appended b entries) b entries)
 lawful_after objects column entries b kept =
     subst (λ (es : List Entry). IsLawful (with_batch (appended b es) b es)) (sym kept.begins) (append_keeps b creation kept.rest (subst IsLawful kept.begins kept.lawful))
 
 -- what is asked of a table
-abbrev asked : (version : ℕ) (column : List ℕ) (rows : List ℤ) (repeats : Bool) → Request
+abbrev pub asked : (version : ℕ) (column : List ℕ) (rows : List ℤ) (repeats : Bool) → Request
 asked version column rows repeats = record { version = version; column = column; rows = rows; repeats = repeats }
 
 -- the batch that is put with this file
-abbrev made_with : (version : ℕ) (column : List ℕ) (rows : List ℤ) (application : List ℕ) (number at : ℕ) (file : List ℕ) → Batch
+abbrev pub made_with : (version : ℕ) (column : List ℕ) (rows : List ℤ) (application : List ℕ) (number at : ℕ) (file : List ℕ) → Batch
 made_with version column rows application number at file = record {
   version = version;
   column = column;
@@ -88,10 +88,24 @@ made_with version column rows application number at file = record {
 }
 
 -- the batch that is handed in
-abbrev handed_in : (application : List ℕ) (number : ℕ) (rows : List ℤ) → model.Batch
+abbrev pub handed_in : (application : List ℕ) (number : ℕ) (rows : List ℤ) → model.Batch
 handed_in application number rows = record { application = application; number = number; rows = map row_of rows }
 
-module _ (objects : Objects) (column : List ℕ) (entries : List Entry) (kept : IsKept objects column entries) (few : length entries < 2 ^ 62) (application : List ℕ) (number at : ℕ) (utf8 : IsUtf8 application)
+module _ (version : ℕ) (column : List ℕ) (rows : List ℤ) (application : List ℕ) (number at : ℕ) (file : List ℕ) where
+  -- the file of a batch that is well made is one of its rows
+  pub file_made : IsWellMade application number at (made_with version column rows application number at file) → IsFileOf column (handed_in application number rows) file
+  file_made well = record { numbers = rows; file = well.file; limits = well.limits; are = refl }
+
+  -- and its commit is one of the batch that is handed in
+  pub commit_made : IsUtf8 application → number ≤ 999_999_999_999 → IsWellMade application number at (made_with version column rows application number at file)
+      → IsCommitMade column (batch (handed_in application number rows)) (made_with version column rows application number at file).commit
+  commit_made utf8 fits well = record {
+    made = appending application number at (file_name application number) (length file) (length rows);
+    commit = well.commit;
+    is = record { at = at; size = length file; rows = length rows; utf8 = utf8; small = fits; are = ap (λ (name : List ℕ). appending application number at name (length file) (length rows)) (same_file_name application number) };
+  }
+
+module _ (objects : Objects) (column : List ℕ) (entries : List Entry) (kept : IsKept objects column entries) (own : HasNoOther objects entries) (few : length entries < 2 ^ 62) (application : List ℕ) (number at : ℕ) (utf8 : IsUtf8 application)
     (fits : number ≤ 999_999_999_999) (rows : List ℤ) where
   -- ---- a new number
 
@@ -102,16 +116,13 @@ module _ (objects : Objects) (column : List ℕ) (entries : List Entry) (kept : 
       let made = made_with (length entries) column rows application number at file in
       let b = handed_in application number rows in
       let none = none_behind objects column entries kept few in
-      let is_file : IsFileOf column b file = record { numbers = rows; file = well.file; limits = well.limits; are = refl } in
-      let is_commit : IsCommitMade column (batch b) made.commit = record {
-        made = appending application number at made.name (length file) (length rows);
-        commit = well.commit;
-        is = record { at = at; size = length file; rows = length rows; utf8 = utf8; small = fits; are = ap (λ (name : List ℕ). appending application number at name (length file) (length rows)) (same_file_name application number) };
-      } in
+      let is_file = file_made (length entries) column rows application number at file well in
+      let is_commit = commit_made (length entries) column rows application number at file utf8 fits well in
       let lawful : IsLawful (entries ++ batch b ∷ []) = rw new at (lawful_after objects column entries b kept) in
       let more = kept_more objects column entries b file made.commit kept lawful free none is_file is_commit in
       let apart = object_at-with_object_other objects (data_file_name application number) file (names.commit_name (length entries)) (commit_name-data_file_name (length entries) application number) ∙ none in
-      rw (same_file_name application number, same_name (length entries), new) (rw apart refl, rw (same_file_name application number) at more)
+      let alone = no_other_more objects entries b file made.commit own in
+      rw (same_file_name application number, same_name (length entries), new) (rw apart refl, (rw (same_file_name application number) at more, rw (same_file_name application number) at alone))
 
   -- what is done for a new number
   new_agrees : appended (handed_in application number rows) entries ≡ Committed (length entries) → object_at objects (data_file_name application number) ≡ None
@@ -141,9 +152,9 @@ module _ (objects : Objects) (column : List ℕ) (entries : List Entry) (kept : 
       by_same : (same : Bool)
           → (appended_reply ((refused_if (not same) (differs (data_file_name application number)) >>= λ fits. Ok stands) >>= answered objects number)
           ≡ line_of (tables.answer_text (handed_in application number rows) (cond same (Already number) Differs)))
-          × IsKept (with_append objects (refused_if (not same) (differs (data_file_name application number)) >>= λ fits. Ok stands)) column (with_batch (cond same (Already number) Differs) (handed_in application number rows) entries)
-      by_same true = (refl, kept)
-      by_same false = (refl, kept)
+          × Keeps (with_append objects (refused_if (not same) (differs (data_file_name application number)) >>= λ fits. Ok stands)) (table column (with_batch (cond same (Already number) Differs) (handed_in application number rows) entries))
+      by_same true = (refl, (kept, own))
+      by_same false = (refl, (kept, own))
 
   -- what is done behind the application's last number
   abbrev behind_last : Option ℕ → Result Step Refusal
@@ -163,31 +174,31 @@ module _ (objects : Objects) (column : List ℕ) (entries : List Entry) (kept : 
       → Agrees objects column entries number (behind_last (option_map (λ (b : model.Batch). b.number) last)) (Ok (handed_in application number rows))
   behind_agrees None is sound =
       let open_ = stays_open objects column 0 entries application kept.kept in
-      new_agrees (rw (is, open_) refl) (no_file objects column entries application number kept utf8 (omega arith) (rw is tt)) sound
+      new_agrees (rw (is, open_) refl) (no_file objects column entries application number kept own utf8 (omega arith) (rw is tt)) sound
   behind_agrees (Some before) is sound = by_tests (ltb number before.number) (eqb number before.number) refl refl sound
     where
       by_tests : (below equal : Bool) → ltb number before.number ≡ below → eqb number before.number ≡ equal
           → IsSoundStep application number at ((cond below (Err (stale before.number)) (Ok equal) >>= λ repeats. Ok (asked (length entries) column rows repeats)) >>= step_of objects application number at)
           → Agrees objects column entries number ((cond below (Err (stale before.number)) (Ok equal) >>= λ repeats. Ok (asked (length entries) column rows repeats)) >>= step_of objects application number at) (Ok (handed_in application number rows))
-      by_tests true equal under same sound = rw (is, under) (refl, kept)
+      by_tests true equal under same sound = rw (is, under) (refl, (kept, own))
       by_tests false true over same sound = last_agrees before is over same
       by_tests false false over other sound =
           let open_ = stays_open objects column 0 entries application kept.kept in
           let least : before.number ≤ number = ltb-false number before.number over in
           let apart : number ≡ before.number → ⊥ = eqb-false number before.number other in
           let above : before.number < number = omega arith in
-          new_agrees (rw (is, over, other, open_) refl) (no_file objects column entries application number kept utf8 (omega arith) (rw is above)) sound
+          new_agrees (rw (is, over, other, open_) refl) (no_file objects column entries application number kept own utf8 (omega arith) (rw is above)) sound
 
 -- ---- a line that appends
 
 -- what a line asks of a kept table
-abbrev step_behind : (objects : Objects) (column : List ℕ) (entries : List Entry) (application : List ℕ) (number at : ℕ) → Result (Unit {0}) Refusal → Result (List ℤ) Refusal → Result Step Refusal
+abbrev pub step_behind : (objects : Objects) (column : List ℕ) (entries : List Entry) (application : List ℕ) (number at : ℕ) → Result (Unit {0}) Refusal → Result (List ℤ) Refusal → Result Step Refusal
 step_behind objects column entries application number at fine read =
     (fine >>= λ passed. read >>= λ rows. is_repeat number (option_map (λ (b : model.Batch). b.number) (last_batch application entries)) >>= λ repeats. Ok (asked (length entries) column rows repeats))
     >>= step_of objects application number at
 
 -- that is what an append does over the objects
-step_is : (objects : Objects) (column : List ℕ) (entries : List Entry) (application : List ℕ) (number at : ℕ) (items : Items) → IsKept objects column entries → length entries < 2 ^ 62
+pub step_is : (objects : Objects) (column : List ℕ) (entries : List Entry) (application : List ℕ) (number at : ℕ) (items : Items) → IsKept objects column entries → length entries < 2 ^ 62
     → settled objects application number at items ≡ step_behind objects column entries application number at (checked application number (count items)) (rows_from 0 column items)
 unfolding request_of request_behind
 step_is objects column entries application number at items kept few =
@@ -196,19 +207,19 @@ step_is objects column entries application number at items kept few =
 
 -- where a table is kept, the answer is the plain table's
 table_agrees : (objects : Objects) (column : List ℕ) (entries : List Entry) (application : List ℕ) (number at rows : ℕ) (fine : Result (Unit {0}) Refusal) (read : Result (List ℤ) Refusal)
-    → IsKept objects column entries → length entries < 2 ^ 62 → IsUtf8 application → checked application number rows ≡ fine → IsSoundStep application number at (step_behind objects column entries application number at fine read)
+    → Keeps objects (table column entries) → length entries < 2 ^ 62 → IsUtf8 application → checked application number rows ≡ fine → IsSoundStep application number at (step_behind objects column entries application number at fine read)
     → Agrees objects column entries number (step_behind objects column entries application number at fine read) (fine >>= λ passed. read >>= λ rows. Ok (handed_in application number rows))
 table_agrees objects column entries application number at rows (Err why) read kept few utf8 is sound = (refl, kept)
 table_agrees objects column entries application number at rows (Ok passed) (Err why) kept few utf8 is sound = (refl, kept)
 table_agrees objects column entries application number at rows (Ok passed) (Ok numbers) kept few utf8 is sound =
-    behind_agrees objects column entries kept few application number at utf8 (small_number application number rows is) numbers (last_batch application entries) refl sound
+    behind_agrees objects column entries kept.0 kept.1 few application number at utf8 (small_number application number rows is) numbers (last_batch application entries) refl sound
 
 -- what a line asks of a store of nothing
-abbrev step_of_nothing : (application : List ℕ) (number at : ℕ) → Result (Unit {0}) Refusal → Result Step Refusal
+abbrev pub step_of_nothing : (application : List ℕ) (number at : ℕ) → Result (Unit {0}) Refusal → Result Step Refusal
 step_of_nothing application number at fine = ◌>>=◌ {B = Request} fine (λ passed. Err (bad_log 0)) >>= step_of [] application number at
 
 -- that is what an append does where nothing stands
-nothing_is : (application : List ℕ) (number at : ℕ) (items : Items) → settled [] application number at items ≡ step_of_nothing application number at (checked application number (count items))
+pub nothing_is : (application : List ℕ) (number at : ℕ) (items : Items) → settled [] application number at items ≡ step_of_nothing application number at (checked application number (count items))
 unfolding request_of
 nothing_is application number at items = rw log_of_nothing refl
 
@@ -225,7 +236,7 @@ pub append_told : (objects : Objects) (state : State) (application : List ℕ) (
 append_told objects nothing application number at items keeps few sound =
     rw (keeps, nothing_is application number at items) (nothing_agrees application number at (checked application number (count items)))
 append_told objects (table column entries) application number at items keeps few sound =
-    let is = step_is objects column entries application number at items keeps few in
+    let is = step_is objects column entries application number at items keeps.0 few in
     let step_sound : IsSoundStep application number at (settled objects application number at items) = (sound.1, sound.2) in
     let told = table_agrees objects column entries application number at (count items) (checked application number (count items)) (rows_from 0 column items) keeps few sound.0 refl (rw is at step_sound) in
     rw is told

@@ -1,5 +1,5 @@
 -- A line that creates a table, over a store that keeps what a script made so far.
-use Rattle.std.proofs.Common.{◌≡◌, ◌≢◌, ℕ, Bool, true, false, List, [], ◌∷◌, ◌++◌, length, Option, Some, None, Result, Ok, Err, refl, sym, ap, subst, ◌∙◌, arith, length-append}
+use Rattle.std.proofs.Common.{◌≡◌, ◌≢◌, ℕ, Bool, true, false, List, [], ◌∷◌, ◌++◌, length, Option, Some, None, IsSome, Result, Ok, Err, refl, sym, ap, subst, ◌∙◌, arith, length-append}
 use Rattle.std.specs.Prelude.{bytes_eq, nat_le, is_some, cond}
 use Rattle.std.proofs.lemmas.Slice.Eq.{bytes_eq-Decides}
 use Rattle.store_core.specs.Objects.{Objects, object_at, with_object}
@@ -7,6 +7,7 @@ use Rattle.store_core.specs.ObjectLaws.{with_object_stands, with_object_absent}
 use Rattle.table_model.specs.Names as names
 use Rattle.table_model.specs.Table.{Entry, creation, close}
 use Rattle.table_model.specs.Lawful.{IsLawful}
+use Rattle.table_model.proofs.HoldingNames.{commit_name-data_file_name}
 use Rattle.lake.specs.declared.fault.CreateFault.{CreateFault}
 use Rattle.lake.specs.declared.fault.CreateFault.TheVariants.{BadId, BadSchema, TooLarge}
 use Rattle.lake.specs.Commits.{commit_name, commit_text, schema_text, creation as created}
@@ -82,7 +83,7 @@ one_object : (name bytes : List ℕ) → object_at ((name, bytes) ∷ []) name �
 one_object name bytes = ap (λ (same : Bool). cond same (Some bytes) None) ((bytes_eq-Decides name name).1 refl)
 
 -- a first commit that is well made is the table of its creation
-kept_creation : (name : List ℕ) (at : ℕ) (schema column bytes : List ℕ) → name ≡ names.commit_name 0 → column_from schema ≡ Ok (Some column) → IsWellCreated at schema bytes
+pub kept_creation : (name : List ℕ) (at : ℕ) (schema column bytes : List ℕ) → name ≡ names.commit_name 0 → column_from schema ≡ Ok (Some column) → IsWellCreated at schema bytes
     → IsKept ((name, bytes) ∷ []) column (creation ∷ [])
 kept_creation name at schema column bytes first is well =
     let same : well.column ≡ column = cc in
@@ -97,8 +98,14 @@ kept_creation name at schema column bytes first is well =
       readable = subst (λ (c : List ℕ). column_from (schema_text c) ≡ Ok (Some c)) same well.readable;
     }
 
+-- and no data file stands
+pub no_data_file : (name bytes : List ℕ) → name ≡ names.commit_name 0 → (application : List ℕ) (number : ℕ) → IsSome (object_at ((name, bytes) ∷ []) (names.data_file_name application number)) → ⊥
+no_data_file name bytes first application number some =
+    let file = names.data_file_name application number in
+    commit_name-data_file_name 0 application number (sym first ∙ sym (one_name name bytes file (bytes_eq file name) refl some))
+
 -- the first commit of a table stands
-first_commit : (objects : Objects) (column : List ℕ) (entries : List Entry) → IsKept objects column entries → is_some (object_at objects (commit_name 0)) ≡ true
+pub first_commit : (objects : Objects) (column : List ℕ) (entries : List Entry) → IsKept objects column entries → is_some (object_at objects (commit_name 0)) ≡ true
 first_commit objects column entries kept =
     let all : KeptFrom objects column 0 (creation ∷ kept.rest) = subst (KeptFrom objects column 0) kept.begins kept.kept in
     ap (λ (name : List ℕ). is_some (object_at objects name)) (same_name 0) ∙ ap is_some all.0.1
@@ -112,7 +119,7 @@ told_nothing at schema found put (refuses why f p) well = rw (f, p) (refl, refl)
 told_nothing at schema found put (puts column bytes f p is) well =
     let made : IsWellCreated at schema bytes = rw p at well in
     let one : with_object [] (commit_name 0) bytes ≡ (commit_name 0, bytes) ∷ [] = with_object_absent [] (commit_name 0) bytes refl in
-    rw (f, p, one) (refl, kept_creation (commit_name 0) at schema column bytes (same_name 0) is made)
+    rw (f, p, one) (refl, (kept_creation (commit_name 0) at schema column bytes (same_name 0) is made, λ application number some. absurd (no_data_file (commit_name 0) bytes (same_name 0) application number some)))
 
 -- where a table stands, no other is created
 told_table : (schema : List ℕ) (objects : Objects) (old : List ℕ) (entries : List Entry) (there : Option (List ℕ)) (found put : Result (List ℕ) CreateFault)
@@ -122,7 +129,7 @@ told_table schema objects old entries (Some bytes) found put some (refuses why f
 told_table schema objects old entries (Some bytes) found put some (puts column new f p is) = rw (f, p) refl
 
 -- nor is anything put over these objects
-left_table : (objects : Objects) (put : Result (List ℕ) CreateFault) → is_some (object_at objects (commit_name 0)) ≡ true → with_creation objects put ≡ objects
+pub left_table : (objects : Objects) (put : Result (List ℕ) CreateFault) → is_some (object_at objects (commit_name 0)) ≡ true → with_creation objects put ≡ objects
 left_table objects (Ok bytes) some = with_object_stands objects (commit_name 0) bytes some
 left_table objects (Err why) some = refl
 
@@ -137,7 +144,7 @@ pub create_told : (objects : Objects) (state : State) (id : List ℕ) (at : ℕ)
 create_told objects nothing id at schema keeps sound =
     rw keeps (told_nothing at schema (described id schema) (commit_from id at schema) (is_told schema id at sound.1) sound.0)
 create_told objects (table column entries) id at schema keeps sound =
-    let stands = first_commit objects column entries keeps in (
+    let stands = first_commit objects column entries keeps.0 in (
       told_table schema objects column entries (object_at objects (commit_name 0)) (described id schema) (commit_from id at schema) stands (is_told schema id at sound.1),
       rw (left_table objects (commit_from id at schema) stands, same_table column entries (described id schema)) keeps,
     )

@@ -53,7 +53,7 @@ not_named : (entries : List Entry) → length entries < 2 ^ 62 → IsNamed entri
 not_named entries few (of_commit version low same) =
     let one : length entries ≡ version = commit_name-once (length entries) version (omega arith) same in
     omega arith
-not_named entries few (of_file b there same) = commit_name-data_file_name (length entries) b.application b.number same
+not_named entries few (of_file application number same) = commit_name-data_file_name (length entries) application number same
 
 -- no commit stands behind those of the entries
 pub none_behind : (objects : Objects) (column : List ℕ) (entries : List Entry) → IsKept objects column entries → length entries < 2 ^ 62 → object_at objects (names.commit_name (length entries)) ≡ None

@@ -1,5 +1,5 @@
 -- What stands for the batches of a kept table, and that the name of a new number's file is free.
-use Rattle.std.proofs.Common.{◌≡◌, ℕ, zero, suc, ◌^◌, ◌<◌, ◌≤◌, ◌⊎◌, Bool, true, false, List, [], ◌∷◌, length, map, Option, Some, None, Contains, inl, inr, refl, sym, ap, subst, arith}
+use Rattle.std.proofs.Common.{◌≡◌, ℕ, zero, suc, ◌^◌, ◌<◌, ◌≤◌, ◌⊎◌, Bool, true, false, List, [], ◌∷◌, length, map, Option, Some, None, Contains, inl, inr, refl, ap, subst, arith}
 use Rattle.std.specs.Prelude.{bytes_eq, cond, is_some, option_map, slice_index_or}
 use Rattle.std.specs.Str.{IsUtf8}
 use Rattle.std.proofs.lemmas.Slice.Eq.{bytes_eq-Decides}
@@ -9,11 +9,10 @@ use Rattle.table_model.specs.Names as names
 use Rattle.table_model.specs.Lawful.{Rises}
 use Rattle.table_model.specs.Table.{Batch, Entry, creation, batch, close, batches, batches_by, numbers_by, last, last_batch}
 use Rattle.table_model.proofs.Batches.{IsAbove, last_none, last_number, numbers_by-own}
-use Rattle.table_model.proofs.HoldingNames.{commit_name-data_file_name}
 use Rattle.table_model.proofs.NamesOnce.{data_file_name-once}
 use Rattle.lake.specs.Appending.{file_name}
 use Rattle.lake.specs.Commits.{commit_name}
-use Rattle.lake.proofs.Kept.{IsKept, KeptFrom, FileKept, IsNamed, of_commit, of_file}
+use Rattle.lake.proofs.Kept.{IsKept, IsOwn, HasNoOther, KeptFrom, FileKept}
 
 -- ---- the names that contracts don't look into
 
@@ -109,14 +108,13 @@ none_unless None never = refl
 none_unless (Some x) never = absurd (never refl)
 
 -- no file stands under a number above the application's last one
-pub no_file : (objects : Objects) (column : List ℕ) (entries : List Entry) (application : List ℕ) (number : ℕ) → IsKept objects column entries → IsUtf8 application → number < 10 ^ 63
+pub no_file : (objects : Objects) (column : List ℕ) (entries : List Entry) (application : List ℕ) (number : ℕ) → IsKept objects column entries → HasNoOther objects entries → IsUtf8 application → number < 10 ^ 63
     → IsAbove number (option_map (λ (b : Batch). b.number) (last_batch application entries)) → object_at objects (data_file_name application number) ≡ None
-no_file objects column entries application number kept utf8 small above =
-    none_unless (object_at objects (data_file_name application number)) (λ some. never (kept.named (data_file_name application number) some))
+no_file objects column entries application number kept own utf8 small above =
+    none_unless (object_at objects (data_file_name application number)) (λ some. never (own application number some))
   where
-    never : IsNamed entries (data_file_name application number) → ⊥
-    never (of_commit version lt is) = commit_name-data_file_name version application number (sym is)
-    never (of_file b has is) =
+    never : IsOwn entries (data_file_name application number) → ⊥
+    never (b, has, is) =
         let parts = data_file_name-once application b.application number b.number utf8 (batch_stands objects column 0 entries b kept.kept has).0 small is in
         let there : Contains (numbers_by application entries) number = rw (parts.0, parts.1) (number_among entries b has) in
         none_above (numbers_by application entries) number _ (last_number application entries) (kept.lawful.rises application) there above

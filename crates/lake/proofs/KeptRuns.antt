@@ -1,12 +1,11 @@
 -- From one line to whole scripts: where a store keeps what a script made so far, each line is told what the plain table
 -- tells, and the store goes on to keep it.
-use Rattle.std.proofs.Common.{◌≡◌, ℕ, suc, ◌+◌, ◌<◌, ◌≤◌, ◌^◌, Bool, true, false, List, [], ◌∷◌, length, Result, Ok, Err, refl, sym, ap, subst, ◌∙◌, arith, inl, inr, length-append}
+use Rattle.std.proofs.Common.{◌≡◌, ℕ, suc, ◌+◌, ◌<◌, ◌≤◌, ◌^◌, Bool, true, false, List, [], ◌∷◌, length, Result, Ok, Err, refl, ap, ◌∙◌, arith, inl, inr, length-append}
 use Rattle.std.proofs.lemmas.Bool.{cases_Bool}
 use Rattle.serde_json.specs.Data.{Items}
 use Rattle.store_core.specs.Objects.{Objects}
 use Rattle.table_model.specs.Table.{Batch, Entry, batch}
 use Rattle.table_model.specs.Appends.{appended, with_batch}
-use Rattle.table_model.specs.Holds.{IsLawfulStore}
 use Rattle.table_model.specs.declared.table.Appended.{Appended}
 use Rattle.table_model.specs.declared.table.Appended.TheVariants.{Committed, Already, Stale, Differs, StreamClosed}
 use Rattle.lake.specs.declared.fault.CreateFault.{CreateFault}
@@ -36,8 +35,6 @@ pub record Given : Type 0 where
   pub tail_of_nothing : (max : ℕ) (offset : List ℕ) → tailed_reply (tailed [] max offset) ≡ tables.tail_reply nothing max (offset_of offset)
   pub history_told : (objects : Objects) (column : List ℕ) (entries : List Entry) → IsKept objects column entries → length entries < 2 ^ 62 → history_of objects ≡ tables.history_from 0 entries
   pub history_of_nothing : history_of [] ≡ bad_log 0
-  pub kept_lawful : (objects : Objects) (column : List ℕ) (entries : List Entry) → IsKept objects column entries → length entries < 2 ^ 62 → IsLawfulStore objects
-  pub nothing_lawful : IsLawfulStore []
 
 -- ---- a line adds one entry at most
 
@@ -111,17 +108,12 @@ module _ (given : Given) where
   tail_state : (objects : Objects) (state : State) → Keeps objects state → length (entries_of state) < 2 ^ 62 → (max : ℕ) (offset : List ℕ)
       → tailed_reply (tailed objects max offset) ≡ tables.tail_reply state max (offset_of offset)
   tail_state objects nothing keeps small max offset = ap (λ (o : Objects). tailed_reply (tailed o max offset)) keeps ∙ given.tail_of_nothing max offset
-  tail_state objects (table column entries) keeps small max offset = given.tail_told objects column entries keeps small max offset
+  tail_state objects (table column entries) keeps small max offset = given.tail_told objects column entries keeps.0 small max offset
 
   -- so is the history
   history_state : (objects : Objects) (state : State) → Keeps objects state → length (entries_of state) < 2 ^ 62 → history_of objects ≡ tables.history_reply state
   history_state objects nothing keeps small = ap history_of keeps ∙ given.history_of_nothing
-  history_state objects (table column entries) keeps small = given.history_told objects column entries keeps small
-
-  -- the store is lawful, also where there is no table
-  lawful_state : (objects : Objects) (state : State) → Keeps objects state → length (entries_of state) < 2 ^ 62 → IsLawfulStore objects
-  lawful_state objects nothing keeps small = subst (λ (o : Objects). IsLawfulStore o) (sym keeps) given.nothing_lawful
-  lawful_state objects (table column entries) keeps small = given.kept_lawful objects column entries keeps small
+  history_state objects (table column entries) keeps small = given.history_told objects column entries keeps.0 small
 
   -- what a line asks for is told as by the table
   wish_told : (objects : Objects) (state : State) (wish : Wish) → Keeps objects state → length (entries_of state) < 2 ^ 62 → IsSoundWish objects wish → ShowsNoObject wish
@@ -197,7 +189,3 @@ module _ (given : Given) where
   -- a script leaves a store that keeps the table that it leaves
   pub left_is_kept : (lines : List (List ℕ)) → length lines ≤ 2 ^ 31 → AreSound [] lines → Keeps (told.left_from [] lines) (tables.left_from nothing lines)
   left_is_kept lines few sound = left_on [] nothing lines refl (omega arith) sound
-
-  -- a script leaves a lawful store
-  pub left_is_lawful : (lines : List (List ℕ)) → length lines ≤ 2 ^ 31 → AreSound [] lines → IsLawfulStore (told.left_from [] lines)
-  left_is_lawful lines few sound = lawful_state (told.left_from [] lines) (tables.left_from nothing lines) (left_is_kept lines few sound) (left_is_short lines few)

@@ -9,7 +9,7 @@ use Rattle.lake.proofs.Kept.{Keeps}
 use Rattle.lake.proofs.KeptAppend.{append_told}
 use Rattle.lake.proofs.KeptCreate.{create_told}
 use Rattle.lake.proofs.KeptHistory.{history_told, history_of_nothing}
-use Rattle.lake.proofs.KeptHolds.{kept_holds, kept_lawful, nothing_lawful}
+use Rattle.lake.proofs.KeptHolds.{kept_holds}
 use Rattle.lake.proofs.KeptLog.{kept_log, log_of_nothing}
 use Rattle.lake.proofs.KeptRuns.{Given}
 use Rattle.lake.proofs.KeptTail.{IsTold, tail_told, tail_of_nothing, handed_told}
@@ -23,8 +23,6 @@ lines_told = record {
   tail_of_nothing = tail_of_nothing;
   history_told = history_told;
   history_of_nothing = history_of_nothing;
-  kept_lawful = kept_lawful;
-  nothing_lawful = nothing_lawful;
 }
 
 -- what a read is told by the table, it is told over the objects
@@ -44,11 +42,11 @@ reads_told = record {
 -- the store that keeps a table holds it
 pub kept_held : (objects : Objects) (state : State) → Keeps objects state → length (entries_of state) < 2 ^ 62 → HoldsState objects state
 kept_held objects nothing keeps small = keeps
-kept_held objects (table column entries) keeps small = (kept_holds objects column entries keeps small, keeps.lawful)
+kept_held objects (table column entries) keeps small = (kept_holds objects column entries keeps.0 small, keeps.0.lawful)
 
 kept_answers : (objects : Objects) (state : State) → Keeps objects state → length (entries_of state) < 2 ^ 62 → AnswersReads objects state
 kept_answers objects nothing keeps small = tt
-kept_answers objects (table column entries) keeps small = are_answered reads_told objects column entries keeps small
+kept_answers objects (table column entries) keeps small = are_answered reads_told objects column entries keeps.0 small
 
 -- and reads over it hand out its rows
 pub kept_reads_out : (objects : Objects) (state : State) → Keeps objects state → length (entries_of state) < 2 ^ 62 → ReadsOut objects state

@@ -1,5 +1,5 @@
 -- Where a store keeps a table, reads one after another hand out the table's rows.
-use Rattle.std.proofs.Common.{◌≡◌, ℕ, ◌<◌, ◌≤◌, ◌^◌, ℤ, true, List, [], ◌∷◌, ◌++◌, length, map, take, Result, Ok, Err, IsOk, refl, sym, ap, subst, ◌∙◌, arith}
+use Rattle.std.proofs.Common.{◌≡◌, ℕ, ◌<◌, ◌^◌, ℤ, true, List, [], ◌∷◌, ◌++◌, length, map, take, Result, Ok, Err, IsOk, refl, sym, ap, subst, ◌∙◌, arith}
 use Rattle.std.proofs.lemmas.List.{append-nil, map-append, length-map, take_all}
 use Rattle.store_core.specs.Objects.{Objects}
 use Rattle.table_model.specs.Rows.{Row}
@@ -13,14 +13,10 @@ use Rattle.table_model.proofs.Grown.{beginning_is_place, is_answered}
 use Rattle.table_model.proofs.Resumed.{final_grows, log_from_beginning, onward_in_the_log, all_after_short}
 use Rattle.lake.specs.Log.{Log, Unreadable, log_of, bad_commit}
 use Rattle.lake.specs.Results.{◌>>=◌, refused_as}
-use Rattle.lake.specs.Sound.{AreSound}
-use Rattle.lake.specs.Tables as tables
 use Rattle.lake.specs.Tables.{State, nothing, table, entries_of}
 use Rattle.lake.specs.Tailing.{Handed, Refusal, unreadable, handed_by, beyond_log, bad_place as bad_place_told}
 use Rattle.lake.specs.Tails.{Tails, read_by, rows_handed, place_after, with_earlier, tails, HandOutTheLog, HandOutAll, AreAnswered}
-use Rattle.lake.specs.Told as told
 use Rattle.lake.proofs.Kept.{IsKept, Keeps}
-use Rattle.lake.proofs.KeptRuns.{Given, left_is_short, left_is_kept}
 
 -- the store answers what the table answers
 abbrev pub IsRead : Result Handed Refusal → Answer → Type 0
@@ -186,33 +182,15 @@ module _ (given : GivenReads) where
   hand_out_the_log objects nothing keeps small =
       let none : HandOutTheLog [] [] = λ limits. nothing_hands limits beginning ∙ sym (take_all (position (tails [] limits beginning).next []) [] (omega arith)) in
       subst (λ (o : Objects). HandOutTheLog o []) (sym keeps) none
-  hand_out_the_log objects (table column entries) keeps small = reads_log objects entries (kept_reads objects column entries keeps small)
+  hand_out_the_log objects (table column entries) keeps small = reads_log objects entries (kept_reads objects column entries keeps.0 small)
 
   -- and all of them, where the last read handed out fewer than its limit
   pub hand_out_all : (objects : Objects) (state : State) → Keeps objects state → length (entries_of state) < 2 ^ 62 → HandOutAll objects (entries_of state)
   hand_out_all objects nothing keeps small =
       let none : HandOutAll [] [] = λ earlier max short. nothing_hands (earlier ++ max ∷ []) beginning in
       subst (λ (o : Objects). HandOutAll o []) (sym keeps) none
-  hand_out_all objects (table column entries) keeps small = reads_all objects entries (kept_reads objects column entries keeps small)
+  hand_out_all objects (table column entries) keeps small = reads_all objects entries (kept_reads objects column entries keeps.0 small)
 
   -- and none is refused
   pub are_answered : (objects : Objects) (column : List ℕ) (entries : List Entry) → IsKept objects column entries → length entries < 2 ^ 62 → AreAnswered objects
   are_answered objects column entries kept small = reads_answered objects entries (kept_reads objects column entries kept small)
-
--- ---- over what a script leaves
-
-module _ (lines_given : Given) (reads_given : GivenReads) (lines : List (List ℕ)) (few : length lines ≤ 2 ^ 31) (sound : AreSound [] lines) where
-  -- reads hand out the rows of the table that a script leaves, in order
-  pub script_hands_out_the_log : HandOutTheLog (told.left_from [] lines) (entries_of (tables.left_from nothing lines))
-  script_hands_out_the_log = hand_out_the_log reads_given (told.left_from [] lines) (tables.left_from nothing lines) (left_is_kept lines_given lines few sound) (left_is_short lines few)
-
-  -- and all of them, where the last read handed out fewer than its limit
-  pub script_hands_out_all : HandOutAll (told.left_from [] lines) (entries_of (tables.left_from nothing lines))
-  script_hands_out_all = hand_out_all reads_given (told.left_from [] lines) (tables.left_from nothing lines) (left_is_kept lines_given lines few sound) (left_is_short lines few)
-
-  -- and none is refused, once a table stands
-  pub script_is_answered : (column : List ℕ) (entries : List Entry) → tables.left_from nothing lines ≡ table column entries → AreAnswered (told.left_from [] lines)
-  script_is_answered column entries stands =
-      let kept : IsKept (told.left_from [] lines) column entries = subst (λ (state : State). Keeps (told.left_from [] lines) state) stands (left_is_kept lines_given lines few sound) in
-      let small : length entries < 2 ^ 62 = subst (λ (state : State). length (entries_of state) < 2 ^ 62) stands (left_is_short lines few) in
-      are_answered reads_given (told.left_from [] lines) column entries kept small

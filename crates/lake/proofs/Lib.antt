@@ -6,6 +6,7 @@ pub mod Kept
 pub mod KeptAppend
 pub mod KeptCreate
 pub mod KeptFile
+pub mod KeptGrown
 pub mod KeptHistory
 pub mod KeptHolds
 pub mod KeptLog
@@ -13,6 +14,7 @@ pub mod KeptNames
 pub mod KeptPuts
 pub mod KeptRuns
 pub mod KeptScripts
+pub mod KeptStep
 pub mod KeptTail
 pub mod KeptTailPlace
 pub mod KeptTailSpot

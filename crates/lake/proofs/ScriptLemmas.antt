@@ -4,17 +4,15 @@ use Rattle.std.proofs.lemmas.List.Splits.{length-slice_split}
 use Rattle.std.proofs.lemmas.List.Sums.{count_by-le-length}
 use Rattle.std.specs.Io.KnownBytes.{Appends}
 use Rattle.store_core.specs.Objects.{Objects}
-use Rattle.table_model.specs.Holds.{IsLawfulStore}
-use Rattle.table_model.proofs.LawfulLogLemmas.{lawful_log}
 use Rattle.lake.specs.Scripts.{HoldsState, IsScript, ReadsOut}
 use Rattle.lake.specs.Sound.{AreSound}
 use Rattle.lake.specs.Tables as tables
 use Rattle.lake.specs.Told.{is_newline, lines_of, told, left}
-use Rattle.lake.proofs.KeptRuns.{told_by_tables, left_is_kept, left_is_lawful, left_is_short}
+use Rattle.lake.proofs.KeptRuns.{told_by_tables, left_is_kept, left_is_short}
 use Rattle.lake.proofs.KeptScripts.{lines_told, kept_held, kept_reads_out}
 
 -- a text has one line more than newlines
-few_lines : (text : List ℕ) → length text ≤ 2 ^ 30 → length (lines_of text) ≤ 2 ^ 31
+pub few_lines : (text : List ℕ) → length text ≤ 2 ^ 30 → length (lines_of text) ≤ 2 ^ 31
 few_lines text short = omega (length-slice_split is_newline text, count_by-le-length is_newline text, arith)
 
 pub script_told : (old new : Option (List ℕ)) (text : List ℕ) (before after : Objects) → length text ≤ 2 ^ 30 → before ≡ []
@@ -26,11 +24,8 @@ script_told old new text before after short empty said leaves sound =
     let is = sym (leaves ∙ ap (λ objects. left objects text) empty) in
     let small = left_is_short lines few in
     let keeps = left_is_kept lines_told lines few whole in
-    let lawful = subst IsLawfulStore is (left_is_lawful lines_told lines few whole) in
     record {
       by_table = λ of_table. subst (Appends old new) (ap (λ objects. told objects text) empty ∙ told_by_tables lines_told lines few whole of_table) said;
       holds = subst (λ objects. HoldsState objects (tables.left text)) is (kept_held _ (tables.left text) keeps small);
-      lawful = lawful;
-      lawful_log = lawful_log after lawful;
       reads = subst (λ objects. ReadsOut objects (tables.left text)) is (kept_reads_out _ (tables.left text) keeps small);
     }

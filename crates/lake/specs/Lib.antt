@@ -2,6 +2,7 @@ pub mod Appending
 pub mod Commits
 pub mod Creating
 pub mod Fields
+pub mod Growth
 pub mod Histories
 pub mod Lines
 pub mod Log

@@ -1,5 +1,5 @@
--- What a script may be told where growths are refused: some lines are told just that, and leave the objects as they
--- were, but for a batch's file, which may stand.
+-- What a script may be told where growths are refused, or replies can't be written: some lines are told just that, and
+-- leave the objects as they were, but for a batch's file, which may stand.
 use Rattle.std.specs.Prelude.{◌≡◌, ◌⊎◌, ◌+◌, ◌++◌, ℕ, true, false, List, [], ◌∷◌, Option}
 use Rattle.std.specs.Io.KnownBytes.{Appends}
 use Rattle.store_core.specs.Objects.{Objects}
@@ -7,6 +7,7 @@ use Rattle.store_core.specs.Texts as stores
 use Rattle.store_core.specs.declared.fault.StoreFault.TheVariants as store_faults
 use Rattle.lake.specs.declared.fault.CreateFault.TheVariants as create_faults
 use Rattle.lake.specs.Appending.{settled, MayHoldFile}
+use Rattle.lake.specs.Growth.{MayPut}
 use Rattle.lake.specs.Histories.{unanswered}
 use Rattle.lake.specs.Lines.{append, tail, Wish, create, task, history, show, hex, Reading, skipped, bad, asks, reading_of}
 use Rattle.lake.specs.Refusals.{refusal_text, memory}
@@ -53,11 +54,15 @@ abbrev pub Grants : Objects → Wish → List ℕ → Objects → Type 0
 Grants objects wish reply after =
     ((reply ≡ reply_to_wish objects wish) × (after ≡ left_by_wish objects wish)) ⊎ (IsWantOfMemory wish reply × MayLeave objects wish after)
 
--- the reply to a line of that number, and the objects behind it
+-- the reply to a line of that number, and the objects behind it; what was put is well made
 abbrev pub Replies : ℕ → Objects → Reading → List ℕ → Objects → Type 0
 Replies number objects skipped reply after = (reply ≡ []) × (after ≡ objects)
 Replies number objects bad reply after = (reply ≡ bad_line number) × (after ≡ objects)
-Replies number objects (asks wish) reply after = Grants objects wish reply after
+Replies number objects (asks wish) reply after = Grants objects wish reply after × MayPut objects wish after
+
+-- the objects behind a line that was told nothing: it wasn't read, or its reply wasn't given
+abbrev pub IsCutOff : ℕ → Objects → Reading → Objects → Type 0
+IsCutOff number objects reading after = (after ≡ objects) ⊎ ((reply : List ℕ) × Replies number objects reading reply after)
 
 -- what is told for these lines, of which the first has that number, and the objects behind them; a bad line ends them
 pub data Runs : ℕ → Objects → List (List ℕ) → List ℕ → Objects → Type 0 where
@@ -67,6 +72,16 @@ pub data Runs : ℕ → Objects → List (List ℕ) → List ℕ → Objects →
   goes_on : {number : ℕ} {objects final : Objects} {line : List ℕ} {lines : List (List ℕ)} (reply rest : List ℕ) (after : Objects)
       → is_bad (reading_of line) ≡ false → Replies number objects (reading_of line) reply after → Runs (number + 1) after lines rest final
       → Runs number objects (line ∷ lines) (reply ++ rest) final
+
+-- what is told for the first of these lines, however many, and the objects behind them; the last of them may be bad, or
+-- its reply may not have been given whole
+pub data RunsInPart : ℕ → Objects → List (List ℕ) → List ℕ → Objects → Type 0 where
+  waits : {number : ℕ} {objects : Objects} {lines : List (List ℕ)} → RunsInPart number objects lines [] objects
+  begins : {number : ℕ} {objects : Objects} {line : List ℕ} {lines : List (List ℕ)} {reply : List ℕ} {after : Objects}
+      → Replies number objects (reading_of line) reply after → RunsInPart number objects (line ∷ lines) reply after
+  follows : {number : ℕ} {objects final : Objects} {line : List ℕ} {lines : List (List ℕ)} (reply rest : List ℕ) (after : Objects)
+      → is_bad (reading_of line) ≡ false → Replies number objects (reading_of line) reply after → RunsInPart (number + 1) after lines rest final
+      → RunsInPart number objects (line ∷ lines) (reply ++ rest) final
 
 -- this may be told for a script over these objects, its lines counted from 1
 abbrev pub MayBeTold : Objects → List ℕ → List ℕ → Type 0

@@ -2,9 +2,8 @@
 use Rattle.std.specs.Prelude.{◌≡◌, ℕ, List, [], Option}
 use Rattle.std.specs.Io.KnownBytes.{Appends}
 use Rattle.store_core.specs.Objects.{Objects}
-use Rattle.table_model.specs.Holds.{Holds, IsLawfulStore}
+use Rattle.table_model.specs.Holds.{Holds}
 use Rattle.table_model.specs.Lawful.{IsLawful}
-use Rattle.table_model.specs.LawfulLogs.{HasLawfulLog}
 use Rattle.lake.specs.Tables.{State, nothing, table, told, left, entries_of, AreOfTable}
 use Rattle.lake.specs.Tails.{HandOutTheLog, HandOutAll, AreAnswered}
 use Rattle.lake.specs.Told.{lines_of}
@@ -27,10 +26,8 @@ pub record ReadsOut (objects : Objects) (state : State) : Type 0 where
   pub all : HandOutAll objects (entries_of state)
 
 -- What is written behind what was held is what the plain table tells, where no line shows an object; and the objects
--- are a lawful store of the table that the lines leave. Reads over it that follow one another hand out its rows.
+-- hold the table that the lines leave. Reads over them that follow one another hand out its rows.
 pub record IsScript (held written : Option (List ℕ)) (text : List ℕ) (objects : Objects) : Type 0 where
   pub by_table : AreOfTable (lines_of text) → Appends held written (told text)
   pub holds : HoldsState objects (left text)
-  pub lawful : IsLawfulStore objects
-  pub lawful_log : HasLawfulLog objects
   pub reads : ReadsOut objects (left text)

@@ -1,4 +1,4 @@
--- What holds of the objects that lines put, and that no object passed 64 MiB: from this the laws on whole scripts go on.
+-- What lines put is well made, and none of it passed 64 MiB: from this the laws on whole scripts go on.
 use Rattle.std.specs.Prelude.{◌≡◌, ◌≢◌, ℕ, List, [], ◌∷◌, Bool, true, false, Some, Result, Ok, Err}
 use Rattle.std.specs.Str.{IsUtf8}
 use Rattle.store_core.specs.Objects.{Objects}
@@ -38,6 +38,7 @@ pub record IsGranted (objects : Objects) (wish : Wish) (reply : List ℕ) (after
   pub left : after ≡ left_by_wish objects wish
   pub sound : IsSoundWish objects wish
 
+-- the same of a line that is read
 abbrev pub IsSound : Objects → Reading → Type 0
 IsSound objects skipped = Unit {0}
 IsSound objects bad = Unit {0}

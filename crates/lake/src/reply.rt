@@ -4,6 +4,7 @@ ghost use Rattle.std.specs.Io.KnownBytes.{Appends};
 ghost use Rattle.serde_json.specs.View.{items_view};
 ghost use Rattle.store_core.specs.Objects.{object_at};
 ghost use Rattle.lake.specs.Commits.{commit_name};
+ghost use Rattle.lake.specs.Growth.{MayPut};
 ghost use Rattle.lake.specs.Histories.{history_of};
 ghost use Rattle.lake.specs.Lines.{append, create, task, wish_view, IsTimely};
 ghost use Rattle.lake.specs.ReplyView.{reply_text, is_short};
@@ -102,6 +103,7 @@ fn create_table<S: Store>(alloc: Global, store: &mut S, id: &str, at: u64, schem
     requires { at < 2 ^ 63 }
     ensures told { S.is_reliable store.old → Grants (S.objects store.old) (create id.now at schema.now) (reply_text result) (S.objects store.new) }
     ensures whole { S.is_reliable store.old → is_short result ≡ false → IsGranted (S.objects store.old) (create id.now at schema.now) (reply_text result) (S.objects store.new) }
+    ensures grows { S.is_reliable store.old → MayPut (S.objects store.old) (create id.now at schema.now) (S.objects store.new) }
     ensures reliable { S.is_reliable store.old → S.is_reliable store.new }
 {
     match create(alloc, store, id, at, schema) {
@@ -122,6 +124,7 @@ fn append_batch<S: Store>(
     requires { at < 2 ^ 63 }
     ensures told { S.is_reliable store.old → Grants (S.objects store.old) (task (append application.now number at (items_view rows.now))) (reply_text result) (S.objects store.new) }
     ensures whole { S.is_reliable store.old → is_short result ≡ false → IsGranted (S.objects store.old) (task (append application.now number at (items_view rows.now))) (reply_text result) (S.objects store.new) }
+    ensures grows { S.is_reliable store.old → MayPut (S.objects store.old) (task (append application.now number at (items_view rows.now))) (S.objects store.new) }
     ensures reliable { S.is_reliable store.old → S.is_reliable store.new }
 {
     match append(alloc, store, application, number, at, rows) {
@@ -193,8 +196,11 @@ pub fn grant<S: Store>(alloc: Global, line: Line<'_>, store: &mut S) -> Reply
     // What was asked for is told and done, and what was put is well made.
     ensures whole { S.is_reliable store.old → is_short result ≡ false
         → IsGranted (S.objects store.old) (wish_view line.entry) (reply_text result) (S.objects store.new) }
-    // Where a growth was refused, the line may be told just that.
+    // The line has its reply and effect, or is told of want of memory and leaves the objects as they
+    // were, but for a batch's file.
     ensures told { S.is_reliable store.old → Grants (S.objects store.old) (wish_view line.entry) (reply_text result) (S.objects store.new) }
+    // However it ends, what it puts is well made.
+    ensures grows { S.is_reliable store.old → MayPut (S.objects store.old) (wish_view line.entry) (S.objects store.new) }
     ensures reliable { S.is_reliable store.old → S.is_reliable store.new }
 {
     match line {

@@ -3,7 +3,7 @@ ghost use Rattle.std.specs.Prelude.{◌≡◌, ◌≢◌, ◌+◌, ◌<◌, ◌�
 ghost use Rattle.std.specs.Io.KnownBytes.{Appends};
 ghost use Rattle.lake.specs.declared.input.TheConstants.{MOST_BYTES, MOST_READS};
 ghost use Rattle.lake.specs.Lines.{reading_of};
-ghost use Rattle.lake.specs.Runs.{MayBeTold, Replies, Runs, Tells, TellsFront};
+ghost use Rattle.lake.specs.Runs.{IsCutOff, Replies, Runs, RunsInPart, Tells, TellsFront};
 ghost use Rattle.table_model.specs.Holds.{IsLawfulStore};
 ghost use Rattle.table_model.specs.LawfulLogs.{HasLawfulLog};
 ghost use Rattle.lake.specs.Scripts.{HoldsState, IsScript, ReadsOut};
@@ -85,6 +85,7 @@ fn answer<S: Store, W: Write>(
     ensures sound { S.is_reliable store.old → is_short.new ≡ false → OnOk result (IsSound (S.objects store.old) (reading_of line.now)) }
     ensures tells { S.is_reliable store.old → OnOk result (Tells (held W.contents output.old) (held W.contents output.new)
         (λ reply. Replies number (S.objects store.old) (reading_of line.now) reply (S.objects store.new))) }
+    ensures cut_off { S.is_reliable store.old → OnErr result (IsCutOff number (S.objects store.old) (reading_of line.now) (S.objects store.new)) }
     ensures reliable { S.is_reliable store.old → S.is_reliable store.new }
     ensures remembers { is_short.new ≡ false → is_short.old ≡ false }
     ensures goes_on { IfOk result (λ goes_on. goes_on ≡ not (is_bad (reading_of line.now))) }
@@ -131,7 +132,7 @@ fn answer_all<S: Store, W: Write>(
     ensures stands { S.is_reliable store.old → is_short.new ≡ false
         → OnErr result (StandsIn (held W.contents output.old) (W.contents output.new.writer) (told (S.objects store.old) text.now)) }
     ensures front { S.is_reliable store.old → OnErr result (TellsFront (held W.contents output.old) (W.contents output.new.writer)
-        (MayBeTold (S.objects store.old) text.now)) }
+        (λ written. RunsInPart 1 (S.objects store.old) (lines_of text.now) written (S.objects store.new))) }
     ensures unbroken { OnOk result (output.new.is_broken ≡ output.old.is_broken) }
     ensures broken { result ≡ Err OutputError.Broken → output.new.is_broken ≡ true }
     ensures memory { result ≡ Err OutputError.Memory → output.new.is_broken ≡ output.old.is_broken }
@@ -169,7 +170,7 @@ fn answer_and_flush<S: Store, W: Write>(
     ensures stands { S.is_reliable store.old → is_short.new ≡ false
         → OnErr result (StandsIn (held W.contents output.old) (W.contents output.new.writer) (told (S.objects store.old) text.now)) }
     ensures front { S.is_reliable store.old → OnErr result (TellsFront (held W.contents output.old) (W.contents output.new.writer)
-        (MayBeTold (S.objects store.old) text.now)) }
+        (λ written. RunsInPart 1 (S.objects store.old) (lines_of text.now) written (S.objects store.new))) }
     ensures unbroken { OnOk result (output.new.is_broken ≡ output.old.is_broken) }
     ensures broken { result ≡ Err OutputError.Broken → output.new.is_broken ≡ true }
 {
@@ -193,11 +194,13 @@ fn answer_text<S: Store, W: Write>(
         (λ written. Runs 1 (S.objects store.old) (lines_of text.now) written (S.objects store.new))) }
     ensures script { S.is_reliable store.old → S.objects store.old ≡ [] → result.is_short ≡ false → Finishes result.end
         (λ _. IsScript (held W.contents output.old) (W.contents output.new.writer) text.now (S.objects store.new)) }
+    ensures lawful { S.is_reliable store.old → S.objects store.old ≡ [] → IsLawfulStore (S.objects store.new) × HasLawfulLog (S.objects store.new) }
     ensures finished { Finishes result.end (λ bad. (bad ≡ first_bad text.now) × (output.new.is_broken ≡ output.old.is_broken)) }
     ensures stands { S.is_reliable store.old → result.is_short ≡ false → result.end ≡ End.NotWritten
         → StandsIn (held W.contents output.old) (W.contents output.new.writer) (told (S.objects store.old) text.now) }
     ensures front { S.is_reliable store.old → result.end ≡ End.NotWritten
-        → TellsFront (held W.contents output.old) (W.contents output.new.writer) (MayBeTold (S.objects store.old) text.now) }
+        → TellsFront (held W.contents output.old) (W.contents output.new.writer)
+        (λ written. RunsInPart 1 (S.objects store.old) (lines_of text.now) written (S.objects store.new)) }
     ensures not_written { result.end ≡ End.NotWritten → (output.new.is_broken ≡ true) ⊎ (result.is_short ≡ true) }
     ensures read { result.end ≢ End.NotRead }
 {
@@ -244,25 +247,29 @@ pub fn run<R: Read, W: Write, S: Store>(
         → Finishes result.end (λ _. IfSome (unread R.remaining input.old) (λ text. AreOfTable (lines_of text)
         → Appends (held W.contents output.old) (W.contents output.new.writer) (told_by_table text))) }
 
-    // The store then holds the table that was told, which is lawful.
+    // The store then holds the table that was told.
     ensures holds { S.is_reliable store.old → S.objects store.old ≡ [] → result.is_short ≡ false
         → Finishes result.end (λ _. IfSome (unread R.remaining input.old) (λ text. HoldsState (S.objects store.new) (table_left text))) }
-    ensures lawful { S.is_reliable store.old → S.objects store.old ≡ [] → result.is_short ≡ false
-        → Finishes result.end (λ _. IfSome (unread R.remaining input.old)
-        (λ text. IsLawfulStore (S.objects store.new) × HasLawfulLog (S.objects store.new))) }
+
+    // Over an empty store, the store that is left is lawful, and so is its log, however the run ends and whatever growth
+    // is refused on the way.
+    ensures lawful { S.is_reliable store.old → S.objects store.old ≡ [] → IsLawfulStore (S.objects store.new) × HasLawfulLog (S.objects store.new) }
 
     // Reads over that store, each from the place where the one before ended, are answered and hand out the table's
     // rows, whatever their limits.
     ensures reads { S.is_reliable store.old → S.objects store.old ≡ [] → result.is_short ≡ false
         → Finishes result.end (λ _. IfSome (unread R.remaining input.old) (λ text. ReadsOut (S.objects store.new) (table_left text))) }
 
-    // Where a growth was refused, the lines that met it are told so, and leave the objects as they
-    // were, but for a batch's file, which may stand.
+    // Where a growth was refused, each line has its reply and effect, or is told of want of memory
+    // and leaves the objects as they were, but for a batch's file, which may stand.
     ensures tells { S.is_reliable store.old → Finishes result.end (λ _. IfSome (unread R.remaining input.old) (λ text.
         Tells (held W.contents output.old) (W.contents output.new.writer)
         (λ written. Runs 1 (S.objects store.old) (lines_of text) written (S.objects store.new)))) }
+    // Where a reply can't be given, this holds of the lines before it, and what is written is a
+    // front of their replies and its own.
     ensures front { S.is_reliable store.old → result.end ≡ End.NotWritten → IfSome (unread R.remaining input.old) (λ text.
-        TellsFront (held W.contents output.old) (W.contents output.new.writer) (MayBeTold (S.objects store.old) text)) }
+        TellsFront (held W.contents output.old) (W.contents output.new.writer)
+        (λ written. RunsInPart 1 (S.objects store.old) (lines_of text) written (S.objects store.new))) }
 
     ensures bad { Finishes result.end (λ bad. IfSome (unread R.remaining input.old) (λ text. bad ≡ first_bad text)) }
     ensures stands { S.is_reliable store.old → result.is_short ≡ false → result.end ≡ End.NotWritten

@@ -1,11 +1,11 @@
-use Rattle.std.proofs.Common.{◌≡◌, ◌∷◌, ℕ, List, option_map, Option, Some, Result, Ok, Err, OnErr, Bor, sym, ap, subst, ◌∙◌, arith}
+use Rattle.std.proofs.Common.{◌≡◌, ◌∷◌, ℕ, List, option_map, Option, Some, Bor, sym, ap, subst, ◌∙◌, arith}
 use Rattle.std.proofs.lemmas.Bool.{not-true, not-false}
 use Rattle.lake.specs.Streams.{held}
 use Rattle.lake.specs.Runs.{Tells}
 use Rattle.lake.specs.Sound.{AreSound}
 use Rattle.lake.specs.Told.{lines_of, lines_left, told_from, left_from, first_bad_from, told}
 use Rattle.lake.proofs.RunLemmas.{lines_at_most-after, towards_next, towards_bad, left_next, left_here, left_by_bad, first_bad_next, first_bad_here, lines_left_none, told_from-none, left_from-none, first_bad_from-none, sound_next, sound_here, sound_none}
-use Rattle.lake.proofs.RunsLemmas.{Onward, onward_next, onward_stops, onward_done, onward_front}
+use Rattle.lake.proofs.RunsLemmas.{Onward, onward_next, onward_stops, onward_done, onward_front, on_err}
 use Rattle.lake.proofs.StreamLemmas.{Towards, towards_done, stands_in_whole}
 use Rattle.lake.proofs.run.answer_all.Goals as goal
 
@@ -117,11 +117,6 @@ pub returns-clause-bad : goal.returns-clause-bad
 returns-clause-bad g c =
     sym (ap (first_bad_from c.loop-rest.number) (lines_left_none c.loop-rest.rest c.in_default.not-Some) ∙ first_bad_from-none c.loop-rest.number) ∙ c.loop-rest.invariant.found
 
--- what holds holds of an error too
-on_err : {T E : Type 0} (r : Result T E) (P : Type 0) → P → OnErr r P
-on_err (Ok x) P p = tt
-on_err (Err e) P p = p
-
 pub returns-in_err-answer-clause-stands : goal.returns-in_err-answer-clause-stands
 returns-in_err-answer-clause-stands g c = λ reliable whole.
     let before = c.in_err-answer.ensures.remembers whole in
@@ -129,4 +124,8 @@ returns-in_err-answer-clause-stands g c = λ reliable whole.
 
 pub returns-in_err-answer-clause-front : goal.returns-in_err-answer-clause-front
 returns-in_err-answer-clause-front g c = λ reliable.
-    on_err _ _ (onward_front _ _ _ _ _ _ _ _ (c.loop-rest.invariant.so_far reliable) c.in_err-answer.ensures.stands)
+    let contents = g.W.Write.contents in
+    let objects = g.S.Store.objects in
+    let here = split c.loop-rest.rest c.in-Some.text c.first_line.result.0 c.first_line.result.1 c.in-Some.is c.first_line.ensures.lines in
+    let so_far = subst (λ ls. Tells (held contents c.args.output.now) (held contents c.loop-rest.output) (Onward (objects c.args.store.now) (lines_of c.args.text.now) c.loop-rest.number (objects c.loop-rest.store) ls)) here (c.loop-rest.invariant.so_far reliable) in
+    on_err _ _ (onward_front _ _ _ _ _ _ _ _ _ _ so_far c.in_err-answer.ensures.stands (c.in_err-answer.ensures.cut_off (c.loop-rest.invariant.reliable reliable)))
