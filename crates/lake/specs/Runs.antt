@@ -1,5 +1,5 @@
--- What a script may be told where growths are refused, or replies can't be written: some lines are told just that, and
--- leave the objects as they were, but for a batch's file, which may stand.
+-- What a script may be told where growths are refused, or replies can't be written: a line that wants memory is told just
+-- that, and leaves the objects as they were, but for a batch's file, which may stand.
 use Rattle.std.specs.Prelude.{◌≡◌, ◌⊎◌, ◌+◌, ◌++◌, ℕ, true, false, List, [], ◌∷◌, Option}
 use Rattle.std.specs.Io.KnownBytes.{Appends}
 use Rattle.store_core.specs.Objects.{Objects}
@@ -34,7 +34,7 @@ no_room_to_read = line_of (refused (tail_texts.refusal_text tails.memory))
 abbrev pub no_room_to_tell : List ℕ
 no_room_to_tell = line_of (refused (unanswered store_faults.Memory))
 
--- the reply to a line whose growth was refused; other lines need none
+-- the reply to a line whose growth was refused; no other line is told so
 abbrev pub IsWantOfMemory : Wish → List ℕ → Type 0
 IsWantOfMemory (create id at schema) reply = reply ≡ no_room_to_create
 IsWantOfMemory (task (append application number at rows)) reply = reply ≡ no_room_to_append
@@ -64,7 +64,7 @@ Replies number objects (asks wish) reply after = Grants objects wish reply after
 abbrev pub IsCutOff : ℕ → Objects → Reading → Objects → Type 0
 IsCutOff number objects reading after = (after ≡ objects) ⊎ ((reply : List ℕ) × Replies number objects reading reply after)
 
--- what is told for these lines, of which the first has that number, and the objects behind them; a bad line ends them
+-- what may be told for these lines, of which the first has that number, and the objects behind them; a bad line ends them
 pub data Runs : ℕ → Objects → List (List ℕ) → List ℕ → Objects → Type 0 where
   done : {number : ℕ} {objects : Objects} → Runs number objects [] [] objects
   stops : {number : ℕ} {objects : Objects} {line : List ℕ} {lines : List (List ℕ)} {reply : List ℕ} {after : Objects}
@@ -73,8 +73,7 @@ pub data Runs : ℕ → Objects → List (List ℕ) → List ℕ → Objects →
       → is_bad (reading_of line) ≡ false → Replies number objects (reading_of line) reply after → Runs (number + 1) after lines rest final
       → Runs number objects (line ∷ lines) (reply ++ rest) final
 
--- what is told for the first of these lines, however many, and the objects behind them; the last of them may be bad, or
--- its reply may not have been given whole
+-- what may be told for some first of these lines, and the objects behind them; the last of them may be bad
 pub data RunsInPart : ℕ → Objects → List (List ℕ) → List ℕ → Objects → Type 0 where
   waits : {number : ℕ} {objects : Objects} {lines : List (List ℕ)} → RunsInPart number objects lines [] objects
   begins : {number : ℕ} {objects : Objects} {line : List ℕ} {lines : List (List ℕ)} {reply : List ℕ} {after : Objects}
@@ -91,6 +90,6 @@ MayBeTold objects text written = (after : Objects) × Runs 1 objects (lines_of t
 abbrev pub Tells : Option (List ℕ) → Option (List ℕ) → (List ℕ → Type 0) → Type 0
 Tells old new Holds = (bytes : List ℕ) × Appends old new bytes × Holds bytes
 
--- what a writer holds now is a front of what it held, with some bytes behind it of which this is so
+-- what a writer holds now is a front of what it held and some bytes behind it, of which this is so
 abbrev pub TellsFront : Option (List ℕ) → Option (List ℕ) → (List ℕ → Type 0) → Type 0
 TellsFront old new Holds = (bytes : List ℕ) × StandsIn old new bytes × Holds bytes

@@ -128,6 +128,7 @@ fn answer_all<S: Store, W: Write>(
     ensures sound { S.is_reliable store.old → is_short.new ≡ false → OnOk result (AreSound (S.objects store.old) (lines_of text.now)) }
     ensures tells { S.is_reliable store.old → OnOk result (Tells (held W.contents output.old) (held W.contents output.new)
         (λ written. Runs 1 (S.objects store.old) (lines_of text.now) written (S.objects store.new))) }
+    ensures reliable { S.is_reliable store.old → S.is_reliable store.new }
     ensures bad { IfOk result (λ bad. bad ≡ first_bad text.now) }
     ensures stands { S.is_reliable store.old → is_short.new ≡ false
         → OnErr result (StandsIn (held W.contents output.old) (W.contents output.new.writer) (told (S.objects store.old) text.now)) }
@@ -166,6 +167,7 @@ fn answer_and_flush<S: Store, W: Write>(
     ensures sound { S.is_reliable store.old → is_short.new ≡ false → OnOk result (AreSound (S.objects store.old) (lines_of text.now)) }
     ensures tells { S.is_reliable store.old → OnOk result (Tells (held W.contents output.old) (W.contents output.new.writer)
         (λ written. Runs 1 (S.objects store.old) (lines_of text.now) written (S.objects store.new))) }
+    ensures reliable { S.is_reliable store.old → S.is_reliable store.new }
     ensures bad { IfOk result (λ bad. bad ≡ first_bad text.now) }
     ensures stands { S.is_reliable store.old → is_short.new ≡ false
         → OnErr result (StandsIn (held W.contents output.old) (W.contents output.new.writer) (told (S.objects store.old) text.now)) }
@@ -195,6 +197,7 @@ fn answer_text<S: Store, W: Write>(
     ensures script { S.is_reliable store.old → S.objects store.old ≡ [] → result.is_short ≡ false → Finishes result.end
         (λ _. IsScript (held W.contents output.old) (W.contents output.new.writer) text.now (S.objects store.new)) }
     ensures lawful { S.is_reliable store.old → S.objects store.old ≡ [] → IsLawfulStore (S.objects store.new) × HasLawfulLog (S.objects store.new) }
+    ensures reliable { S.is_reliable store.old → S.is_reliable store.new }
     ensures finished { Finishes result.end (λ bad. (bad ≡ first_bad text.now) × (output.new.is_broken ≡ output.old.is_broken)) }
     ensures stands { S.is_reliable store.old → result.is_short ≡ false → result.end ≡ End.NotWritten
         → StandsIn (held W.contents output.old) (W.contents output.new.writer) (told (S.objects store.old) text.now) }
@@ -225,9 +228,9 @@ fn answer_text<S: Store, W: Write>(
 /// bad one. Each append, read and history replays the log from version 0, whether `restore` is true
 /// or not, since there are no checkpoints yet.
 ///
-/// Time is linear in the input, the objects that are put and shown and the rows that are handed
-/// out, and for each line that replays the log in the log's bytes, but for the store's own; many
-/// replies go in one write.
+/// Time is linear in the input, the objects that are put, compared and shown and the data files that
+/// rows are handed out of, and for each line that replays the log in the log's bytes and the names of
+/// the store, but for the store's own; many replies go in one write.
 pub fn run<R: Read, W: Write, S: Store>(
     alloc: Global,
     input: &mut Input<R>,
@@ -235,8 +238,9 @@ pub fn run<R: Read, W: Write, S: Store>(
     store: &mut S,
     restore: bool,
 ) -> Outcome
-    // Where no growth was refused and the store loses no call, what is written is what is told for
-    // the text that is read, and the objects are what the text leaves.
+    // Where the run finishes, no growth was refused, no object passed 64 MiB and the store loses no
+    // call, what is written is what is told for the text that is read, and the objects are what the
+    // text leaves.
     ensures told { S.is_reliable store.old → result.is_short ≡ false
         → Finishes result.end (λ _. IfSome (unread R.remaining input.old) (λ text.
         Appends (held W.contents output.old) (W.contents output.new.writer) (told (S.objects store.old) text)
@@ -251,8 +255,8 @@ pub fn run<R: Read, W: Write, S: Store>(
     ensures holds { S.is_reliable store.old → S.objects store.old ≡ [] → result.is_short ≡ false
         → Finishes result.end (λ _. IfSome (unread R.remaining input.old) (λ text. HoldsState (S.objects store.new) (table_left text))) }
 
-    // Over an empty store, the store that is left is lawful, and so is its log, however the run ends and whatever growth
-    // is refused on the way.
+    // Over an empty store that loses no call, the store that is left is lawful, and so is its log,
+    // however the run ends and whatever growth is refused on the way.
     ensures lawful { S.is_reliable store.old → S.objects store.old ≡ [] → IsLawfulStore (S.objects store.new) × HasLawfulLog (S.objects store.new) }
 
     // Reads over that store, each from the place where the one before ended, are answered and hand out the table's
@@ -265,11 +269,14 @@ pub fn run<R: Read, W: Write, S: Store>(
     ensures tells { S.is_reliable store.old → Finishes result.end (λ _. IfSome (unread R.remaining input.old) (λ text.
         Tells (held W.contents output.old) (W.contents output.new.writer)
         (λ written. Runs 1 (S.objects store.old) (lines_of text) written (S.objects store.new)))) }
-    // Where a reply can't be given, this holds of the lines before it, and what is written is a
-    // front of their replies and its own.
+    // Where a reply can't be given, this holds of some first lines, and what is written is a front
+    // of their replies.
     ensures front { S.is_reliable store.old → result.end ≡ End.NotWritten → IfSome (unread R.remaining input.old) (λ text.
         TellsFront (held W.contents output.old) (W.contents output.new.writer)
         (λ written. RunsInPart 1 (S.objects store.old) (lines_of text) written (S.objects store.new))) }
+
+    // A store that loses no call goes on to lose none.
+    ensures reliable { S.is_reliable store.old → S.is_reliable store.new }
 
     ensures bad { Finishes result.end (λ bad. IfSome (unread R.remaining input.old) (λ text. bad ≡ first_bad text)) }
     ensures stands { S.is_reliable store.old → result.is_short ≡ false → result.end ≡ End.NotWritten

@@ -42,7 +42,7 @@ pub fn a_data_file_changes_no_table()
 
 /// No two objects of a table share a name: each version has a commit of its own, each batch a data file of its own,
 /// and no commit is named as a data file. (That two versions or two numbers are one is said where one of them fits 64
-/// bits; the other may be any number.)
+/// bits; the other may be any number. Applications' ids are text.)
 pub fn names_stand_apart()
     ensures commits { (version other : ℕ) → version < 2 ^ 64 → commit_name version ≡ commit_name other → version ≡ other }
     ensures files { (application second : List ℕ) (number other : ℕ) → IsUtf8 application → IsUtf8 second → number < 2 ^ 64 → data_file_name application number ≡ data_file_name second other
