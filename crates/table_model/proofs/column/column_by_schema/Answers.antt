@@ -3,15 +3,13 @@ use Rattle.std.proofs.lemmas.Bool.{false≢true}
 use Rattle.serde_json.specs.Data.{Data}
 use Rattle.serde_json.specs.Read.{read}
 use Rattle.table_model.specs.Schema.{schema_data, schema_text}
+use Rattle.table_model.proofs.HoldingOne.{some_is}
 use Rattle.table_model.proofs.SchemaText.{schema_text_reads}
 use Rattle.table_model.proofs.column.column_by_schema.Goals as goal
 
-same : (d e : Data) → Some d ≡ Some e → d ≡ e
-same d e is = cc
-
 -- what was read of the text of a schema
 value : (text column : List ℕ) (d : Data) → text ≡ schema_text (record { column = column }) → read text ≡ Some d → d ≡ schema_data (record { column = column })
-value text column d is reads = same _ _ (sym reads ∙ ap read is ∙ schema_text_reads column)
+value text column d is reads = some_is _ _ (sym reads ∙ ap read is ∙ schema_text_reads column)
 
 some_value : (text column : List ℕ) → text ≡ schema_text (record { column = column }) → read text ≡ None → ⊥
 some_value text column is reads = let none : None ≡ Some (schema_data (record { column = column })) = sym reads ∙ ap read is ∙ schema_text_reads column in cc
