@@ -1,14 +1,23 @@
-.PHONY: demo lake test
+.PHONY: demo inspect lake test times
 
-# Runs the stored example of the program, in seconds and without a proof.
+# Runs the stored script of the program without a proof, and shows each line before its replies.
 demo:
-	@cd crates/lake && rt try -- $$(cat args) < stdin
+	@scripts/demo.sh
 
 # Proves and builds the program, and says where it lies.
 lake:
 	@cd crates/lake && rt run -- $$(cat args) < stdin > /dev/null
 	@echo "built: crates/lake/out/lake"
 
-# The gate: proves everything from nothing, and runs every test.
+# Proves and builds the program that prints what bytes are, and says where it lies.
+inspect:
+	@cd crates/lake_inspect && rt run -- $$(cat args) < stdin > /dev/null
+	@echo "built: crates/lake_inspect/out/lake_inspect"
+
+# The gate: proves everything from nothing, tries the must-fail edits, and runs every program and test.
 test:
 	@rt ci
+
+# Measures the gate crate by crate, for docs/GATE.md. It takes longer than the gate, since it runs one thing at a time.
+times:
+	@scripts/times.sh

@@ -19,5 +19,3 @@ pub use reading::{read_commit, read_line};
 pub use table_format::TableFormat;
 pub use text_map::TextMap;
 
-#[cfg(test)]
-mod tests;

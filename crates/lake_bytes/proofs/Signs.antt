@@ -2,7 +2,8 @@
 use Rattle.std.proofs.Common.{◌⊎◌, ◌≡◌, ℕ, ◌+◌, ◌*◌, ◌/◌, ◌%◌, ◌^◌, ◌<◌, cond, ltb, List, ◌++◌, Result, Ok, Err, refl, sym, ap, subst, ◌∙◌, arith, inl, inr, ℤ, pos, negsuc}
 use Rattle.std.specs.Prelude.{IfOk, OnErr, IsErrOf, ◌↔◌}
 use Rattle.std.proofs.lemmas.Bool.{lt-ltb, le-ltb, cases_lt}
-use Rattle.lake_bytes.specs.Reading.{◌>>=◌, Gives, id, ReadsFront, ReadsWhatStands}
+use Rattle.lake_bytes.specs.Reading.{Gives, id, ReadsFront, ReadsWhatStands}
+use Rattle.lake_bytes.specs.Results.{◌>>=◌}
 use Rattle.lake_bytes.specs.Varint.{IsBytes, IsCutShort, GoesPastTen, IsTooLarge, varint_at, varint_bytes}
 use Rattle.lake_bytes.specs.Zigzag.{zigzag, unzigzag, SpellsSigned, IsTooWide, signed_at}
 use Rattle.lake_bytes.proofs.Varints.{varint_found, varint_stands, varint_short, short_varint, varint_too_long, too_long_varint, varint_out_of_range, out_of_range_varint}

@@ -3,3 +3,5 @@ pub mod Varint
 pub mod Zigzag
 pub mod LittleEndian
 pub mod Texts
+pub mod Results
+pub mod Options

@@ -16,5 +16,3 @@ pub use laws::{
 };
 pub use writing::{write_i32_le, write_i64_le, write_u32_le, write_varint, write_zigzag};
 
-#[cfg(test)]
-mod tests;

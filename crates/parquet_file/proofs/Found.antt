@@ -1,6 +1,6 @@
 -- Bytes are a file of the rows that are read.
 use Rattle.std.proofs.Common.{◌≡◌, ℕ, ℤ, cond, ltb, List, Ok, Err, ap, subst, ◌∙◌}
-use Rattle.lake_bytes.specs.Reading.{◌>>=◌}
+use Rattle.lake_bytes.specs.Results.{◌>>=◌}
 use Rattle.lake_bytes.specs.Varint.{IsBytes}
 use Rattle.thrift_core.specs.Reading.{struct_at}
 use Rattle.thrift_core.proofs.Found.{struct_at_found}

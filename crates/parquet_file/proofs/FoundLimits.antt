@@ -1,7 +1,7 @@
 -- What is read keeps the limits.
 use Rattle.std.proofs.Common.{◌≡◌, ℕ, ◌≤◌, ℤ, cond, ltb, true, not, eqb, List, [], ◌∷◌, length, Ok, Err, ap, sym, ◌∙◌, subst, arith}
 use Rattle.std.proofs.lemmas.Bool.{ltb-false, and_parts, not-true, eqb-true}
-use Rattle.lake_bytes.specs.Reading.{◌>>=◌}
+use Rattle.lake_bytes.specs.Results.{◌>>=◌}
 use Rattle.thrift_core.specs.Reading.{struct_at}
 use Rattle.parquet_file.specs.Metadata.{Group, Metadata, metadata_of}
 use Rattle.parquet_file.specs.File.{KeepsLimits, GroupsWithinLimit, ClaimsWithinLimit}

@@ -4,7 +4,7 @@ use Rattle.std.specs.Ordering.{int_eq}
 use Rattle.std.proofs.lemmas.Bool.{ltb-true, ltb-false, eqb-true, not-false}
 use Rattle.std.proofs.lemmas.Bool.Decides.{Decides-int_eq}
 use Rattle.std.proofs.lemmas.List.{take-append-drop, nil_from_length}
-use Rattle.lake_bytes.specs.Reading.{◌>>=◌}
+use Rattle.lake_bytes.specs.Results.{◌>>=◌}
 use Rattle.lake_bytes.specs.Varint.{IsBytes}
 use Rattle.thrift_core.specs.Tree.{Tree}
 use Rattle.thrift_core.specs.Spelling.{SpellsStruct}

@@ -8,7 +8,7 @@ use Rattle.std.proofs.lemmas.Int.{of_z-to_z}
 use Rattle.std.proofs.lemmas.List.{take-append-drop}
 use Rattle.std.proofs.lemmas.Nat.{le_bytes_8}
 use Rattle.lake_bytes.specs.LittleEndian.{little_at, signed_little_at}
-use Rattle.lake_bytes.specs.Reading.{◌>>=◌}
+use Rattle.lake_bytes.specs.Results.{◌>>=◌}
 use Rattle.lake_bytes.specs.Varint.{IsBytes}
 use Rattle.lake_bytes.specs.declared.fault.ByteFault.TheVariants.{Short}
 use Rattle.parquet_file.specs.Plain.{plain, plain_at}

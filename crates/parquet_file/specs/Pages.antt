@@ -1,7 +1,7 @@
 -- Data pages of one required INT64 column (Parquet, Data Pages): what a page's header says, and which values a page holds.
 use Rattle.std.specs.Prelude.{◌≡◌, ℕ, ◌+◌, ◌*◌, ◌<◌, ◌≤◌, ℤ, pos, List, [], ◌++◌, length, Result, Ok, if◌then◌else◌}
 use Rattle.std.specs.Ordering.{int_eq}
-use Rattle.lake_bytes.specs.Reading.{◌>>=◌}
+use Rattle.lake_bytes.specs.Results.{◌>>=◌}
 use Rattle.thrift_core.specs.Tree.{Tree}
 use Rattle.thrift_core.specs.Spelling.{SpellsStruct}
 use Rattle.thrift_core.specs.declared.fault.ThriftFault.{ThriftFault}

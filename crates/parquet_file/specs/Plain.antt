@@ -1,7 +1,7 @@
 -- The PLAIN encoding of INT64 values (Parquet, Encodings): eight bytes each, the low byte first.
 use Rattle.std.specs.Prelude.{ℕ, zero, suc, ℤ, List, [], ◌∷◌, ◌++◌, Result, Ok}
 use Rattle.std.specs.Int.{w64, to_le_bytes, cast_unsigned}
-use Rattle.lake_bytes.specs.Reading.{◌>>=◌}
+use Rattle.lake_bytes.specs.Results.{◌>>=◌}
 use Rattle.lake_bytes.specs.LittleEndian.{signed_little_at}
 use Rattle.lake_bytes.specs.declared.fault.ByteFault.{ByteFault}
 

@@ -9,6 +9,7 @@ ghost use Rattle.parquet_file.specs.declared.fault.FileFault.TheVariants.{BadPag
 ghost use Rattle.parquet_file.specs.Views.{header_view};
 ghost use Rattle.lake_bytes.specs.Reading.{IsReading, id};
 
+use crate::enums::{DATA_PAGE, DICTIONARY_PAGE};
 use crate::fault::{FileError, FileFault};
 use crate::fields::{count, integer, structure};
 use lake_bytes::Cursor;
@@ -24,11 +25,6 @@ pub(crate) struct PageHeader {
     pub(crate) num_values: u64,
     pub(crate) encoding: i64,
 }
-
-/// The number of a data page of version 1, and of a dictionary page.
-const DATA_PAGE: i64 = 0;
-
-const DICTIONARY_PAGE: i64 = 2;
 
 /// The header of a data page in front of the bytes, and the bytes behind it. P11 where it can't be read or
 /// lacks a field, and P5 for a page of another type.

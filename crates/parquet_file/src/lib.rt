@@ -2,6 +2,7 @@
 //! logs, stores or batches.
 #![tactic(auto)]
 
+mod enums;
 mod fault;
 mod fields;
 mod footer;
@@ -22,6 +23,3 @@ pub use laws::one_list_of_rows;
 pub use metadata::MAX_FILE_ROWS;
 pub use rows::read_rows;
 pub use writing::{MAX_PAGE_ROWS, write_file};
-
-#[cfg(test)]
-mod tests;

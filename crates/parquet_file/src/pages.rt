@@ -7,6 +7,7 @@ ghost use Rattle.parquet_file.specs.Reading.{values_at, page_at, pages_at, bytes
 ghost use Rattle.parquet_file.specs.Views.{header_view};
 ghost use Rattle.parquet_file.specs.declared.fault.FileFault.TheVariants.{BadPage};
 
+use crate::enums::PLAIN;
 use crate::fault::{FileError, FileFault};
 use crate::header::{PageHeader, bad_page, read_header};
 use lake_bytes::Cursor;
@@ -92,9 +93,6 @@ fn add_values(header: &PageHeader, bytes: &[u8], rows: &mut Vec<i64>) -> Result<
     }
     Ok(())
 }
-
-/// The number of the PLAIN encoding.
-const PLAIN: i64 = 0;
 
 /// So many PLAIN values in front of the cursor, added to the rows. P11 where the bytes end before.
 fn add_plain(cursor: &mut Cursor<'_>, count: u64, rows: &mut Vec<i64>) -> Result<(), FileError>

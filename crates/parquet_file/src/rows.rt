@@ -8,6 +8,7 @@ ghost use Rattle.parquet_file.specs.Outcome.{Gives, AddsRows, Finds, Refuses, Te
 ghost use Rattle.parquet_file.specs.Reading.{rows_at, rows_of, claimed_rows, rows_of_groups, rows_of_group, values_of_chunk, first_place, chunk_at, is_path, is_long_column, is_long_leaf, is_number};
 ghost use Rattle.parquet_file.specs.Views.{footer_view, group_view, group_views, chunk_view, chunk_views, texts_view, element_view, element_views};
 
+use crate::enums::{INT64, REQUIRED, UNCOMPRESSED};
 use crate::fault::{FileError, FileFault};
 use crate::footer::{ColumnChunk, Footer, RowGroup, SchemaElement};
 use crate::frame::split_file;
@@ -160,13 +161,6 @@ fn add_chunk(
     let place = first_place(chunk.data_page_offset)?;
     add_pages(alloc, bytes, place, chunk.num_values, rows)
 }
-
-/// The number of the codec UNCOMPRESSED, of the type INT64 and of the repetition REQUIRED.
-const UNCOMPRESSED: i64 = 0;
-
-const INT64: i64 = 2;
-
-const REQUIRED: i64 = 0;
 
 /// The place where a chunk's first page begins, by its offset. P6 for one before byte 4.
 #[tactic(auto, unfolding(crate::specs::Reading::first_place))]

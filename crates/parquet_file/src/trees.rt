@@ -5,21 +5,9 @@ ghost use Rattle.thrift_core.specs.Tree as tree;
 ghost use Rattle.thrift_core.specs.View.{view, field_view};
 ghost use Rattle.parquet_file.specs.Writing.{header_tree, root_tree, leaf_tree, column_tree, group_tree, groups_tree, footer_tree};
 
+use crate::enums::{DATA_PAGE, INT64, PLAIN, REQUIRED, RLE, UNCOMPRESSED};
 use std::alloc::{AllocError, Global};
 use thrift_core::{Field, TValue};
-
-// The numbers that Parquet gives a type, a repetition, an encoding, a codec and a kind of page.
-const INT64: i64 = 2;
-
-const REQUIRED: i64 = 0;
-
-const PLAIN: i64 = 0;
-
-const RLE: i64 = 3;
-
-const UNCOMPRESSED: i64 = 0;
-
-const DATA_PAGE: i64 = 0;
 
 // The name of the schema's root, and of the program that writes.
 const ROOT: &[u8] = b"schema";

@@ -19,5 +19,3 @@ pub use laws::{
 pub use memory::MemoryStore;
 pub use store::{Put, Store};
 
-#[cfg(test)]
-mod tests;

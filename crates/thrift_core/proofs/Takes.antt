@@ -2,7 +2,8 @@
 use Rattle.std.proofs.Common.{◌≡◌, ℕ, suc, ◌+◌, ◌<◌, ◌≤◌, ℤ, Bool, true, false, cond, ltb, List, [], ◌∷◌, ◌++◌, length, take, drop, Result, Ok, Err, refl, sym, ap, subst, ◌∙◌, append_assoc, arith, inl, inr, ◌⊎◌}
 use Rattle.std.proofs.lemmas.Bool.{ltb-false}
 use Rattle.std.proofs.lemmas.List.{take-append-drop, length-take}
-use Rattle.lake_bytes.specs.Reading.{◌>>=◌, byte_at, bytes_at, ReadsFront}
+use Rattle.lake_bytes.specs.Reading.{byte_at, bytes_at, ReadsFront}
+use Rattle.lake_bytes.specs.Results.{◌>>=◌}
 use Rattle.lake_bytes.specs.Varint.{IsBytes, SpellsNumber, varint_at}
 use Rattle.lake_bytes.specs.Zigzag.{SpellsSigned, signed_at}
 use Rattle.lake_bytes.specs.declared.fault.ByteFault.{ByteFault}

@@ -20,5 +20,3 @@ pub use value::{Entry, Field, TValue};
 pub use wire::WireType;
 pub use writing::write_struct;
 
-#[cfg(test)]
-mod tests;

@@ -1,0 +1,6 @@
+pub mod CommitLemmas
+pub mod HistoryLemmas
+pub mod LogLemmas
+pub mod PieceLemmas
+pub mod PutLemmas
+pub mod SchemaLemmas

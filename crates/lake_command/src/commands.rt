@@ -1,0 +1,109 @@
+// One command, from its words to its exit status.
+ghost use Rattle.std.specs.Prelude.{◌≡◌, ◌≢◌, ℕ, [], false, map, IfSome};
+ghost use Rattle.std.specs.Io.KnownBytes.{Appends};
+ghost use Rattle.clap.specs.Words.{fault_of, kind_of};
+ghost use Rattle.lake_command.specs.declared.words.Command.{Command};
+ghost use Rattle.lake_script.specs.Runs.{MayBeTold, Tells};
+ghost use Rattle.lake_command.specs.Status.{status_of, status_at, status_of_kind};
+ghost use Rattle.lake_script.specs.Streams.{held, unread};
+ghost use Rattle.lake_script.specs.Tables.{told as told_by_table, AreOfTable};
+ghost use Rattle.lake_script.specs.Told.{lines_of, told, first_bad};
+ghost use Rattle.lake_command.specs.Words.{commands, Spells};
+
+use crate::words::{Command, read_words};
+use clap::Error;
+use clap::error::ErrorKind;
+use lake_script::{End, Fault, Input, Output, Refusal, run};
+use std::alloc::Global;
+use std::convert::AsStr;
+use std::io::{Read, Write};
+use store_core::MemoryStore;
+
+/// The exit status of a command that was done.
+pub const DONE: u8 = 0;
+
+/// The exit status of a command that was refused.
+pub const REFUSED: u8 = 1;
+
+/// The exit status of words or of a line that can't be read.
+pub const MISUSED: u8 = 2;
+
+/// How a command ended.
+#[derive(Clone, Copy, Debug, PartialEq, Eq)]
+pub struct Exit {
+    /// The exit status.
+    pub status: u8,
+    /// Whether a growth was refused on the way, or an object would have passed 64 MiB.
+    pub is_short: bool,
+}
+
+// The status of words that ask for help, that are refused, or that were too much to read.
+fn misused(error: &Error) -> u8
+    ensures { result ≡ status_of_kind (kind_of error.now) }
+{
+    match error.kind() {
+        ErrorKind::DisplayHelp | ErrorKind::DisplayVersion => DONE,
+        ErrorKind::OutOfMemory => REFUSED,
+        _ => MISUSED,
+    }
+}
+
+// The status of a script that ended so. A fault of the program itself is told on `err`; where that
+// fails too, nothing is left to tell it on.
+fn ended<E: Write>(end: End, err: &mut E) -> u8
+    ensures { result ≡ status_of end }
+{
+    let fault = match end {
+        End::Done => return DONE,
+        End::BadLine(_number) => return MISUSED,
+        End::NotRead => Fault::NotRead,
+        End::NotWritten => Fault::NotWritten,
+    };
+    let _ = err.writeln(Refusal(fault));
+    REFUSED
+}
+
+/// Runs the command that the words ask for, over a store in which nothing stands yet. Replies go to
+/// `output`. What `clap` says of the words and the program's own faults go to `err`.
+pub fn command<S: AsStr, R: Read, W: Write, E: Write>(
+    alloc: Global,
+    words: &[S],
+    input: &mut Input<R>,
+    output: &mut Output<W>,
+    err: &mut E,
+) -> Exit
+    // A script that isn't refused writes what it is told; the lines that met a refused growth are
+    // told so.
+    ensures told { (c : Command) → Spells (map S.text words.now) c → result.status ≢ REFUSED → result.is_short ≡ false
+        → IfSome (unread R.remaining input.old) (λ text.
+        Appends (held W.contents output.old) (W.contents output.new.writer) (told [] text)) }
+    // Where no line shows an object, that is what the plain table tells.
+    ensures tables { (c : Command) → Spells (map S.text words.now) c → result.status ≢ REFUSED → result.is_short ≡ false
+        → IfSome (unread R.remaining input.old) (λ text. AreOfTable (lines_of text)
+        → Appends (held W.contents output.old) (W.contents output.new.writer) (told_by_table text)) }
+    ensures tells { (c : Command) → Spells (map S.text words.now) c → result.status ≢ REFUSED
+        → IfSome (unread R.remaining input.old) (λ text.
+        Tells (held W.contents output.old) (W.contents output.new.writer) (MayBeTold [] text)) }
+    ensures status { (c : Command) → Spells (map S.text words.now) c → result.status ≢ REFUSED
+        → IfSome (unread R.remaining input.old) (λ text. result.status ≡ status_at (first_bad text)) }
+
+    // Words that can't be read run nothing.
+    ensures unread { fault_of commands (map S.text words.now) ≢ [] → (input.new ≡ input.old) × (output.new ≡ output.old) }
+{
+    match read_words(alloc, words) {
+        Ok(Command::Script { restore }) => {
+            let mut store = MemoryStore::new(alloc);
+            let outcome = run(alloc, input, output, &mut store, restore);
+            Exit {
+                status: ended(outcome.end, err),
+                is_short: outcome.is_short,
+            }
+        }
+        Err(error) => {
+            let status = misused(&error);
+            let is_short = error.kind() == ErrorKind::OutOfMemory;
+            let _ = err.write_fmt(error);
+            Exit { status, is_short }
+        }
+    }
+}

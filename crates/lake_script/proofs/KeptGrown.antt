@@ -1,0 +1,107 @@
+-- However the lines of a script end, they leave a lawful store.
+use Rattle.std.proofs.Common.{◌≡◌, ◌⊎◌, inl, inr, ℕ, suc, ◌+◌, ◌≤◌, ◌^◌, List, [], ◌∷◌, length, Result, Ok, Err, refl, sym, ap, subst, arith}
+use Rattle.std.specs.Prelude.{is_some}
+use Rattle.std.specs.Str.{IsUtf8}
+use Rattle.serde_json.specs.Data.{Items}
+use Rattle.store_core.specs.Objects.{Objects, with_object}
+use Rattle.store_core.specs.ObjectLaws.{with_object_absent}
+use Rattle.table_store.specs.Holds.{IsLawfulStore}
+use Rattle.table_store.specs.LawfulLogs.{HasLawfulLog}
+use Rattle.table_model.specs.Table.{creation}
+use Rattle.table_store.proofs.LawfulLogLemmas.{lawful_log}
+use Rattle.commit_core.specs.declared.fault.CreateFault.{CreateFault}
+use Rattle.sink_core.specs.Appending.{checked, count, settled, with_append, with_file_alone}
+use Rattle.commit_core.specs.Commits.{commit_name}
+use Rattle.commit_core.specs.Creating.{commit_from, with_creation}
+use Rattle.sink_core.specs.Appending.{MayAppend}
+use Rattle.lake_script.specs.Growth.{MayPut}
+use Rattle.lake_script.specs.Lines.{append, Wish, create, task, Reading, skipped, bad, asks, reading_of}
+use Rattle.sink_core.specs.Refusals.{Refusal}
+use Rattle.lake_script.specs.Runs.{Replies, RunsInPart, waits, begins, follows}
+use Rattle.commit_core.specs.Creating.{CreatesWell}
+use Rattle.lake_script.proofs.KeptAppend.{step_of_nothing, nothing_is}
+use Rattle.lake_script.proofs.KeptCreate.{kept_creation, no_data_file, first_commit, left_table}
+use Rattle.lake_script.proofs.KeptHolds.{kept_lawful, nothing_lawful}
+use Rattle.lake_script.proofs.KeptNames.{same_name}
+use Rattle.lake_script.proofs.KeptStep.{Stays, bare, keeps, GoesOn, append_goes_on}
+
+-- ---- a line
+
+-- what stays, stays also where more entries may be
+more_room : (least most : ℕ) (objects : Objects) → least ≤ most → Stays least objects → Stays most objects
+more_room least most objects up (bare none) = bare none
+more_room least most objects up (keeps column entries kept files few) = keeps column entries kept files (omega (arith, up, few))
+
+still : (most : ℕ) (objects : Objects) → Stays most objects → Stays (suc most) objects
+still most objects stays = more_room most (suc most) objects (omega arith) stays
+
+-- a creation where nothing stands
+created_over_nothing : (most at : ℕ) (schema : List ℕ) (commit : Result (List ℕ) CreateFault) → CreatesWell at schema commit → Stays (suc most) (with_creation [] commit)
+created_over_nothing most at schema (Err fault) well = bare refl
+created_over_nothing most at schema (Ok bytes) well =
+    let name = commit_name 0 in
+    let one : with_object [] name bytes ≡ (name, bytes) ∷ [] = with_object_absent [] name bytes refl in
+    rw one (keeps well.column (creation ∷ []) (kept_creation name at schema well.column bytes (same_name 0) well.described well)
+    (λ application number found stands. absurd (no_data_file name bytes (same_name 0) application number (ap is_some stands))) (omega arith))
+
+-- a creation
+created_stays : (most : ℕ) (objects : Objects) (at : ℕ) (schema : List ℕ) (commit : Result (List ℕ) CreateFault) → CreatesWell at schema commit → Stays most objects → Stays (suc most) (with_creation objects commit)
+created_stays most objects at schema commit well (bare none) = rw none (created_over_nothing most at schema commit well)
+created_stays most objects at schema commit well (keeps column entries kept files up) =
+    rw (left_table objects commit (first_commit objects column entries kept)) (keeps column entries kept files (omega (arith, up)))
+
+-- an append where nothing stands
+append_over_nothing : (most : ℕ) (application : List ℕ) (number at : ℕ) (fine : Result (Unit {0}) Refusal) → GoesOn (suc most) [] (step_of_nothing application number at fine)
+append_over_nothing most application number at (Ok passed) = (bare refl, bare refl)
+append_over_nothing most application number at (Err why) = (bare refl, bare refl)
+
+-- an append
+append_stays : (most : ℕ) (objects : Objects) (application : List ℕ) (number at : ℕ) (items : Items) (new : Objects) → most ≤ 2 ^ 31 → IsUtf8 application
+    → MayAppend application number at (settled objects application number at items) objects new → Stays most objects → Stays (suc most) new
+append_stays most objects application number at items new small utf8 (inl same) stays = rw same (still most objects stays)
+append_stays most objects application number at items new small utf8 (inr (well, put)) stays = by_put put (goes stays)
+  where
+    goes : Stays most objects → GoesOn (suc most) objects (settled objects application number at items)
+    goes (bare none) = rw (none, nothing_is application number at items) (append_over_nothing most application number at (checked application number (count items)))
+    goes (keeps column entries kept files up) = append_goes_on objects column entries kept files (omega (arith, up, small)) most up application number at items utf8 well
+
+    by_put : (new ≡ with_file_alone objects (settled objects application number at items)) ⊎ (new ≡ with_append objects (settled objects application number at items))
+        → GoesOn (suc most) objects (settled objects application number at items) → Stays (suc most) new
+    by_put (inl alone) goes = subst (Stays (suc most)) (sym alone) goes.0
+    by_put (inr whole) goes = subst (Stays (suc most)) (sym whole) goes.1
+
+-- what a line asks for
+put_stays : (most : ℕ) (old : Objects) (wish : Wish) (new : Objects) → most ≤ 2 ^ 31 → MayPut old wish new → Stays most old → Stays (suc most) new
+put_stays most old (create id at schema) new small (inl same) stays = rw same (still most old stays)
+put_stays most old (create id at schema) new small (inr put) stays = rw put.1 (created_stays most old at schema (commit_from id at schema) put.0 stays)
+put_stays most old (task (append application number at items)) new small put stays = append_stays most old application number at items new small put.0 put.1 stays
+put_stays most old _ new small put stays = rw put (still most old stays)
+
+-- any line
+line_stays : (most number : ℕ) (old : Objects) (r : Reading) (reply : List ℕ) (new : Objects) → most ≤ 2 ^ 31 → Replies number old r reply new → Stays most old → Stays (suc most) new
+line_stays most number old skipped reply new small is stays = rw is.1 (still most old stays)
+line_stays most number old bad reply new small is stays = rw is.1 (still most old stays)
+line_stays most number old (asks wish) reply new small is stays = put_stays most old wish new small is.1 stays
+
+-- ---- lines
+
+-- behind lines there are as many entries more as lines, at most
+lines_stay : (most number : ℕ) (old : Objects) (lines : List (List ℕ)) (written : List ℕ) (new : Objects) → most + length lines ≤ 2 ^ 31 → Stays most old → RunsInPart number old lines written new
+    → Stays (most + length lines) new
+lines_stay most number old lines written new small stays waits = more_room most (most + length lines) old (omega arith) stays
+lines_stay most number old (line ∷ lines) written new small stays (begins is) =
+    more_room (suc most) (most + length (line ∷ lines)) new (omega arith) (line_stays most number old (reading_of line) written new (omega (arith, small)) is stays)
+lines_stay most number old (line ∷ lines) written new small stays (follows reply rest after goes_on is others) =
+    let here = line_stays most number old (reading_of line) reply after (omega (arith, small)) is stays in
+    more_room (suc most + length lines) (most + length (line ∷ lines)) new (omega arith) (lines_stay (suc most) (number + 1) after lines rest new (omega (arith, small)) here others)
+
+-- what stays is lawful
+stays_lawful : (most : ℕ) (objects : Objects) → most ≤ 2 ^ 31 → Stays most objects → IsLawfulStore objects
+stays_lawful most objects small (bare none) = subst IsLawfulStore (sym none) nothing_lawful
+stays_lawful most objects small (keeps column entries kept files up) = kept_lawful objects column entries kept (omega (arith, up, small))
+
+-- Over a store of nothing, lines leave a lawful store, however many of them are answered.
+pub part_is_lawful : (old : Objects) (lines : List (List ℕ)) (written : List ℕ) (new : Objects) → length lines ≤ 2 ^ 31 → old ≡ [] → RunsInPart 1 old lines written new → IsLawfulStore new × HasLawfulLog new
+part_is_lawful old lines written new few empty runs =
+    let lawful = stays_lawful (0 + length lines) new (omega (arith, few)) (lines_stay 0 1 old lines written new (omega (arith, few)) (bare empty) runs) in
+    (lawful, lawful_log new lawful)

@@ -1,0 +1,120 @@
+-- What stands for the batches of a kept table, and that the name of a new number's file is free.
+use Rattle.std.proofs.Common.{◌≡◌, ℕ, zero, suc, ◌^◌, ◌<◌, ◌≤◌, ◌⊎◌, Bool, true, false, List, [], ◌∷◌, length, map, Option, Some, None, Contains, inl, inr, refl, ap, subst, arith}
+use Rattle.std.specs.Prelude.{bytes_eq, cond, is_some, option_map, slice_index_or}
+use Rattle.std.specs.Str.{IsUtf8}
+use Rattle.std.proofs.lemmas.Slice.Eq.{bytes_eq-Decides}
+use Rattle.store_core.specs.Objects.{Objects, object_at}
+use Rattle.table_store.specs.Names.{data_file_name}
+use Rattle.table_store.specs.Names as names
+use Rattle.table_model.specs.Lawful.{Rises}
+use Rattle.table_model.specs.Table.{Batch, Entry, creation, batch, close, batches, batches_by, numbers_by, last, last_batch}
+use Rattle.table_model.proofs.Batches.{IsAbove, last_none, last_number, numbers_by-own}
+use Rattle.table_store.proofs.NamesOnce.{data_file_name-once}
+use Rattle.sink_core.specs.Appending.{file_name}
+use Rattle.commit_core.specs.Commits.{commit_name}
+use Rattle.lake_script.proofs.Kept.{IsKept, IsOwn, HasNoOther, KeptFrom, FileKept}
+
+-- ---- the names that contracts don't look into
+
+-- the name of a commit is the model's
+pub same_name : (version : ℕ) → commit_name version ≡ names.commit_name version
+unfolding commit_name
+same_name version = refl
+
+-- the name of a batch's file is the model's
+pub same_file_name : (application : List ℕ) (number : ℕ) → file_name application number ≡ data_file_name application number
+unfolding file_name
+same_file_name application number = refl
+
+-- ---- what a list contains
+
+-- an element is the first one, or stands behind it
+pub first_or_behind : {A : Type 0} (x : A) (xs : List A) (y : A) → Contains (x ∷ xs) y → (x ≡ y) ⊎ Contains xs y
+first_or_behind x xs y has = by_index has.0 has.1 has.2
+  where
+    by_index : (k : ℕ) → k < suc (length xs) → slice_index_or (x ∷ xs) k y ≡ y → (x ≡ y) ⊎ Contains xs y
+    by_index zero lt is = inl is
+    by_index (suc k) lt is = inr (k, omega arith, is)
+
+-- the first one is an element
+pub first_in : {A : Type 0} (x : A) (xs : List A) → Contains (x ∷ xs) x
+first_in x xs = (0, omega arith, refl)
+
+-- an element is one with another in front
+pub behind_first : {A : Type 0} (x : A) (xs : List A) (y : A) → Contains xs y → Contains (x ∷ xs) y
+behind_first x xs y has = (suc has.0, omega (arith, has.1), has.2)
+
+-- an empty list has no element
+pub none_in_nothing : {A : Type 0} (y : A) → Contains {X = A} [] y → ⊥
+none_in_nothing y has = omega (arith, has.1)
+
+-- ---- the batches of a kept table
+
+-- each batch's application is text, and its file stands
+pub batch_stands : (objects : Objects) (column : List ℕ) (version : ℕ) (entries : List Entry) (b : Batch) → KeptFrom objects column version entries → Contains (batches entries) b
+    → IsUtf8 b.application × FileKept objects column (batch b)
+batch_stands objects column version [] b kept has = absurd (none_in_nothing b has)
+batch_stands objects column version (creation ∷ entries) b kept has = batch_stands objects column (suc version) entries b kept.2 has
+batch_stands objects column version (batch c ∷ entries) b kept has =
+    elim (first_or_behind c (batches entries) b has) [
+      | inl same ↦ subst (λ (d : Batch). IsUtf8 d.application × FileKept objects column (batch d)) same (kept.0.2.is.utf8, kept.1)
+      | inr later ↦ batch_stands objects column (suc version) entries b kept.2 later
+    ]
+batch_stands objects column version (close application ∷ entries) b kept has = absurd kept.1
+
+-- a batch's number is one of its application's
+number_among : (entries : List Entry) (b : Batch) → Contains (batches entries) b → Contains (numbers_by b.application entries) b.number
+number_among [] b has = absurd (none_in_nothing b has)
+number_among (creation ∷ entries) b has = number_among entries b has
+number_among (batch c ∷ entries) b has =
+    elim (first_or_behind c (batches entries) b has) [
+      | inl same ↦
+          let own : bytes_eq c.application b.application ≡ true = (bytes_eq-Decides c.application b.application).1 (ap (λ (d : Batch). d.application) same) in
+          let number : c.number ≡ b.number = ap (λ (d : Batch). d.number) same in
+          rw (numbers_by-own b.application c entries own, number) (first_in b.number (numbers_by b.application entries))
+      | inr later ↦ passed (bytes_eq c.application b.application) (number_among entries b later)
+    ]
+  where
+    passed : (own : Bool) → Contains (numbers_by b.application entries) b.number → Contains (map (λ (d : Batch). d.number) (cond own (c ∷ batches_by b.application entries) (batches_by b.application entries))) b.number
+    passed true there = behind_first c.number (numbers_by b.application entries) b.number there
+    passed false there = there
+number_among (close application ∷ entries) b has = number_among entries b has
+
+-- the last of rising numbers is the greatest
+up_to_last : (ns : List ℕ) (n m : ℕ) → Rises ns → Contains ns n → last ns ≡ Some m → n ≤ m
+up_to_last [] n m rises has is = absurd (none_in_nothing n has)
+up_to_last (k ∷ []) n m rises has is =
+    let end : k ≡ m = cc in
+    elim (first_or_behind k [] n has) [
+      | inl same ↦ omega arith
+      | inr later ↦ absurd (none_in_nothing n later)
+    ]
+up_to_last (k ∷ j ∷ ns) n m rises has is =
+    elim (first_or_behind k (j ∷ ns) n has) [
+      | inl same ↦ omega (arith, rises.0, up_to_last (j ∷ ns) j m rises.1 (first_in j ns) is)
+      | inr later ↦ up_to_last (j ∷ ns) n m rises.1 later is
+    ]
+
+-- so none of them is above the last
+none_above : (ns : List ℕ) (n : ℕ) (found : Option ℕ) → last ns ≡ found → Rises ns → Contains ns n → IsAbove n found → ⊥
+none_above ns n None is rises has above = none_in_nothing n (subst (λ (ms : List ℕ). Contains ms n) (last_none ns is) has)
+none_above ns n (Some m) is rises has above = omega (arith, up_to_last ns n m rises has is)
+
+-- ---- the names that are free
+
+-- what isn't there is `None`
+none_unless : {A : Type 0} (found : Option A) → (is_some found ≡ true → ⊥) → found ≡ None
+none_unless None never = refl
+none_unless (Some x) never = absurd (never refl)
+
+-- no file stands under a number above the application's last one
+pub no_file : (objects : Objects) (column : List ℕ) (entries : List Entry) (application : List ℕ) (number : ℕ) → IsKept objects column entries → HasNoOther objects entries → IsUtf8 application → number < 10 ^ 63
+    → IsAbove number (option_map (λ (b : Batch). b.number) (last_batch application entries)) → object_at objects (data_file_name application number) ≡ None
+no_file objects column entries application number kept own utf8 small above =
+    none_unless (object_at objects (data_file_name application number)) (λ some. never (own application number some))
+  where
+    never : IsOwn entries (data_file_name application number) → ⊥
+    never (b, has, is) =
+        let parts = data_file_name-once application b.application number b.number utf8 (batch_stands objects column 0 entries b kept.kept has).0 small is in
+        let there : Contains (numbers_by application entries) number = rw (parts.0, parts.1) (number_among entries b has) in
+        none_above (numbers_by application entries) number _ (last_number application entries) (kept.lawful.rises application) there above

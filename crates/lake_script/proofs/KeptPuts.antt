@@ -1,0 +1,165 @@
+-- What the puts of a batch leave of a store that keeps a table.
+use Rattle.std.proofs.Common.{◌≡◌, ℕ, suc, ◌+◌, ◌≤◌, Bool, true, false, List, [], ◌∷◌, ◌++◌, length, Option, Some, None, IsSome, refl, sym, ap, subst, ◌∙◌, arith, length-append}
+use Rattle.std.specs.Prelude.{bytes_eq, is_some, unwrap_or}
+use Rattle.std.specs.declared.cmp.Ordering.{Ordering}
+use Rattle.std.specs.declared.cmp.Ordering.TheVariants.{Less, Equal, Greater}
+use Rattle.std.specs.Ordering.{is_eq, match_ordering}
+use Rattle.std.specs.BTreeMap.{insert_entry}
+use Rattle.std.proofs.lemmas.List.Elements.{Contains-append_left, Contains-append_right}
+use Rattle.std.proofs.lemmas.Map.Text.{is_eq-slice_cmp}
+use Rattle.std.proofs.lemmas.Slice.Eq.{bytes_eq-Decides}
+use Rattle.store_core.specs.Objects.{Objects, name_order, object_at, names_of, with_object}
+use Rattle.store_core.specs.ObjectLaws.{with_object_absent, with_object_stands, object_at-with_object_same, object_at-with_object_other, object_at-with_object_kept}
+use Rattle.table_store.specs.Names.{commit_name, data_file_name}
+use Rattle.table_store.specs.Holds.{Stands}
+use Rattle.table_model.specs.Lawful.{IsLawful}
+use Rattle.table_model.specs.Table.{Batch, Entry, creation, batch, close, batches}
+use Rattle.table_model.proofs.Batches.{batches-append}
+use Rattle.table_store.proofs.HoldingNames.{commit_name-data_file_name}
+use Rattle.lake_script.proofs.Kept.{IsFileOf, FileKept, IsCommitMade, KeptFrom, IsNamed, of_commit, of_file, IsKept, IsOwn, HasNoOther}
+use Rattle.lake_script.proofs.KeptNames.{first_in}
+
+-- ---- what stood still stands
+
+module _ (objects : Objects) (name bytes : List ℕ) where
+  -- an object keeps its bytes
+  pub Stands-put : (other : List ℕ) (P : List ℕ → Type 0) → Stands objects other P → Stands (with_object objects name bytes) other P
+  Stands-put other P stands = (stands.0, object_at-with_object_kept objects name bytes other stands.0 stands.1, stands.2)
+
+  -- and so does a batch's file
+  FileKept-put : (column : List ℕ) (entry : Entry) → FileKept objects column entry → FileKept (with_object objects name bytes) column entry
+  FileKept-put column creation kept = tt
+  FileKept-put column (batch b) kept = Stands-put (data_file_name b.application b.number) (IsFileOf column b) kept
+  FileKept-put column (close application) kept = kept
+
+  -- a put takes nothing away
+  KeptFrom-put : (column : List ℕ) (version : ℕ) (entries : List Entry) → KeptFrom objects column version entries → KeptFrom (with_object objects name bytes) column version entries
+  KeptFrom-put column version [] kept = tt
+  KeptFrom-put column version (entry ∷ entries) kept =
+      (Stands-put (commit_name version) (IsCommitMade column entry) kept.0, FileKept-put column entry kept.1, KeptFrom-put column (suc version) entries kept.2)
+
+  -- what is put under a free name stands
+  pub put_stands : object_at objects name ≡ None → object_at (with_object objects name bytes) name ≡ Some bytes
+  put_stands free = object_at-with_object_same objects name bytes ∙ ap (λ (found : Option (List ℕ)). Some (unwrap_or found bytes)) free
+
+  -- a name that stands stood before, or is the one that was put
+  named_put : (P : List ℕ → Type 0) → ((other : List ℕ) → IsSome (object_at objects other) → P other) → P name → (other : List ℕ) → IsSome (object_at (with_object objects name bytes) other) → P other
+  named_put P before put other some = by_name (bytes_eq other name) refl
+    where
+      by_name : (same : Bool) → bytes_eq other name ≡ same → P other
+      by_name true is = subst P (sym ((bytes_eq-Decides other name).0 is)) put
+      by_name false is = before other (ap is_some (sym (object_at-with_object_other objects name bytes other (λ e. let one = (bytes_eq-Decides other name).1 e in cc))) ∙ some)
+
+-- the next version's commit, with its file, is one entry more
+KeptFrom-push : (objects : Objects) (column : List ℕ) (version next : ℕ) (entries : List Entry) (entry : Entry) → next ≡ version + length entries → KeptFrom objects column version entries
+    → Stands objects (commit_name next) (IsCommitMade column entry) → FileKept objects column entry → KeptFrom objects column version (entries ++ entry ∷ [])
+KeptFrom-push objects column version next [] entry at kept commit file =
+    let same : next ≡ version = omega (arith, at) in
+    (subst (λ (v : ℕ). Stands objects (commit_name v) (IsCommitMade column entry)) same commit, file, tt)
+KeptFrom-push objects column version next (first ∷ entries) entry at kept commit file =
+    (kept.0, kept.1, KeptFrom-push objects column (suc version) next entries entry (omega (arith, at)) kept.2 commit file)
+
+-- ---- how many names there are
+
+-- an entry under a free name is one name more
+names_inserted : (objects : Objects) (name bytes : List ℕ) → object_at objects name ≡ None → length (names_of (insert_entry name_order objects name bytes)) ≡ suc (length (names_of objects))
+names_inserted [] name bytes free = refl
+names_inserted (e ∷ es) name bytes free = by_order (names_inserted es name bytes) (name_order name e.0) refl
+  where
+    by_order : (object_at es name ≡ None → length (names_of (insert_entry name_order es name bytes)) ≡ suc (length (names_of es))) → (o : Ordering) → name_order name e.0 ≡ o → length (names_of (match_ordering o ((name, bytes) ∷ e ∷ es) ((e.0, bytes) ∷ es) (e ∷ insert_entry name_order es name bytes))) ≡ suc (suc (length (names_of es)))
+    by_order more Less is = refl
+    by_order more Equal is =
+        let same : bytes_eq name e.0 ≡ true = sym (is_eq-slice_cmp name e.0) ∙ ap is_eq is in
+        let found : Some e.1 ≡ None = rw same at free in
+        absurd cc
+    by_order more Greater is =
+        let other : bytes_eq name e.0 ≡ false = sym (is_eq-slice_cmp name e.0) ∙ ap is_eq is in
+        let later : object_at es name ≡ None = rw other at free in
+        ap suc (more later)
+
+-- a put of a free name is one name more
+names_put : (objects : Objects) (name bytes : List ℕ) → object_at objects name ≡ None → length (names_of (with_object objects name bytes)) ≡ suc (length (names_of objects))
+names_put objects name bytes free = ap (λ (os : Objects). length (names_of os)) (with_object_absent objects name bytes (ap is_some free)) ∙ names_inserted objects name bytes free
+
+-- a put takes no name away
+names_kept : (objects : Objects) (name bytes : List ℕ) → length (names_of objects) ≤ length (names_of (with_object objects name bytes))
+names_kept objects name bytes = by_found (object_at objects name) refl
+  where
+    by_found : (found : Option (List ℕ)) → object_at objects name ≡ found → length (names_of objects) ≤ length (names_of (with_object objects name bytes))
+    by_found None is = omega (arith, names_put objects name bytes is)
+    by_found (Some old) is = omega (arith, ap (λ (os : Objects). length (names_of os)) (with_object_stands objects name bytes (ap is_some is)))
+
+-- ---- one file more
+
+-- A data file that is put changes nothing of the table that is kept.
+pub kept_file : (objects : Objects) (column : List ℕ) (entries : List Entry) (application : List ℕ) (number : ℕ) (file : List ℕ) → IsKept objects column entries
+    → IsKept (with_object objects (data_file_name application number) file) column entries
+kept_file objects column entries application number file kept =
+    let name = data_file_name application number in
+    record {
+      kept = KeptFrom-put objects name file column 0 entries kept.kept;
+      rest = kept.rest;
+      begins = kept.begins;
+      lawful = kept.lawful;
+      named = named_put objects name file (IsNamed entries) kept.named (of_file application number refl);
+      many = omega (arith, kept.many, names_kept objects name file);
+      readable = kept.readable;
+    }
+
+-- ---- one batch more
+
+-- a name of a table is one of a table with an entry more
+named_more : (entries : List Entry) (b : Batch) (name : List ℕ) → IsNamed entries name → IsNamed (entries ++ batch b ∷ []) name
+named_more entries b name (of_commit version lt is) = of_commit version (omega (arith, lt, length-append entries (batch b ∷ []))) is
+named_more entries b name (of_file application number is) = of_file application number is
+
+-- Where a batch's file stands, the next version's commit, put under a free name, is one entry more.
+pub kept_commit : (objects : Objects) (column : List ℕ) (entries : List Entry) (b : Batch) (commit : List ℕ) → IsKept objects column entries → IsLawful (entries ++ batch b ∷ [])
+    → FileKept objects column (batch b) → object_at objects (commit_name (length entries)) ≡ None → IsCommitMade column (batch b) commit
+    → IsKept (with_object objects (commit_name (length entries)) commit) column (entries ++ batch b ∷ [])
+kept_commit objects column entries b commit kept lawful file free is_commit =
+    let next = commit_name (length entries) in
+    let more : length (entries ++ batch b ∷ []) ≡ length entries + 1 = length-append entries (batch b ∷ []) in
+    record {
+      kept = KeptFrom-push (with_object objects next commit) column 0 (length entries) entries (batch b) (omega arith) (KeptFrom-put objects next commit column 0 entries kept.kept)
+          (commit, put_stands objects next commit free, is_commit) (FileKept-put objects next commit column (batch b) file);
+      rest = kept.rest ++ batch b ∷ [];
+      begins = ap (λ (es : List Entry). es ++ batch b ∷ []) kept.begins;
+      lawful = lawful;
+      named = named_put objects next commit (IsNamed (entries ++ batch b ∷ [])) (λ other some. named_more entries b other (kept.named other some)) (of_commit (length entries) (omega (arith, more)) refl);
+      many = omega (arith, more, kept.many, names_put objects next commit free);
+      readable = kept.readable;
+    }
+
+-- A batch's file and then the next version's commit, put under free names, are one entry more.
+pub kept_more : (objects : Objects) (column : List ℕ) (entries : List Entry) (b : Batch) (file commit : List ℕ) → IsKept objects column entries → IsLawful (entries ++ batch b ∷ [])
+    → object_at objects (data_file_name b.application b.number) ≡ None → object_at objects (commit_name (length entries)) ≡ None → IsFileOf column b file → IsCommitMade column (batch b) commit
+    → IsKept (with_object (with_object objects (data_file_name b.application b.number) file) (commit_name (length entries)) commit) column (entries ++ batch b ∷ [])
+kept_more objects column entries b file commit kept lawful no_file no_commit is_file is_commit =
+    let name = data_file_name b.application b.number in
+    let next = commit_name (length entries) in
+    let filed : Objects = with_object objects name file in
+    let free : object_at filed next ≡ None = object_at-with_object_other objects name file next (commit_name-data_file_name (length entries) b.application b.number) ∙ no_commit in
+    kept_commit filed column entries b commit (kept_file objects column entries b.application b.number file kept) lawful (file, put_stands objects name file no_file, is_file) free is_commit
+
+-- And no data file stands then that is no batch's, where none stood before.
+pub no_other_more : (objects : Objects) (entries : List Entry) (b : Batch) (file commit : List ℕ) → HasNoOther objects entries
+    → HasNoOther (with_object (with_object objects (data_file_name b.application b.number) file) (commit_name (length entries)) commit) (entries ++ batch b ∷ [])
+no_other_more objects entries b file commit own application number some =
+    let name = data_file_name b.application b.number in
+    let next = commit_name (length entries) in
+    named_put (with_object objects name file) next commit IsOwned (named_put objects name file IsOwned old new) none (data_file_name application number) some refl
+  where
+    IsOwned : List ℕ → Type 0
+    IsOwned other = other ≡ data_file_name application number → IsOwn (entries ++ batch b ∷ []) other
+
+    old : (other : List ℕ) → IsSome (object_at objects other) → IsOwned other
+    old other some is =
+        let found = own application number (subst (λ (name : List ℕ). IsSome (object_at objects name)) is some) in
+        (found.0, rw batches-append (Contains-append_left (batches entries) (b ∷ []) found.0 found.1), is ∙ found.2)
+
+    new : IsOwned (data_file_name b.application b.number)
+    new is = (b, rw batches-append (Contains-append_right (batches entries) (b ∷ []) b (first_in b [])), refl)
+
+    none : IsOwned (commit_name (length entries))
+    none is = absurd (commit_name-data_file_name (length entries) application number is)

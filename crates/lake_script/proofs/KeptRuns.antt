@@ -1,0 +1,191 @@
+-- From one line to whole scripts: where a store keeps what a script made so far, each line is told what the plain table
+-- tells, and the store goes on to keep it.
+use Rattle.std.proofs.Common.{◌≡◌, ℕ, suc, ◌+◌, ◌<◌, ◌≤◌, ◌^◌, Bool, true, false, List, [], ◌∷◌, length, Result, Ok, Err, refl, ap, ◌∙◌, arith, inl, inr, length-append}
+use Rattle.std.proofs.lemmas.Bool.{cases_Bool}
+use Rattle.serde_json.specs.Data.{Items}
+use Rattle.store_core.specs.Objects.{Objects}
+use Rattle.table_model.specs.Table.{Batch, Entry, batch}
+use Rattle.table_model.specs.Appends.{appended, with_batch}
+use Rattle.table_model.specs.declared.table.Appended.{Appended}
+use Rattle.table_model.specs.declared.table.Appended.TheVariants.{Committed, Already, Stale, Differs, StreamClosed}
+use Rattle.commit_core.specs.declared.fault.CreateFault.{CreateFault}
+use Rattle.commit_core.specs.Histories.{history_of, bad_log}
+use Rattle.lake_script.specs.Lines.{Wish, create, task, history, show, hex, append, tail, Reading, skipped, bad, asks, reading_of}
+use Rattle.source_core.specs.Offsets.{offset_of}
+use Rattle.sink_core.specs.Refusals.{Refusal}
+use Rattle.lake_script.specs.Sound.{IsSoundWish, IsSound, UnlessBad, AreSound}
+use Rattle.lake_script.specs.Tables as tables
+use Rattle.lake_script.specs.Tables.{State, nothing, table, entries_of, ShowsNoObject, IsOfTable, AreOfTable}
+use Rattle.source_core.specs.Tailing.{tailed}
+use Rattle.lake_script.specs.Told as told
+use Rattle.lake_script.specs.Told.{tailed_reply, is_bad}
+use Rattle.lake_script.proofs.Kept.{IsKept, Keeps}
+
+-- what is known of single lines
+pub record Given : Type 0 where
+  pub create_told : (objects : Objects) (state : State) (id : List ℕ) (at : ℕ) (schema : List ℕ) → Keeps objects state → length (entries_of state) < 2 ^ 62 → IsSoundWish objects (create id at schema)
+      → (told.reply_to_wish objects (create id at schema) ≡ tables.reply_to_wish state (create id at schema))
+      × Keeps (told.left_by_wish objects (create id at schema)) (tables.left_by_wish state (create id at schema))
+  pub append_told : (objects : Objects) (state : State) (application : List ℕ) (number at : ℕ) (items : Items) → Keeps objects state → length (entries_of state) < 2 ^ 62
+      → IsSoundWish objects (task (append application number at items))
+      → (told.reply_to_wish objects (task (append application number at items)) ≡ tables.reply_to_wish state (task (append application number at items)))
+      × Keeps (told.left_by_wish objects (task (append application number at items))) (tables.left_by_wish state (task (append application number at items)))
+  pub tail_told : (objects : Objects) (column : List ℕ) (entries : List Entry) → IsKept objects column entries → length entries < 2 ^ 62 → (max : ℕ) (offset : List ℕ)
+      → tailed_reply (tailed objects max offset) ≡ tables.tail_reply (table column entries) max (offset_of offset)
+  pub tail_of_nothing : (max : ℕ) (offset : List ℕ) → tailed_reply (tailed [] max offset) ≡ tables.tail_reply nothing max (offset_of offset)
+  pub history_told : (objects : Objects) (column : List ℕ) (entries : List Entry) → IsKept objects column entries → length entries < 2 ^ 62 → history_of objects ≡ tables.history_from 0 entries
+  pub history_of_nothing : history_of [] ≡ bad_log 0
+
+-- ---- a line adds one entry at most
+
+-- a creation leaves one entry, or what was there
+created_one : (state : State) (found : Result (List ℕ) CreateFault) → length (entries_of (tables.with_table state found)) ≤ suc (length (entries_of state))
+created_one state (Ok column) = omega arith
+created_one state (Err why) = omega arith
+
+-- an append leaves one entry more, or what was there
+batch_one : (answer : Appended) (b : Batch) (entries : List Entry) → length (with_batch answer b entries) ≤ suc (length entries)
+batch_one (Committed version) b entries = let joined = length-append entries (batch b ∷ []) in omega arith
+batch_one (Already number) b entries = omega arith
+batch_one (Stale last) b entries = omega arith
+batch_one Differs b entries = omega arith
+batch_one StreamClosed b entries = omega arith
+
+-- the same of a table, where there is one
+appended_one : (state : State) (answer : Result Batch Refusal) → length (entries_of (tables.with_append state answer)) ≤ suc (length (entries_of state))
+appended_one nothing answer = omega arith
+appended_one (table column entries) (Ok b) = batch_one (appended b entries) b entries
+appended_one (table column entries) (Err refusal) = omega arith
+
+-- what a line asks for adds one entry at most
+wish_one : (state : State) (wish : Wish) → length (entries_of (tables.left_by_wish state wish)) ≤ suc (length (entries_of state))
+wish_one state (create id at schema) = created_one state (tables.creating state (tables.described id schema))
+wish_one state (task (append application number at items)) = appended_one state (tables.batch_in state application number items)
+wish_one state _ = omega arith
+
+-- the table behind a line has one entry more at most
+pub left_by_one : (state : State) (r : Reading) → length (entries_of (tables.left_by state r)) ≤ suc (length (entries_of state))
+left_by_one state skipped = omega arith
+left_by_one state bad = omega arith
+left_by_one state (asks wish) = wish_one state wish
+
+-- lines add as many entries as they are, at most
+left_from_short : (state : State) (lines : List (List ℕ)) → length (entries_of (tables.left_from state lines)) ≤ length (entries_of state) + length lines
+unfolding tables.left_from
+left_from_short state [] = omega arith
+left_from_short state (line ∷ lines) =
+    elim (cases_Bool (is_bad (reading_of line))) [
+      | inl ends ↦ rw ends (omega arith)
+      | inr on ↦ rw on (omega (arith, left_from_short (tables.left_by state (reading_of line)) lines, left_by_one state (reading_of line)))
+    ]
+
+-- few lines leave a table of few entries
+pub left_is_short : (lines : List (List ℕ)) → length lines ≤ 2 ^ 31 → length (entries_of (tables.left_from nothing lines)) < 2 ^ 62
+left_is_short lines few = omega (arith, left_from_short nothing lines)
+
+-- ---- sound lines
+
+-- what holds unless a line is bad holds where it isn't
+unless_bad : (b : Bool) (Holds : Type 0) → UnlessBad b Holds → b ≡ false → Holds
+unless_bad true Holds h is = absurd cc
+unless_bad false Holds h is = h
+
+module _ (objects : Objects) (line : List ℕ) (lines : List (List ℕ)) where
+  -- the first line is sound
+  first_sound : AreSound objects (line ∷ lines) → IsSound objects (reading_of line)
+  unfolding AreSound
+  first_sound sound = sound.0
+
+  -- those behind it are, where it isn't bad
+  rest_sound : AreSound objects (line ∷ lines) → is_bad (reading_of line) ≡ false → AreSound (told.left_by objects (reading_of line)) lines
+  unfolding AreSound
+  rest_sound sound on = unless_bad (is_bad (reading_of line)) (AreSound (told.left_by objects (reading_of line)) lines) sound.1 on
+
+-- ---- one line
+
+module _ (given : Given) where
+  -- a read is told what the table tells, also where there is none
+  tail_state : (objects : Objects) (state : State) → Keeps objects state → length (entries_of state) < 2 ^ 62 → (max : ℕ) (offset : List ℕ)
+      → tailed_reply (tailed objects max offset) ≡ tables.tail_reply state max (offset_of offset)
+  tail_state objects nothing keeps small max offset = ap (λ (o : Objects). tailed_reply (tailed o max offset)) keeps ∙ given.tail_of_nothing max offset
+  tail_state objects (table column entries) keeps small max offset = given.tail_told objects column entries keeps.0 small max offset
+
+  -- so is the history
+  history_state : (objects : Objects) (state : State) → Keeps objects state → length (entries_of state) < 2 ^ 62 → history_of objects ≡ tables.history_reply state
+  history_state objects nothing keeps small = ap history_of keeps ∙ given.history_of_nothing
+  history_state objects (table column entries) keeps small = given.history_told objects column entries keeps.0 small
+
+  -- what a line asks for is told as by the table
+  wish_told : (objects : Objects) (state : State) (wish : Wish) → Keeps objects state → length (entries_of state) < 2 ^ 62 → IsSoundWish objects wish → ShowsNoObject wish
+      → told.reply_to_wish objects wish ≡ tables.reply_to_wish state wish
+  wish_told objects state (create id at schema) keeps small sound only = (given.create_told objects state id at schema keeps small sound).0
+  wish_told objects state (task (append application number at items)) keeps small sound only = (given.append_told objects state application number at items keeps small sound).0
+  wish_told objects state (task (tail max offset)) keeps small sound only = tail_state objects state keeps small max offset
+  wish_told objects state history keeps small sound only = history_state objects state keeps small
+  wish_told objects state (show version) keeps small sound only = absurd only
+  wish_told objects state (hex name) keeps small sound only = absurd only
+  wish_told objects state _ keeps small sound only = refl
+
+  -- behind it the store keeps the table behind it
+  wish_kept : (objects : Objects) (state : State) (wish : Wish) → Keeps objects state → length (entries_of state) < 2 ^ 62 → IsSoundWish objects wish
+      → Keeps (told.left_by_wish objects wish) (tables.left_by_wish state wish)
+  wish_kept objects state (create id at schema) keeps small sound = (given.create_told objects state id at schema keeps small sound).1
+  wish_kept objects state (task (append application number at items)) keeps small sound = (given.append_told objects state application number at items keeps small sound).1
+  wish_kept objects state _ keeps small sound = keeps
+
+  -- a line that shows no object is told what the table tells
+  pub line_told : (number : ℕ) (objects : Objects) (state : State) (r : Reading) → Keeps objects state → length (entries_of state) < 2 ^ 62 → IsSound objects r → IsOfTable r
+      → told.reply_to number objects r ≡ tables.reply_to number state r
+  line_told number objects state skipped keeps small sound only = refl
+  line_told number objects state bad keeps small sound only = refl
+  line_told number objects state (asks wish) keeps small sound only = wish_told objects state wish keeps small sound only
+
+  -- behind a line the store keeps the table behind it
+  pub line_kept : (objects : Objects) (state : State) (r : Reading) → Keeps objects state → length (entries_of state) < 2 ^ 62 → IsSound objects r → Keeps (told.left_by objects r) (tables.left_by state r)
+  line_kept objects state skipped keeps small sound = keeps
+  line_kept objects state bad keeps small sound = keeps
+  line_kept objects state (asks wish) keeps small sound = wish_kept objects state wish keeps small sound
+
+  -- ---- several lines
+
+  -- what lines are told where the store keeps a table
+  pub told_on : (number : ℕ) (objects : Objects) (state : State) (lines : List (List ℕ)) → Keeps objects state → length (entries_of state) + length lines ≤ 2 ^ 32 → AreSound objects lines → AreOfTable lines
+      → told.told_from number objects lines ≡ tables.told_from number state lines
+  unfolding told.told_from tables.told_from
+  told_on number objects state [] keeps few sound only = refl
+  told_on number objects state (line ∷ lines) keeps few sound only =
+      let r = reading_of line in
+      let small : length (entries_of state) < 2 ^ 62 = omega arith in
+      let here = first_sound objects line lines sound in
+      let same = line_told number objects state r keeps small here only.0 in
+      let kept = line_kept objects state r keeps small here in
+      let fewer : length (entries_of (tables.left_by state r)) + length lines ≤ 2 ^ 32 = omega (arith, left_by_one state r) in
+      elim (cases_Bool (is_bad r)) [
+        | inl ends ↦ rw (ends, same) refl
+        | inr on ↦ rw (on, same, told_on (number + 1) (told.left_by objects r) (tables.left_by state r) lines kept fewer (rest_sound objects line lines sound on) only.1) refl
+      ]
+
+  -- the store keeps the table that lines leave where it keeps one before them
+  pub left_on : (objects : Objects) (state : State) (lines : List (List ℕ)) → Keeps objects state → length (entries_of state) + length lines ≤ 2 ^ 32 → AreSound objects lines
+      → Keeps (told.left_from objects lines) (tables.left_from state lines)
+  unfolding told.left_from tables.left_from
+  left_on objects state [] keeps few sound = keeps
+  left_on objects state (line ∷ lines) keeps few sound =
+      let r = reading_of line in
+      let small : length (entries_of state) < 2 ^ 62 = omega arith in
+      let kept = line_kept objects state r keeps small (first_sound objects line lines sound) in
+      let fewer : length (entries_of (tables.left_by state r)) + length lines ≤ 2 ^ 32 = omega (arith, left_by_one state r) in
+      elim (cases_Bool (is_bad r)) [
+        | inl ends ↦ rw ends keeps
+        | inr on ↦ rw on (left_on (told.left_by objects r) (tables.left_by state r) lines kept fewer (rest_sound objects line lines sound on))
+      ]
+
+  -- ---- a whole script
+
+  -- a script is told what the plain table tells
+  pub told_by_tables : (lines : List (List ℕ)) → length lines ≤ 2 ^ 31 → AreSound [] lines → AreOfTable lines → told.told_from 1 [] lines ≡ tables.told_from 1 nothing lines
+  told_by_tables lines few sound only = told_on 1 [] nothing lines refl (omega arith) sound only
+
+  -- a script leaves a store that keeps the table that it leaves
+  pub left_is_kept : (lines : List (List ℕ)) → length lines ≤ 2 ^ 31 → AreSound [] lines → Keeps (told.left_from [] lines) (tables.left_from nothing lines)
+  left_is_kept lines few sound = left_on [] nothing lines refl (omega arith) sound

@@ -1,0 +1,57 @@
+-- What is known of single lines, put together.
+use Rattle.std.proofs.Common.{◌<◌, ◌^◌, length, Result}
+use Rattle.store_core.specs.Objects.{Objects}
+use Rattle.table_model.specs.Reads.{Answer, handed, beyond, bad_place}
+use Rattle.source_core.specs.Tailing.{Handed, Refusal}
+use Rattle.lake_script.specs.Scripts.{HoldsState, AnswersReads, ReadsOut}
+use Rattle.lake_script.specs.Tables.{State, nothing, table, entries_of}
+use Rattle.lake_script.proofs.Kept.{Keeps}
+use Rattle.lake_script.proofs.KeptAppend.{append_told}
+use Rattle.lake_script.proofs.KeptCreate.{create_told}
+use Rattle.lake_script.proofs.KeptHistory.{history_told, history_of_nothing}
+use Rattle.lake_script.proofs.KeptHolds.{kept_holds}
+use Rattle.lake_script.proofs.KeptLog.{kept_log, log_of_nothing}
+use Rattle.lake_script.proofs.KeptRuns.{Given}
+use Rattle.lake_script.proofs.KeptTail.{IsTold, tail_told, tail_of_nothing, handed_told}
+use Rattle.lake_script.proofs.KeptTails.{GivenReads, IsRead, hand_out_the_log, hand_out_all, are_answered}
+
+pub lines_told : Given
+lines_told = record {
+  create_told = λ objects state id at schema keeps small sound. create_told objects state id at schema keeps sound;
+  append_told = append_told;
+  tail_told = tail_told;
+  tail_of_nothing = tail_of_nothing;
+  history_told = history_told;
+  history_of_nothing = history_of_nothing;
+}
+
+-- what a read is told by the table, it is told over the objects
+read_told : (answer : Answer) (said : Result Handed Refusal) → IsTold answer said → IsRead said answer
+read_told (handed rows next) said is = is
+read_told (beyond next) said is = is
+read_told (bad_place version) said is = is
+
+pub reads_told : GivenReads
+reads_told = record {
+  handed_told = λ objects column entries kept small.
+      let log = kept_log objects column entries kept small in
+      (record { column = column; commits = log.0 }, log.2, λ max place. read_told _ _ (handed_told objects column entries log.0 kept.kept log.1 max place));
+  log_of_nothing = log_of_nothing;
+}
+
+-- the store that keeps a table holds it
+pub kept_held : (objects : Objects) (state : State) → Keeps objects state → length (entries_of state) < 2 ^ 62 → HoldsState objects state
+kept_held objects nothing keeps small = keeps
+kept_held objects (table column entries) keeps small = (kept_holds objects column entries keeps.0 small, keeps.0.lawful)
+
+kept_answers : (objects : Objects) (state : State) → Keeps objects state → length (entries_of state) < 2 ^ 62 → AnswersReads objects state
+kept_answers objects nothing keeps small = tt
+kept_answers objects (table column entries) keeps small = are_answered reads_told objects column entries keeps.0 small
+
+-- and reads over it hand out its rows
+pub kept_reads_out : (objects : Objects) (state : State) → Keeps objects state → length (entries_of state) < 2 ^ 62 → ReadsOut objects state
+kept_reads_out objects state keeps small = record {
+  answered = kept_answers objects state keeps small;
+  up_to = hand_out_the_log reads_told objects state keeps small;
+  all = hand_out_all reads_told objects state keeps small;
+}

@@ -1,0 +1,190 @@
+-- What an append leaves, however far it comes, of a store that keeps a table.
+use Rattle.std.proofs.Common.{◌≡◌, ℕ, suc, ◌<◌, ◌≤◌, ◌^◌, ◌⊎◌, inl, inr, ℤ, Bool, true, false, not, List, [], ◌∷◌, ◌++◌, map, length, Option, Some, None, Result, Ok, Err, eqb, ltb, refl, sym, ap, subst, ◌∙◌, arith, length-append}
+use Rattle.std.specs.Prelude.{bytes_eq, cond, option_map, unwrap_or}
+use Rattle.std.specs.Str.{IsUtf8}
+use Rattle.std.specs.Cmp.Rules.{signed_items}
+use Rattle.std.proofs.lemmas.Slice.Eq.{bytes_eq-Decides}
+use Rattle.serde_json.specs.Data.{Items}
+use Rattle.store_core.specs.Objects.{Objects, object_at, with_object}
+use Rattle.store_core.specs.ObjectLaws.{object_at-with_object_same, object_at-with_object_other}
+use Rattle.parquet_file.specs.declared.fault.FileFault.{FileFault}
+use Rattle.parquet_file.specs.Reading.{rows_at}
+use Rattle.parquet_file.specs.Writing.{written_file}
+use Rattle.parquet_file.proofs.Only.{rows-only}
+use Rattle.table_model.specs.Appends.{appended}
+use Rattle.table_model.specs.declared.table.Appended.TheVariants.{Committed}
+use Rattle.table_model.specs.Lawful.{IsLawful}
+use Rattle.table_store.specs.Names.{data_file_name}
+use Rattle.table_store.specs.Names as names
+use Rattle.table_store.specs.Schema.{row_of}
+use Rattle.table_model.specs.Table as model
+use Rattle.table_model.specs.Table.{Entry, batch, last_batch}
+use Rattle.table_store.proofs.HoldingNames.{commit_name-data_file_name}
+use Rattle.sink_core.specs.Appending.{Batch, Step, puts, stands, checked, count, file_name, is_repeat, is_same, unless_other, where_same, file_or_refusal, batch_of, fitting, new_step, step_of, settled, with_append, with_file_alone, IsWellMade, PutsWell}
+use Rattle.sink_core.specs.Refusals.{Refusal, stale, differs}
+use Rattle.lake_bytes.specs.Results.{◌>>=◌, refused_if}
+use Rattle.sink_core.specs.RowsIn.{rows_from}
+use Rattle.lake_script.proofs.Kept.{IsFileOf, FileKept, IsKept}
+use Rattle.lake_script.proofs.KeptAppend.{small_number, stays_open, lawful_after, asked, made_with, handed_in, file_made, commit_made, step_behind, step_is}
+use Rattle.lake_script.proofs.KeptLog.{none_behind}
+use Rattle.lake_script.proofs.KeptNames.{same_name, same_file_name}
+use Rattle.lake_script.proofs.KeptPuts.{Stands-put, put_stands, kept_file, kept_commit}
+
+-- each data file that stands is one of rows
+abbrev pub AreFiles : Objects → (column : List ℕ) → Type 0
+AreFiles objects column = (application : List ℕ) (number : ℕ) (bytes : List ℕ) → object_at objects (data_file_name application number) ≡ Some bytes → (b : model.Batch) × IsFileOf column b bytes
+
+-- what stands behind some lines: nothing, or a table of so many entries at most, with data files besides
+pub data Stays (most : ℕ) (objects : Objects) : Type 0 where
+  bare : objects ≡ [] → Stays most objects
+  keeps : (column : List ℕ) (entries : List Entry) → IsKept objects column entries → AreFiles objects column → length entries ≤ most → Stays most objects
+
+-- ---- a put over such a store
+
+-- what stands behind a put stood before, or was put
+stood_or_put : (objects : Objects) (name bytes other found : List ℕ) → object_at (with_object objects name bytes) other ≡ Some found → (object_at objects other ≡ Some found) ⊎ ((other ≡ name) × (bytes ≡ found))
+stood_or_put objects name bytes other found is = by_name (bytes_eq other name) refl
+  where
+    put_found : other ≡ name → (before : Option (List ℕ)) → object_at objects other ≡ before → Some (unwrap_or before bytes) ≡ Some found → (before ≡ Some found) ⊎ ((other ≡ name) × (bytes ≡ found))
+    put_found same None there e = let one : bytes ≡ found = cc in inr (same, one)
+    put_found same (Some old) there e = inl e
+
+    by_name : (same : Bool) → bytes_eq other name ≡ same → (object_at objects other ≡ Some found) ⊎ ((other ≡ name) × (bytes ≡ found))
+    by_name true e =
+        let same : other ≡ name = (bytes_eq-Decides other name).0 e in
+        let put : object_at (with_object objects name bytes) other ≡ Some (unwrap_or (object_at objects other) bytes) =
+        subst (λ (n : List ℕ). object_at (with_object objects name bytes) n ≡ Some (unwrap_or (object_at objects n) bytes)) (sym same) (object_at-with_object_same objects name bytes) in
+        put_found same (object_at objects other) refl (sym put ∙ is)
+    by_name false e = inl (sym (object_at-with_object_other objects name bytes other (λ same. let one = (bytes_eq-Decides other name).1 same in cc)) ∙ is)
+
+-- a file of rows may be put
+files_put : (objects : Objects) (column name : List ℕ) (b : model.Batch) (bytes : List ℕ) → AreFiles objects column → IsFileOf column b bytes → AreFiles (with_object objects name bytes) column
+files_put objects column name b bytes files is application number found there =
+    elim (stood_or_put objects name bytes (data_file_name application number) found there) [
+      | inl before ↦ files application number found before
+      | inr put ↦ (b, subst (IsFileOf column b) put.1 is)
+    ]
+
+-- and any commit
+files_commit : (objects : Objects) (column : List ℕ) (version : ℕ) (bytes : List ℕ) → AreFiles objects column → AreFiles (with_object objects (names.commit_name version) bytes) column
+files_commit objects column version bytes files application number found there =
+    elim (stood_or_put objects (names.commit_name version) bytes (data_file_name application number) found there) [
+      | inl before ↦ files application number found before
+      | inr put ↦ absurd (commit_name-data_file_name version application number (sym put.0))
+    ]
+
+-- ---- an append over a table that is kept
+
+-- a store stays, whether the file that an append puts stands alone or with its commit
+abbrev pub GoesOn : (most : ℕ) → Objects → Result Step Refusal → Type 0
+GoesOn most objects step = Stays most (with_file_alone objects step) × Stays most (with_append objects step)
+
+module _ (objects : Objects) (column : List ℕ) (entries : List Entry) (kept : IsKept objects column entries) (files : AreFiles objects column) (few : length entries < 2 ^ 62) (most : ℕ) (up : length entries ≤ most)
+    (application : List ℕ) (number at : ℕ) (utf8 : IsUtf8 application) (fits : number ≤ 999_999_999_999) (rows : List ℤ) where
+  -- the batch that is put with this file
+  abbrev made : (file : List ℕ) → Batch
+  made file = made_with (length entries) column rows application number at file
+
+  -- what is done where the number is the application's last one again, or not
+  abbrev behind : Result Bool Refusal → Result Step Refusal
+  behind repeats = (repeats >>= λ repeats. Ok (asked (length entries) column rows repeats)) >>= step_of objects application number at
+
+  -- where nothing is put, the table is kept
+  unchanged : Stays (suc most) objects
+  unchanged = keeps column entries kept files (omega (arith, up))
+
+  -- a file that is read as these rows is one of them
+  same_file : (old : List ℕ) → object_at objects (data_file_name application number) ≡ Some old → is_same rows (rows_at old column) ≡ true → IsFileOf column (handed_in application number rows) old
+  same_file old there same =
+      let known = files application number old there in
+      let read : rows_at old column ≡ Ok known.1.numbers = rows-only old column known.1.numbers known.1.file known.1.limits in
+      let alike : known.1.numbers ≡ rows = (signed_items known.1.numbers rows).0 (sym (ap (is_same rows) read) ∙ same) in
+      record { numbers = known.1.numbers; file = known.1.file; limits = known.1.limits; are = ap (map row_of) (sym alike) }
+
+  -- behind the put of a file of rows, one stands under the name
+  file_behind : (file : List ℕ) (found : Option (List ℕ)) → object_at objects (data_file_name application number) ≡ found → unless_other column rows (data_file_name application number) found ≡ Ok tt
+      → IsFileOf column (handed_in application number rows) file → FileKept (with_object objects (data_file_name application number) file) column (batch (handed_in application number rows))
+  file_behind file None there free is = (file, put_stands objects (data_file_name application number) file there, is)
+  file_behind file (Some old) there free is =
+      Stands-put objects (data_file_name application number) file (data_file_name application number) (IsFileOf column (handed_in application number rows)) (old, there, same_file old there (passes (is_same rows (rows_at old column)) free))
+    where
+      passes : (same : Bool) → refused_if (not same) (differs (data_file_name application number)) ≡ Ok tt → same ≡ true
+      passes true free = refl
+      passes false free = absurd cc
+
+  -- the file is put, and then the commit is one entry more
+  put_goes_on : (file : List ℕ) → appended (handed_in application number rows) entries ≡ Committed (length entries)
+      → unless_other column rows (file_name application number) (object_at objects (file_name application number)) ≡ Ok tt
+      → IsWellMade application number at (made file)
+      → GoesOn (suc most) objects (Ok (puts (made file)))
+  put_goes_on file new free well =
+      let b = handed_in application number rows in
+      let name = data_file_name application number in
+      let next = names.commit_name (length entries) in
+      let filed : Objects = with_object objects name file in
+      let is_file = file_made (length entries) column rows application number at file well in
+      let is_commit = commit_made (length entries) column rows application number at file utf8 fits well in
+      let lawful : IsLawful (entries ++ batch b ∷ []) = rw new at (lawful_after objects column entries b kept) in
+      let filed_kept : IsKept filed column entries = kept_file objects column entries application number file kept in
+      let filed_files : AreFiles filed column = files_put objects column name b file files is_file in
+      let there : FileKept filed column (batch b) = file_behind file (object_at objects name) refl (rw (same_file_name application number) at free) is_file in
+      let more : IsKept (with_object filed next (made file).commit) column (entries ++ batch b ∷ []) =
+      kept_commit filed column entries b (made file).commit filed_kept lawful there (none_behind filed column entries filed_kept few) is_commit in
+      let alone : Stays (suc most) filed = keeps column entries filed_kept filed_files (omega (arith, up)) in
+      let whole : Stays (suc most) (with_object filed next (made file).commit) =
+      keeps column (entries ++ batch b ∷ []) more (files_commit filed column (length entries) (made file).commit filed_files) (omega (arith, up, length-append entries (batch b ∷ []))) in
+      rw (same_file_name application number, same_name (length entries)) (alone, rw (same_file_name application number) at whole)
+
+  -- what is done for a new number
+  new_goes_on : appended (handed_in application number rows) entries ≡ Committed (length entries) → PutsWell application number at (new_step objects (asked (length entries) column rows false) application number at)
+      → GoesOn (suc most) objects (new_step objects (asked (length entries) column rows false) application number at)
+  unfolding batch_of
+  new_goes_on new well = by_file (written_file column rows) well
+    where
+      by_fit : (file : List ℕ) (fit : Result (Unit {0}) Refusal) → unless_other column rows (file_name application number) (object_at objects (file_name application number)) ≡ fit
+          → PutsWell application number at (fit >>= λ fits. Ok (puts (made file)))
+          → GoesOn (suc most) objects (fit >>= λ fits. Ok (puts (made file)))
+      by_fit file (Err why) is well = (unchanged, unchanged)
+      by_fit file (Ok fits) is well = put_goes_on file new is well
+
+      by_file : (written : Result (List ℕ) FileFault) → PutsWell application number at ((file_or_refusal written >>= λ file. Ok (made file)) >>= fitting objects)
+          → GoesOn (suc most) objects ((file_or_refusal written >>= λ file. Ok (made file)) >>= fitting objects)
+      by_file (Err fault) well = (unchanged, unchanged)
+      by_file (Ok file) well = by_fit file (unless_other column rows (file_name application number) (object_at objects (file_name application number))) refl well
+
+  -- for the last number again nothing is put
+  again_goes_on : (same : Result (Unit {0}) Refusal) → GoesOn (suc most) objects (same >>= λ same. Ok stands)
+  again_goes_on (Ok same) = (unchanged, unchanged)
+  again_goes_on (Err why) = (unchanged, unchanged)
+
+  -- what is done behind the application's last batch, if there is one
+  behind_goes_on : (last : Option model.Batch) → last_batch application entries ≡ last
+      → PutsWell application number at (behind (is_repeat number (option_map (λ (b : model.Batch). b.number) last)))
+      → GoesOn (suc most) objects (behind (is_repeat number (option_map (λ (b : model.Batch). b.number) last)))
+  behind_goes_on None is well =
+      let open_ = stays_open objects column 0 entries application kept.kept in
+      new_goes_on (rw (is, open_) refl) well
+  behind_goes_on (Some before) is well = by_tests (ltb number before.number) (eqb number before.number) refl refl well
+    where
+      by_tests : (below equal : Bool) → ltb number before.number ≡ below → eqb number before.number ≡ equal
+          → PutsWell application number at (behind (cond below (Err (stale before.number)) (Ok equal)))
+          → GoesOn (suc most) objects (behind (cond below (Err (stale before.number)) (Ok equal)))
+      by_tests true equal under same well = (unchanged, unchanged)
+      by_tests false true over same well = again_goes_on (where_same column rows (file_name application number) (object_at objects (file_name application number)))
+      by_tests false false over other well =
+          let open_ = stays_open objects column 0 entries application kept.kept in
+          new_goes_on (rw (is, over, other, open_) refl) well
+
+-- An append over a table that is kept leaves one that is kept, however far it comes.
+pub append_goes_on : (objects : Objects) (column : List ℕ) (entries : List Entry) → IsKept objects column entries → AreFiles objects column → length entries < 2 ^ 62 → (most : ℕ) → length entries ≤ most
+    → (application : List ℕ) (number at : ℕ) (items : Items) → IsUtf8 application → PutsWell application number at (settled objects application number at items) → GoesOn (suc most) objects (settled objects application number at items)
+append_goes_on objects column entries kept files few most up application number at items utf8 well =
+    let is = step_is objects column entries application number at items kept few in
+    rw is (by_tests (checked application number (count items)) (rows_from 0 column items) refl (rw is at well))
+  where
+    by_tests : (fine : Result (Unit {0}) Refusal) (read : Result (List ℤ) Refusal) → checked application number (count items) ≡ fine → PutsWell application number at (step_behind objects column entries application number at fine read)
+        → GoesOn (suc most) objects (step_behind objects column entries application number at fine read)
+    by_tests (Err why) read is well = let same = keeps column entries kept files (omega (arith, up)) in (same, same)
+    by_tests (Ok passed) (Err why) is well = let same = keeps column entries kept files (omega (arith, up)) in (same, same)
+    by_tests (Ok passed) (Ok numbers) is well =
+        behind_goes_on objects column entries kept files few most up application number at utf8 (small_number application number (count items) is) numbers (last_batch application entries) refl well

@@ -1,0 +1,158 @@
+-- A read over a store that keeps a table is told what the plain table answers.
+use Rattle.std.proofs.Common.{◌≡◌, ℕ, suc, ◌+◌, ◌<◌, ◌^◌, ℤ, true, false, List, [], ◌∷◌, length, map, take, drop, Option, Some, None, Ok, Err, refl, sym, ap, ◌∙◌, arith, inl, inr, ◌⊎◌}
+use Rattle.std.specs.Prelude.{Result, ◌==◌, if◌then◌else◌}
+use Rattle.std.specs.List.{flat_map}
+use Rattle.std.proofs.lemmas.Bool.{cases_Bool}
+use Rattle.std.proofs.lemmas.Bool.Decides.{nat_tests}
+use Rattle.std.proofs.lemmas.List.Folds.{flat_map-map}
+use Rattle.store_core.specs.Objects.{Objects}
+use Rattle.delta_actions.specs.Entry as actions
+use Rattle.parquet_file.proofs.Only.{rows-only}
+use Rattle.table_store.specs.Names.{data_file_name}
+use Rattle.table_model.specs.Rows.{Row}
+use Rattle.table_store.specs.Schema.{row_of}
+use Rattle.table_model.specs.Table.{Entry, creation, batch, close, last}
+use Rattle.table_model.specs.Reads.{Answer, handed, beyond, bad_place, is_beyond, is_place, behind, part, next_place, end, read}
+use Rattle.table_model.specs.declared.reading.Place.{Place}
+use Rattle.sink_core.specs.Appending.{appending}
+use Rattle.commit_core.specs.Commits.{creation as created}
+use Rattle.commit_core.specs.Log.{Log, log_of}
+use Rattle.source_core.specs.Offsets.{offset_of}
+use Rattle.lake_bytes.specs.Results.{◌>>=◌}
+use Rattle.lake_script.specs.Tables as tables
+use Rattle.source_core.specs.Tailing as tails
+use Rattle.source_core.specs.Tailing.{Refusal, Handed, new_files, rows_of, rows_text, hand, handed_by, handed_text, tailed, files_at, end_of}
+use Rattle.lake_script.specs.Told.{tailed_reply}
+use Rattle.lake_script.proofs.Kept.{FileKept, IsMade, KeptFrom, IsKept}
+use Rattle.lake_script.proofs.KeptLog.{AreMade, kept_log, log_of_nothing}
+use Rattle.source_core.proofs.KeptTailWalk.{file_of, rows_in, behind_all, behind_last, walked, row_missing}
+use Rattle.source_core.proofs.KeptTailPlace.{IsEntryFound, AreEntriesFound, as_many_commits}
+use Rattle.source_core.proofs.KeptTailSpot.{Ahead, Spot, stands, no_file, no_row, spotted}
+
+-- ---- the commits of a table and their files
+
+-- the commit of an entry brings its file, which stands and reads as its rows
+entry_found : (objects : Objects) (column : List ℕ) (entry : Entry) (made : List actions.Entry) → IsMade column entry made → FileKept objects column entry → IsEntryFound objects column entry made
+unfolding created appending new_files rows_of
+entry_found objects column creation made is kept = rw is.are refl
+entry_found objects column (batch b) made is kept =
+    let name = data_file_name b.application b.number in
+    let reads = rows-only kept.0 column kept.2.numbers kept.2.file kept.2.limits in
+    (record { text = name; key = name }, kept.2.numbers, rw is.are refl, kept.2.are, λ version. rw (kept.1, reads) refl)
+entry_found objects column (close application) made is kept = absurd is
+
+-- so does each commit of a table
+entries_found : (objects : Objects) (column : List ℕ) (version : ℕ) (entries : List Entry) (commits : List (List actions.Entry)) → KeptFrom objects column version entries → AreMade column entries commits
+    → AreEntriesFound objects column entries commits
+entries_found objects column version [] [] kept made = tt
+entries_found objects column version [] (commit ∷ commits) kept made = absurd made
+entries_found objects column version (entry ∷ entries) [] kept made = absurd made
+entries_found objects column version (entry ∷ entries) (commit ∷ commits) kept made =
+    (entry_found objects column entry commit made.0 kept.1, entries_found objects column (suc version) entries commits kept.2 made.1)
+
+-- ---- a read
+
+-- What is handed out is what the plain table answers, its rows as numbers.
+abbrev pub IsTold : Answer → Result Handed Refusal → Type 0
+IsTold (handed rows next) said = (numbers : List ℤ) × (rows ≡ map row_of numbers) × (said ≡ Ok (record { rows = numbers; next = next }))
+IsTold (beyond next) said = said ≡ Err (tails.beyond_log next)
+IsTold (bad_place version) said = said ≡ Err (tails.bad_place version)
+
+-- a place that isn't beyond the log
+not_beyond : (place : Place) (entries : List Entry) → is_beyond place entries ≡ false → (place.version < 0 + length entries) ⊎ ((place.version ≡ 0 + length entries) × (place.file ≡ 0) × (place.row ≡ 0))
+not_beyond place entries near = grind (arith, nat_tests)
+
+module _ (objects : Objects) (column : List ℕ) (entries : List Entry) (commits : List (List actions.Entry)) (many : length commits ≡ length entries) (max : ℕ) (place : Place) where
+  -- the log
+  log : Log
+  log = record { column = column; commits = commits }
+
+  -- a place beyond the log is told as such
+  far_told : is_beyond place entries ≡ true → IsTold (read max place entries) (handed_by objects log max place)
+  unfolding handed_by log
+  far_told far = rw (far, many, far) refl
+
+  -- the log's test is the table's
+  near_commits : is_beyond place entries ≡ false → tails.unless_beyond place (length commits) ≡ Ok tt
+  near_commits near = rw (many, near) refl
+
+  -- what is handed out of the files from a place on
+  handed_of : is_beyond place entries ≡ false → tails.unless_no_file place (length (new_files (tails.commit_at place.version commits))) ≡ Ok tt → (files : List tails.LogFile) → files_at place commits ≡ files
+      → handed_by objects log max place ≡ hand objects column (end_of commits) max place.row [] place files
+  unfolding handed_by log
+  handed_of near file files are = rw (near_commits near, file, are) refl
+
+  -- the rows ahead of a place are handed out
+  rows_told : is_beyond place entries ≡ false → is_place place entries ≡ true → tails.unless_no_file place (length (new_files (tails.commit_at place.version commits))) ≡ Ok tt → Ahead objects column place 0 entries commits
+      → IsTold (read max place entries) (handed_by objects log max place)
+  rows_told near is file ahead =
+      let goes = walked objects column (end_of commits) ahead.founds max place.row [] place ahead.found ahead.within in
+      let out = take max (drop place.row (rows_in ahead.founds)) in
+      let same : out ≡ part max place entries = ap (λ (ps : List (Place × Row)). take max ps) (sym ahead.rows) in
+      let last_end : end_of commits ≡ end entries = ap (λ (n : ℕ). record { version = n; file = 0; row = 0 }) many in
+      let rows_are : map (λ p. p.1) (part max place entries) ≡ map row_of goes.handed.rows = ap (λ (ps : List (Place × Row)). map (λ p. p.1) ps) (sym same) ∙ sym goes.rows_are in
+      let onward : (if length out == max then behind_all place out else end_of commits) ≡ (if length out == max then behind place (last out) else end entries) = rw (last_end, behind_last place out) refl in
+      let next_is : goes.handed.next ≡ next_place max place entries = goes.onward ∙ onward ∙ ap (λ (ps : List (Place × Row)). if length ps == max then behind place (last ps) else end entries) same in
+      let said : handed_by objects log max place ≡ Ok (record { rows = goes.handed.rows; next = next_place max place entries }) =
+      handed_of near file (map file_of ahead.founds) ahead.files ∙ goes.said_is ∙ ap (λ (next : Place). Ok (record { rows = goes.handed.rows; next = next })) next_is in
+      rw (near, is) (goes.handed.rows, rows_are, said)
+
+  -- a place without a file or a row is told as such
+  bad_told : is_beyond place entries ≡ false → is_place place entries ≡ false → handed_by objects log max place ≡ Err (tails.bad_place place.version) → IsTold (read max place entries) (handed_by objects log max place)
+  bad_told near no_place said = rw (near, no_place) said
+
+  -- what is told of a place that isn't beyond the log
+  spot_told : is_beyond place entries ≡ false → Spot objects column place 0 place.version entries commits → IsTold (read max place entries) (handed_by objects log max place)
+  unfolding handed_by log
+  spot_told near (stands is file ahead) = rows_told near is file ahead
+  spot_told near (no_file is file) = bad_told near is (rw (near_commits near, file) refl)
+  spot_told near (no_row is file short) =
+      let read_on = row_missing objects column (end_of commits) short.first short.founds max place.row place short.found short.past_it in
+      bad_told near is (handed_of near file (map file_of (short.first ∷ short.founds)) short.files ∙ read_on ∙ ap (λ (version : ℕ). Err (tails.bad_place version)) short.at)
+
+-- A read of a log is what a read of the table answers.
+pub handed_told : (objects : Objects) (column : List ℕ) (entries : List Entry) (commits : List (List actions.Entry)) → KeptFrom objects column 0 entries → AreMade column entries commits → (max : ℕ) (place : Place)
+    → IsTold (read max place entries) (handed_by objects (record { column = column; commits = commits }) max place)
+unfolding log
+handed_told objects column entries commits kept made max place =
+    let found = entries_found objects column 0 entries commits kept made in
+    let many = as_many_commits objects column entries commits found in
+    elim (cases_Bool (is_beyond place entries)) [
+      | inl far ↦ far_told objects column entries commits many max place far
+      | inr near ↦ spot_told objects column entries commits many max place near (spotted objects column place 0 place.version entries commits found (omega arith) (not_beyond place entries near))
+    ]
+
+-- ---- its text
+
+-- what is told of an answer
+text_told : (column : List ℕ) (answer : Answer) (said : Result Handed Refusal) → IsTold answer said → tailed_reply (said >>= λ found. Ok (handed_text column found)) ≡ tables.read_text column answer
+text_told column (handed rows next) said told =
+    let lines : rows_text column told.0 ≡ flat_map (tables.row_line column) (map row_of told.0) = sym (flat_map-map (tables.row_line column) row_of told.0) in
+    rw (told.2, told.1, lines) refl
+text_told column (beyond next) said told = rw told refl
+text_told column (bad_place version) said told = rw told refl
+
+module _ (objects : Objects) (max : ℕ) (offset : List ℕ) where
+  -- a read from an offset on that can be read, by what is handed out
+  tail_from : (column : List ℕ) (entries : List Entry) (commits : List (List actions.Entry)) (place : Option Place) → offset_of offset ≡ place → log_of objects ≡ Ok (record { column = column; commits = commits })
+      → ((at : Place) → IsTold (read max at entries) (handed_by objects (record { column = column; commits = commits }) max at)) → tailed_reply (tailed objects max offset) ≡ tables.tail_reply (tables.table column entries) max place
+  unfolding tailed
+  tail_from column entries commits None is log told = rw is refl
+  tail_from column entries commits (Some place) is log told = rw (is, log) (text_told column (read max place entries) (handed_by objects (record { column = column; commits = commits }) max place) (told place))
+
+  -- the same over no objects
+  tail_of_none : (place : Option Place) → offset_of offset ≡ place → tailed_reply (tailed [] max offset) ≡ tables.tail_reply tables.nothing max place
+  unfolding tailed
+  tail_of_none None is = rw is refl
+  tail_of_none (Some place) is = rw (is, log_of_nothing) refl
+
+-- Over a store that keeps a table a read is told what the table tells.
+pub tail_told : (objects : Objects) (column : List ℕ) (entries : List Entry) → IsKept objects column entries → length entries < 2 ^ 62 → (max : ℕ) (offset : List ℕ)
+    → tailed_reply (tailed objects max offset) ≡ tables.tail_reply (tables.table column entries) max (offset_of offset)
+tail_told objects column entries kept few max offset =
+    let log = kept_log objects column entries kept few in
+    tail_from objects max offset column entries log.0 (offset_of offset) refl log.2 (λ place. handed_told objects column entries log.0 kept.kept log.1 max place)
+
+-- A read of nothing is told that there is no table.
+pub tail_of_nothing : (max : ℕ) (offset : List ℕ) → tailed_reply (tailed [] max offset) ≡ tables.tail_reply tables.nothing max (offset_of offset)
+tail_of_nothing max offset = tail_of_none [] max offset (offset_of offset) refl

@@ -1,0 +1,196 @@
+-- Where a store keeps a table, reads one after another hand out the table's rows.
+use Rattle.std.proofs.Common.{◌≡◌, ℕ, ◌<◌, ◌^◌, ℤ, true, List, [], ◌∷◌, ◌++◌, length, map, take, Result, Ok, Err, IsOk, refl, sym, ap, subst, ◌∙◌, arith}
+use Rattle.std.proofs.lemmas.List.{append-nil, map-append, length-map, take_all}
+use Rattle.store_core.specs.Objects.{Objects}
+use Rattle.table_model.specs.Rows.{Row}
+use Rattle.table_store.specs.Schema.{row_of}
+use Rattle.table_model.specs.Table.{Entry, rows}
+use Rattle.table_model.specs.Reads.{Answer, handed, beyond, bad_place, position, is_place, read}
+use Rattle.table_model.specs.Resumed as resumed
+use Rattle.table_model.specs.Resumed.{reads_on, growth, beginning}
+use Rattle.table_model.specs.declared.reading.Place.{Place}
+use Rattle.table_model.proofs.Grown.{beginning_is_place, is_answered}
+use Rattle.table_model.proofs.Resumed.{final_grows, log_from_beginning, onward_in_the_log, all_after_short}
+use Rattle.commit_core.specs.Log.{Log, Unreadable, log_of, bad_commit}
+use Rattle.lake_bytes.specs.Results.{◌>>=◌, refused_as}
+use Rattle.lake_script.specs.Tables.{State, nothing, table, entries_of}
+use Rattle.source_core.specs.Tailing.{Handed, Refusal, unreadable, handed_by, beyond_log, bad_place as bad_place_told}
+use Rattle.source_core.specs.Tails.{Tails, read_by, rows_handed, place_after, with_earlier, tails, HandOutTheLog, HandOutAll, AreAnswered}
+use Rattle.lake_script.proofs.Kept.{IsKept, Keeps}
+
+-- the store answers what the table answers
+abbrev pub IsRead : Result Handed Refusal → Answer → Type 0
+IsRead answered (handed out next) = (numbers : List ℤ) × (out ≡ map row_of numbers) × (answered ≡ Ok (record { rows = numbers; next = next }))
+IsRead answered (beyond next) = answered ≡ Err (beyond_log next)
+IsRead answered (bad_place version) = answered ≡ Err (bad_place_told version)
+
+-- each read over the objects answers what the table answers
+abbrev pub ReadsAs : Objects → List Entry → Type 0
+ReadsAs objects entries = (max : ℕ) (place : Place) → IsRead (read_by objects max place) (read max place entries)
+
+-- ---- one read
+
+-- it hands out the rows that the table hands out
+rows_as : (answered : Result Handed Refusal) (answer : Answer) → IsRead answered answer → map row_of (rows_handed answered) ≡ resumed.rows_of answer
+rows_as answered (handed out next) is = rw is.2 (sym is.1)
+rows_as answered (beyond next) is = rw is refl
+rows_as answered (bad_place version) is = rw is refl
+
+-- and its next read begins where the table's does
+next_as : (place : Place) (answered : Result Handed Refusal) (answer : Answer) → IsRead answered answer → place_after place answered ≡ resumed.next_after place answer
+next_as place answered (handed out next) is = rw is.2 refl
+next_as place answered (beyond next) is = rw is refl
+next_as place answered (bad_place version) is = rw is refl
+
+-- where the table hands out rows, the read isn't refused
+handed_is_answered : (answered : Result Handed Refusal) (answer : Answer) (out : List Row) (next : Place) → IsRead answered answer → answer ≡ handed out next → IsOk answered
+handed_is_answered answered answer out next is e =
+    let there : IsRead answered (handed out next) = subst (λ (a : Answer). IsRead answered a) e is in
+    rw there.2 refl
+
+-- ---- several reads
+
+-- the same reads of a table that doesn't grow
+abbrev still : List ℕ → List (ℕ × List Entry)
+still limits = map (λ max. (max, [])) limits
+
+-- such a table grows by nothing
+growth_still : (limits : List ℕ) → growth (still limits) ≡ []
+growth_still [] = refl
+growth_still (max ∷ limits) = growth_still limits
+
+-- and is in the end what it was
+final_still : (limits : List ℕ) (place : Place) (entries : List Entry) → (reads_on (still limits) place entries).final ≡ entries
+final_still limits place entries = final_grows (still limits) place entries ∙ ap (λ (es : List Entry). entries ++ es) (growth_still limits) ∙ append-nil entries
+
+-- the first of such reads, and those behind it
+reads_on_still : (max : ℕ) (limits : List ℕ) (place : Place) (entries : List Entry)
+    → reads_on (still (max ∷ limits)) place entries ≡ resumed.with_earlier (resumed.rows_of (read max place entries)) (reads_on (still limits) (resumed.next_after place (read max place entries)) entries)
+reads_on_still max limits place entries =
+    ap (λ (es : List Entry). resumed.with_earlier (resumed.rows_of (read max place es)) (reads_on (still limits) (resumed.next_after place (read max place es)) es)) (append-nil entries)
+
+-- reads over objects hand out what reads of the table hand out
+record AreSame (all : Tails) (said : resumed.Handed) : Type 0 where
+  rows : map row_of all.rows ≡ said.out
+  next : all.next ≡ said.next
+
+-- the same rows in front leave them the same
+earlier_same : (numbers : List ℤ) (out : List Row) (all : Tails) (said : resumed.Handed) → map row_of numbers ≡ out → AreSame all said → AreSame (with_earlier numbers all) (resumed.with_earlier out said)
+earlier_same numbers out all said is same = record { rows = map-append row_of numbers all.rows ∙ rw (is, same.rows) refl; next = same.next }
+
+module _ (objects : Objects) (entries : List Entry) (reads : ReadsAs objects entries) where
+  -- reads over objects hand out what those of the table do
+  all_same : (limits : List ℕ) (place : Place) → AreSame (tails objects limits place) (reads_on (still limits) place entries)
+  unfolding tails
+  all_same [] place = record { rows = refl; next = refl }
+  all_same (max ∷ limits) place =
+      let answered = read_by objects max place in
+      let answer = read max place entries in
+      let later : AreSame (tails objects limits (place_after place answered)) (reads_on (still limits) (resumed.next_after place answer) entries) =
+      subst (λ (p : Place). AreSame (tails objects limits (place_after place answered)) (reads_on (still limits) p entries)) (next_as place answered answer (reads max place)) (all_same limits (place_after place answered)) in
+      let all = earlier_same (rows_handed answered) (resumed.rows_of answer) (tails objects limits (place_after place answered)) (reads_on (still limits) (resumed.next_after place answer) entries) (rows_as answered answer (reads max place)) later in
+      subst (λ (h : resumed.Handed). AreSame (tails objects (max ∷ limits) place) h) (sym (reads_on_still max limits place entries)) all
+
+  -- they hand out the rows in order
+  reads_log : HandOutTheLog objects entries
+  reads_log limits =
+      let all = tails objects limits beginning in
+      let said = reads_on (still limits) beginning entries in
+      let same = all_same limits beginning in
+      let same_next : position said.next said.final ≡ position all.next entries = ap (λ (es : List Entry). position said.next es) (final_still limits beginning entries) ∙ ap (λ (p : Place). position p entries) (sym same.next) in
+      same.rows ∙ log_from_beginning (still limits) entries ∙ ap (λ (n : ℕ). take n (rows said.final)) same_next ∙ ap (λ (es : List Entry). take (position all.next entries) (rows es)) (final_still limits beginning entries)
+
+  -- the read behind others is answered with rows
+  record HandsRows (earlier : List ℕ) (max : ℕ) : Type 0 where
+    out : List Row
+    next : Place
+    is : read max (tails objects earlier beginning).next entries ≡ handed out next
+
+  -- since it begins at a place of the table
+  hands_rows : (earlier : List ℕ) (max : ℕ) → HandsRows earlier max
+  hands_rows earlier max =
+      let said = reads_on (still earlier) beginning entries in
+      let final = final_still earlier beginning entries in
+      let good : is_place said.next said.final ≡ true = (onward_in_the_log (still earlier) beginning entries (beginning_is_place entries)).1 in
+      let here : is_place said.next entries ≡ true = subst (λ (es : List Entry). is_place said.next es ≡ true) final good in
+      let answer = is_answered max said.next entries [] here in
+      let is : read max (tails objects earlier beginning).next entries ≡ handed answer.0 answer.1 =
+      ap (λ (p : Place). read max p entries) (all_same earlier beginning).next ∙ ap (λ (es : List Entry). read max said.next es) (sym (append-nil entries)) ∙ answer.2 in
+      record { out = answer.0; next = answer.1; is = is }
+
+  -- so it isn't refused
+  reads_answered : AreAnswered objects
+  reads_answered earlier max =
+      let place = (tails objects earlier beginning).next in
+      let h = hands_rows earlier max in
+      handed_is_answered (read_by objects max place) (read max place entries) h.out h.next (reads max place) h.is
+
+  -- where it had less to hand out than its limit, the rows are all
+  reads_all : HandOutAll objects entries
+  reads_all earlier max short =
+      let place = (tails objects earlier beginning).next in
+      let said = reads_on (still earlier) beginning entries in
+      let whole = reads_on (still earlier ++ (max, []) ∷ []) beginning entries in
+      let h = hands_rows earlier max in
+      let joined : still (earlier ++ max ∷ []) ≡ still earlier ++ (max, []) ∷ [] = map-append (λ (n : ℕ). (n, [])) earlier (max ∷ []) in
+      let table_then : said.final ++ [] ≡ entries = append-nil said.final ∙ final_still earlier beginning entries in
+      let is : read max said.next (said.final ++ []) ≡ handed h.out h.next =
+      ap (λ (es : List Entry). read max said.next es) table_then ∙ ap (λ (p : Place). read max p entries) (sym (all_same earlier beginning).next) ∙ h.is in
+      let rows_are : map row_of (rows_handed (read_by objects max place)) ≡ h.out = rows_as (read_by objects max place) (read max place entries) (reads max place) ∙ ap resumed.rows_of h.is in
+      let as_many : length h.out ≡ length (rows_handed (read_by objects max place)) = ap (λ (rs : List Row). length rs) (sym rows_are) ∙ length-map (rows_handed (read_by objects max place)) row_of in
+      let less : length h.out < max = omega (arith, short, as_many) in
+      let final : whole.final ≡ entries = ap (λ (r : List (ℕ × List Entry)). (reads_on r beginning entries).final) (sym joined) ∙ final_still (earlier ++ max ∷ []) beginning entries in
+      (all_same (earlier ++ max ∷ []) beginning).rows ∙ ap (λ (r : List (ℕ × List Entry)). (reads_on r beginning entries).out) joined
+      ∙ all_after_short (still earlier) max [] entries h.out h.next is less ∙ ap (λ (es : List Entry). rows es) final
+
+-- ---- over a store that keeps what a script made so far
+
+-- where the log is read, each read is one over it
+pub reads_as : (objects : Objects) (entries : List Entry) (log : Log) → log_of objects ≡ Ok log → ((max : ℕ) (place : Place) → IsRead (handed_by objects log max place) (read max place entries)) → ReadsAs objects entries
+reads_as objects entries log is answers max place =
+    subst (λ (answered : Result Handed Refusal). IsRead answered (read max place entries)) (ap (λ (found : Result Log Unreadable). refused_as unreadable found >>= λ l. handed_by objects l max place) (sym is)) (answers max place)
+
+-- what is known of single reads
+pub record GivenReads : Type 0 where
+  pub handed_told : (objects : Objects) (column : List ℕ) (entries : List Entry) → IsKept objects column entries → length entries < 2 ^ 62
+      → (log : Log) × (log_of objects ≡ Ok log) × ((max : ℕ) (place : Place) → IsRead (handed_by objects log max place) (read max place entries))
+  pub log_of_nothing : log_of [] ≡ Err (bad_commit 0)
+
+module _ (given : GivenReads) where
+  -- a store that keeps a table reads as it
+  kept_reads : (objects : Objects) (column : List ℕ) (entries : List Entry) → IsKept objects column entries → length entries < 2 ^ 62 → ReadsAs objects entries
+  kept_reads objects column entries kept small =
+      let told = given.handed_told objects column entries kept small in
+      reads_as objects entries told.0 told.1 told.2
+
+  -- where nothing stands, a read is refused
+  nothing_read : (max : ℕ) (place : Place) → read_by [] max place ≡ Err (unreadable (bad_commit 0))
+  nothing_read max place = ap (λ (found : Result Log Unreadable). refused_as unreadable found >>= λ l. handed_by [] l max place) given.log_of_nothing
+
+  -- so that reads hand out no rows
+  nothing_handed : (limits : List ℕ) (place : Place) → (tails [] limits place).rows ≡ []
+  unfolding tails
+  nothing_handed [] place = refl
+  nothing_handed (max ∷ limits) place = rw (nothing_read max place) (nothing_handed limits place)
+
+  -- nor do they as rows of a table
+  nothing_hands : (limits : List ℕ) (place : Place) → map row_of (tails [] limits place).rows ≡ []
+  nothing_hands limits place = ap (λ (numbers : List ℤ). map row_of numbers) (nothing_handed limits place)
+
+  -- reads hand out the rows of the table in order
+  pub hand_out_the_log : (objects : Objects) (state : State) → Keeps objects state → length (entries_of state) < 2 ^ 62 → HandOutTheLog objects (entries_of state)
+  hand_out_the_log objects nothing keeps small =
+      let none : HandOutTheLog [] [] = λ limits. nothing_hands limits beginning ∙ sym (take_all (position (tails [] limits beginning).next []) [] (omega arith)) in
+      subst (λ (o : Objects). HandOutTheLog o []) (sym keeps) none
+  hand_out_the_log objects (table column entries) keeps small = reads_log objects entries (kept_reads objects column entries keeps.0 small)
+
+  -- and all of them, where the last read handed out fewer than its limit
+  pub hand_out_all : (objects : Objects) (state : State) → Keeps objects state → length (entries_of state) < 2 ^ 62 → HandOutAll objects (entries_of state)
+  hand_out_all objects nothing keeps small =
+      let none : HandOutAll [] [] = λ earlier max short. nothing_hands (earlier ++ max ∷ []) beginning in
+      subst (λ (o : Objects). HandOutAll o []) (sym keeps) none
+  hand_out_all objects (table column entries) keeps small = reads_all objects entries (kept_reads objects column entries keeps.0 small)
+
+  -- and none is refused
+  pub are_answered : (objects : Objects) (column : List ℕ) (entries : List Entry) → IsKept objects column entries → length entries < 2 ^ 62 → AreAnswered objects
+  are_answered objects column entries kept small = reads_answered objects entries (kept_reads objects column entries kept small)

@@ -1,0 +1,162 @@
+-- A line's moment fits where a commit keeps one.
+use Rattle.std.proofs.Common.{◌≡◌, ℕ, ◌<◌, ◌≤◌, ◌^◌, ◌&&◌, ◌||◌, List, Option, Some, None, refl, subst, sym, ◌∙◌, arith, inl, inr, option_map, if◌then◌else◌, nat_le}
+use Rattle.std.proofs.lemmas.Bool.{cases_Bool, cond-true, cond-false, and_parts, leb-true}
+use Rattle.lake_script.specs.declared.verb.Verb.{Verb}
+use Rattle.lake_script.specs.declared.verb.Verb.TheVariants as verb
+use Rattle.lake_bytes.specs.Options.{◌>>=◌}
+use Rattle.lake_script.specs.Fields.{word_and_rest, number_of, number_between, moment_of, max_of, array_of}
+use Rattle.lake_script.specs.Lines.{Wish, append_head, append_from, close_from, tail_from, Task, IsTimelyTask, IsTimely, append, close, tail, create, task, show, tries, fault, start, step, land, foreign, asks, asked, bare_wish, wish_from, wish_split, wish_of, create_from, start_from, step_from, foreign_from, text_of, is_blank, is_comment, reading_of}
+
+kept_high : (low high : ℕ) (found : Option ℕ) (n : ℕ) → (found >>= λ m. if nat_le low m && nat_le m high then Some m else None) ≡ Some n → n ≤ high
+kept_high low high None n h = cc
+kept_high low high (Some m) n h =
+    elim (cases_Bool (nat_le low m && nat_le m high)) [
+      | inl t ↦
+          let same : Some m ≡ Some n = sym (cond-true _ _ _ t) ∙ h in
+          let is : m ≡ n = cc in
+          subst (λ k. k ≤ high) is (leb-true _ _ (and_parts _ _ t).1)
+      | inr f ↦ let wrong : None ≡ Some n = sym (cond-false _ _ _ f) ∙ h in cc
+    ]
+
+-- a moment is below the bound of a count
+moment_small : (text : List ℕ) (n : ℕ) → moment_of text ≡ Some n → n < 2 ^ 63
+unfolding number_between
+moment_small text n h = let high = kept_high 0 999_999_999_999_999 (number_of text) n h in omega arith
+
+some_timely : (v w : Wish) → IsTimely v → Some v ≡ Some w → IsTimely w
+some_timely v w t h = let is : v ≡ w = cc in subst IsTimely is t
+
+bind_timely : {A : Type 0} (x : Option A) (f : A → Option Wish) → ((a : A) (w : Wish) → x ≡ Some a → f a ≡ Some w → IsTimely w) → (w : Wish) → (x >>= f) ≡ Some w → IsTimely w
+bind_timely None f all w h = cc
+bind_timely (Some a) f all w h = all a w refl h
+
+map_timely : {A : Type 0} (x : Option A) (f : A → Wish) → ((a : A) → IsTimely (f a)) → (w : Wish) → option_map f x ≡ Some w → IsTimely w
+map_timely None f all w h = cc
+map_timely (Some a) f all w h = some_timely (f a) w (all a) h
+
+-- what every way to an answer gives, the answer has
+bind_all : {A B : Type 0} (P : B → Type 0) (x : Option A) (f : A → Option B) → ((a : A) (b : B) → x ≡ Some a → f a ≡ Some b → P b) → (b : B) → (x >>= f) ≡ Some b → P b
+bind_all P None f all b h = cc
+bind_all P (Some a) f all b h = all a b refl h
+
+some_all : {B : Type 0} (P : B → Type 0) (v b : B) → P v → Some v ≡ Some b → P b
+some_all P v b t h = let is : v ≡ b = cc in subst P is t
+
+task_timely : (x : Option Task) → ((t : Task) → x ≡ Some t → IsTimelyTask t) → (w : Wish) → option_map task x ≡ Some w → IsTimely w
+task_timely None all w h = cc
+task_timely (Some t) all w h = some_timely (task t) w (all t refl) h
+
+head_timely : (text : List ℕ) (head : List ℕ × ℕ × ℕ × List ℕ) → append_head text ≡ Some head → head.2 < 2 ^ 63
+unfolding append_head
+head_timely text head h =
+    bind_all (λ head. head.2 < 2 ^ 63) (word_and_rest text) _
+    (λ application u _ h1. bind_all (λ head. head.2 < 2 ^ 63) (word_and_rest application.1) _
+    (λ digits v _ h2. bind_all (λ head. head.2 < 2 ^ 63) (number_of digits.0) _
+    (λ number x _ h3. bind_all (λ head. head.2 < 2 ^ 63) (word_and_rest digits.1) _
+    (λ moment y _ h4. bind_all (λ head. head.2 < 2 ^ 63) (moment_of moment.0) _
+    (λ at z is h5. some_all (λ head. head.2 < 2 ^ 63) (application.0, number, at, moment.1) z (moment_small moment.0 at is) h5) y h4) x h3) v h2) u h1) head h
+
+append_timely : (text : List ℕ) (t : Task) → append_from text ≡ Some t → IsTimelyTask t
+unfolding append_from
+append_timely text t h =
+    bind_all IsTimelyTask (append_head text) _
+    (λ head u is h1. bind_all IsTimelyTask (array_of head.3) _
+    (λ rows v _ h2. some_all IsTimelyTask (append head.0 head.1 head.2 rows) v (head_timely text head is) h2) u h1) t h
+
+close_timely : (text : List ℕ) (t : Task) → close_from text ≡ Some t → IsTimelyTask t
+unfolding close_from
+close_timely text t h =
+    bind_all IsTimelyTask (word_and_rest text) _
+    (λ application u _ h1. bind_all IsTimelyTask (moment_of application.1) _
+    (λ at v _ h2. some_all IsTimelyTask (close application.0 at) v tt h2) u h1) t h
+
+tail_timely : (text : List ℕ) (t : Task) → tail_from text ≡ Some t → IsTimelyTask t
+unfolding tail_from
+tail_timely text t h =
+    bind_all IsTimelyTask (word_and_rest text) _
+    (λ digits u _ h1. bind_all IsTimelyTask (max_of digits.0) _
+    (λ max v _ h2. some_all IsTimelyTask (tail max digits.1) v tt h2) u h1) t h
+
+create_timely : (text : List ℕ) (w : Wish) → create_from text ≡ Some w → IsTimely w
+unfolding create_from
+create_timely text w h =
+    bind_timely (word_and_rest text) _
+    (λ id u _ h1. bind_timely (word_and_rest id.1) _
+    (λ moment v _ h2. bind_timely (moment_of moment.0) _
+    (λ at x is h3. some_timely (create id.0 at moment.1) x (moment_small moment.0 at is) h3) v h2) u h1) w h
+
+start_timely : (text : List ℕ) (w : Wish) → start_from text ≡ Some w → IsTimely w
+unfolding start_from
+start_timely text w h =
+    bind_timely (word_and_rest text) _ (λ actor u _ h1. bind_timely _ _ (λ job x _ h2. some_timely (start actor.0 job) x tt h2) u h1) w h
+
+step_timely : (text : List ℕ) (w : Wish) → step_from text ≡ Some w → IsTimely w
+unfolding step_from
+step_timely text w h =
+    bind_timely (word_and_rest text) _ (λ actor u _ h1. bind_timely _ _ (λ kind x _ h2. some_timely (step actor.0 kind) x tt h2) u h1) w h
+
+foreign_timely : (text : List ℕ) (w : Wish) → foreign_from text ≡ Some w → IsTimely w
+unfolding foreign_from
+foreign_timely text w h =
+    bind_timely (word_and_rest text) _ (λ digits u _ h1. bind_timely _ _ (λ version x _ h2. some_timely (foreign version digits.1) x tt h2) u h1) w h
+
+bare_timely : (v : Verb) (w : Wish) → bare_wish v ≡ Some w → IsTimely w
+bare_timely verb.Create w h = cc
+bare_timely verb.Append w h = cc
+bare_timely verb.Close w h = cc
+bare_timely verb.Checkpoint w h = some_timely _ w tt h
+bare_timely verb.Snapshot w h = some_timely _ w tt h
+bare_timely verb.History w h = some_timely _ w tt h
+bare_timely verb.Tail w h = cc
+bare_timely verb.Show w h = cc
+bare_timely verb.Hex w h = cc
+bare_timely verb.Tries w h = cc
+bare_timely verb.Fault w h = cc
+bare_timely verb.Start w h = cc
+bare_timely verb.Until w h = cc
+bare_timely verb.Step w h = cc
+bare_timely verb.Finish w h = cc
+bare_timely verb.Die w h = cc
+bare_timely verb.Land w h = cc
+bare_timely verb.Foreign w h = cc
+
+from_timely : (v : Verb) (text : List ℕ) (w : Wish) → wish_from v text ≡ Some w → IsTimely w
+from_timely verb.Create text w h = create_timely text w h
+from_timely verb.Append text w h = task_timely _ (append_timely text) w h
+from_timely verb.Close text w h = task_timely _ (close_timely text) w h
+from_timely verb.Checkpoint text w h = cc
+from_timely verb.Snapshot text w h = cc
+from_timely verb.History text w h = cc
+from_timely verb.Tail text w h = task_timely _ (tail_timely text) w h
+from_timely verb.Show text w h = map_timely _ show (λ _. tt) w h
+from_timely verb.Hex text w h = some_timely _ w tt h
+from_timely verb.Tries text w h = map_timely _ tries (λ _. tt) w h
+from_timely verb.Fault text w h = map_timely _ fault (λ _. tt) w h
+from_timely verb.Start text w h = start_timely text w h
+from_timely verb.Until text w h = some_timely _ w tt h
+from_timely verb.Step text w h = step_timely text w h
+from_timely verb.Finish text w h = some_timely _ w tt h
+from_timely verb.Die text w h = some_timely _ w tt h
+from_timely verb.Land text w h = map_timely _ land (λ _. tt) w h
+from_timely verb.Foreign text w h = foreign_timely text w h
+
+split_timely : (text : List ℕ) (split : Option (List ℕ × List ℕ)) (w : Wish) → wish_split text split ≡ Some w → IsTimely w
+split_timely text None w h = bind_timely _ bare_wish (λ v u _ h1. bare_timely v u h1) w h
+split_timely text (Some p) w h = bind_timely _ (λ v. wish_from v p.1) (λ v u _ h1. from_timely v p.1 u h1) w h
+
+wish_timely : (text : List ℕ) (w : Wish) → wish_of text ≡ Some w → IsTimely w
+unfolding wish_of
+wish_timely text w h = split_timely text (word_and_rest text) w h
+
+asked_timely : (x : Option Wish) → ((u : Wish) → x ≡ Some u → IsTimely u) → (w : Wish) → asked x ≡ asks w → IsTimely w
+asked_timely None all w h = cc
+asked_timely (Some u) all w h = let is : u ≡ w = cc in subst IsTimely is (all u refl)
+
+-- what a line asks for has a moment that fits
+pub reading_timely : (bytes : List ℕ) (w : Wish) → asks w ≡ reading_of bytes → IsTimely w
+unfolding reading_of
+reading_timely bytes w h =
+    elim (cases_Bool (is_blank bytes || is_comment bytes)) [
+      | inl t ↦ let wrong = h ∙ cond-true _ _ _ t in cc
+      | inr f ↦ asked_timely _ (λ u e. bind_timely (text_of bytes) wish_of (λ text v _ h1. wish_timely text v h1) u e) w (sym (h ∙ cond-false _ _ _ f))
+    ]

@@ -1,0 +1,74 @@
+-- From one line's reply to what a whole script may be told.
+use Rattle.std.proofs.Common.{◌≡◌, ℕ, ◌+◌, ◌∷◌, [], ◌++◌, List, Option, None, Some, Result, Ok, Err, OnErr, true, false, inl, inr, refl, ap, subst, sym, ◌∙◌, append_assoc, append-nil}
+use Rattle.std.specs.Io.KnownBytes.{Appends, append_known}
+use Rattle.store_core.specs.Objects.{Objects}
+use Rattle.lake_script.specs.Lines.{reading_of}
+use Rattle.lake_script.specs.Runs.{IsCutOff, Replies, Runs, done, stops, goes_on, RunsInPart, waits, begins, follows, Tells, TellsFront}
+use Rattle.lake_script.specs.Streams.{StandsIn}
+use Rattle.lake_script.specs.Told.{is_bad}
+use Rattle.lake_script.proofs.StreamLemmas.{Appends-both, Towards, stands_in_whole}
+
+-- whatever the lines that are left are told, all of them or some, the whole is told behind what was told so far
+abbrev pub Onward : Objects → List (List ℕ) → ℕ → Objects → List (List ℕ) → List ℕ → Type 0
+Onward start whole number objects lines front =
+    ((rest : List ℕ) (final : Objects) → Runs number objects lines rest final → Runs 1 start whole (front ++ rest) final)
+    × ((rest : List ℕ) (final : Objects) → RunsInPart number objects lines rest final → RunsInPart 1 start whole (front ++ rest) final)
+
+module _ (start : Objects) (whole : List (List ℕ)) where
+  module _ (old now new : Option (List ℕ)) (number : ℕ) (objects : Objects) (line : List ℕ) (lines : List (List ℕ)) (after : Objects) where
+    pub onward_next : Tells old now (Onward start whole number objects (line ∷ lines)) → is_bad (reading_of line) ≡ false → Tells now new (λ reply. Replies number objects (reading_of line) reply after)
+        → Tells old new (Onward start whole (number + 1) after lines)
+    onward_next t more s = (
+      t.0 ++ s.0,
+      Appends-both old now new t.0 s.0 t.1 s.1,
+      (
+        λ rest final r. subst (λ u. Runs 1 start whole u final) (sym (append_assoc t.0 s.0 rest)) (t.2.0 (s.0 ++ rest) final (goes_on s.0 rest after more s.2 r)),
+        λ rest final r. subst (λ u. RunsInPart 1 start whole u final) (sym (append_assoc t.0 s.0 rest)) (t.2.1 (s.0 ++ rest) final (follows s.0 rest after more s.2 r)),
+      ),
+    )
+
+    pub onward_stops : Tells old now (Onward start whole number objects (line ∷ lines)) → is_bad (reading_of line) ≡ true → Tells now new (λ reply. Replies number objects (reading_of line) reply after)
+        → Tells old new (λ written. Runs 1 start whole written after)
+    onward_stops t ends s = (t.0 ++ s.0, Appends-both old now new t.0 s.0 t.1 s.1, t.2.0 s.0 after (stops ends s.2))
+
+    -- what stands in what was told so far stands in it with more behind it
+    behind : (t : Tells old now (Onward start whole number objects (line ∷ lines))) (more : List ℕ) → StandsIn now new [] → StandsIn old new (t.0 ++ more)
+    behind t more s = stands_in_whole old now new more (t.0 ++ more) (record { front = t.0; added = t.1; joins = refl }) s
+
+    -- what stands where a reply isn't given is a front of what was told so far, and of that reply
+    pub onward_front : Tells old now (Onward start whole number objects (line ∷ lines)) → StandsIn now new [] → IsCutOff number objects (reading_of line) after
+        → TellsFront old new (λ written. RunsInPart 1 start whole written after)
+    onward_front t s (inl same) = (t.0 ++ [], behind t [] s, subst (λ u. RunsInPart 1 start whole (t.0 ++ []) u) (sym same) (t.2.1 [] objects waits))
+    onward_front t s (inr (reply, is)) = (t.0 ++ reply, behind t reply s, t.2.1 reply after (begins is))
+
+  pub onward_done : (old now : Option (List ℕ)) (number : ℕ) (objects : Objects) → Tells old now (Onward start whole number objects [])
+      → Tells old now (λ written. Runs 1 start whole written objects)
+  onward_done old now number objects t = (t.0, t.1, subst (λ u. Runs 1 start whole u objects) (append-nil t.0) (t.2.0 [] objects done))
+
+nothing_known : (contents : Option (List ℕ)) → append_known contents [] ≡ contents
+nothing_known None = refl
+nothing_known (Some bytes) = ap Some (append-nil bytes)
+
+-- what is told is written once nothing waits
+pub tells_through : (Holds : List ℕ → Type 0) (old mid contents : Option (List ℕ)) (pending : List ℕ) → Tells old mid Holds → Appends mid (append_known contents pending) [] → pending ≡ [] → Tells old contents Holds
+tells_through Holds old mid contents pending t flushed none =
+    let all = subst (λ u. Appends old (append_known contents pending) u) (append-nil t.0) (Appends-both old mid (append_known contents pending) t.0 [] t.1 flushed) in
+    (t.0, subst (λ u. Appends old u t.0) (ap (append_known contents) none ∙ nothing_known contents) all, t.2)
+
+-- what all lines are told is told for the first of them
+pub in_part : (number : ℕ) (objects : Objects) (lines : List (List ℕ)) (written : List ℕ) (final : Objects) → Runs number objects lines written final → RunsInPart number objects lines written final
+in_part number objects lines written final done = waits
+in_part number objects (line ∷ lines) written final (stops ends is) = begins is
+in_part number objects (line ∷ lines) written final (goes_on reply rest after more is runs) = follows reply rest after more is (in_part (number + 1) after lines rest final runs)
+
+-- what stands where it isn't written whole is a front of it
+pub whole_front : (start : Objects) (whole : List (List ℕ)) (old now new : Option (List ℕ)) (after : Objects) → Tells old now (λ written. Runs 1 start whole written after) → StandsIn now new []
+    → TellsFront old new (λ written. RunsInPart 1 start whole written after)
+whole_front start whole old now new after t s =
+    let towards : Towards old now [] t.0 = record { front = t.0; added = t.1; joins = append-nil t.0 } in
+    (t.0, stands_in_whole old now new [] t.0 towards s, in_part 1 start whole t.0 after t.2)
+
+-- what holds holds of an error too
+pub on_err : {T E : Type 0} (r : Result T E) (P : Type 0) → P → OnErr r P
+on_err (Ok x) P p = tt
+on_err (Err e) P p = p

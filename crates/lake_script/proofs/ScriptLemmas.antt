@@ -1,0 +1,31 @@
+-- From the objects to the plain table, for a whole script.
+use Rattle.std.proofs.Common.{◌≡◌, ◌≤◌, ◌^◌, ℕ, [], List, Option, length, subst, sym, ap, ◌∙◌, arith}
+use Rattle.std.proofs.lemmas.List.Splits.{length-slice_split}
+use Rattle.std.proofs.lemmas.List.Sums.{count_by-le-length}
+use Rattle.std.specs.Io.KnownBytes.{Appends}
+use Rattle.store_core.specs.Objects.{Objects}
+use Rattle.lake_script.specs.Scripts.{HoldsState, IsScript, ReadsOut}
+use Rattle.lake_script.specs.Sound.{AreSound}
+use Rattle.lake_script.specs.Tables as tables
+use Rattle.lake_script.specs.Told.{is_newline, lines_of, told, left}
+use Rattle.lake_script.proofs.KeptRuns.{told_by_tables, left_is_kept, left_is_short}
+use Rattle.lake_script.proofs.KeptScripts.{lines_told, kept_held, kept_reads_out}
+
+-- a text has one line more than newlines
+pub few_lines : (text : List ℕ) → length text ≤ 2 ^ 30 → length (lines_of text) ≤ 2 ^ 31
+few_lines text short = omega (length-slice_split is_newline text, count_by-le-length is_newline text, arith)
+
+pub script_told : (old new : Option (List ℕ)) (text : List ℕ) (before after : Objects) → length text ≤ 2 ^ 30 → before ≡ []
+    → Appends old new (told before text) → after ≡ left before text → AreSound before (lines_of text) → IsScript old new text after
+script_told old new text before after short empty said leaves sound =
+    let lines = lines_of text in
+    let few = few_lines text short in
+    let whole = subst (λ objects. AreSound objects lines) empty sound in
+    let is = sym (leaves ∙ ap (λ objects. left objects text) empty) in
+    let small = left_is_short lines few in
+    let keeps = left_is_kept lines_told lines few whole in
+    record {
+      by_table = λ of_table. subst (Appends old new) (ap (λ objects. told objects text) empty ∙ told_by_tables lines_told lines few whole of_table) said;
+      holds = subst (λ objects. HoldsState objects (tables.left text)) is (kept_held _ (tables.left text) keeps small);
+      reads = subst (λ objects. ReadsOut objects (tables.left text)) is (kept_reads_out _ (tables.left text) keeps small);
+    }

@@ -1,0 +1,32 @@
+use Rattle.lake_script.proofs.KeptGrown.{part_is_lawful}
+use Rattle.lake_script.proofs.RunsLemmas.{in_part}
+use Rattle.lake_script.proofs.ScriptLemmas.{few_lines, script_told}
+use Rattle.lake_script.proofs.engine.answer_text.Goals as goal
+
+pub returns-in-Ok-None-clause-script : goal.returns-in-Ok-None-clause-script
+returns-in-Ok-None-clause-script g c = λ reliable empty whole.
+    script_told _ _ _ _ _ c.requires empty (c.in-Ok-None.ensures.told reliable whole) (c.in-Ok-None.ensures.left reliable whole) (c.in-Ok-None.ensures.sound reliable whole)
+
+pub returns-in-Ok-Some-clause-script : goal.returns-in-Ok-Some-clause-script
+returns-in-Ok-Some-clause-script g c = λ reliable empty whole.
+    script_told _ _ _ _ _ c.requires empty (c.in-Ok-Some.ensures.told reliable whole) (c.in-Ok-Some.ensures.left reliable whole) (c.in-Ok-Some.ensures.sound reliable whole)
+
+pub returns-in-Ok-None-clause-lawful : goal.returns-in-Ok-None-clause-lawful
+returns-in-Ok-None-clause-lawful g c = λ reliable empty.
+    let told = c.in-Ok-None.ensures.tells reliable in
+    part_is_lawful _ _ told.0 _ (few_lines _ c.requires) empty (in_part 1 _ _ told.0 _ told.2)
+
+pub returns-in-Ok-Some-clause-lawful : goal.returns-in-Ok-Some-clause-lawful
+returns-in-Ok-Some-clause-lawful g c = λ reliable empty.
+    let told = c.in-Ok-Some.ensures.tells reliable in
+    part_is_lawful _ _ told.0 _ (few_lines _ c.requires) empty (in_part 1 _ _ told.0 _ told.2)
+
+pub returns-then-is_short-clause-lawful : goal.returns-then-is_short-clause-lawful
+returns-then-is_short-clause-lawful g c = λ reliable empty.
+    let told = c.in-Err.ensures.front reliable in
+    part_is_lawful _ _ told.0 _ (few_lines _ c.requires) empty told.2
+
+pub returns-else-is_short-clause-lawful : goal.returns-else-is_short-clause-lawful
+returns-else-is_short-clause-lawful g c = λ reliable empty.
+    let told = c.in-Err.ensures.front reliable in
+    part_is_lawful _ _ told.0 _ (few_lines _ c.requires) empty told.2

@@ -1,0 +1,78 @@
+-- The fields of a line: words, numbers, and arrays.
+use Rattle.std.specs.Prelude.{◌≡◌, ℕ, ◌^◌, ◌==◌, ◌&&◌, List, length, Option, Some, None, Result, Ok, Err, nat_lt, nat_le, if◌then◌else◌, Bool}
+use Rattle.std.specs.List.{position_or_len, before_first, after_first}
+use Rattle.std.specs.Str.{all_ascii_digits}
+use Rattle.std.specs.Str.Parse.{digits_value, without_leading_plus}
+use Rattle.serde_json.specs.Data.{Data, null, boolean, number, string, array, object, Items}
+use Rattle.serde_json.specs.Read.{read}
+use Rattle.serde_json.specs.Errors.{IsMemory}
+use Rattle.serde_json.specs.declared.error.Error.{Error}
+use Rattle.lake_bytes.specs.Options.{◌>>=◌}
+use Rattle.lake_script.specs.declared.fields.FieldError.{FieldError}
+use Rattle.lake_script.specs.declared.fields.FieldError.TheVariants.{Malformed, Memory}
+
+-- What was read, seen by view, is what the text says, and nothing was read where it says nothing, unless memory ran out.
+abbrev pub Fails : {Y : Type 0} → FieldError → Option Y → Type 0
+Fails Malformed said = said ≡ None
+Fails Memory said = Unit {0}
+
+abbrev pub Gives : {X Y : Type 0} → (X → Y) → Result X FieldError → Option Y → Type 0
+Gives view (Ok x) said = said ≡ Some (view x)
+Gives view (Err e) said = Fails e said
+
+-- A text that isn't JSON is malformed, and a refused growth stays one.
+abbrev pub FaultOf : Error → FieldError → Type 0
+FaultOf error fault = (IsMemory error → fault ≡ Memory) × (¬ (IsMemory error) → fault ≡ Malformed)
+
+-- a space
+abbrev pub is_space : ℕ → Bool
+is_space byte = byte == 32
+
+-- what stands before the first space, and what stands behind it
+abbrev pub word_and_rest : List ℕ → Option (List ℕ × List ℕ)
+word_and_rest text =
+    if position_or_len is_space text == length text
+    then None
+    else Some (before_first is_space text, after_first is_space text)
+
+-- decimal digits of a number below 2^64
+abbrev pub is_number : List ℕ → Bool
+is_number digits = nat_lt 0 (length digits) && (all_ascii_digits digits && nat_lt (digits_value 10 digits) (2 ^ 64))
+
+-- the number that a text reads as: digits, with at most one plus before them
+unfoldable pub number_of : List ℕ → Option ℕ
+number_of text =
+    if is_number (without_leading_plus text)
+    then Some (digits_value 10 (without_leading_plus text))
+    else None
+
+-- a number that is neither below the one bound nor above the other
+unfoldable pub number_between : ℕ → ℕ → List ℕ → Option ℕ
+number_between low high text = do
+  n ← number_of text
+  if nat_le low n && nat_le n high then Some n else None
+
+-- milliseconds
+abbrev pub moment_of : List ℕ → Option ℕ
+moment_of text = number_between 0 999_999_999_999_999 text
+
+-- how many rows a read hands out at most
+abbrev pub max_of : List ℕ → Option ℕ
+max_of text = number_between 0 65_536 text
+
+-- how often a session tries to put its commit
+abbrev pub tries_of : List ℕ → Option ℕ
+tries_of text = number_between 1 64 text
+
+-- what an array has in it
+abbrev pub items_in : Data → Option Items
+items_in null = None
+items_in (boolean b) = None
+items_in (number n) = None
+items_in (string s) = None
+items_in (array items) = Some items
+items_in (object _) = None
+
+-- the members of a JSON array
+unfoldable pub array_of : List ℕ → Option Items
+array_of text = read text >>= items_in

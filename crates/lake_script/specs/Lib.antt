@@ -1,0 +1,12 @@
+pub mod Fields
+pub mod Growth
+pub mod Lines
+pub mod Names
+pub mod Replies
+pub mod ReplyView
+pub mod Runs
+pub mod Scripts
+pub mod Sound
+pub mod Streams
+pub mod Tables
+pub mod Told

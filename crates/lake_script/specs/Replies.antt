@@ -1,0 +1,29 @@
+-- The texts of replies.
+use Rattle.std.specs.Prelude.{ℕ, List, [], ◌∷◌, ◌++◌, codes}
+use Rattle.std.specs.Fmt.{decimal}
+use Rattle.commit_core.specs.Texts.{line_of}
+use Rattle.lake_script.specs.declared.faults.Fault.{Fault}
+use Rattle.lake_script.specs.declared.faults.Fault.TheVariants.{NotYet, NoSuchName, NotRead, NotWritten}
+
+-- a fault: its code and its name
+abbrev pub fault_text : Fault → List ℕ
+fault_text NotYet = codes "N1 NotYet"
+fault_text NoSuchName = codes "Q1 NoSuchName"
+fault_text NotRead = codes "F3 NotRead"
+fault_text NotWritten = codes "F4 NotWritten"
+
+-- the reply to a line that is none, by its number
+abbrev pub bad_line : ℕ → List ℕ
+bad_line number = line_of (codes "bad line " ++ decimal number)
+
+-- the reply where version 0 was put
+abbrev pub created : List ℕ
+created = codes "Created 0"
+
+-- the reply where a batch was put with the commit of that version
+abbrev pub committed_at : ℕ → List ℕ
+committed_at version = codes "Committed " ++ decimal version
+
+-- the reply where the application's last batch has that number, and stands already
+abbrev pub already : ℕ → List ℕ
+already number = codes "Already " ++ decimal number

@@ -1,0 +1,96 @@
+-- What a script may be told where growths are refused, or replies can't be written: a line that wants memory is told just
+-- that, and leaves the objects as they were, but for a batch's file, which may stand.
+use Rattle.std.specs.Prelude.{◌≡◌, ◌⊎◌, ◌+◌, ◌++◌, ℕ, true, false, List, [], ◌∷◌, Option}
+use Rattle.std.specs.Io.KnownBytes.{Appends}
+use Rattle.store_core.specs.Objects.{Objects}
+use Rattle.store_core.specs.Texts as stores
+use Rattle.store_core.specs.declared.fault.StoreFault.TheVariants as store_faults
+use Rattle.commit_core.specs.declared.fault.CreateFault.TheVariants as create_faults
+use Rattle.sink_core.specs.Appending.{settled, MayHoldFile}
+use Rattle.lake_script.specs.Growth.{MayPut}
+use Rattle.commit_core.specs.Histories.{unanswered}
+use Rattle.lake_script.specs.Lines.{append, tail, Wish, create, task, history, show, hex, Reading, skipped, bad, asks, reading_of}
+use Rattle.sink_core.specs.Refusals.{refusal_text, memory}
+use Rattle.commit_core.specs.Texts.{create_fault_text, refused, line_of}
+use Rattle.lake_script.specs.Replies.{bad_line}
+use Rattle.lake_script.specs.Streams.{StandsIn}
+use Rattle.source_core.specs.TailFaults as tail_texts
+use Rattle.source_core.specs.Tailing as tails
+use Rattle.lake_script.specs.Told.{lines_of, is_bad, reply_to_wish, left_by_wish}
+
+-- the replies to lines that create a table, append a batch, show an object, read rows and tell the history, where a
+-- growth was refused
+abbrev pub no_room_to_create : List ℕ
+no_room_to_create = line_of (refused (create_fault_text create_faults.Memory))
+
+abbrev pub no_room_to_append : List ℕ
+no_room_to_append = line_of (refused (refusal_text memory))
+
+abbrev pub no_room_to_show : List ℕ
+no_room_to_show = line_of (refused (stores.fault_text store_faults.Memory))
+
+abbrev pub no_room_to_read : List ℕ
+no_room_to_read = line_of (refused (tail_texts.refusal_text tails.memory))
+
+abbrev pub no_room_to_tell : List ℕ
+no_room_to_tell = line_of (refused (unanswered store_faults.Memory))
+
+-- the reply to a line whose growth was refused; no other line is told so
+abbrev pub IsWantOfMemory : Wish → List ℕ → Type 0
+IsWantOfMemory (create id at schema) reply = reply ≡ no_room_to_create
+IsWantOfMemory (task (append application number at rows)) reply = reply ≡ no_room_to_append
+IsWantOfMemory (task (tail max offset)) reply = reply ≡ no_room_to_read
+IsWantOfMemory history reply = reply ≡ no_room_to_tell
+IsWantOfMemory (show version) reply = reply ≡ no_room_to_show
+IsWantOfMemory (hex name) reply = reply ≡ no_room_to_show
+IsWantOfMemory _ reply = ⊥
+
+-- the objects behind a line whose growth was refused: as they were, or with the file of the batch that it appends
+abbrev pub MayLeave : Objects → Wish → Objects → Type 0
+MayLeave objects (task (append application number at rows)) after = MayHoldFile objects (settled objects application number at rows) after
+MayLeave objects _ after = after ≡ objects
+
+-- a line has what it asks for, or is told of want of memory and leaves the objects as they were, but for a batch's file
+abbrev pub Grants : Objects → Wish → List ℕ → Objects → Type 0
+Grants objects wish reply after =
+    ((reply ≡ reply_to_wish objects wish) × (after ≡ left_by_wish objects wish)) ⊎ (IsWantOfMemory wish reply × MayLeave objects wish after)
+
+-- the reply to a line of that number, and the objects behind it; what was put is well made
+abbrev pub Replies : ℕ → Objects → Reading → List ℕ → Objects → Type 0
+Replies number objects skipped reply after = (reply ≡ []) × (after ≡ objects)
+Replies number objects bad reply after = (reply ≡ bad_line number) × (after ≡ objects)
+Replies number objects (asks wish) reply after = Grants objects wish reply after × MayPut objects wish after
+
+-- the objects behind a line that was told nothing: it wasn't read, or its reply wasn't given
+abbrev pub IsCutOff : ℕ → Objects → Reading → Objects → Type 0
+IsCutOff number objects reading after = (after ≡ objects) ⊎ ((reply : List ℕ) × Replies number objects reading reply after)
+
+-- what may be told for these lines, of which the first has that number, and the objects behind them; a bad line ends them
+pub data Runs : ℕ → Objects → List (List ℕ) → List ℕ → Objects → Type 0 where
+  done : {number : ℕ} {objects : Objects} → Runs number objects [] [] objects
+  stops : {number : ℕ} {objects : Objects} {line : List ℕ} {lines : List (List ℕ)} {reply : List ℕ} {after : Objects}
+      → is_bad (reading_of line) ≡ true → Replies number objects (reading_of line) reply after → Runs number objects (line ∷ lines) reply after
+  goes_on : {number : ℕ} {objects final : Objects} {line : List ℕ} {lines : List (List ℕ)} (reply rest : List ℕ) (after : Objects)
+      → is_bad (reading_of line) ≡ false → Replies number objects (reading_of line) reply after → Runs (number + 1) after lines rest final
+      → Runs number objects (line ∷ lines) (reply ++ rest) final
+
+-- what may be told for some first of these lines, and the objects behind them; the last of them may be bad
+pub data RunsInPart : ℕ → Objects → List (List ℕ) → List ℕ → Objects → Type 0 where
+  waits : {number : ℕ} {objects : Objects} {lines : List (List ℕ)} → RunsInPart number objects lines [] objects
+  begins : {number : ℕ} {objects : Objects} {line : List ℕ} {lines : List (List ℕ)} {reply : List ℕ} {after : Objects}
+      → Replies number objects (reading_of line) reply after → RunsInPart number objects (line ∷ lines) reply after
+  follows : {number : ℕ} {objects final : Objects} {line : List ℕ} {lines : List (List ℕ)} (reply rest : List ℕ) (after : Objects)
+      → is_bad (reading_of line) ≡ false → Replies number objects (reading_of line) reply after → RunsInPart (number + 1) after lines rest final
+      → RunsInPart number objects (line ∷ lines) (reply ++ rest) final
+
+-- this may be told for a script over these objects, its lines counted from 1
+abbrev pub MayBeTold : Objects → List ℕ → List ℕ → Type 0
+MayBeTold objects text written = (after : Objects) × Runs 1 objects (lines_of text) written after
+
+-- what a writer holds now is what it held, with some bytes behind it of which this is so
+abbrev pub Tells : Option (List ℕ) → Option (List ℕ) → (List ℕ → Type 0) → Type 0
+Tells old new Holds = (bytes : List ℕ) × Appends old new bytes × Holds bytes
+
+-- what a writer holds now is a front of what it held and some bytes behind it, of which this is so
+abbrev pub TellsFront : Option (List ℕ) → Option (List ℕ) → (List ℕ → Type 0) → Type 0
+TellsFront old new Holds = (bytes : List ℕ) × StandsIn old new bytes × Holds bytes

@@ -1,0 +1,33 @@
+-- What holds of a whole script that began with an empty store.
+use Rattle.std.specs.Prelude.{◌≡◌, ℕ, List, [], Option}
+use Rattle.std.specs.Io.KnownBytes.{Appends}
+use Rattle.store_core.specs.Objects.{Objects}
+use Rattle.table_store.specs.Holds.{Holds}
+use Rattle.table_model.specs.Lawful.{IsLawful}
+use Rattle.lake_script.specs.Tables.{State, nothing, table, told, left, entries_of, AreOfTable}
+use Rattle.source_core.specs.Tails.{HandOutTheLog, HandOutAll, AreAnswered}
+use Rattle.lake_script.specs.Told.{lines_of}
+
+-- the store holds the table that a script has made
+abbrev pub HoldsState : Objects → State → Type 0
+HoldsState objects nothing = objects ≡ []
+HoldsState objects (table column entries) = Holds objects (record { column = column }) entries × IsLawful entries
+
+-- Where there is a table, no read is refused that goes on where the one before ended.
+abbrev pub AnswersReads : Objects → State → Type 0
+AnswersReads objects nothing = Unit {0}
+AnswersReads objects (table column entries) = AreAnswered objects
+
+-- Reads over the store of a table that follow one another are answered, and hand out the table's rows, whatever their
+-- limits: from the beginning up to where they came, and all once one hands out fewer rows than its limit.
+pub record ReadsOut (objects : Objects) (state : State) : Type 0 where
+  pub answered : AnswersReads objects state
+  pub up_to : HandOutTheLog objects (entries_of state)
+  pub all : HandOutAll objects (entries_of state)
+
+-- What is written behind what was held is what the plain table tells, where no line shows an object; and the objects
+-- hold the table that the lines leave. Reads over them that follow one another hand out its rows.
+pub record IsScript (held written : Option (List ℕ)) (text : List ℕ) (objects : Objects) : Type 0 where
+  pub by_table : AreOfTable (lines_of text) → Appends held written (told text)
+  pub holds : HoldsState objects (left text)
+  pub reads : ReadsOut objects (left text)

@@ -1,0 +1,23 @@
+-- What an input has left, and what an output holds.
+use Rattle.std.specs.Prelude.{◌≡◌, ◌++◌, ℕ, List, Option, None, Some, ⊤}
+use Rattle.std.specs.Io.KnownBytes.{append_known, Consumes}
+use Rattle.lake_script.specs.declared.inputs.Input.{Input}
+use Rattle.lake_script.specs.declared.outputs.Output.{Output}
+
+-- the bytes that an input will give, where its reader tells them
+abbrev pub unread : {R : Type 0} → (R → Option (List ℕ)) → Input R → Option (List ℕ)
+unread remaining input = remaining input.reader
+
+-- bytes went from an input to the end of a text
+abbrev pub Moves : Option (List ℕ) → Option (List ℕ) → List ℕ → List ℕ → Type 0
+Moves old new before after = (bytes : List ℕ) × Consumes old new bytes × (after ≡ before ++ bytes)
+
+-- the bytes that an output's writer holds, and those that wait to be written, where the writer tells its own
+abbrev pub held : {W : Type 0} → (W → Option (List ℕ)) → Output W → Option (List ℕ)
+held contents output = append_known (contents output.writer) output.pending.items
+
+-- what a writer holds now is a front of what it held with these bytes behind it
+abbrev pub StandsIn : Option (List ℕ) → Option (List ℕ) → List ℕ → Type 0
+StandsIn None now bytes = ⊤
+StandsIn (Some before) None bytes = ⊥
+StandsIn (Some before) (Some now) bytes = (rest : List ℕ) × (now ++ rest ≡ before ++ bytes)

@@ -1,0 +1,195 @@
+-- What a script is told, by a plain table: a column and a list of entries, one a version. No store, file or commit is
+-- spoken of; a data file's name stands in one reply. Lines that show an object are none of a table's, so nothing is said
+-- of them here (`AreOfTable`).
+use Rattle.std.specs.Prelude.{ℕ, suc, ◌+◌, List, [], ◌∷◌, ◌++◌, map, Option, None, Some, Result, Ok, Err, codes, if◌then◌else◌}
+use Rattle.std.specs.Fmt.{decimal}
+use Rattle.std.specs.List.{flat_map}
+use Rattle.serde_json.specs.Data.{string, Items}
+use Rattle.serde_json.specs.Written.{compact_text}
+use Rattle.table_model.specs.Rows.{Row, whole, structure, no_values, value}
+use Rattle.table_store.specs.Schema.{row_of}
+use Rattle.table_model.specs.Table.{Batch, Entry, creation, batch, close}
+use Rattle.table_store.specs.Names.{data_file_name}
+use Rattle.table_model.specs.Appends.{appended, with_batch}
+use Rattle.table_model.specs.declared.table.Appended.{Appended}
+use Rattle.table_model.specs.declared.table.Appended.TheVariants.{Committed, Already, Stale, Differs, StreamClosed}
+use Rattle.table_model.specs.declared.reading.Place.{Place}
+use Rattle.table_model.specs.Reads.{Answer, handed, beyond, bad_place, read}
+use Rattle.commit_core.specs.declared.fault.CreateFault.{CreateFault}
+use Rattle.commit_core.specs.declared.fault.CreateFault.TheVariants.{BadId, BadSchema, TableExists}
+use Rattle.sink_core.specs.Appending.{checked, count}
+use Rattle.commit_core.specs.Creating.{column_from, id_of}
+use Rattle.commit_core.specs.Histories.{number_told}
+use Rattle.commit_core.specs.Histories as histories
+use Rattle.lake_script.specs.Lines.{Wish, create, task, history, show, hex, append, tail, Reading, skipped, bad, asks, reading_of}
+use Rattle.source_core.specs.Offsets.{offset_of}
+use Rattle.sink_core.specs.Refusals as appends
+use Rattle.commit_core.specs.Texts.{create_fault_text, refused, line_of}
+use Rattle.lake_script.specs.Replies.{created, committed_at, already, bad_line}
+use Rattle.lake_bytes.specs.Results.{◌>>=◌, or_refusal}
+use Rattle.sink_core.specs.RowsIn.{rows_from}
+use Rattle.source_core.specs.Tailing as tails
+use Rattle.source_core.specs.TailFaults as tail_texts
+use Rattle.lake_script.specs.Told.{lines_of, is_bad, not_yet}
+
+-- what a script has made so far: no table, or one of a column and its entries
+pub data State : Type 0 where
+  nothing : State
+  table : (column : List ℕ) → List Entry → State
+
+-- ---- create
+
+-- the column of the table that a line describes, or the first reason why it describes none
+abbrev pub described : (id schema : List ℕ) → Result (List ℕ) CreateFault
+described id schema = do
+  found ← column_from schema
+  own ← or_refusal (id_of id) BadId
+  or_refusal found BadSchema
+
+-- one table is created, and no second one
+abbrev pub creating : State → Result (List ℕ) CreateFault → Result (List ℕ) CreateFault
+creating state (Err why) = Err why
+creating nothing (Ok column) = Ok column
+creating (table old entries) (Ok column) = Err TableExists
+
+abbrev pub created_reply : Result (List ℕ) CreateFault → List ℕ
+created_reply (Ok column) = line_of created
+created_reply (Err why) = line_of (refused (create_fault_text why))
+
+abbrev pub with_table : State → Result (List ℕ) CreateFault → State
+with_table state (Ok column) = table column (creation ∷ [])
+with_table state (Err why) = state
+
+-- ---- append
+
+-- the batch that a line hands in, or the first reason why it hands in none
+abbrev pub batch_in : State → (application : List ℕ) (number : ℕ) → Items → Result Batch appends.Refusal
+batch_in nothing application number items = checked application number (count items) >>= λ fine. Err (appends.bad_log 0)
+batch_in (table column entries) application number items = do
+  fine ← checked application number (count items)
+  rows ← rows_from 0 column items
+  Ok (record { application = application; number = number; rows = map row_of rows })
+
+-- what the table answers
+abbrev pub answer_text : Batch → Appended → List ℕ
+answer_text b (Committed version) = committed_at version
+answer_text b (Already number) = already number
+answer_text b (Stale last) = refused (codes "S1 Stale " ++ decimal last)
+answer_text b Differs = refused (codes "S3 Differs " ++ data_file_name b.application b.number)
+answer_text b StreamClosed = refused (codes "S2 StreamClosed")
+
+abbrev pub entries_of : State → List Entry
+entries_of nothing = []
+entries_of (table column entries) = entries
+
+abbrev pub appended_reply : State → Result Batch appends.Refusal → List ℕ
+appended_reply state (Ok b) = line_of (answer_text b (appended b (entries_of state)))
+appended_reply state (Err refusal) = line_of (refused (appends.refusal_text refusal))
+
+abbrev pub with_append : State → Result Batch appends.Refusal → State
+with_append nothing answer = nothing
+with_append (table column entries) (Ok b) = table column (with_batch (appended b entries) b entries)
+with_append (table column entries) (Err refusal) = table column entries
+
+-- ---- tail
+
+-- a row of a table of one column, a line
+abbrev pub row_line : (column : List ℕ) → Row → List ℕ
+row_line column (structure (value (whole z) no_values)) = tails.row_line column z
+row_line column _ = []
+
+abbrev pub read_text : (column : List ℕ) → Answer → List ℕ
+read_text column (handed rows next) = flat_map (row_line column) rows ++ tails.next_line next
+read_text column (beyond next) = line_of (refused (tail_texts.refusal_text (tails.beyond_log next)))
+read_text column (bad_place version) = line_of (refused (tail_texts.refusal_text (tails.bad_place version)))
+
+-- a read from a place on
+abbrev pub read_from : State → (max : ℕ) → Place → List ℕ
+read_from nothing max place = line_of (refused (tail_texts.refusal_text (tails.bad_log 0)))
+read_from (table column entries) max place = read_text column (read max place entries)
+
+-- a read from an offset on, where its text can be read
+abbrev pub tail_reply : State → (max : ℕ) → Option Place → List ℕ
+tail_reply state max None = line_of (refused (tail_texts.refusal_text tails.bad_offset))
+tail_reply state max (Some place) = read_from state max place
+
+-- ---- history
+
+abbrev pub entry_told : Entry → List ℕ
+entry_told creation = []
+entry_told (batch b) = number_told b.application b.number
+entry_told (close application) = codes " close " ++ compact_text (string application)
+
+abbrev pub history_from : (version : ℕ) → List Entry → List ℕ
+history_from version [] = []
+history_from version (entry ∷ entries) = line_of (decimal version ++ entry_told entry) ++ history_from (suc version) entries
+
+abbrev pub history_reply : State → List ℕ
+history_reply nothing = histories.bad_log 0
+history_reply (table column entries) = history_from 0 entries
+
+-- ---- lines
+
+-- the reply to what a line asks for; a line that isn't there yet is told so
+abbrev pub reply_to_wish : State → Wish → List ℕ
+reply_to_wish state (create id at schema) = created_reply (creating state (described id schema))
+reply_to_wish state (task (append application number at items)) = appended_reply state (batch_in state application number items)
+reply_to_wish state (task (tail max offset)) = tail_reply state max (offset_of offset)
+reply_to_wish state history = history_reply state
+reply_to_wish state _ = not_yet
+
+-- the table behind it
+abbrev pub left_by_wish : State → Wish → State
+left_by_wish state (create id at schema) = with_table state (creating state (described id schema))
+left_by_wish state (task (append application number at items)) = with_append state (batch_in state application number items)
+left_by_wish state _ = state
+
+-- the reply to a line of that number
+abbrev pub reply_to : ℕ → State → Reading → List ℕ
+reply_to number state skipped = []
+reply_to number state bad = bad_line number
+reply_to number state (asks wish) = reply_to_wish state wish
+
+-- the table behind a line
+abbrev pub left_by : State → Reading → State
+left_by state skipped = state
+left_by state bad = state
+left_by state (asks wish) = left_by_wish state wish
+
+-- what is told for these lines, of which the first has that number; nothing is told behind a bad line
+unfoldable pub told_from : ℕ → State → List (List ℕ) → List ℕ
+told_from number state [] = []
+told_from number state (line ∷ lines) =
+    reply_to number state (reading_of line)
+    ++ (if is_bad (reading_of line) then [] else told_from (number + 1) (left_by state (reading_of line)) lines)
+
+-- the table behind these lines; a bad line ends them
+unfoldable pub left_from : State → List (List ℕ) → State
+left_from state [] = state
+left_from state (line ∷ lines) = if is_bad (reading_of line) then state else left_from (left_by state (reading_of line)) lines
+
+-- what is told for a script, its lines counted from 1, when there is no table at first
+abbrev pub told : List ℕ → List ℕ
+told script = told_from 1 nothing (lines_of script)
+
+-- the table that a script leaves
+abbrev pub left : List ℕ → State
+left script = left_from nothing (lines_of script)
+
+-- ---- which lines are told by the table alone
+
+-- a line doesn't show an object of the store
+abbrev pub ShowsNoObject : Wish → Type 0
+ShowsNoObject (show version) = ⊥
+ShowsNoObject (hex name) = ⊥
+ShowsNoObject _ = Unit {0}
+
+abbrev pub IsOfTable : Reading → Type 0
+IsOfTable skipped = Unit {0}
+IsOfTable bad = Unit {0}
+IsOfTable (asks wish) = ShowsNoObject wish
+
+-- no line shows an object of the store
+abbrev pub AreOfTable : List (List ℕ) → Type 0
+AreOfTable [] = Unit {0}
+AreOfTable (line ∷ lines) = IsOfTable (reading_of line) × AreOfTable lines

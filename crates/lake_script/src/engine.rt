@@ -1,0 +1,303 @@
+// The engine of `script`: it reads its input to the end, then answers line by line.
+ghost use Rattle.std.specs.Prelude.{◌≡◌, ◌≢◌, ◌+◌, ◌<◌, ◌≤◌, ◌^◌, [], ◌∷◌, ◌⊎◌, true, false, not, length, position, option_map, OnOk, OnErr, IfOk, IfErr, IfSome};
+ghost use Rattle.std.specs.Io.KnownBytes.{Appends};
+ghost use Rattle.lake_script.specs.declared.inputs.TheConstants.{MOST_BYTES, MOST_READS};
+ghost use Rattle.lake_script.specs.Lines.{reading_of};
+ghost use Rattle.lake_script.specs.Runs.{IsCutOff, Replies, Runs, RunsInPart, Tells, TellsFront};
+ghost use Rattle.table_store.specs.Holds.{IsLawfulStore};
+ghost use Rattle.table_store.specs.LawfulLogs.{HasLawfulLog};
+ghost use Rattle.lake_script.specs.Scripts.{HoldsState, IsScript, ReadsOut};
+ghost use Rattle.lake_script.specs.Sound.{IsSound, AreSound};
+ghost use Rattle.lake_script.specs.Streams.{held, unread, StandsIn};
+ghost use Rattle.lake_script.specs.Tables.{told as told_by_table, left as table_left, AreOfTable};
+ghost use Rattle.lake_script.specs.Told.{lines_of, lines_left, is_newline, reply_to, left_by, is_bad, told, left, first_bad, Finishes};
+
+use crate::inputs::{Input, InputError};
+use crate::outputs::{Output, OutputError};
+use crate::reading::{Reading, reading_of};
+use crate::reply::grant;
+use std::alloc::Global;
+use std::io::{Read, Write};
+use store_core::Store;
+
+/// How a run ended.
+#[derive(Clone, Copy, Debug, PartialEq, Eq)]
+pub enum End {
+    /// Each line was answered.
+    Done,
+    /// The line of this number, counted from 1, is no line of a script. The lines before it were
+    /// answered.
+    BadLine(u64),
+    /// The input was not read to its end. No line was run, and nothing was written.
+    NotRead,
+    /// A reply could not be given. What was written stands.
+    NotWritten,
+}
+
+/// What a run tells when it has ended.
+#[derive(Clone, Copy, Debug, PartialEq, Eq)]
+pub struct Outcome {
+    pub end: End,
+    /// Whether a growth was refused on the way, or a commit or a file would have passed 64 MiB. A
+    /// run that ends by itself may have met one: its lines that did are told so.
+    pub is_short: bool,
+}
+
+impl Outcome {
+    /// Whether a growth was refused, or a commit or a file would have passed 64 MiB.
+    pub fn short(&self) -> bool
+        ensures { result ≡ self.now.is_short }
+    {
+        self.is_short
+    }
+}
+
+fn newline_in(text: &[u8]) -> Option<usize>
+    ensures { result ≡ position is_newline text.now }
+{
+    text.iter().position(|byte| *byte == b'\n')
+}
+
+// The first line of a text, and the text behind its newline.
+fn first_line(text: &[u8]) -> (&[u8], Option<&[u8]>)
+    ensures lines { lines_of text.now ≡ result.0.now ∷ lines_left (option_map (λ after. after.now) result.1) }
+    ensures shorter { IfSome result.1 (λ after. length after.now < length text.now) }
+{
+    match newline_in(text) {
+        Some(at) => (&text[..at], Some(&text[at + 1..])),
+        None => (text, None),
+    }
+}
+
+// Answers one line. False where the line is bad. Where a growth was refused, it says so.
+fn answer<S: Store, W: Write>(
+    alloc: Global,
+    number: u64,
+    line: &[u8],
+    store: &mut S,
+    output: &mut Output<W>,
+    is_short: &mut bool,
+) -> Result<bool, OutputError>
+    ensures told { S.is_reliable store.old → is_short.new ≡ false → OnOk result (Appends (held W.contents output.old) (held W.contents output.new)
+        (reply_to number (S.objects store.old) (reading_of line.now))) }
+    ensures left { S.is_reliable store.old → is_short.new ≡ false
+        → OnOk result (S.objects store.new ≡ left_by (S.objects store.old) (reading_of line.now)) }
+    ensures sound { S.is_reliable store.old → is_short.new ≡ false → OnOk result (IsSound (S.objects store.old) (reading_of line.now)) }
+    ensures tells { S.is_reliable store.old → OnOk result (Tells (held W.contents output.old) (held W.contents output.new)
+        (λ reply. Replies number (S.objects store.old) (reading_of line.now) reply (S.objects store.new))) }
+    ensures cut_off { S.is_reliable store.old → OnErr result (IsCutOff number (S.objects store.old) (reading_of line.now) (S.objects store.new)) }
+    ensures reliable { S.is_reliable store.old → S.is_reliable store.new }
+    ensures remembers { is_short.new ≡ false → is_short.old ≡ false }
+    ensures goes_on { IfOk result (λ goes_on. goes_on ≡ not (is_bad (reading_of line.now))) }
+    ensures stands { OnErr result (StandsIn (held W.contents output.old) (W.contents output.new.writer) []) }
+    ensures unbroken { OnOk result (output.new.is_broken ≡ output.old.is_broken) }
+    ensures broken { result ≡ Err OutputError.Broken → output.new.is_broken ≡ true }
+    ensures memory { result ≡ Err OutputError.Memory → output.new.is_broken ≡ output.old.is_broken }
+{
+    match reading_of(alloc, line)? {
+        Reading::Skipped => Ok(true),
+        Reading::Bad => {
+            output.say(format_args!("bad line {number}"))?;
+            Ok(false)
+        }
+        Reading::Asks(line) => {
+            let reply = grant(alloc, line, store);
+            if reply.is_short() {
+                *is_short = true;
+            }
+            reply.give(output)?;
+            Ok(true)
+        }
+    }
+}
+
+// Answers the lines of a text, and writes the replies. The result is the number of the bad line
+// that ended it. Where a growth was refused, it says so.
+fn answer_all<S: Store, W: Write>(
+    alloc: Global,
+    text: &[u8],
+    store: &mut S,
+    output: &mut Output<W>,
+    is_short: &mut bool,
+) -> Result<Option<u64>, OutputError>
+    requires { length text.now ≤ 2 ^ 30 }
+    ensures told { S.is_reliable store.old → is_short.new ≡ false
+        → OnOk result (Appends (held W.contents output.old) (held W.contents output.new) (told (S.objects store.old) text.now)) }
+    ensures left { S.is_reliable store.old → is_short.new ≡ false
+        → OnOk result (S.objects store.new ≡ left (S.objects store.old) text.now) }
+    ensures sound { S.is_reliable store.old → is_short.new ≡ false → OnOk result (AreSound (S.objects store.old) (lines_of text.now)) }
+    ensures tells { S.is_reliable store.old → OnOk result (Tells (held W.contents output.old) (held W.contents output.new)
+        (λ written. Runs 1 (S.objects store.old) (lines_of text.now) written (S.objects store.new))) }
+    ensures reliable { S.is_reliable store.old → S.is_reliable store.new }
+    ensures bad { IfOk result (λ bad. bad ≡ first_bad text.now) }
+    ensures stands { S.is_reliable store.old → is_short.new ≡ false
+        → OnErr result (StandsIn (held W.contents output.old) (W.contents output.new.writer) (told (S.objects store.old) text.now)) }
+    ensures front { S.is_reliable store.old → OnErr result (TellsFront (held W.contents output.old) (W.contents output.new.writer)
+        (λ written. RunsInPart 1 (S.objects store.old) (lines_of text.now) written (S.objects store.new))) }
+    ensures unbroken { OnOk result (output.new.is_broken ≡ output.old.is_broken) }
+    ensures broken { result ≡ Err OutputError.Broken → output.new.is_broken ≡ true }
+    ensures memory { result ≡ Err OutputError.Memory → output.new.is_broken ≡ output.old.is_broken }
+{
+    let mut number = 1u64;
+    let mut rest = Some(text);
+    while let Some(text) = rest {
+        let (line, after) = first_line(text);
+        if !answer(alloc, number, line, store, output, is_short)? {
+            return Ok(Some(number));
+        }
+        number += 1;
+        rest = after;
+    }
+    Ok(None)
+}
+
+// Answers the lines of a text, and writes what waits then.
+fn answer_and_flush<S: Store, W: Write>(
+    alloc: Global,
+    text: &[u8],
+    store: &mut S,
+    output: &mut Output<W>,
+    is_short: &mut bool,
+) -> Result<Option<u64>, OutputError>
+    requires { length text.now ≤ 2 ^ 30 }
+    ensures told { S.is_reliable store.old → is_short.new ≡ false
+        → OnOk result (Appends (held W.contents output.old) (W.contents output.new.writer) (told (S.objects store.old) text.now)) }
+    ensures left { S.is_reliable store.old → is_short.new ≡ false
+        → OnOk result (S.objects store.new ≡ left (S.objects store.old) text.now) }
+    ensures sound { S.is_reliable store.old → is_short.new ≡ false → OnOk result (AreSound (S.objects store.old) (lines_of text.now)) }
+    ensures tells { S.is_reliable store.old → OnOk result (Tells (held W.contents output.old) (W.contents output.new.writer)
+        (λ written. Runs 1 (S.objects store.old) (lines_of text.now) written (S.objects store.new))) }
+    ensures reliable { S.is_reliable store.old → S.is_reliable store.new }
+    ensures bad { IfOk result (λ bad. bad ≡ first_bad text.now) }
+    ensures stands { S.is_reliable store.old → is_short.new ≡ false
+        → OnErr result (StandsIn (held W.contents output.old) (W.contents output.new.writer) (told (S.objects store.old) text.now)) }
+    ensures front { S.is_reliable store.old → OnErr result (TellsFront (held W.contents output.old) (W.contents output.new.writer)
+        (λ written. RunsInPart 1 (S.objects store.old) (lines_of text.now) written (S.objects store.new))) }
+    ensures unbroken { OnOk result (output.new.is_broken ≡ output.old.is_broken) }
+    ensures broken { result ≡ Err OutputError.Broken → output.new.is_broken ≡ true }
+{
+    let bad = answer_all(alloc, text, store, output, is_short)?;
+    output.flush()?;
+    Ok(bad)
+}
+
+// Answers the lines of a text, and tells how that ended.
+fn answer_text<S: Store, W: Write>(
+    alloc: Global,
+    text: &[u8],
+    store: &mut S,
+    output: &mut Output<W>,
+) -> Outcome
+    requires { length text.now ≤ 2 ^ 30 }
+    ensures told { S.is_reliable store.old → result.is_short ≡ false → Finishes result.end
+        (λ _. Appends (held W.contents output.old) (W.contents output.new.writer) (told (S.objects store.old) text.now)
+        × (S.objects store.new ≡ left (S.objects store.old) text.now) × AreSound (S.objects store.old) (lines_of text.now)) }
+    ensures tells { S.is_reliable store.old → Finishes result.end (λ _. Tells (held W.contents output.old) (W.contents output.new.writer)
+        (λ written. Runs 1 (S.objects store.old) (lines_of text.now) written (S.objects store.new))) }
+    ensures script { S.is_reliable store.old → S.objects store.old ≡ [] → result.is_short ≡ false → Finishes result.end
+        (λ _. IsScript (held W.contents output.old) (W.contents output.new.writer) text.now (S.objects store.new)) }
+    ensures lawful { S.is_reliable store.old → S.objects store.old ≡ [] → IsLawfulStore (S.objects store.new) × HasLawfulLog (S.objects store.new) }
+    ensures reliable { S.is_reliable store.old → S.is_reliable store.new }
+    ensures finished { Finishes result.end (λ bad. (bad ≡ first_bad text.now) × (output.new.is_broken ≡ output.old.is_broken)) }
+    ensures stands { S.is_reliable store.old → result.is_short ≡ false → result.end ≡ End.NotWritten
+        → StandsIn (held W.contents output.old) (W.contents output.new.writer) (told (S.objects store.old) text.now) }
+    ensures front { S.is_reliable store.old → result.end ≡ End.NotWritten
+        → TellsFront (held W.contents output.old) (W.contents output.new.writer)
+        (λ written. RunsInPart 1 (S.objects store.old) (lines_of text.now) written (S.objects store.new)) }
+    ensures not_written { result.end ≡ End.NotWritten → (output.new.is_broken ≡ true) ⊎ (result.is_short ≡ true) }
+    ensures read { result.end ≢ End.NotRead }
+{
+    let mut is_short = false;
+    match answer_and_flush(alloc, text, store, output, &mut is_short) {
+        Ok(None) => Outcome {
+            end: End::Done,
+            is_short,
+        },
+        Ok(Some(number)) => Outcome {
+            end: End::BadLine(number),
+            is_short,
+        },
+        Err(error) => Outcome {
+            end: End::NotWritten,
+            is_short: is_short || error == OutputError::Memory,
+        },
+    }
+}
+
+/// Runs a script over a store: reads its input to the end, then answers each line, up to the first
+/// bad one. Each append, read and history replays the log from version 0, whether `restore` is true
+/// or not, since there are no checkpoints yet.
+///
+/// Time is linear in the input, the objects that are put, compared and shown and the data files that
+/// rows are handed out of, and for each line that replays the log in the log's bytes and the names of
+/// the store, but for the store's own; many replies go in one write.
+pub fn run<R: Read, W: Write, S: Store>(
+    alloc: Global,
+    input: &mut Input<R>,
+    output: &mut Output<W>,
+    store: &mut S,
+    restore: bool,
+) -> Outcome
+    // Where the run finishes, no growth was refused, no object passed 64 MiB and the store loses no
+    // call, what is written is what is told for the text that is read, and the objects are what the
+    // text leaves.
+    ensures told { S.is_reliable store.old → result.is_short ≡ false
+        → Finishes result.end (λ _. IfSome (unread R.remaining input.old) (λ text.
+        Appends (held W.contents output.old) (W.contents output.new.writer) (told (S.objects store.old) text)
+        × (S.objects store.new ≡ left (S.objects store.old) text))) }
+
+    // Over an empty store this is what the plain table tells, where no line shows an object.
+    ensures tables { S.is_reliable store.old → S.objects store.old ≡ [] → result.is_short ≡ false
+        → Finishes result.end (λ _. IfSome (unread R.remaining input.old) (λ text. AreOfTable (lines_of text)
+        → Appends (held W.contents output.old) (W.contents output.new.writer) (told_by_table text))) }
+
+    // The store then holds the table that was told.
+    ensures holds { S.is_reliable store.old → S.objects store.old ≡ [] → result.is_short ≡ false
+        → Finishes result.end (λ _. IfSome (unread R.remaining input.old) (λ text. HoldsState (S.objects store.new) (table_left text))) }
+
+    // Over an empty store that loses no call, the store that is left is lawful, and so is its log,
+    // however the run ends and whatever growth is refused on the way.
+    ensures lawful { S.is_reliable store.old → S.objects store.old ≡ [] → IsLawfulStore (S.objects store.new) × HasLawfulLog (S.objects store.new) }
+
+    // Reads over that store, each from the place where the one before ended, are answered and hand out the table's
+    // rows, whatever their limits.
+    ensures reads { S.is_reliable store.old → S.objects store.old ≡ [] → result.is_short ≡ false
+        → Finishes result.end (λ _. IfSome (unread R.remaining input.old) (λ text. ReadsOut (S.objects store.new) (table_left text))) }
+
+    // Where a growth was refused, each line has its reply and effect, or is told of want of memory
+    // and leaves the objects as they were, but for a batch's file, which may stand.
+    ensures tells { S.is_reliable store.old → Finishes result.end (λ _. IfSome (unread R.remaining input.old) (λ text.
+        Tells (held W.contents output.old) (W.contents output.new.writer)
+        (λ written. Runs 1 (S.objects store.old) (lines_of text) written (S.objects store.new)))) }
+    // Where a reply can't be given, this holds of some first lines, and what is written is a front
+    // of their replies.
+    ensures front { S.is_reliable store.old → result.end ≡ End.NotWritten → IfSome (unread R.remaining input.old) (λ text.
+        TellsFront (held W.contents output.old) (W.contents output.new.writer)
+        (λ written. RunsInPart 1 (S.objects store.old) (lines_of text) written (S.objects store.new))) }
+
+    // A store that loses no call goes on to lose none.
+    ensures reliable { S.is_reliable store.old → S.is_reliable store.new }
+
+    ensures bad { Finishes result.end (λ bad. IfSome (unread R.remaining input.old) (λ text. bad ≡ first_bad text)) }
+    ensures stands { S.is_reliable store.old → result.is_short ≡ false → result.end ≡ End.NotWritten
+        → IfSome (unread R.remaining input.old)
+        (λ text. StandsIn (held W.contents output.old) (W.contents output.new.writer) (told (S.objects store.old) text)) }
+    ensures nothing { result.end ≡ End.NotRead → (output.new ≡ output.old) × (store.new ≡ store.old) }
+
+    // When a run does not finish.
+    ensures not_read { result.end ≡ End.NotRead → (input.new.is_broken ≡ true) ⊎ ((result.is_short ≡ true)
+        ⊎ IfSome (unread R.remaining input.old) (λ text. MOST_READS ≤ length text)) }
+    ensures broken_input { input.new.is_broken ≡ true → result.end ≡ End.NotRead }
+    ensures too_long { IfSome (unread R.remaining input.old) (λ text. MOST_BYTES < length text → result.end ≡ End.NotRead) }
+    ensures not_written { result.end ≡ End.NotWritten → (output.new.is_broken ≡ true) ⊎ (result.is_short ≡ true) }
+    ensures broken_output { Finishes result.end (λ _. output.new.is_broken ≡ output.old.is_broken) }
+{
+    let _ = restore;
+    match input.read_to_end(alloc) {
+        Ok(text) => answer_text(alloc, text.as_slice(), store, output),
+        Err(error) => Outcome {
+            end: End::NotRead,
+            is_short: error == InputError::Memory,
+        },
+    }
+}

@@ -1,0 +1,88 @@
+// The fields of a line: words, numbers, and arrays.
+ghost use Rattle.std.specs.Prelude.{◌≡◌, option_map};
+ghost use Rattle.serde_json.specs.View.{items_view};
+ghost use Rattle.lake_script.specs.Fields.{FaultOf, Gives, word_and_rest, number_of, number_between, moment_of, max_of, tries_of, array_of};
+
+use serde_json::Value;
+use std::alloc::Global;
+
+/// Why a line could not be read.
+#[derive(Clone, Copy, Debug, PartialEq, Eq)]
+pub enum FieldError {
+    /// The text spells no such line or field.
+    Malformed,
+    /// A growth was refused.
+    Memory,
+}
+
+impl From<serde_json::Error> for FieldError {
+    ghost from_gives = { FaultOf };
+
+    fn from(error: serde_json::Error) -> FieldError {
+        if error.is_memory() {
+            FieldError::Memory
+        } else {
+            FieldError::Malformed
+        }
+    }
+}
+
+/// The word before the first space, and the text behind that space.
+pub fn word_and_rest(text: &str) -> Option<(&str, &str)>
+    ensures { option_map (λ p. (p.0.now, p.1.now)) result ≡ word_and_rest text.now }
+{
+    text.split_once(' ')
+}
+
+/// A number below 2^64, as `u64::from_str` reads it.
+#[tactic(auto, using(crate::proofs::Numbers::number_of_parsed))]
+pub fn number_of(text: &str) -> Option<u64>
+    ensures { result ≡ number_of text.now }
+{
+    text.parse::<u64>().ok()
+}
+
+/// A number from `low` to `high`.
+#[tactic(auto, unfolding(crate::specs::Fields::number_between))]
+pub fn number_between(text: &str, low: u64, high: u64) -> Option<u64>
+    ensures { result ≡ number_between low high text.now }
+{
+    let number = number_of(text)?;
+    if low <= number && number <= high {
+        Some(number)
+    } else {
+        None
+    }
+}
+
+/// A moment in milliseconds, up to 999,999,999,999,999.
+pub fn moment_of(text: &str) -> Option<u64>
+    ensures { result ≡ moment_of text.now }
+{
+    number_between(text, 0, 999_999_999_999_999)
+}
+
+/// How many rows a read hands out at most, up to 65,536.
+pub fn max_of(text: &str) -> Option<u64>
+    ensures { result ≡ max_of text.now }
+{
+    number_between(text, 0, 65_536)
+}
+
+/// How often a session tries to put its commit, from 1 to 64.
+pub fn tries_of(text: &str) -> Option<u64>
+    ensures { result ≡ tries_of text.now }
+{
+    number_between(text, 1, 64)
+}
+
+/// The members of a JSON array.
+#[tactic(auto, unfolding(crate::specs::Fields::array_of))]
+pub fn array_of(alloc: Global, text: &str) -> Result<Vec<Value>, FieldError>
+    ensures { Gives (λ v. items_view v.items) result (array_of text.now) }
+{
+    match Value::from_str(alloc, text)? {
+        Value::Array(items) => Ok(items),
+        _other => Err(FieldError::Malformed),
+    }
+}

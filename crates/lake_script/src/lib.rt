@@ -1,0 +1,19 @@
+//! Scripts: their lines, what each line does over a store, and the replies.
+#![tactic(auto)]
+
+mod engine;
+mod faults;
+mod fields;
+mod inputs;
+mod kind;
+mod line;
+mod outputs;
+mod reading;
+mod reply;
+mod showing;
+mod verb;
+
+pub use engine::{End, Outcome, run};
+pub use faults::{Fault, Refusal};
+pub use inputs::{Input, InputError, MOST_BYTES, MOST_READS};
+pub use outputs::{Output, OutputError};

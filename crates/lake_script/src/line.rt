@@ -1,0 +1,273 @@
+// The lines of a script, and the reader of one line.
+ghost use Rattle.std.specs.Prelude.{◌≡◌, option_map};
+ghost use Rattle.lake_script.specs.Fields.{Gives};
+ghost use Rattle.lake_script.specs.Lines.{task_view, wish_view, append_head, append_from, close_from, tail_from, task_from, bare_task, task_of, create_from, start_from, step_from, foreign_from, bare_wish, plain_from, wish_from, wish_of};
+
+use crate::fields::{FieldError, array_of, max_of, moment_of, number_of, tries_of, word_and_rest};
+use crate::kind::Kind;
+use crate::verb::Verb;
+use serde_json::Value;
+use std::alloc::Global;
+
+/// What an actor can be started with.
+#[derive(Drop)]
+pub enum Job<'a> {
+    /// Puts a batch of rows under a number of the application.
+    Append {
+        application: &'a str,
+        number: u64,
+        at: u64,
+        rows: Vec<Value>,
+    },
+    /// Closes the application's stream.
+    Close {
+        application: &'a str,
+        at: u64,
+    },
+    /// Puts a checkpoint of the newest version.
+    Checkpoint,
+    /// Reads at most `max` rows from an offset on.
+    Tail {
+        max: u64,
+        offset: &'a str,
+    },
+}
+
+/// A line of a script, with its words read. Moments are in milliseconds.
+#[derive(Drop)]
+pub enum Line<'a> {
+    /// Creates the table.
+    Create {
+        id: &'a str,
+        at: u64,
+        schema: &'a str,
+    },
+    /// Runs a job at once.
+    Job(Job<'a>),
+    /// Prints the table's snapshot.
+    Snapshot,
+    /// Prints what each version holds.
+    History,
+    /// Prints the bytes of a commit.
+    Show {
+        version: u64,
+    },
+    /// Prints an object in hexadecimal.
+    Hex {
+        name: &'a str,
+    },
+    /// Sets how often later sessions try to put a commit.
+    Tries {
+        count: u64,
+    },
+    /// Sets what the next commit put meets.
+    Fault {
+        kind: Kind,
+    },
+    /// Gives an actor a job.
+    Start {
+        actor: &'a str,
+        job: Job<'a>,
+    },
+    /// Runs an actor until its next request is a commit put.
+    Until {
+        actor: &'a str,
+    },
+    /// Lets an actor's next request meet a kind.
+    Step {
+        actor: &'a str,
+        kind: Kind,
+    },
+    /// Runs an actor to its end.
+    Finish {
+        actor: &'a str,
+    },
+    /// Drops an actor's session.
+    Die {
+        actor: &'a str,
+    },
+    /// Lets a put in flight take effect.
+    Land {
+        put: u64,
+    },
+    /// Puts a commit of one line that another tool wrote.
+    Foreign {
+        version: u64,
+        action: &'a str,
+    },
+}
+
+#[tactic(auto, unfolding(crate::specs::Lines::append_head))]
+fn append_head(text: &str) -> Option<(&str, u64, u64, &str)>
+    ensures { option_map (λ p. (p.0.now, p.1, p.2, p.3.now)) result ≡ append_head text.now }
+{
+    let (application, rest) = word_and_rest(text)?;
+    let (number, rest) = word_and_rest(rest)?;
+    let number = number_of(number)?;
+    let (at, rows) = word_and_rest(rest)?;
+    let at = moment_of(at)?;
+    Some((application, number, at, rows))
+}
+
+#[tactic(auto, unfolding(crate::specs::Lines::append_from))]
+fn append_from<'a>(alloc: Global, text: &'a str) -> Result<Job<'a>, FieldError>
+    ensures { Gives task_view result (append_from text.now) }
+{
+    let (application, number, at, rows) = append_head(text).ok_or(FieldError::Malformed)?;
+    let rows = array_of(alloc, rows)?;
+    Ok(Job::Append {
+        application,
+        number,
+        at,
+        rows,
+    })
+}
+
+#[tactic(auto, unfolding(crate::specs::Lines::close_from))]
+fn close_from(text: &str) -> Option<Job<'_>>
+    ensures { option_map task_view result ≡ close_from text.now }
+{
+    let (application, at) = word_and_rest(text)?;
+    let at = moment_of(at)?;
+    Some(Job::Close { application, at })
+}
+
+#[tactic(auto, unfolding(crate::specs::Lines::tail_from))]
+fn tail_from(text: &str) -> Option<Job<'_>>
+    ensures { option_map task_view result ≡ tail_from text.now }
+{
+    let (max, offset) = word_and_rest(text)?;
+    let max = max_of(max)?;
+    Some(Job::Tail { max, offset })
+}
+
+fn task_from<'a>(alloc: Global, verb: Verb, text: &'a str) -> Result<Job<'a>, FieldError>
+    ensures { Gives task_view result (task_from verb text.now) }
+{
+    match verb {
+        Verb::Append => append_from(alloc, text),
+        Verb::Close => close_from(text).ok_or(FieldError::Malformed),
+        Verb::Tail => tail_from(text).ok_or(FieldError::Malformed),
+        _ => Err(FieldError::Malformed),
+    }
+}
+
+fn bare_task<'a>(verb: Verb) -> Option<Job<'a>>
+    ensures { option_map task_view result ≡ bare_task verb }
+{
+    match verb {
+        Verb::Checkpoint => Some(Job::Checkpoint),
+        _ => None,
+    }
+}
+
+#[tactic(auto, unfolding(crate::specs::Lines::task_of))]
+fn task_of<'a>(alloc: Global, text: &'a str) -> Result<Job<'a>, FieldError>
+    ensures { Gives task_view result (task_of text.now) }
+{
+    match word_and_rest(text) {
+        Some((word, rest)) => {
+            let verb = Verb::from_word(word).ok_or(FieldError::Malformed)?;
+            task_from(alloc, verb, rest)
+        }
+        None => {
+            let verb = Verb::from_word(text).ok_or(FieldError::Malformed)?;
+            bare_task(verb).ok_or(FieldError::Malformed)
+        }
+    }
+}
+
+#[tactic(auto, unfolding(crate::specs::Lines::create_from))]
+fn create_from(text: &str) -> Option<Line<'_>>
+    ensures { option_map wish_view result ≡ create_from text.now }
+{
+    let (id, rest) = word_and_rest(text)?;
+    let (at, schema) = word_and_rest(rest)?;
+    let at = moment_of(at)?;
+    Some(Line::Create { id, at, schema })
+}
+
+#[tactic(auto, unfolding(crate::specs::Lines::start_from))]
+fn start_from<'a>(alloc: Global, text: &'a str) -> Result<Line<'a>, FieldError>
+    ensures { Gives wish_view result (start_from text.now) }
+{
+    let (actor, job) = word_and_rest(text).ok_or(FieldError::Malformed)?;
+    let job = task_of(alloc, job)?;
+    Ok(Line::Start { actor, job })
+}
+
+#[tactic(auto, unfolding(crate::specs::Lines::step_from))]
+fn step_from(text: &str) -> Option<Line<'_>>
+    ensures { option_map wish_view result ≡ step_from text.now }
+{
+    let (actor, kind) = word_and_rest(text)?;
+    let kind = Kind::from_word(kind)?;
+    Some(Line::Step { actor, kind })
+}
+
+#[tactic(auto, unfolding(crate::specs::Lines::foreign_from))]
+fn foreign_from(text: &str) -> Option<Line<'_>>
+    ensures { option_map wish_view result ≡ foreign_from text.now }
+{
+    let (version, action) = word_and_rest(text)?;
+    let version = number_of(version)?;
+    Some(Line::Foreign { version, action })
+}
+
+fn bare_line<'a>(verb: Verb) -> Option<Line<'a>>
+    ensures { option_map wish_view result ≡ bare_wish verb }
+{
+    match verb {
+        Verb::Checkpoint => Some(Line::Job(Job::Checkpoint)),
+        Verb::Snapshot => Some(Line::Snapshot),
+        Verb::History => Some(Line::History),
+        _ => None,
+    }
+}
+
+// A line that is neither a job nor names one, so that nothing of it is kept in memory.
+fn plain_line(verb: Verb, text: &str) -> Option<Line<'_>>
+    ensures { option_map wish_view result ≡ plain_from verb text.now }
+{
+    match verb {
+        Verb::Create => create_from(text),
+        Verb::Show => number_of(text).map(|version| Line::Show { version }),
+        Verb::Hex => Some(Line::Hex { name: text }),
+        Verb::Tries => tries_of(text).map(|count| Line::Tries { count }),
+        Verb::Fault => Kind::from_word(text).map(|kind| Line::Fault { kind }),
+        Verb::Until => Some(Line::Until { actor: text }),
+        Verb::Step => step_from(text),
+        Verb::Finish => Some(Line::Finish { actor: text }),
+        Verb::Die => Some(Line::Die { actor: text }),
+        Verb::Land => number_of(text).map(|put| Line::Land { put }),
+        Verb::Foreign => foreign_from(text),
+        _ => None,
+    }
+}
+
+fn line_from<'a>(alloc: Global, verb: Verb, text: &'a str) -> Result<Line<'a>, FieldError>
+    ensures { Gives wish_view result (wish_from verb text.now) }
+{
+    match verb {
+        Verb::Append | Verb::Close | Verb::Tail => { Ok(Line::Job(task_from(alloc, verb, text)?)) }
+        Verb::Start => start_from(alloc, text),
+        _ => plain_line(verb, text).ok_or(FieldError::Malformed),
+    }
+}
+
+/// Reads the text of a line that is neither blank nor a comment.
+#[tactic(auto, unfolding(crate::specs::Lines::wish_of))]
+pub fn line_of<'a>(alloc: Global, text: &'a str) -> Result<Line<'a>, FieldError>
+    ensures { Gives wish_view result (wish_of text.now) }
+{
+    match word_and_rest(text) {
+        Some((word, rest)) => {
+            let verb = Verb::from_word(word).ok_or(FieldError::Malformed)?;
+            line_from(alloc, verb, rest)
+        }
+        None => {
+            let verb = Verb::from_word(text).ok_or(FieldError::Malformed)?;
+            bare_line(verb).ok_or(FieldError::Malformed)
+        }
+    }
+}

@@ -1,0 +1,121 @@
+// The output of a run, which gathers many replies into one write.
+ghost use Rattle.std.specs.Prelude.{◌≡◌, [], OnOk, OnErr, IfErr, IfSome, true, false};
+ghost use Rattle.std.specs.Io.KnownBytes.{Appends};
+ghost use Rattle.commit_core.specs.Texts.{line_of};
+ghost use Rattle.lake_script.specs.Streams.{held, StandsIn};
+
+use std::alloc::{AllocError, Global};
+use std::fmt::Display;
+use std::io::Write;
+
+/// How many bytes wait before they are written, unless one reply is longer.
+const FULL: usize = 65_536;
+
+/// Why a reply was not given.
+#[derive(Clone, Copy, Debug, PartialEq, Eq)]
+pub enum OutputError {
+    /// A write failed.
+    Broken,
+    /// A growth was refused.
+    Memory,
+}
+
+impl From<AllocError> for OutputError {
+    ghost from_gives = { λ _ e. e ≡ Memory };
+
+    ghost use Rattle.lake_script.specs.declared.outputs.OutputError.TheVariants.{Memory};
+
+    fn from(_error: AllocError) -> OutputError {
+        OutputError::Memory
+    }
+}
+
+/// A writer of replies that remembers whether a write failed.
+#[derive(Drop)]
+pub struct Output<W> {
+    pub writer: W,
+    pub pending: Vec<u8>,
+    pub is_broken: bool,
+}
+
+// Writes all bytes, or as many as go before a write fails.
+fn write_through<W: Write>(writer: &mut W, bytes: &[u8]) -> bool
+    ensures all { result ≡ true → Appends (W.contents writer.old) (W.contents writer.new) bytes.now }
+    ensures front { result ≡ false → StandsIn (W.contents writer.old) (W.contents writer.new) bytes.now }
+{
+    let mut rest = bytes;
+    while !rest.is_empty() {
+        match writer.write(rest) {
+            Ok(0) => return false,
+            Ok(count) => rest = &rest[count..],
+            Err(_error) => return false,
+        }
+    }
+    writer.flush().is_ok()
+}
+
+impl<W: Write> Output<W> {
+    /// An output with nothing waiting.
+    pub fn new(alloc: Global, writer: W) -> Output<W>
+        ensures writer { result.writer ≡ writer }
+        ensures empty { result.pending.items ≡ [] }
+        ensures unbroken { result.is_broken ≡ false }
+    {
+        Output {
+            writer,
+            pending: Vec::new(alloc),
+            is_broken: false,
+        }
+    }
+
+    /// Writes what waits.
+    pub fn flush(&mut self) -> Result<(), OutputError>
+        ensures held { OnOk result (Appends (held W.contents self.old) (held W.contents self.new) []) }
+        ensures through { OnOk result (self.new.pending.items ≡ []) }
+        ensures stands { OnErr result (StandsIn (held W.contents self.old) (W.contents self.new.writer) []) }
+        ensures unbroken { OnOk result (self.new.is_broken ≡ self.old.is_broken) }
+        ensures broken { IfErr result (λ e. (e ≡ OutputError.Broken) × (self.new.is_broken ≡ true)) }
+    {
+        if !write_through(&mut self.writer, self.pending.as_slice()) {
+            self.is_broken = true;
+            return Err(OutputError::Broken);
+        }
+        self.pending.clear();
+        Ok(())
+    }
+
+    /// Gives one reply, a line. It is written with those that wait once they are many.
+    pub fn say<D: Display + Drop>(&mut self, reply: D) -> Result<(), OutputError>
+        ensures held { OnOk result (IfSome (D.output reply) (λ text.
+            Appends (held W.contents self.old) (held W.contents self.new) (line_of text))) }
+        ensures stands { OnErr result (StandsIn (held W.contents self.old) (W.contents self.new.writer) []) }
+        ensures unbroken { OnOk result (self.new.is_broken ≡ self.old.is_broken) }
+        ensures broken { result ≡ Err OutputError.Broken → self.new.is_broken ≡ true }
+        ensures memory { result ≡ Err OutputError.Memory → self.new.is_broken ≡ self.old.is_broken }
+    {
+        if self.pending.len() >= FULL {
+            self.flush()?;
+        }
+        let length = self.pending.len();
+        if self.pending.writeln(reply).is_err() {
+            self.pending.truncate(length);
+            return Err(OutputError::Memory);
+        }
+        Ok(())
+    }
+
+    /// Gives bytes as they are. They are written with the replies that wait once they are many.
+    pub fn show(&mut self, bytes: &[u8]) -> Result<(), OutputError>
+        ensures held { OnOk result (Appends (held W.contents self.old) (held W.contents self.new) bytes.now) }
+        ensures stands { OnErr result (StandsIn (held W.contents self.old) (W.contents self.new.writer) []) }
+        ensures unbroken { OnOk result (self.new.is_broken ≡ self.old.is_broken) }
+        ensures broken { result ≡ Err OutputError.Broken → self.new.is_broken ≡ true }
+        ensures memory { result ≡ Err OutputError.Memory → self.new.is_broken ≡ self.old.is_broken }
+    {
+        if self.pending.len() >= FULL {
+            self.flush()?;
+        }
+        self.pending.extend_from_slice(bytes)?;
+        Ok(())
+    }
+}

@@ -1,0 +1,51 @@
+// What one line of a script is.
+ghost use Rattle.std.specs.Prelude.{◌≡◌, IfOk, option_map};
+ghost use Rattle.lake_script.specs.Lines.{text_of, is_blank, reading_of, reading_view};
+
+use crate::fields::FieldError;
+use crate::line::{Line, line_of};
+use std::alloc::{AllocError, Global};
+use std::str;
+
+/// What a line of a script is.
+#[derive(Drop)]
+pub enum Reading<'a> {
+    /// It is blank or a comment, and has no reply.
+    Skipped,
+    /// It is no line of a script.
+    Bad,
+    /// It asks for something.
+    Asks(Line<'a>),
+}
+
+fn text_of(bytes: &[u8]) -> Option<&str>
+    ensures { option_map (λ text. text.now) result ≡ text_of bytes.now }
+{
+    str::from_utf8(bytes).ok()
+}
+
+fn is_blank(bytes: &[u8]) -> bool
+    ensures { result ≡ is_blank bytes.now }
+{
+    bytes
+        .iter()
+        .all(|byte| matches!(byte, b' ' | b'\t' | b'\r'))
+}
+
+/// Reads one line, without the newline behind it. The only error is that a growth was refused.
+#[tactic(auto, unfolding(crate::specs::Lines::reading_of))]
+pub fn reading_of<'a>(alloc: Global, bytes: &'a [u8]) -> Result<Reading<'a>, AllocError>
+    ensures { IfOk result (λ reading. reading_view reading ≡ reading_of bytes.now) }
+{
+    if is_blank(bytes) || bytes.starts_with(b"#") {
+        return Ok(Reading::Skipped);
+    }
+    let Some(text) = text_of(bytes) else {
+        return Ok(Reading::Bad);
+    };
+    match line_of(alloc, text) {
+        Ok(line) => Ok(Reading::Asks(line)),
+        Err(FieldError::Malformed) => Ok(Reading::Bad),
+        Err(FieldError::Memory) => Err(AllocError),
+    }
+}

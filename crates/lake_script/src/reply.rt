@@ -1,0 +1,219 @@
+// What a line is told, and how it is found.
+ghost use Rattle.std.specs.Prelude.{◌≡◌, ◌<◌, ◌^◌, [], false, OnOk, OnErr, true};
+ghost use Rattle.std.specs.Io.KnownBytes.{Appends};
+ghost use Rattle.serde_json.specs.View.{items_view};
+ghost use Rattle.store_core.specs.Objects.{object_at};
+ghost use Rattle.commit_core.specs.Commits.{commit_name};
+ghost use Rattle.lake_script.specs.Growth.{MayPut};
+ghost use Rattle.commit_core.specs.Histories.{history_of};
+ghost use Rattle.lake_script.specs.Lines.{append, create, task, wish_view, IsTimely};
+ghost use Rattle.lake_script.specs.ReplyView.{reply_text, is_short};
+ghost use Rattle.lake_script.specs.Runs.{Grants, no_room_to_read, no_room_to_show, no_room_to_tell};
+ghost use Rattle.lake_script.specs.Sound.{IsGranted};
+ghost use Rattle.lake_script.specs.Streams.{held, StandsIn};
+ghost use Rattle.source_core.specs.Tailing.{tailed};
+ghost use Rattle.lake_script.specs.Told.{shown, in_hex, tailed_reply};
+
+use crate::faults::{Fault, Refusal};
+use crate::line::{Job, Line};
+use crate::outputs::{Output, OutputError};
+use crate::showing::hex_of;
+use commit_core::{CreateFault, commit_at, create, history};
+use serde_json::Value;
+use sink_core::{AppendFault, Appended, append};
+use source_core::{TailFault, tail};
+use std::alloc::Global;
+use std::io::Write;
+use store_core::{Store, StoreFault};
+
+/// What a line is told.
+#[derive(Drop)]
+pub enum Reply {
+    /// Version 0 was put.
+    Created,
+    /// The table was not created.
+    NotCreated(CreateFault),
+    /// The batch stands in the log.
+    Appended(Appended),
+    /// The batch was not appended.
+    NotAppended(AppendFault),
+    /// Nothing was handed out.
+    NotTailed(TailFault),
+    /// The store gave no answer, or no room was left, for the history.
+    NoHistory(StoreFault),
+    /// The program refuses.
+    Refused(Fault),
+    /// The store gave no answer.
+    Unanswered(StoreFault),
+    /// An object, as it stands.
+    Bytes(Vec<u8>),
+    /// An object in hexadecimal.
+    Digits(String),
+}
+
+impl Reply {
+    /// Whether a growth was refused, or an object would pass 64 MiB.
+    pub fn is_short(&self) -> bool
+        ensures { result ≡ is_short self.now }
+    {
+        matches!(
+            self,
+            Reply::NotCreated(CreateFault::Memory | CreateFault::TooLarge)
+                | Reply::NotAppended(AppendFault::Memory | AppendFault::FileTooLarge)
+                | Reply::NotTailed(TailFault::Memory)
+                | Reply::NoHistory(StoreFault::Memory)
+                | Reply::Unanswered(StoreFault::Memory)
+        )
+    }
+
+    /// Gives the reply to an output.
+    pub fn give<W: Write>(&self, output: &mut Output<W>) -> Result<(), OutputError>
+        ensures held { OnOk result (Appends (held W.contents output.old) (held W.contents output.new) (reply_text self.now)) }
+        ensures stands { OnErr result (StandsIn (held W.contents output.old) (W.contents output.new.writer) []) }
+        ensures unbroken { OnOk result (output.new.is_broken ≡ output.old.is_broken) }
+        ensures broken { result ≡ Err OutputError.Broken → output.new.is_broken ≡ true }
+        ensures memory { result ≡ Err OutputError.Memory → output.new.is_broken ≡ output.old.is_broken }
+    {
+        match self {
+            Reply::Created => output.say("Created 0"),
+            Reply::NotCreated(fault) => output.say(Refusal(*fault)),
+            Reply::Appended(Appended::Committed(version)) => {
+                output.say(format_args!("Committed {version}"))
+            }
+            Reply::Appended(Appended::Already(number)) => {
+                output.say(format_args!("Already {number}"))
+            }
+            Reply::NotAppended(fault) => output.say(Refusal(fault)),
+            Reply::NotTailed(fault) => output.say(Refusal(fault)),
+            Reply::NoHistory(StoreFault::Lost) => output.say("refused K5 Lost"),
+            Reply::NoHistory(StoreFault::Memory) => output.say("refused K6 Memory"),
+            Reply::Refused(fault) => output.say(Refusal(*fault)),
+            Reply::Unanswered(fault) => output.say(Refusal(*fault)),
+            Reply::Bytes(bytes) => output.show(bytes.as_slice()),
+            Reply::Digits(text) => output.say(text.as_str()),
+        }
+    }
+}
+
+// The reply to a line that creates a table.
+fn create_table<S: Store>(alloc: Global, store: &mut S, id: &str, at: u64, schema: &str) -> Reply
+    requires { at < 2 ^ 63 }
+    ensures told { S.is_reliable store.old → Grants (S.objects store.old) (create id.now at schema.now) (reply_text result) (S.objects store.new) }
+    ensures whole { S.is_reliable store.old → is_short result ≡ false → IsGranted (S.objects store.old) (create id.now at schema.now) (reply_text result) (S.objects store.new) }
+    ensures grows { S.is_reliable store.old → MayPut (S.objects store.old) (create id.now at schema.now) (S.objects store.new) }
+    ensures reliable { S.is_reliable store.old → S.is_reliable store.new }
+{
+    match create(alloc, store, id, at, schema) {
+        Ok(()) => Reply::Created,
+        Err(fault) => Reply::NotCreated(fault),
+    }
+}
+
+// The reply to a line that appends a batch.
+fn append_batch<S: Store>(
+    alloc: Global,
+    store: &mut S,
+    application: &str,
+    number: u64,
+    at: u64,
+    rows: &[Value],
+) -> Reply
+    requires { at < 2 ^ 63 }
+    ensures told { S.is_reliable store.old → Grants (S.objects store.old) (task (append application.now number at (items_view rows.now))) (reply_text result) (S.objects store.new) }
+    ensures whole { S.is_reliable store.old → is_short result ≡ false → IsGranted (S.objects store.old) (task (append application.now number at (items_view rows.now))) (reply_text result) (S.objects store.new) }
+    ensures grows { S.is_reliable store.old → MayPut (S.objects store.old) (task (append application.now number at (items_view rows.now))) (S.objects store.new) }
+    ensures reliable { S.is_reliable store.old → S.is_reliable store.new }
+{
+    match append(alloc, store, application, number, at, rows) {
+        Ok(answer) => Reply::Appended(answer),
+        Err(fault) => Reply::NotAppended(fault),
+    }
+}
+
+// The reply to a line that reads from an offset on.
+fn read<S: Store>(alloc: Global, store: &mut S, max: u64, offset: &str) -> Reply
+    ensures told { S.is_reliable store.old → is_short result ≡ false
+        → reply_text result ≡ tailed_reply (tailed (S.objects store.old) max offset.now) }
+    ensures wants { is_short result ≡ true → reply_text result ≡ no_room_to_read }
+    ensures untouched { S.objects store.new ≡ S.objects store.old }
+    ensures reliable { S.is_reliable store.old → S.is_reliable store.new }
+{
+    match tail(alloc, store, max, offset) {
+        Ok(text) => Reply::Bytes(text),
+        Err(fault) => Reply::NotTailed(fault),
+    }
+}
+
+// The reply to a line that asks for what each version holds.
+fn tell_history<S: Store>(alloc: Global, store: &mut S) -> Reply
+    ensures told { S.is_reliable store.old → is_short result ≡ false → reply_text result ≡ history_of (S.objects store.old) }
+    ensures wants { is_short result ≡ true → reply_text result ≡ no_room_to_tell }
+    ensures untouched { S.objects store.new ≡ S.objects store.old }
+    ensures reliable { S.is_reliable store.old → S.is_reliable store.new }
+{
+    match history(alloc, store) {
+        Ok(text) => Reply::Bytes(text),
+        Err(fault) => Reply::NoHistory(fault),
+    }
+}
+
+// The reply to a line that shows a commit.
+fn show<S: Store>(alloc: Global, store: &mut S, version: u64) -> Reply
+    ensures told { S.is_reliable store.old → is_short result ≡ false
+        → reply_text result ≡ shown (object_at (S.objects store.old) (commit_name version)) }
+    ensures wants { is_short result ≡ true → reply_text result ≡ no_room_to_show }
+    ensures untouched { S.objects store.new ≡ S.objects store.old }
+    ensures reliable { S.is_reliable store.old → S.is_reliable store.new }
+{
+    match commit_at(alloc, store, version) {
+        Ok(Some(bytes)) => Reply::Bytes(bytes),
+        Ok(None) => Reply::Refused(Fault::NoSuchName),
+        Err(fault) => Reply::Unanswered(fault),
+    }
+}
+
+// The reply to a line that shows an object in hexadecimal.
+fn show_in_hex<S: Store>(alloc: Global, store: &mut S, name: &str) -> Reply
+    ensures told { S.is_reliable store.old → is_short result ≡ false
+        → reply_text result ≡ in_hex (object_at (S.objects store.old) name.now) }
+    ensures wants { is_short result ≡ true → reply_text result ≡ no_room_to_show }
+    ensures untouched { S.objects store.new ≡ S.objects store.old }
+    ensures reliable { S.is_reliable store.old → S.is_reliable store.new }
+{
+    match hex_of(alloc, store, name) {
+        Ok(Some(digits)) => Reply::Digits(digits),
+        Ok(None) => Reply::Refused(Fault::NoSuchName),
+        Err(fault) => Reply::Unanswered(fault),
+    }
+}
+
+/// Does what a line asks for, and finds its reply.
+pub fn grant<S: Store>(alloc: Global, line: Line<'_>, store: &mut S) -> Reply
+    requires { IsTimely (wish_view line) }
+    // What was asked for is told and done, and what was put is well made.
+    ensures whole { S.is_reliable store.old → is_short result ≡ false
+        → IsGranted (S.objects store.old) (wish_view line.entry) (reply_text result) (S.objects store.new) }
+    // The line has its reply and effect, or is told of want of memory and leaves the objects as they
+    // were, but for a batch's file.
+    ensures told { S.is_reliable store.old → Grants (S.objects store.old) (wish_view line.entry) (reply_text result) (S.objects store.new) }
+    // However it ends, what it puts is well made.
+    ensures grows { S.is_reliable store.old → MayPut (S.objects store.old) (wish_view line.entry) (S.objects store.new) }
+    ensures reliable { S.is_reliable store.old → S.is_reliable store.new }
+{
+    match line {
+        Line::Create { id, at, schema } => create_table(alloc, store, id, at, schema),
+        Line::Job(
+            Job::Append {
+                application,
+                number,
+                at,
+                ref rows,
+            },
+        ) => append_batch(alloc, store, application, number, at, rows),
+        Line::Job(Job::Tail { max, offset }) => read(alloc, store, max, offset),
+        Line::History => tell_history(alloc, store),
+        Line::Show { version } => show(alloc, store, version),
+        Line::Hex { name } => show_in_hex(alloc, store, name),
+        _ => Reply::Refused(Fault::NotYet),
+    }
+}

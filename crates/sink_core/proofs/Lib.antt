@@ -1,0 +1,4 @@
+pub mod AppendLemmas
+pub mod RefusalLemmas
+pub mod RequestLemmas
+pub mod RowLemmas

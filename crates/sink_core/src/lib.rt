@@ -1,0 +1,9 @@
+//! Batches of rows that are appended to a table over a store: the file, and the commit behind the log.
+#![tactic(auto)]
+
+mod appending;
+mod refusal;
+mod rows_in;
+
+pub use appending::{Appended, MOST_ID_BYTES, MOST_NUMBER, MOST_ROWS, append};
+pub use refusal::{AppendFault, RowFault};

@@ -1,0 +1,6 @@
+pub mod HandLemmas
+pub mod KeptTailPlace
+pub mod KeptTailSpot
+pub mod KeptTailWalk
+pub mod OffsetLemmas
+pub mod TailLemmas

@@ -1,0 +1,5 @@
+pub mod Offsets
+pub mod TailFaults
+pub mod TailViews
+pub mod Tailing
+pub mod Tails

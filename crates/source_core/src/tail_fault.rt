@@ -1,0 +1,119 @@
+// Why a read hands out nothing.
+ghost use Rattle.std.specs.Prelude.{Some};
+ghost use Rattle.source_core.specs.TailFaults.{refusal_text, refusal_view};
+
+use commit_core::LogFault;
+use parquet_file::FileFault;
+use std::alloc::{AllocError, AllocFailed};
+use std::fmt;
+use std::fmt::{Display, Formatter};
+use store_core::StoreFault;
+use thiserror::Error;
+
+/// Why a read hands out nothing. The offset stands. Its texts are written by hand, so that contracts
+/// know them.
+#[derive(Debug, Drop, Error)]
+pub enum TailFault {
+    /// A table of other columns than a table can have today.
+    NotYet,
+    /// The offset's text is no offset.
+    BadOffsetText,
+    /// The offset is behind the version that comes next, which is this.
+    BeyondLog {
+        next: u64,
+    },
+    /// The offset is in no file of its version.
+    BadPlace {
+        version: u64,
+    },
+    /// A file of the log isn't in the store, by its path as the log has it.
+    MissingFile {
+        path: String,
+    },
+    /// A file can't be read: the version, which of its new files it is, and what is wrong.
+    BadFile {
+        version: u64,
+        file: u64,
+        fault: FileFault,
+    },
+    /// The commit of that version can't be read, or no commit says what the table's columns are.
+    BadLog {
+        version: u64,
+    },
+    /// A call of the store was lost.
+    Lost,
+    /// A growth was refused.
+    Memory,
+}
+
+impl Display for TailFault {
+    ghost output = { λ fault. Some (refusal_text (refusal_view fault)) };
+
+    fn fmt<W: fmt::Write>(&self, f: &mut Formatter<W>) -> fmt::Result {
+        match self {
+            TailFault::NotYet => f.write_str("N1 NotYet"),
+            TailFault::BadOffsetText => f.write_str("O7 BadOffsetText"),
+            TailFault::BeyondLog { next } => write!(f, "O2 BeyondLog {next}"),
+            TailFault::BadPlace { version } => write!(f, "O10 BadPlace {version}"),
+            TailFault::MissingFile { path } => write!(f, "O6 MissingFile {path}"),
+            TailFault::BadFile {
+                version,
+                file,
+                fault,
+            } => write!(f, "O5 BadFile {version} {file} {fault}"),
+            TailFault::BadLog { version } => write!(f, "O12 BadLog {version}"),
+            TailFault::Lost => f.write_str("O8 Lost"),
+            TailFault::Memory => f.write_str("O9 Memory"),
+        }
+    }
+}
+
+impl From<AllocError> for TailFault {
+    ghost from_gives = { λ _ e. e ≡ Memory };
+
+    ghost use Rattle.std.specs.Prelude.{◌≡◌};
+    ghost use Rattle.source_core.specs.declared.tail_fault.TailFault.TheVariants.{Memory};
+
+    fn from(_error: AllocError) -> TailFault {
+        TailFault::Memory
+    }
+}
+
+impl<T: Drop> From<AllocFailed<T>> for TailFault {
+    ghost from_gives = { λ _ e. e ≡ Memory };
+
+    ghost use Rattle.std.specs.Prelude.{◌≡◌};
+    ghost use Rattle.source_core.specs.declared.tail_fault.TailFault.TheVariants.{Memory};
+
+    fn from(_error: AllocFailed<T>) -> TailFault {
+        TailFault::Memory
+    }
+}
+
+impl From<StoreFault> for TailFault {
+    ghost from_gives = { λ fault e. IsUnanswered fault e };
+
+    ghost use Rattle.source_core.specs.TailFaults.{IsUnanswered};
+
+    fn from(fault: StoreFault) -> TailFault {
+        match fault {
+            StoreFault::Lost => TailFault::Lost,
+            StoreFault::Memory => TailFault::Memory,
+        }
+    }
+}
+
+impl From<LogFault> for TailFault {
+    ghost from_gives = { λ fault e. IsLogFault fault e };
+
+    ghost use Rattle.source_core.specs.TailFaults.{IsLogFault};
+
+    fn from(fault: LogFault) -> TailFault {
+        match fault {
+            LogFault::BadLog { version } => TailFault::BadLog { version },
+            LogFault::NotYet => TailFault::NotYet,
+            LogFault::Lost => TailFault::Lost,
+            LogFault::Memory => TailFault::Memory,
+        }
+    }
+}

@@ -1,5 +1,0 @@
-use Rattle.table_model.proofs.HoldingLogs.{HoldsFrom-log, told_batches, told_rows}
-use Rattle.table_model.proofs.holding.a_held_table_is_its_log.Goals as goal
-
-pub returns : goal.returns
-returns c = record { log = λ objects schema entries. HoldsFrom-log objects schema 0 entries; batches = told_batches; rows = told_rows }

@@ -1,9 +1,0 @@
-use Rattle.std.proofs.Common.{subst}
-use Rattle.table_model.specs.Lawful.{IsLawful}
-use Rattle.table_model.proofs.HoldingOne.{one_log}
-use Rattle.table_model.proofs.Kept.{later_is_greater}
-use Rattle.table_model.proofs.holding.a_lawful_store_has_each_batch_once.Goals as goal
-
-pub returns : goal.returns
-returns c objects schema before between after b d lawful holds by =
-    later_is_greater before between after b d (subst IsLawful (one_log objects lawful.schema schema 0 lawful.entries _ lawful.holds holds) lawful.lawful) by

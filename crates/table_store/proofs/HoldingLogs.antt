@@ -1,0 +1,129 @@
+-- The table that a store holds is the one that the store's log tells of.
+use Rattle.std.proofs.Common.{◌≡◌, ℕ, suc, List, [], ◌∷◌, ◌++◌, None, Some, refl, sym, ap, ap₂, subst, ◌∙◌}
+use Rattle.std.specs.Prelude.{if◌then◌else◌}
+use Rattle.std.specs.List.{flat_map}
+use Rattle.store_core.specs.Objects.{Objects}
+use Rattle.delta_actions.specs.Entry as actions
+use Rattle.delta_actions.specs.Entry.{commit_info, protocol, meta_data, add, txn, other}
+use Rattle.delta_actions.specs.Commit.{IsCommit}
+use Rattle.table_model.specs.Rows.{Row}
+use Rattle.table_store.specs.Names.{commit_name, data_file_name}
+use Rattle.table_store.specs.Schema.{Schema, IsFileOf}
+use Rattle.table_store.specs.Commits.{beside_info, StandFor}
+use Rattle.table_store.specs.Holds.{Stands, FileStands, HoldsFrom, Holds}
+use Rattle.table_store.specs.Logs.{LogFrom, IsLog, numbers, new_files, AreBatchesOf, AreBatches, AreRowsOf, AreRows}
+use Rattle.table_model.specs.Table.{Batch, Entry, creation, batch, close, batches, rows}
+use Rattle.table_store.proofs.HoldingOne.{one_object, one_file, one_commit}
+
+-- ---- what tells only of the commit names no number and no file
+
+-- the numbers of a commit stand beside what tells of it
+pub numbers-beside_info : (made : List actions.Entry) → numbers (beside_info made) ≡ numbers made
+numbers-beside_info [] = refl
+numbers-beside_info (commit_info d ∷ others) = numbers-beside_info others
+numbers-beside_info (protocol p ∷ others) = numbers-beside_info others
+numbers-beside_info (meta_data m ∷ others) = numbers-beside_info others
+numbers-beside_info (add a ∷ others) = numbers-beside_info others
+numbers-beside_info (txn t ∷ others) = ap (λ (ns : List (List ℕ × ℕ)). (t.app_id, t.version) ∷ ns) (numbers-beside_info others)
+numbers-beside_info (other key d ∷ others) = numbers-beside_info others
+
+-- the new files of a commit stand beside what tells of it
+new_files-beside_info : (made : List actions.Entry) → new_files (beside_info made) ≡ new_files made
+new_files-beside_info [] = refl
+new_files-beside_info (commit_info d ∷ others) = new_files-beside_info others
+new_files-beside_info (protocol p ∷ others) = new_files-beside_info others
+new_files-beside_info (meta_data m ∷ others) = new_files-beside_info others
+new_files-beside_info (add a ∷ others) = ap (λ (keys : List (List ℕ)). if a.data_change then a.path.key ∷ keys else keys) (new_files-beside_info others)
+new_files-beside_info (txn t ∷ others) = new_files-beside_info others
+new_files-beside_info (other key d ∷ others) = new_files-beside_info others
+
+-- ---- an entry in front
+
+-- The actions of an entry in front tell of the batches with those of the entry in front.
+AreBatchesOf-entry : (objects : Objects) (schema : Schema) (entry : Entry) (entries : List Entry) (beside : List actions.Entry) (ns : List (List ℕ × ℕ)) → StandFor schema entry beside → FileStands objects schema entry
+    → AreBatchesOf objects schema ns (batches entries) → AreBatchesOf objects schema (numbers beside ++ ns) (batches (entry ∷ entries))
+AreBatchesOf-entry objects schema creation entries beside ns stand file behind = rw stand.actions behind
+AreBatchesOf-entry objects schema (batch b) entries beside ns stand file behind =
+    let named : Stands objects (data_file_name stand.number.app_id stand.number.version) (λ bytes. IsFileOf schema bytes b.rows) = rw (stand.by, stand.numbered) file in
+    rw stand.actions (sym stand.by, sym stand.numbered, named, behind)
+AreBatchesOf-entry objects schema (close application) entries beside ns stand file behind = rw stand.actions behind
+
+-- The actions of an entry in front tell of the rows with those of the entry in front.
+AreRowsOf-entry : (objects : Objects) (schema : Schema) (entry : Entry) (entries : List Entry) (beside : List actions.Entry) (keys : List (List ℕ)) → StandFor schema entry beside → FileStands objects schema entry
+    → AreRowsOf objects schema keys (rows entries) → AreRowsOf objects schema (new_files beside ++ keys) (rows (entry ∷ entries))
+AreRowsOf-entry objects schema creation entries beside keys stand file behind = rw stand.actions behind
+AreRowsOf-entry objects schema (batch b) entries beside keys stand file behind =
+    let named : Stands objects stand.file.path.key (λ bytes. IsFileOf schema bytes b.rows) = rw stand.named file in
+    rw (stand.actions, stand.new_rows) (b.rows, rows entries, named, behind, refl)
+AreRowsOf-entry objects schema (close application) entries beside keys stand file behind = rw stand.actions behind
+
+-- ---- the log of the table
+
+-- A table from this version on has a log from there on, which tells of its batches and rows.
+pub HoldsFrom-log : (objects : Objects) (schema : Schema) (version : ℕ) (entries : List Entry) → HoldsFrom objects schema version entries
+    → (log : List (List actions.Entry)) × LogFrom objects version log × AreBatches objects schema log (batches entries) × AreRows objects schema log (rows entries)
+HoldsFrom-log objects schema version [] holds = ([], holds, tt, refl)
+HoldsFrom-log objects schema version (entry ∷ entries) holds =
+    let later = HoldsFrom-log objects schema (suc version) entries holds.2 in
+    let made = holds.0.2.actions in
+    let told = AreBatchesOf-entry objects schema entry entries (beside_info made) (flat_map numbers later.0) holds.0.2.stand holds.1 later.2 in
+    let files = AreRowsOf-entry objects schema entry entries (beside_info made) (flat_map new_files later.0) holds.0.2.stand holds.1 later.3 in (
+      made ∷ later.0,
+      ((holds.0.0, holds.0.1, holds.0.2.commit), later.1),
+      subst (λ (ns : List (List ℕ × ℕ)). AreBatchesOf objects schema (ns ++ flat_map numbers later.0) (batches (entry ∷ entries))) (numbers-beside_info made) told,
+      subst (λ (keys : List (List ℕ)). AreRowsOf objects schema (keys ++ flat_map new_files later.0) (rows (entry ∷ entries))) (new_files-beside_info made) files,
+    )
+
+-- ---- one log, one list of batches, one list of rows
+
+-- a store has one log at most
+LogFrom-one : (objects : Objects) (version : ℕ) (log second : List (List actions.Entry)) → LogFrom objects version log → LogFrom objects version second → log ≡ second
+LogFrom-one objects version [] [] p q = refl
+LogFrom-one objects version [] (found ∷ others) p q = let none : None ≡ Some q.0.0 = sym p ∙ q.0.1 in absurd cc
+LogFrom-one objects version (made ∷ log) [] p q = let none : None ≡ Some p.0.0 = sym q ∙ p.0.1 in absurd cc
+LogFrom-one objects version (made ∷ log) (found ∷ others) p q =
+    let bytes : p.0.0 ≡ q.0.0 = one_object objects (commit_name version) (commit_name version) _ _ p.0 q.0 refl in
+    let first : made ≡ found = one_commit q.0.0 made found (subst (λ (t : List ℕ). IsCommit t made) bytes p.0.2) q.0.2 in
+    ap₂ (λ (m : List actions.Entry) (ms : List (List actions.Entry)). m ∷ ms) first (LogFrom-one objects (suc version) log others p.1 q.1)
+
+-- what stands under one name is a file of one list of rows
+rows_of_name : (objects : Objects) (schema : Schema) (name : List ℕ) (rs others : List Row) → Stands objects name (λ bytes. IsFileOf schema bytes rs) → Stands objects name (λ bytes. IsFileOf schema bytes others) → rs ≡ others
+rows_of_name objects schema name rs others p q = one_file p.0 q.0 schema schema rs others (one_object objects name name _ _ p q refl) p.2 q.2
+
+-- numbers tell of one list of batches
+AreBatchesOf-one : (objects : Objects) (schema : Schema) (ns : List (List ℕ × ℕ)) (bs cs : List Batch) → AreBatchesOf objects schema ns bs → AreBatchesOf objects schema ns cs → bs ≡ cs
+AreBatchesOf-one objects schema [] [] [] p q = refl
+AreBatchesOf-one objects schema [] [] (c ∷ cs) p q = absurd q
+AreBatchesOf-one objects schema [] (b ∷ bs) cs p q = absurd p
+AreBatchesOf-one objects schema (n ∷ ns) [] cs p q = absurd p
+AreBatchesOf-one objects schema (n ∷ ns) (b ∷ bs) [] p q = absurd q
+AreBatchesOf-one objects schema (n ∷ ns) (b ∷ bs) (c ∷ cs) p q =
+    let application : b.application ≡ c.application = p.0 ∙ sym q.0 in
+    let number : b.number ≡ c.number = p.1 ∙ sym q.1 in
+    let held : b.rows ≡ c.rows = rows_of_name objects schema (data_file_name n.0 n.1) b.rows c.rows p.2 q.2 in
+    let first : b ≡ c = λ i. record { application = application i; number = number i; rows = held i } in
+    ap₂ (λ (x : Batch) (xs : List Batch). x ∷ xs) first (AreBatchesOf-one objects schema ns bs cs p.3 q.3)
+
+-- files hold one list of rows
+AreRowsOf-one : (objects : Objects) (schema : Schema) (keys : List (List ℕ)) (rs others : List Row) → AreRowsOf objects schema keys rs → AreRowsOf objects schema keys others → rs ≡ others
+AreRowsOf-one objects schema [] rs others p q = p ∙ sym q
+AreRowsOf-one objects schema (key ∷ keys) rs others p q =
+    let front : p.0 ≡ q.0 = rows_of_name objects schema key p.0 q.0 p.2 q.2 in
+    let behind : p.1 ≡ q.1 = AreRowsOf-one objects schema keys p.1 q.1 p.3 q.3 in
+    p.4 ∙ ap₂ (λ (xs ys : List Row). xs ++ ys) front behind ∙ sym q.4
+
+-- ---- what the log tells of is the table
+
+-- The batches that a store's log tells of are those of the table that the store holds.
+pub told_batches : (objects : Objects) (schema : Schema) (entries : List Entry) (log : List (List actions.Entry)) (bs : List Batch) → Holds objects schema entries → IsLog objects log → AreBatches objects schema log bs → bs ≡ batches entries
+told_batches objects schema entries log bs holds is_log told =
+    let own = HoldsFrom-log objects schema 0 entries holds in
+    let same : own.0 ≡ log = LogFrom-one objects 0 own.0 log own.1 is_log in
+    AreBatchesOf-one objects schema (flat_map numbers log) bs (batches entries) told (subst (λ (l : List (List actions.Entry)). AreBatches objects schema l (batches entries)) same own.2)
+
+-- The rows that a store's log tells of are those of the table that the store holds.
+pub told_rows : (objects : Objects) (schema : Schema) (entries : List Entry) (log : List (List actions.Entry)) (rs : List Row) → Holds objects schema entries → IsLog objects log → AreRows objects schema log rs → rs ≡ rows entries
+told_rows objects schema entries log rs holds is_log told =
+    let own = HoldsFrom-log objects schema 0 entries holds in
+    let same : own.0 ≡ log = LogFrom-one objects 0 own.0 log own.1 is_log in
+    AreRowsOf-one objects schema (flat_map new_files log) rs (rows entries) told (subst (λ (l : List (List actions.Entry)). AreRows objects schema l (rows entries)) same own.3)

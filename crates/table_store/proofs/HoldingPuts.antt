@@ -1,0 +1,55 @@
+-- What a put leaves of the table that a store holds.
+use Rattle.std.proofs.Common.{◌≡◌, ◌≢◌, ℕ, suc, ◌+◌, List, [], ◌∷◌, ◌++◌, length, None, Some, sym, subst, ◌∙◌, refl, arith}
+use Rattle.store_core.specs.Objects.{Objects, object_at, with_object}
+use Rattle.store_core.specs.ObjectLaws.{object_at-with_object_same, object_at-with_object_other, object_at-with_object_kept}
+use Rattle.table_store.specs.Names.{commit_name, data_file_name}
+use Rattle.table_store.specs.Schema.{Schema}
+use Rattle.table_store.specs.Commits.{IsCommitOf}
+use Rattle.table_store.specs.Holds.{Stands, FileStands, HoldsFrom}
+use Rattle.table_model.specs.Table.{Entry, creation, batch, close}
+use Rattle.table_store.proofs.HoldingNames.{commit_name-suc, commit_name-data_file_name}
+
+-- what stands still stands
+Stands-put : (objects : Objects) (name bytes other : List ℕ) (P : List ℕ → Type 0) → Stands objects other P → Stands (with_object objects name bytes) other P
+Stands-put objects name bytes other P stands = (stands.0, object_at-with_object_kept objects name bytes other stands.0 stands.1, stands.2)
+
+FileStands-put : (objects : Objects) (name bytes : List ℕ) (schema : Schema) (entry : Entry) → FileStands objects schema entry → FileStands (with_object objects name bytes) schema entry
+FileStands-put objects name bytes schema creation stands = tt
+FileStands-put objects name bytes schema (batch b) stands = Stands-put objects name bytes (data_file_name b.application b.number) _ stands
+FileStands-put objects name bytes schema (close application) stands = tt
+
+-- a put of another name than the next commit's leaves the table
+HoldsFrom-put : (objects : Objects) (name bytes : List ℕ) (schema : Schema) (version : ℕ) (entries : List Entry) → commit_name (version + length entries) ≢ name
+    → HoldsFrom objects schema version entries → HoldsFrom (with_object objects name bytes) schema version entries
+HoldsFrom-put objects name bytes schema version [] apart holds =
+    object_at-with_object_other objects name bytes (commit_name version) (subst (λ (n : ℕ). commit_name n ≢ name) (omega arith) apart) ∙ holds
+HoldsFrom-put objects name bytes schema version (entry ∷ entries) apart holds = (
+  Stands-put objects name bytes (commit_name version) _ holds.0,
+  FileStands-put objects name bytes schema entry holds.1,
+  HoldsFrom-put objects name bytes schema (suc version) entries (subst (λ (n : ℕ). commit_name n ≢ name) (omega arith) apart) holds.2,
+)
+
+pub HoldsFrom-data_file : (objects : Objects) (schema : Schema) (version : ℕ) (entries : List Entry) (application bytes : List ℕ) (number : ℕ) → HoldsFrom objects schema version entries
+    → HoldsFrom (with_object objects (data_file_name application number) bytes) schema version entries
+HoldsFrom-data_file objects schema version entries application bytes number holds =
+    HoldsFrom-put objects (data_file_name application number) bytes schema version entries (commit_name-data_file_name (version + length entries) application number) holds
+
+-- a commit that is put at the next version is one entry more
+pub HoldsFrom-commit : (objects : Objects) (schema : Schema) (version next : ℕ) (entries : List Entry) (entry : Entry) (bytes : List ℕ) → next ≡ version + length entries
+    → HoldsFrom objects schema version entries → IsCommitOf schema entry bytes → FileStands objects schema entry → object_at objects (commit_name (suc next)) ≡ None
+    → HoldsFrom (with_object objects (commit_name next) bytes) schema version (entries ++ entry ∷ [])
+HoldsFrom-commit objects schema version next [] entry bytes at holds commit file last =
+    let same : version ≡ next = omega (arith, at) in
+    let free : object_at objects (commit_name next) ≡ None = subst (λ (n : ℕ). object_at objects (commit_name n) ≡ None) same holds in
+    let put : object_at (with_object objects (commit_name next) bytes) (commit_name next) ≡ Some bytes = object_at-with_object_same objects (commit_name next) bytes ∙ rw free refl in
+    let behind : object_at (with_object objects (commit_name next) bytes) (commit_name (suc next)) ≡ None = object_at-with_object_other objects (commit_name next) bytes (commit_name (suc next)) (commit_name-suc next) ∙ last in
+    subst (λ (n : ℕ). HoldsFrom (with_object objects (commit_name next) bytes) schema n (entry ∷ [])) (sym same) (
+      (bytes, put, commit),
+      FileStands-put objects (commit_name next) bytes schema entry file,
+      behind,
+    )
+HoldsFrom-commit objects schema version next (first ∷ entries) entry bytes at holds commit file last = (
+  Stands-put objects (commit_name next) bytes (commit_name version) _ holds.0,
+  FileStands-put objects (commit_name next) bytes schema first holds.1,
+  HoldsFrom-commit objects schema (suc version) next entries entry bytes (omega (arith, at)) holds.2 commit file last,
+)

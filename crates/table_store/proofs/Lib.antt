@@ -1,0 +1,13 @@
+pub mod FileClaims
+pub mod HeldLemmas
+pub mod HoldingLogs
+pub mod HoldingNames
+pub mod HoldingOne
+pub mod HoldingPuts
+pub mod HoldingSchema
+pub mod LawfulLogLemmas
+pub mod LeftLemmas
+pub mod NamesOnce
+pub mod SameText
+pub mod SchemaText
+pub mod Variants

@@ -1,0 +1,7 @@
+pub mod Commits
+pub mod Found
+pub mod Holds
+pub mod LawfulLogs
+pub mod Logs
+pub mod Names
+pub mod Schema

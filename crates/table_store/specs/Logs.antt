@@ -1,0 +1,64 @@
+-- The log of a store as its commits' actions, and the batches and the rows that this log tells of (Delta PROTOCOL.md,
+-- "Delta Log Entries").
+use Rattle.std.specs.Prelude.{◌≡◌, ℕ, suc, List, [], ◌∷◌, ◌++◌, if◌then◌else◌, None}
+use Rattle.std.specs.List.{flat_map}
+use Rattle.store_core.specs.Objects.{Objects, object_at}
+use Rattle.delta_actions.specs.Entry as actions
+use Rattle.delta_actions.specs.Entry.{commit_info, protocol, meta_data, add, txn, other}
+use Rattle.delta_actions.specs.Commit.{IsCommit}
+use Rattle.table_store.specs.Names.{commit_name, data_file_name}
+use Rattle.table_model.specs.Rows.{Row}
+use Rattle.table_store.specs.Schema.{Schema, IsFileOf}
+use Rattle.table_store.specs.Holds.{Stands}
+use Rattle.table_model.specs.Table.{Batch}
+
+-- From this version on the commits of these actions stand, and none stands at the version behind the last.
+abbrev pub LogFrom : Objects → ℕ → List (List actions.Entry) → Type 0
+LogFrom objects version [] = object_at objects (commit_name version) ≡ None
+LogFrom objects version (made ∷ log) = Stands objects (commit_name version) (λ bytes. IsCommit bytes made) × LogFrom objects (suc version) log
+
+-- The store's log: the actions of the commits of versions 0, 1, 2 and so on, up to the first name that isn't there.
+abbrev pub IsLog : Objects → List (List actions.Entry) → Type 0
+IsLog objects log = LogFrom objects 0 log
+
+-- the application and the number of each `txn` action, in order (Delta PROTOCOL.md, "Transaction Identifiers")
+abbrev pub numbers : List actions.Entry → List (List ℕ × ℕ)
+numbers [] = []
+numbers (commit_info d ∷ others) = numbers others
+numbers (protocol p ∷ others) = numbers others
+numbers (meta_data m ∷ others) = numbers others
+numbers (add a ∷ others) = numbers others
+numbers (txn t ∷ others) = (t.app_id, t.version) ∷ numbers others
+numbers (other key d ∷ others) = numbers others
+
+-- the keys of the files with new rows that join the table, in order (Delta PROTOCOL.md, "Add File and Remove File")
+abbrev pub new_files : List actions.Entry → List (List ℕ)
+new_files [] = []
+new_files (commit_info d ∷ others) = new_files others
+new_files (protocol p ∷ others) = new_files others
+new_files (meta_data m ∷ others) = new_files others
+new_files (add a ∷ others) = if a.data_change then a.path.key ∷ new_files others else new_files others
+new_files (txn t ∷ others) = new_files others
+new_files (other key d ∷ others) = new_files others
+
+-- For each number in order stands the batch of that application and number, with the rows of the file named for them.
+abbrev pub AreBatchesOf : Objects → Schema → List (List ℕ × ℕ) → List Batch → Type 0
+AreBatchesOf objects schema [] [] = Unit {0}
+AreBatchesOf objects schema [] (b ∷ bs) = ⊥
+AreBatchesOf objects schema (n ∷ ns) [] = ⊥
+AreBatchesOf objects schema (n ∷ ns) (b ∷ bs) = (b.application ≡ n.0) × (b.number ≡ n.1) × Stands objects (data_file_name n.0 n.1) (λ bytes. IsFileOf schema bytes b.rows)
+    × AreBatchesOf objects schema ns bs
+
+-- the batches that a log tells of, in the order of its numbers
+abbrev pub AreBatches : Objects → Schema → List (List actions.Entry) → List Batch → Type 0
+AreBatches objects schema log bs = AreBatchesOf objects schema (flat_map numbers log) bs
+
+-- the rows of these files, one file behind the other
+abbrev pub AreRowsOf : Objects → Schema → List (List ℕ) → List Row → Type 0
+AreRowsOf objects schema [] rows = rows ≡ []
+AreRowsOf objects schema (key ∷ keys) rows =
+    (first others : List Row) × Stands objects key (λ bytes. IsFileOf schema bytes first) × AreRowsOf objects schema keys others × (rows ≡ first ++ others)
+
+-- the rows that a log tells of, in the order of its new files
+abbrev pub AreRows : Objects → Schema → List (List actions.Entry) → List Row → Type 0
+AreRows objects schema log rows = AreRowsOf objects schema (flat_map new_files log) rows

@@ -1,0 +1,77 @@
+//! Laws of stores and the tables that they hold, each a function with an empty body whose contract is the law.
+
+ghost use Rattle.std.specs.Prelude.{◌≡◌, ◌≢◌, ◌<◌, ◌^◌, ℕ, suc, List, [], ◌∷◌, ◌++◌, length, None, IsUtf8};
+ghost use Rattle.store_core.specs.Objects.{Objects, object_at, with_object};
+ghost use Rattle.delta_actions.specs.Entry as actions;
+ghost use Rattle.table_store.specs.Names.{commit_name, data_file_name};
+ghost use Rattle.table_store.specs.Schema.{Schema};
+ghost use Rattle.table_store.specs.Commits.{IsCommitOf};
+ghost use Rattle.table_store.specs.Holds.{Holds, FileStands, IsLawfulStore};
+ghost use Rattle.table_model.specs.Lawful.{BeginsWithCreation, IsLawful};
+ghost use Rattle.table_store.specs.Logs.{IsLog, AreBatches, AreRows};
+ghost use Rattle.table_store.specs.LawfulLogs.{HasLawfulLog};
+ghost use Rattle.table_model.specs.Rows.{Row};
+ghost use Rattle.table_model.specs.Table.{Batch, Entry, batch, batches, rows};
+
+/// A store holds one table at most: one log of entries, and where the log begins with the creation, one schema. (A
+/// log of closes alone would tell no schema.)
+pub fn one_table()
+    ensures log { (objects : Objects) (schema other : Schema) (entries others : List Entry) → Holds objects schema entries → Holds objects other others → entries ≡ others }
+    ensures schema { (objects : Objects) (schema other : Schema) (first : Entry) (entries others : List Entry) → BeginsWithCreation (first ∷ entries) → Holds objects schema (first ∷ entries) → Holds objects other others
+        → schema ≡ other }
+{}
+
+/// Whatever table a lawful store holds is lawful: no batch stands twice, and each application's numbers rise.
+pub fn a_lawful_store_holds_lawful_tables()
+    ensures { (objects : Objects) (schema : Schema) (entries : List Entry) → IsLawfulStore objects → Holds objects schema entries → IsLawful entries }
+{}
+
+/// Where the commit of an entry is put at the next version, its file stands, and no commit stands at the version
+/// behind it, the store holds the table with one entry more.
+pub fn a_commit_is_one_entry_more()
+    ensures { (objects : Objects) (schema : Schema) (entries : List Entry) (entry : Entry) (bytes : List ℕ) → Holds objects schema entries → IsCommitOf schema entry bytes → FileStands objects schema entry
+        → object_at objects (commit_name (suc (length entries))) ≡ None
+        → Holds (with_object objects (commit_name (length entries)) bytes) schema (entries ++ entry ∷ []) }
+{}
+
+/// A data file that is put leaves the table as it was.
+pub fn a_data_file_changes_no_table()
+    ensures { (objects : Objects) (schema : Schema) (entries : List Entry) (application bytes : List ℕ) (number : ℕ) → Holds objects schema entries
+        → Holds (with_object objects (data_file_name application number) bytes) schema entries }
+{}
+
+/// No two objects of a table share a name: each version has a commit of its own, each batch a data file of its own,
+/// and no commit is named as a data file. (That two versions or two numbers are one is said where one of them fits 64
+/// bits; the other may be any number. Applications' ids are text.)
+pub fn names_stand_apart()
+    ensures commits { (version other : ℕ) → version < 2 ^ 64 → commit_name version ≡ commit_name other → version ≡ other }
+    ensures files { (application second : List ℕ) (number other : ℕ) → IsUtf8 application → IsUtf8 second → number < 2 ^ 64 → data_file_name application number ≡ data_file_name second other
+        → (application ≡ second) × (number ≡ other) }
+    ensures commits_from_files { (version : ℕ) (application : List ℕ) (number : ℕ) → commit_name version ≢ data_file_name application number }
+{}
+
+/// The batches and the rows of the table that a store holds are those that the store's log tells of: the batch of each
+/// number that a commit has, with the rows of the file named for it, and the rows of the new files that commits have.
+/// The log tells of no others.
+pub fn a_held_table_is_its_log()
+    ensures log { (objects : Objects) (schema : Schema) (entries : List Entry) → Holds objects schema entries
+        → (log : List (List actions.Entry)) × IsLog objects log × AreBatches objects schema log (batches entries) × AreRows objects schema log (rows entries) }
+    ensures batches { (objects : Objects) (schema : Schema) (entries : List Entry) (log : List (List actions.Entry)) (bs : List Batch) → Holds objects schema entries → IsLog objects log → AreBatches objects schema log bs
+        → bs ≡ batches entries }
+    ensures rows { (objects : Objects) (schema : Schema) (entries : List Entry) (log : List (List actions.Entry)) (rs : List Row) → Holds objects schema entries → IsLog objects log → AreRows objects schema log rs
+        → rs ≡ rows entries }
+{}
+
+/// In the log of a lawful store no batch stands twice, and each application's numbers rise: of two batches of one
+/// application, the later one has the greater number.
+pub fn a_lawful_store_has_each_batch_once()
+    ensures { (objects : Objects) (schema : Schema) (before between after : List Entry) (b c : Batch) → IsLawfulStore objects
+        → Holds objects schema (before ++ batch b ∷ between ++ batch c ∷ after) → b.application ≡ c.application → b.number < c.number }
+{}
+
+/// A lawful store's log is lawful in terms of commits and their actions: it is empty or begins with its creation, each later
+/// commit is a group of batches of different applications or the close of one stream, the file of each batch stands, no
+/// batch stands twice, each application's numbers rise, and none stands behind a close of its stream.
+pub fn a_lawful_store_has_a_lawful_log()
+    ensures { (objects : Objects) → IsLawfulStore objects → HasLawfulLog objects }
+{}

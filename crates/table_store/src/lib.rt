@@ -1,0 +1,17 @@
+//! Which table a store holds: the one bridge from bytes to the plain table, with its laws. Beside
+//! the definitions stands a plain slow program that finds the table of a small store. The product
+//! calls no code of this crate.
+#![tactic(auto)]
+
+mod column;
+mod commit;
+mod held;
+mod holding;
+mod names;
+
+pub use held::{Held, held_by};
+pub use holding::{
+    a_commit_is_one_entry_more, a_data_file_changes_no_table, a_held_table_is_its_log,
+    a_lawful_store_has_a_lawful_log, a_lawful_store_has_each_batch_once,
+    a_lawful_store_holds_lawful_tables, names_stand_apart, one_table,
+};
