@@ -6,11 +6,13 @@
 #![tactic(auto)]
 
 mod fault;
+mod flaky;
 mod laws;
 mod memory;
 mod store;
 
 pub use fault::StoreFault;
+pub use flaky::{Flaky, Turn};
 pub use laws::{
     a_name_is_listed_where_it_stands, a_put_keeps_the_order, a_put_leaves_the_others,
     a_put_lists_its_name, a_put_stands, a_second_put_changes_nothing,
@@ -18,4 +20,3 @@ pub use laws::{
 };
 pub use memory::MemoryStore;
 pub use store::{Put, Store};
-

@@ -1,0 +1,96 @@
+//! Parquet files in lines: what a footer says, a page's header, and the rows.
+
+use crate::refusal::Refusal;
+use crate::tree::{push_binary, push_value};
+use parquet_file::{ColumnChunk, Footer, SchemaElement, read_rows};
+use std::alloc::{AllocError, Global};
+use thrift_core::TValue;
+
+/// How many rows a file has, and then the rows.
+pub fn row_lines(alloc: Global, column: &str, bytes: &[u8]) -> Result<Vec<String>, Refusal> {
+    let rows = read_rows(alloc, column, bytes)?;
+    let count = rows.len();
+    let mut lines = vec![in alloc; format!(in alloc; "{count} rows")?]?;
+    for row in &rows {
+        lines.push(format!(in alloc; "{row}")?)?;
+    }
+    Ok(lines)
+}
+
+/// What a footer says: how many rows the file has, the nodes of the schema, and each row group with its chunks.
+pub fn footer_lines(alloc: Global, bytes: &[u8]) -> Result<Vec<String>, Refusal> {
+    let footer = Footer::read(alloc, bytes)?;
+    let rows = footer.num_rows;
+    let mut lines = vec![in alloc; format!(in alloc; "{rows} rows")?]?;
+    for node in &footer.schema {
+        lines.push(node_line(alloc, node)?)?;
+    }
+    for group in &footer.row_groups {
+        let rows = group.num_rows;
+        lines.push(format!(in alloc; "group of {rows} rows")?)?;
+        for chunk in &group.columns {
+            lines.push(chunk_line(alloc, chunk)?)?;
+        }
+    }
+    Ok(lines)
+}
+
+fn node_line(alloc: Global, node: &SchemaElement) -> Result<String, AllocError> {
+    let mut line = String::from_str(alloc, "node ")?;
+    push_binary(&mut line, &node.name)?;
+    if let Some(number) = node.physical_type {
+        write!(line, ", type {number}")?;
+    }
+    if let Some(number) = node.repetition_type {
+        write!(line, ", repetition {number}")?;
+    }
+    let children = node.num_children;
+    write!(line, ", {children} children")?;
+    Ok(line)
+}
+
+fn chunk_line(alloc: Global, chunk: &ColumnChunk) -> Result<String, AllocError> {
+    let mut line = String::from_str(alloc, "chunk")?;
+    for name in &chunk.path_in_schema {
+        line.push_str(" ")?;
+        push_binary(&mut line, name)?;
+    }
+    let codec = chunk.codec;
+    let values = chunk.num_values;
+    let offset = chunk.data_page_offset;
+    write!(line, ", codec {codec}, {values} values from {offset}")?;
+    Ok(line)
+}
+
+/// The fields that each page's header needs.
+const PAGE_FIELDS: [(i16, &str); 3] = [(1, "type "), (2, ", uncompressed "), (3, ", compressed ")];
+
+/// The fields that are there for a type of page.
+const PAGE_KINDS: [(i16, &str); 2] = [(5, ", data page: "), (7, ", dictionary page: ")];
+
+/// The fields that a data page's header and a dictionary page's need.
+const CONTENT_FIELDS: [(i16, &str); 2] = [(1, "values "), (2, ", encoding ")];
+
+/// What a page's header says.
+pub fn page_line(alloc: Global, tree: &TValue) -> Result<String, Refusal> {
+    let mut line = String::new(alloc);
+    for (id, name) in PAGE_FIELDS {
+        push_required(&mut line, tree, id, name)?;
+    }
+    for (kind, title) in PAGE_KINDS {
+        if let Some(content) = tree.field(kind) {
+            line.push_str(title)?;
+            for (id, name) in CONTENT_FIELDS {
+                push_required(&mut line, content, id, name)?;
+            }
+        }
+    }
+    Ok(line)
+}
+
+fn push_required(line: &mut String, tree: &TValue, id: i16, name: &str) -> Result<(), Refusal> {
+    let value = tree.required(id)?;
+    line.push_str(name)?;
+    push_value(line, value)?;
+    Ok(())
+}

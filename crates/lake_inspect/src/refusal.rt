@@ -1,0 +1,77 @@
+//! Why bytes aren't what they were said to be.
+
+ghost use Rattle.std.specs.Prelude.{◌≡◌};
+ghost use Rattle.lake_inspect.specs.declared.refusal.Refusal.TheVariants.{Memory};
+
+use delta_actions::ActionFault;
+use lake_bytes::ByteFault;
+use parquet_file::{FileError, FileFault};
+use std::alloc::{AllocError, AllocFailed};
+use thiserror::Error;
+use thrift_core::{ReadError, ThriftFault};
+
+/// Why bytes aren't what they were said to be, or couldn't be written.
+#[derive(Clone, Copy, Debug, Error)]
+pub enum Refusal {
+    /// A growth of memory was refused.
+    #[error("out of memory")]
+    Memory,
+    /// The bytes or the numbers are misspelled.
+    #[error("refused BadSpelling")]
+    BadSpelling,
+    /// They are no number.
+    #[error("refused {0}")]
+    Number(#[from] ByteFault),
+    /// They are no struct, or one that lacks a field.
+    #[error("refused {0}")]
+    Struct(#[from] ThriftFault),
+    /// They are no file, or no file can be written.
+    #[error("refused {0}")]
+    File(FileFault),
+    /// They are no commit.
+    #[error("refused {0}")]
+    Commit(ActionFault),
+}
+
+impl From<AllocError> for Refusal {
+    ghost from_gives = { λ _ e. e ≡ Memory };
+
+    fn from(_e: AllocError) -> Refusal {
+        Refusal::Memory
+    }
+}
+
+impl<T: Drop> From<AllocFailed<T>> for Refusal {
+    ghost from_gives = { λ _ e. e ≡ Memory };
+
+    fn from(_e: AllocFailed<T>) -> Refusal {
+        Refusal::Memory
+    }
+}
+
+impl From<ReadError> for Refusal {
+    fn from(error: ReadError) -> Refusal {
+        match error {
+            ReadError::Memory => Refusal::Memory,
+            ReadError::Fault(fault) => Refusal::Struct(fault),
+        }
+    }
+}
+
+impl From<FileError> for Refusal {
+    fn from(error: FileError) -> Refusal {
+        match error {
+            FileError::Memory => Refusal::Memory,
+            FileError::Fault(fault) => Refusal::File(fault),
+        }
+    }
+}
+
+impl From<ActionFault> for Refusal {
+    fn from(fault: ActionFault) -> Refusal {
+        match fault {
+            ActionFault::Memory => Refusal::Memory,
+            fault => Refusal::Commit(fault),
+        }
+    }
+}
