@@ -1,5 +1,5 @@
 // The schemas that a table is created with today: one required long column.
-ghost use Rattle.std.specs.Prelude.{◌≡◌, IfOk, Ok, Some, option_map, string_bytes};
+ghost use Rattle.std.specs.Prelude.{◌≡◌, ◌≢◌, IfOk, Ok, Err, Some, option_map, string_bytes};
 ghost use Rattle.serde_json.specs.View.{view, items_view, members_view};
 ghost use Rattle.table_store.specs.Schema.{schema_data};
 ghost use Rattle.commit_core.specs.Commits.{schema_text};
@@ -82,7 +82,8 @@ fn column_of(schema: &Value) -> Option<&str>
 /// The name of the column that a schema's text spells, or `None` where the text is no JSON.
 #[tactic(auto, unfolding(crate::specs::Creating::column_from))]
 pub fn column_from(alloc: Global, schema: &str) -> Result<Option<String>, CreateFault>
-    ensures { Gives (λ name. option_map string_bytes name) result (column_from schema.now) }
+    ensures told { Gives (λ name. option_map string_bytes name) result (column_from schema.now) }
+    ensures never_lost { result ≢ Err CreateFault.Lost }
 {
     match Value::from_str(alloc, schema) {
         Ok(schema) => {
