@@ -1,0 +1,130 @@
+//! A case, and the directives that shape it.
+
+use crate::failure::Failure;
+use crate::notation::{Names, number, spelled};
+use crate::streams::{Manner, SOUND};
+use std::alloc::Global;
+use store_core::{MemoryStore, Store};
+
+/// A script, and how it is run and told.
+#[derive(Drop)]
+pub struct Case {
+    pub name: String,
+    pub script: Vec<u8>,
+    /// What stands before the script runs.
+    pub store: MemoryStore,
+    /// The words of a command line, where the script is that command's input.
+    pub words: Option<Vec<String>>,
+    /// Whether the script is one of the plain table.
+    pub is_plain: bool,
+    pub input: Manner,
+    pub output: Manner,
+    /// Whether the output takes no more bytes where it would fail.
+    pub is_full: bool,
+    /// Whether a flush of the output fails.
+    pub is_stuck: bool,
+    /// How many of the last lines are told, where not all are.
+    pub last: Option<usize>,
+    /// Whether the objects that are left are told.
+    pub tells_objects: bool,
+    /// Whether the entries of the table that is left are told.
+    pub tells_entries: bool,
+}
+
+impl Case {
+    pub fn new(alloc: Global, name: &str) -> Result<Case, Failure> {
+        Ok(Case {
+            name: String::from_str(alloc, name)?,
+            script: Vec::new(alloc),
+            store: MemoryStore::new(alloc),
+            words: None,
+            is_plain: false,
+            input: SOUND,
+            output: SOUND,
+            is_full: false,
+            is_stuck: false,
+            last: None,
+            tells_objects: false,
+            tells_entries: false,
+        })
+    }
+
+    /// Does what a directive says:
+    ///
+    /// - `text TEXT` adds a text to the script, `repeat N TEXT` adds it N times, `#` in it being the count from 0;
+    /// - `object NAME TEXT` and `commit V TEXT` put an object, or the commit of a version, before the script runs;
+    /// - `words WORD ..` runs the command of these words, with the script on its standard input;
+    /// - `plain` runs the script over the plain table, as `plain.rt` says;
+    /// - `input by N`, `output by N`: a call moves N bytes at most; `input breaks N`, `output breaks N`: calls fail
+    ///   behind N bytes; `output ends N`: behind N bytes it takes no more; `output sticks`: a flush fails;
+    /// - `last N` tells just the last N lines, and of the others the count and the SHA-256;
+    /// - `objects` and `entries` tell the names and sizes of the objects, and the table's entries, that are left.
+    pub fn direct(&mut self, alloc: Global, names: &Names, directive: &str) -> Result<(), Failure> {
+        let (word, rest) = directive.split_once(' ').unwrap_or((directive, ""));
+        match word {
+            "text" => self
+                .script
+                .extend_from_slice(&spelled(alloc, names, rest)?)?,
+            "repeat" => self.repeat(alloc, names, rest)?,
+            "object" => self.put(alloc, names, rest)?,
+            "commit" => {
+                let (version, text) = rest.split_once(' ').unwrap_or((rest, ""));
+                let version = number::<u64>(version)?;
+                let line = format!(in alloc; "_delta_log/{version:020}.json {text}")?;
+                self.put(alloc, names, &line)?;
+            }
+            "words" => self.words = Some(words_of(alloc, rest)?),
+            "plain" => self.is_plain = true,
+            "input" | "output" => self.hinder(directive)?,
+            "last" => self.last = Some(number(rest)?),
+            "objects" => self.tells_objects = true,
+            "entries" => self.tells_entries = true,
+            _ => return Err(Failure::Misspelled),
+        }
+        Ok(())
+    }
+
+    fn repeat(&mut self, alloc: Global, names: &Names, text: &str) -> Result<(), Failure> {
+        let (times, text) = text.split_once(' ').ok_or(Failure::Misspelled)?;
+        for count in 0..number::<u64>(times)? {
+            let count = format!(in alloc; "{count}")?;
+            let text = text.replace(alloc, "#", &count)?;
+            self.script
+                .extend_from_slice(&spelled(alloc, names, &text)?)?;
+        }
+        Ok(())
+    }
+
+    fn put(&mut self, alloc: Global, names: &Names, text: &str) -> Result<(), Failure> {
+        let (name, text) = text.split_once(' ').unwrap_or((text, ""));
+        self.store.put_absent(name, spelled(alloc, names, text)?)?;
+        Ok(())
+    }
+
+    // Hinders the input or the output.
+    fn hinder(&mut self, directive: &str) -> Result<(), Failure> {
+        let (how, count) = directive.rsplit_once(' ').ok_or(Failure::Misspelled)?;
+        match how {
+            "input by" => self.input.by = number(count)?,
+            "input breaks" => self.input.until = number(count)?,
+            "output by" => self.output.by = number(count)?,
+            "output breaks" => self.output.until = number(count)?,
+            "output ends" => {
+                self.output.until = number(count)?;
+                self.is_full = true;
+            }
+            "output" if count == "sticks" => self.is_stuck = true,
+            _ => return Err(Failure::Misspelled),
+        }
+        Ok(())
+    }
+}
+
+// The words of a command line, of which the first is the program's name.
+fn words_of(alloc: Global, text: &str) -> Result<Vec<String>, Failure> {
+    let mut words = vec![in alloc; String::from_str(alloc, "lake")?]?;
+    for word in text.split_whitespace() {
+        words.push(String::from_str(alloc, word)?)?;
+    }
+    Ok(words)
+}

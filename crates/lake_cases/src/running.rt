@@ -1,0 +1,132 @@
+//! One case: it is run, and what came of it is told.
+
+use crate::case::Case;
+use crate::failure::Failure;
+use crate::plain::tell_plain;
+use crate::streams::{Sink, Source};
+use crate::table::{tell_entries, tell_objects, tell_table};
+use lake_command::command;
+use lake_script::{End, Input, Outcome, Output, run};
+use sha2::{Digest, Sha256};
+use std::alloc::Global;
+use std::io::Write;
+
+/// Runs a case, and adds what is told of it: its name, what was written, how it ended, and which table is left.
+pub fn tell_case(alloc: Global, case: Case, out: &mut Vec<u8>) -> Result<(), Failure> {
+    let mut case = case;
+    let name = &case.name;
+    writeln!(out, "== {name}")?;
+    if case.words.is_some() {
+        return tell_command(alloc, &case, out);
+    }
+    if case.is_plain {
+        return tell_plain(alloc, &case.script, out);
+    }
+    let mut told = Vec::new(alloc);
+    let outcome = run_script(alloc, &mut case, &mut told);
+    tell_written(alloc, &told, case.last, out)?;
+    tell_end(outcome, out)?;
+    tell_table(alloc, &mut case.store, out)?;
+    if case.tells_entries {
+        tell_entries(alloc, &mut case.store, out)?;
+    }
+    if case.tells_objects {
+        tell_objects(&mut case.store, out)?;
+    }
+    Ok(())
+}
+
+// Runs the script of a case over its store.
+fn run_script(alloc: Global, case: &mut Case, told: &mut Vec<u8>) -> Outcome {
+    let source = Source {
+        rest: &case.script,
+        manner: case.input,
+    };
+    let sink = Sink {
+        told,
+        manner: case.output,
+        is_full: case.is_full,
+        is_stuck: case.is_stuck,
+    };
+    let mut input = Input::new(source);
+    let mut output = Output::new(alloc, sink);
+    run(alloc, &mut input, &mut output, &mut case.store, true)
+}
+
+// Runs the command of a case, and adds what it writes, its exit status, and what it tells on standard error.
+fn tell_command(alloc: Global, case: &Case, out: &mut Vec<u8>) -> Result<(), Failure> {
+    let mut told = Vec::new(alloc);
+    let mut err = Vec::new(alloc);
+    let status = run_command(alloc, case, &mut told, &mut err);
+    tell_written(alloc, &told, case.last, out)?;
+    writeln!(out, "status {status}")?;
+    tell_written(alloc, &err, None, out)
+}
+
+fn run_command(alloc: Global, case: &Case, told: &mut Vec<u8>, err: &mut Vec<u8>) -> u8 {
+    let source = Source {
+        rest: &case.script,
+        manner: case.input,
+    };
+    let sink = Sink {
+        told,
+        manner: case.output,
+        is_full: case.is_full,
+        is_stuck: case.is_stuck,
+    };
+    let mut input = Input::new(source);
+    let mut output = Output::new(alloc, sink);
+    let words = match &case.words {
+        Some(words) => words.as_slice(),
+        None => &[],
+    };
+    command(alloc, words, &mut input, &mut output, err).status
+}
+
+// Adds what was written. Of many lines the last alone are told, and of those before them the count and the SHA-256.
+// A last line that isn't ended is ended by a backslash.
+fn tell_written(
+    alloc: Global,
+    told: &[u8],
+    last: Option<usize>,
+    out: &mut Vec<u8>,
+) -> Result<(), Failure> {
+    let count = told.split_inclusive(|byte| *byte == b'\n').count();
+    let hidden = match last {
+        Some(last) => count.saturating_sub(last),
+        None => 0,
+    };
+    let mut hasher = Sha256::new();
+    let mut shown = Vec::new(alloc);
+    for (index, line) in told.split_inclusive(|byte| *byte == b'\n').enumerate() {
+        if index < hidden {
+            hasher.update(line);
+        } else {
+            shown.extend_from_slice(line)?;
+        }
+    }
+    if hidden > 0 {
+        let digest = hex::encode(alloc, hasher.finalize())?;
+        writeln!(out, "{hidden} lines {digest}")?;
+    }
+    out.extend_from_slice(&shown)?;
+    if !told.is_empty() && !told.ends_with(b"\n") {
+        out.extend_from_slice(b"\\\n")?;
+    }
+    Ok(())
+}
+
+// Adds how a run ended, and whether it was short of memory.
+fn tell_end(outcome: Outcome, out: &mut Vec<u8>) -> Result<(), Failure> {
+    match outcome.end {
+        End::Done => write!(out, "end Done")?,
+        End::BadLine(number) => write!(out, "end BadLine {number}")?,
+        End::NotRead => write!(out, "end NotRead")?,
+        End::NotWritten => write!(out, "end NotWritten")?,
+    }
+    if outcome.short() {
+        out.extend_from_slice(b" short")?;
+    }
+    out.push(b'\n')?;
+    Ok(())
+}

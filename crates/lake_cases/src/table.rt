@@ -1,0 +1,86 @@
+//! What is told of the store that a script leaves: the slow program of the definitions looks at it.
+
+use crate::failure::Failure;
+use std::alloc::Global;
+use std::io::Write;
+use store_core::{MemoryStore, Store};
+use table_model::{Batch, Entry, Value, is_lawful};
+use table_store::held_by;
+
+/// Adds which table a store holds, and whether it is lawful.
+pub fn tell_table(
+    alloc: Global,
+    store: &mut MemoryStore,
+    out: &mut Vec<u8>,
+) -> Result<(), Failure> {
+    let Some(held) = held_by(alloc, store)? else {
+        out.extend_from_slice(b"no table\n")?;
+        return Ok(());
+    };
+    let column = &held.column;
+    let count = held.entries.len();
+    let judged = if is_lawful(&held.entries) {
+        "lawful"
+    } else {
+        "unlawful"
+    };
+    writeln!(out, "table {column}, {count} entries, {judged}")?;
+    Ok(())
+}
+
+/// Adds the entries of the table that a store holds, one a line.
+pub fn tell_entries(
+    alloc: Global,
+    store: &mut MemoryStore,
+    out: &mut Vec<u8>,
+) -> Result<(), Failure> {
+    let Some(held) = held_by(alloc, store)? else {
+        return Ok(());
+    };
+    for entry in &held.entries {
+        match entry {
+            Entry::Creation => writeln!(out, "creation")?,
+            Entry::Batch(batch) => tell_batch(batch, out)?,
+            Entry::Close(application) => writeln!(out, "close of {application}")?,
+        }
+    }
+    Ok(())
+}
+
+// Adds a batch: its application, its number, and its rows.
+fn tell_batch(batch: &Batch, out: &mut Vec<u8>) -> Result<(), Failure> {
+    let application = &batch.application;
+    let number = batch.number;
+    write!(out, "batch {number} of {application}:")?;
+    for row in &batch.rows {
+        match number_of(row) {
+            Some(number) => write!(out, " {number}")?,
+            None => write!(out, " ?")?,
+        }
+    }
+    out.push(b'\n')?;
+    Ok(())
+}
+
+/// The number of a row of one column.
+pub fn number_of(row: &Value) -> Option<i64> {
+    let Value::Struct(values) = row else {
+        return None;
+    };
+    match values.as_slice() {
+        [Value::Whole(number)] => Some(*number),
+        _ => None,
+    }
+}
+
+/// Adds the names of a store's objects, each with its count of bytes.
+pub fn tell_objects(store: &mut MemoryStore, out: &mut Vec<u8>) -> Result<(), Failure> {
+    for name in &store.list()? {
+        let size = match store.get(name)? {
+            Some(bytes) => bytes.len(),
+            None => 0,
+        };
+        writeln!(out, "{name} {size}")?;
+    }
+    Ok(())
+}
