@@ -1,53 +1,25 @@
 -- What an action is printed as stands for that action.
-use Rattle.std.proofs.Common.{◌≡◌, ℕ, ◌≤◌, Bool, true, false, bytes_eq, List, [], ◌∷◌, map, Option, Some, None, option_map, Result, Ok, refl, ap, ◌∙◌, arith}
+use Rattle.std.proofs.Common.{◌≡◌, ℕ, ◌≤◌, Bool, true, false, bytes_eq, List, [], Option, Some, None, option_map, Result, Ok, refl, ap, ◌∙◌, arith}
 use Rattle.std.specs.Prelude.{IfSome, codes, ◌||◌}
-use Rattle.serde_json.specs.Data.{Data, boolean, string, object, Members, no_members, depth}
-use Rattle.serde_json.specs.Find.{get_member, as_bool, as_str}
-use Rattle.serde_json.specs.View.{items_of}
-use Rattle.delta_actions.specs.Wrong.{Wrong, ◌>>=◌}
-use Rattle.delta_actions.specs.Kinds.{Path, Format, path_of, count, file_path, texts, item_texts, text_map, no_texts, format, parquet, is_text_map}
-use Rattle.delta_actions.specs.Fields.{defaulted}
+use Rattle.serde_json.specs.Data.{Data, boolean, string, depth}
+use Rattle.serde_json.specs.Find.{as_bool, as_str}
+use Rattle.lake_bytes.specs.Results.{◌>>=◌, refused_as}
+use Rattle.json_fields.specs.Kinds.{count, texts, text_map, no_texts, is_text_map}
+use Rattle.json_fields.specs.KindLaws.{StandsFor, text_stands, truth_stands, count_stands, texts_stand, map_stands}
+use Rattle.json_fields.specs.Printing.{Field, fields_object, one_field, count_data, IsCount, texts_data, unless_empty}
+use Rattle.json_fields.proofs.Callers.{over_none, needed_again, optional_again, optional_of_kind, defaulted_again, unless_empty_again, AreShallow, fields_depth, texts_depth, text_map_depth, unless_empty_depth, leaf, map_if}
+use Rattle.delta_actions.specs.Wrong.{bad_field}
+use Rattle.delta_actions.specs.Kinds.{Format, file_path, format, parquet}
+use Rattle.delta_actions.specs.KindLaws.{path_stands, format_stands}
 use Rattle.delta_actions.specs.Entry.{Entry, commit_info, protocol, meta_data, add, txn, other, ProtocolEntry, MetaDataEntry, AddEntry, TxnEntry}
 use Rattle.delta_actions.specs.Actions.{protocol_of, meta_data_of, add_of, txn_of, action_of, stands_for}
-use Rattle.delta_actions.specs.Printing.{Field, put_fields, protocol_fields, meta_data_fields, add_fields, txn_fields, format_fields, fields_object, count_data, path_data, texts_data, unless_empty, format_data, protocol_data, meta_data_data, add_data, txn_data, one_field, data_of, IsCount, IsProtocol, IsMetaData, IsAdd, IsTxn, is_known, IsPrintable}
-use Rattle.delta_actions.proofs.Lookup.{over_none, found, Stands, needed_again, optional_again, defaulted_again, defaulted_missing, count_stands, map_stands}
-use Rattle.delta_actions.proofs.Depths.{AreShallow, fields_depth, texts_depth, text_map_depth, unless_empty_depth, leaf, map_if}
+use Rattle.delta_actions.specs.Printing.{protocol_fields, meta_data_fields, add_fields, txn_fields, format_fields, path_data, format_data, protocol_data, meta_data_data, add_data, txn_data, data_of, IsProtocol, IsMetaData, IsAdd, IsTxn, is_known, IsPrintable}
 
 -- ---- kinds
 
-text_stands : (t : List ℕ) → Stands as_str (string t) t
-text_stands t = record { is_there = refl; is = refl }
-
-truth_stands : (b : Bool) → Stands as_bool (boolean b) b
-truth_stands b = record { is_there = refl; is = refl }
-
-path_stands : (p : Path) → path_of p.text ≡ Some p → Stands file_path (path_data p) p
-path_stands p h = record { is_there = refl; is = h }
-
-items_again : (ts : List (List ℕ)) → item_texts (items_of (map string ts)) ≡ Some ts
-items_again [] = refl
-items_again (t ∷ ts) = rw (items_again ts) refl
-
-texts_stand : (ts : List (List ℕ)) → Stands texts (texts_data ts) ts
-texts_stand ts = record { is_there = refl; is = items_again ts }
-
-format_again : (f : Format) → is_text_map f.options ≡ true → format (format_data f) ≡ Some f
-format_again f h = let map = map_stands f.options h in rw (map.is_there, map.is) refl
-
-format_stands : (f : Format) → is_text_map f.options ≡ true → Stands format (format_data f) f
-format_stands f h = record { is_there = refl; is = format_again f h }
-
-if_text : (o : Option (List ℕ)) → IfSome o (λ t. Stands as_str (string t) t)
+if_text : (o : Option (List ℕ)) → IfSome o (λ t. StandsFor as_str (string t) t)
 if_text None = tt
 if_text (Some t) = text_stands t
-
-if_count : (o : Option ℕ) → IfSome o IsCount → IfSome o (λ n. Stands count (count_data n) n)
-if_count None h = tt
-if_count (Some n) h = count_stands n h
-
-if_map : (o : Option Data) → IfSome o (λ d. is_text_map d ≡ true) → IfSome o (λ d. Stands text_map d d)
-if_map None h = tt
-if_map (Some d) h = map_stands d h
 
 as_itself : (o : Option Data) → o ≡ option_map (λ d. d) o
 as_itself None = refl
@@ -59,58 +31,50 @@ txn_again : (t : TxnEntry) → IsTxn t → txn_of (txn_data t) ≡ Ok t
 unfolding txn_of
 txn_again t h =
     let fs = txn_fields t in
-    let ms = put_fields no_members fs in
     rw (
-      needed_again as_str (codes "appId") ms (string t.app_id) t.app_id (found (codes "appId") fs) (text_stands t.app_id),
-      needed_again count (codes "version") ms (count_data t.version) t.version (found (codes "version") fs) (count_stands t.version h.version),
-      optional_again count (codes "lastUpdated") ms count_data t.last_updated (found (codes "lastUpdated") fs ∙ over_none (option_map count_data t.last_updated)) (if_count t.last_updated h.last_updated),
+      needed_again as_str (codes "appId") fs (string t.app_id) t.app_id refl (text_stands t.app_id),
+      needed_again count (codes "version") fs (count_data t.version) t.version refl (count_stands t.version h.version),
+      optional_of_kind count count_data IsCount count_stands (codes "lastUpdated") fs t.last_updated h.last_updated (over_none (option_map count_data t.last_updated)),
     ) refl
 
 add_again : (a : AddEntry) → IsAdd a → add_of (add_data a) ≡ Ok a
 unfolding add_of
 add_again a h =
     let fs = add_fields a in
-    let ms = put_fields no_members fs in
     rw (
-      needed_again file_path (codes "path") ms (path_data a.path) a.path (found (codes "path") fs) (path_stands a.path h.path),
-      needed_again count (codes "size") ms (count_data a.size) a.size (found (codes "size") fs) (count_stands a.size h.size),
-      needed_again as_bool (codes "dataChange") ms (boolean a.data_change) a.data_change (found (codes "dataChange") fs) (truth_stands a.data_change),
-      defaulted_again text_map (codes "partitionValues") no_texts ms a.partition_values a.partition_values (found (codes "partitionValues") fs) (map_stands a.partition_values h.partition_values),
-      defaulted_again count (codes "modificationTime") 0 ms (count_data a.modification_time) a.modification_time (found (codes "modificationTime") fs) (count_stands a.modification_time h.modification_time),
-      optional_again as_str (codes "stats") ms string a.stats (found (codes "stats") fs ∙ over_none (option_map string a.stats)) (if_text a.stats),
-      optional_again text_map (codes "tags") ms (λ d. d) a.tags (found (codes "tags") fs ∙ over_none a.tags ∙ as_itself a.tags) (if_map a.tags h.tags),
+      needed_again file_path (codes "path") fs (path_data a.path) a.path refl (path_stands a.path h.path),
+      needed_again count (codes "size") fs (count_data a.size) a.size refl (count_stands a.size h.size),
+      needed_again as_bool (codes "dataChange") fs (boolean a.data_change) a.data_change refl (truth_stands a.data_change),
+      defaulted_again text_map (codes "partitionValues") no_texts fs a.partition_values a.partition_values refl (map_stands a.partition_values h.partition_values),
+      defaulted_again count (codes "modificationTime") 0 fs (count_data a.modification_time) a.modification_time refl (count_stands a.modification_time h.modification_time),
+      optional_again as_str (codes "stats") fs string a.stats (over_none (option_map string a.stats)) (if_text a.stats),
+      optional_of_kind text_map (λ d. d) (λ d. is_text_map d ≡ true) map_stands (codes "tags") fs a.tags h.tags (over_none a.tags ∙ as_itself a.tags),
     ) refl
 
 meta_data_again : (m : MetaDataEntry) → IsMetaData m → meta_data_of (meta_data_data m) ≡ Ok m
 unfolding meta_data_of
 meta_data_again m h =
     let fs = meta_data_fields m in
-    let ms = put_fields no_members fs in
     rw (
-      needed_again as_str (codes "id") ms (string m.id) m.id (found (codes "id") fs) (text_stands m.id),
-      needed_again as_str (codes "schemaString") ms (string m.schema_string) m.schema_string (found (codes "schemaString") fs) (text_stands m.schema_string),
-      optional_again as_str (codes "name") ms string m.name (found (codes "name") fs ∙ over_none (option_map string m.name)) (if_text m.name),
-      optional_again as_str (codes "description") ms string m.description (found (codes "description") fs ∙ over_none (option_map string m.description)) (if_text m.description),
-      defaulted_again format (codes "format") parquet ms (format_data m.format) m.format (found (codes "format") fs) (format_stands m.format h.options),
-      defaulted_again texts (codes "partitionColumns") [] ms (texts_data m.partition_columns) m.partition_columns (found (codes "partitionColumns") fs) (texts_stand m.partition_columns),
-      optional_again count (codes "createdTime") ms count_data m.created_time (found (codes "createdTime") fs ∙ over_none (option_map count_data m.created_time)) (if_count m.created_time h.created_time),
-      defaulted_again text_map (codes "configuration") no_texts ms m.configuration m.configuration (found (codes "configuration") fs) (map_stands m.configuration h.configuration),
+      needed_again as_str (codes "id") fs (string m.id) m.id refl (text_stands m.id),
+      needed_again as_str (codes "schemaString") fs (string m.schema_string) m.schema_string refl (text_stands m.schema_string),
+      optional_again as_str (codes "name") fs string m.name (over_none (option_map string m.name)) (if_text m.name),
+      optional_again as_str (codes "description") fs string m.description (over_none (option_map string m.description)) (if_text m.description),
+      defaulted_again format (codes "format") parquet fs (format_data m.format) m.format refl (format_stands m.format h.options),
+      defaulted_again texts (codes "partitionColumns") [] fs (texts_data m.partition_columns) m.partition_columns refl (texts_stand m.partition_columns),
+      optional_of_kind count count_data IsCount count_stands (codes "createdTime") fs m.created_time h.created_time (over_none (option_map count_data m.created_time)),
+      defaulted_again text_map (codes "configuration") no_texts fs m.configuration m.configuration refl (map_stands m.configuration h.configuration),
     ) refl
-
-features_again : (name : List ℕ) (ms : Members) (ts : List (List ℕ)) → get_member name ms ≡ unless_empty ts → defaulted texts name [] (object ms) ≡ Ok ts
-features_again name ms [] at = defaulted_missing texts name [] ms at
-features_again name ms (t ∷ ts) at = defaulted_again texts name [] ms (texts_data (t ∷ ts)) (t ∷ ts) at (texts_stand (t ∷ ts))
 
 protocol_again : (p : ProtocolEntry) → IsProtocol p → protocol_of (protocol_data p) ≡ Ok p
 unfolding protocol_of
 protocol_again p h =
     let fs = protocol_fields p in
-    let ms = put_fields no_members fs in
     rw (
-      needed_again count (codes "minReaderVersion") ms (count_data p.min_reader_version) p.min_reader_version (found (codes "minReaderVersion") fs) (count_stands p.min_reader_version h.min_reader_version),
-      needed_again count (codes "minWriterVersion") ms (count_data p.min_writer_version) p.min_writer_version (found (codes "minWriterVersion") fs) (count_stands p.min_writer_version h.min_writer_version),
-      features_again (codes "readerFeatures") ms p.reader_features (found (codes "readerFeatures") fs ∙ over_none (unless_empty p.reader_features)),
-      features_again (codes "writerFeatures") ms p.writer_features (found (codes "writerFeatures") fs ∙ over_none (unless_empty p.writer_features)),
+      needed_again count (codes "minReaderVersion") fs (count_data p.min_reader_version) p.min_reader_version refl (count_stands p.min_reader_version h.min_reader_version),
+      needed_again count (codes "minWriterVersion") fs (count_data p.min_writer_version) p.min_writer_version refl (count_stands p.min_writer_version h.min_writer_version),
+      unless_empty_again (codes "readerFeatures") fs p.reader_features (over_none (unless_empty p.reader_features)),
+      unless_empty_again (codes "writerFeatures") fs p.writer_features (over_none (unless_empty p.writer_features)),
     ) refl
 
 neither : (a b : Bool) → (a || b) ≡ false → (a ≡ false) × (b ≡ false)
@@ -129,11 +93,11 @@ other_again key d h =
 pub stands_again : (e : Entry) → IsPrintable e → stands_for (data_of e) ≡ Ok e
 unfolding action_of
 stands_again (commit_info d) h = refl
-stands_again (protocol p) h = ap (λ (r : Result ProtocolEntry Wrong). r >>= λ x. Ok (protocol x)) (protocol_again p h)
-stands_again (meta_data m) h = ap (λ (r : Result MetaDataEntry Wrong). r >>= λ x. Ok (meta_data x)) (meta_data_again m h)
-stands_again (add a) h = ap (λ (r : Result AddEntry Wrong). r >>= λ x. Ok (add x)) (add_again a h)
-stands_again (txn t) h = ap (λ (r : Result TxnEntry Wrong). r >>= λ x. Ok (txn x)) (txn_again t h)
-stands_again (other key d) h = other_again key d h.0
+stands_again (protocol p) h = ap (λ (r : Result ProtocolEntry (List ℕ)). refused_as bad_field (r >>= λ x. Ok (protocol x))) (protocol_again p h)
+stands_again (meta_data m) h = ap (λ (r : Result MetaDataEntry (List ℕ)). refused_as bad_field (r >>= λ x. Ok (meta_data x))) (meta_data_again m h)
+stands_again (add a) h = ap (λ (r : Result AddEntry (List ℕ)). refused_as bad_field (r >>= λ x. Ok (add x))) (add_again a h)
+stands_again (txn t) h = ap (λ (r : Result TxnEntry (List ℕ)). refused_as bad_field (r >>= λ x. Ok (txn x))) (txn_again t h)
+stands_again (other key d) h = ap (refused_as bad_field) (other_again key d h.0)
 
 -- ---- what is printed is shallow enough to be read
 

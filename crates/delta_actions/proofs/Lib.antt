@@ -1,10 +1,7 @@
-pub mod Steps
-pub mod Texts
+pub mod Callers
+pub mod Digits
 pub mod Lines
 pub mod Commits
-pub mod Lookup
-pub mod Depths
 pub mod Again
 pub mod PrintedLines
 pub mod Readable
-pub mod OneLine

@@ -1,9 +1,11 @@
 pub mod Wrong
 pub mod Kinds
-pub mod Fields
+pub mod KindLaws
 pub mod Entry
+pub mod In
 pub mod Actions
 pub mod Commit
 pub mod Reading
 pub mod Printing
 pub mod FaultTexts
+pub mod Names

@@ -2,8 +2,10 @@
 
 ghost use Rattle.std.specs.Prelude.{◌≡◌, Some};
 ghost use Rattle.delta_actions.specs.FaultTexts.{fault_text};
+ghost use Rattle.delta_actions.specs.Wrong.{fault_at};
 ghost use Rattle.delta_actions.specs.declared.fault.ActionFault.TheVariants.{Memory};
 
+use json_fields::FieldFault;
 use std::alloc::{AllocError, AllocFailed};
 use std::fmt;
 use std::fmt::{Display, Formatter};
@@ -22,6 +24,18 @@ pub enum ActionFault {
     NotOneKey { line: u64 },
     /// Memory ran out.
     Memory,
+}
+
+impl ActionFault {
+    /// The fault of a line whose fields could not be read.
+    pub(crate) fn at(line: u64, fault: FieldFault) -> ActionFault
+        ensures { result ≡ fault_at line fault }
+    {
+        match fault {
+            FieldFault::BadField { field } => ActionFault::BadField { line, field },
+            FieldFault::Memory => ActionFault::Memory,
+        }
+    }
 }
 
 impl Display for ActionFault {

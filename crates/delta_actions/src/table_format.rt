@@ -4,7 +4,7 @@ ghost use Rattle.std.specs.Prelude.{◌≡◌, IfOk};
 ghost use Rattle.delta_actions.specs.Kinds.{parquet};
 ghost use Rattle.delta_actions.specs.Entry.{format_view};
 
-use crate::text_map::TextMap;
+use json_fields::TextMap;
 use std::alloc::{AllocError, Global};
 
 /// The encoding of a table's files (Delta PROTOCOL.md, "Format Specification").

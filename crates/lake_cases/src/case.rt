@@ -4,15 +4,15 @@ use crate::failure::Failure;
 use crate::notation::{Names, number, spelled};
 use crate::streams::{Manner, SOUND};
 use std::alloc::Global;
-use store_core::{MemoryStore, Store};
+use store_core::{Flaky, MemoryStore, Store, Turn};
 
 /// A script, and how it is run and told.
 #[derive(Drop)]
 pub struct Case {
     pub name: String,
     pub script: Vec<u8>,
-    /// What stands before the script runs.
-    pub store: MemoryStore,
+    /// What stands before the script runs, and the turns that its calls meet then.
+    pub store: Flaky<MemoryStore>,
     /// The words of a command line, where the script is that command's input.
     pub words: Option<Vec<String>>,
     /// Whether the script is one of the plain table.
@@ -36,7 +36,7 @@ impl Case {
         Ok(Case {
             name: String::from_str(alloc, name)?,
             script: Vec::new(alloc),
-            store: MemoryStore::new(alloc),
+            store: Flaky::new(MemoryStore::new(alloc), Vec::new(alloc)),
             words: None,
             is_plain: false,
             input: SOUND,
@@ -53,6 +53,8 @@ impl Case {
     ///
     /// - `text TEXT` adds a text to the script, `repeat N TEXT` adds it N times, `#` in it being the count from 0;
     /// - `object NAME TEXT` and `commit V TEXT` put an object, or the commit of a version, before the script runs;
+    /// - `meets TURN ..`: the store's calls meet these turns, each `pass`, `request` (the request is lost) or `answer`
+    ///   (the answer is), and past them every call passes;
     /// - `words WORD ..` runs the command of these words, with the script on its standard input;
     /// - `plain` runs the script over the plain table, as `plain.rt` says;
     /// - `input by N`, `output by N`: a call moves N bytes at most; `input breaks N`, `output breaks N`: calls fail
@@ -73,6 +75,7 @@ impl Case {
                 let line = format!(in alloc; "_delta_log/{version:020}.json {text}")?;
                 self.put(alloc, names, &line)?;
             }
+            "meets" => self.store.turns = turns_of(alloc, rest)?,
             "words" => self.words = Some(words_of(alloc, rest)?),
             "plain" => self.is_plain = true,
             "input" | "output" => self.hinder(directive)?,
@@ -97,7 +100,9 @@ impl Case {
 
     fn put(&mut self, alloc: Global, names: &Names, text: &str) -> Result<(), Failure> {
         let (name, text) = text.split_once(' ').unwrap_or((text, ""));
-        self.store.put_absent(name, spelled(alloc, names, text)?)?;
+        self.store
+            .store
+            .put_absent(name, spelled(alloc, names, text)?)?;
         Ok(())
     }
 
@@ -127,4 +132,18 @@ fn words_of(alloc: Global, text: &str) -> Result<Vec<String>, Failure> {
         words.push(String::from_str(alloc, word)?)?;
     }
     Ok(words)
+}
+
+// What becomes of a store's calls, one after the other.
+fn turns_of(alloc: Global, text: &str) -> Result<Vec<Turn>, Failure> {
+    let mut turns = Vec::new(alloc);
+    for word in text.split_whitespace() {
+        turns.push(match word {
+            "pass" => Turn::Pass,
+            "request" => Turn::LoseRequest,
+            "answer" => Turn::LoseAnswer,
+            _ => return Err(Failure::Misspelled),
+        })?;
+    }
+    Ok(turns)
 }

@@ -26,12 +26,12 @@ pub fn tell_case(alloc: Global, case: Case, out: &mut Vec<u8>) -> Result<(), Fai
     let outcome = run_script(alloc, &mut case, &mut told);
     tell_written(alloc, &told, case.last, out)?;
     tell_end(outcome, out)?;
-    tell_table(alloc, &mut case.store, out)?;
+    tell_table(alloc, &mut case.store.store, out)?;
     if case.tells_entries {
-        tell_entries(alloc, &mut case.store, out)?;
+        tell_entries(alloc, &mut case.store.store, out)?;
     }
     if case.tells_objects {
-        tell_objects(&mut case.store, out)?;
+        tell_objects(&mut case.store.store, out)?;
     }
     Ok(())
 }
