@@ -4,3 +4,4 @@ pub mod LogLemmas
 pub mod PieceLemmas
 pub mod PutLemmas
 pub mod SchemaLemmas
+pub mod Callers

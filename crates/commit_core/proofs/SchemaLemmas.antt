@@ -6,8 +6,7 @@ use Rattle.serde_json.specs.Read.{read, max_depth}
 use Rattle.serde_json.specs.Written.{has_float, compact_text}
 use Rattle.serde_json.specs.View.{items_view, members_view}
 use Rattle.serde_json.specs.declared.value.Value.{Value}
-use Rattle.table_store.specs.Schema.{schema_data}
-use Rattle.commit_core.specs.Commits.{schema_text}
+use Rattle.table_store.specs.Schema.{schema_data, schema_text}
 use Rattle.commit_core.specs.Creating.{column_from}
 use Rattle.commit_core.specs.Schema.{only_item, are_none, column_of, column_in}
 
@@ -29,10 +28,10 @@ both_ok (Ok x) P Q R all p q = all x p q
 both_ok (Err e) P Q R all p q = tt
 
 -- a text of the schema's value that reads as it is read as the schema's column
-pub schema_reads_back : (column text : List ℕ) (value : Data) → value ≡ schema_data (record { column = column }) → (has_float value ≡ false → text ≡ compact_text value)
+pub schema_reads_back : (column text : List ℕ) (value : Data) → value ≡ schema_data column → (has_float value ≡ false → text ≡ compact_text value)
     → (depth value ≤ max_depth → read text ≡ Some value) → column_from (schema_text column) ≡ Ok (Some column)
 unfolding column_from column_of column_in
 schema_reads_back column text value is written reads =
     let same : text ≡ schema_text column = written (ap has_float is) ∙ ap compact_text is in
-    let back : read text ≡ Some (schema_data (record { column = column })) = reads (rw is (omega arith)) ∙ ap Some is in
+    let back : read text ≡ Some (schema_data column) = reads (rw is (omega arith)) ∙ ap Some is in
     rw (← same, back) refl

@@ -1,8 +1,7 @@
 // The schemas that a table is created with today: one required long column.
 ghost use Rattle.std.specs.Prelude.{◌≡◌, ◌≢◌, IfOk, Ok, Err, Some, option_map, string_bytes};
 ghost use Rattle.serde_json.specs.View.{view, items_view, members_view};
-ghost use Rattle.table_store.specs.Schema.{schema_data};
-ghost use Rattle.commit_core.specs.Commits.{schema_text};
+ghost use Rattle.table_store.specs.Schema.{schema_data, schema_text};
 ghost use Rattle.commit_core.specs.Creating.{Gives, column_from};
 ghost use Rattle.commit_core.specs.Schema.{text_at, only_item, are_none, is_empty, is_nothing, column_in, column_of};
 
@@ -105,7 +104,7 @@ pub fn schema_text(alloc: Global, column: &str) -> Result<String, AllocError>
 }
 
 fn schema_value(alloc: Global, column: &str) -> Result<Value, AllocError>
-    ensures { IfOk result (λ value. view value ≡ schema_data (record { column = column.now })) }
+    ensures { IfOk result (λ value. view value ≡ schema_data column.now) }
 {
     json!(in alloc; {
         "type": "struct",

@@ -1,4 +1,4 @@
--- The lemmas that other crates cite.
+-- The lemmas that proofs of other crates may cite.
 pub use Rattle.delta_actions.proofs.Digits.{twenty_digits_printed}
 pub use Rattle.delta_actions.proofs.Lines.{path_is}
 pub use Rattle.delta_actions.proofs.PrintedLines.{are_printable}

@@ -5,3 +5,4 @@ pub mod LittleEndian
 pub mod Texts
 pub mod Results
 pub mod Options
+pub mod Outcome

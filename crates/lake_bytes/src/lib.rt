@@ -15,4 +15,3 @@ pub use laws::{
     one_varint_in_front, varint_is_read_again, varint_is_shortest, zigzag_is_read_again,
 };
 pub use writing::{write_i32_le, write_i64_le, write_u32_le, write_varint, write_zigzag};
-

@@ -2,12 +2,13 @@
 ghost use Rattle.std.specs.Prelude.{◌≡◌, ◌≢◌, ℕ, [], false, map, IfSome};
 ghost use Rattle.std.specs.Io.KnownBytes.{Appends};
 ghost use Rattle.clap.specs.Words.{fault_of, kind_of};
+ghost use Rattle.delta_actions.specs.Commit.{lines_of};
 ghost use Rattle.lake_command.specs.declared.words.Command.{Command};
 ghost use Rattle.lake_script.specs.Runs.{MayBeTold, Tells};
 ghost use Rattle.lake_command.specs.Status.{status_of, status_at, status_of_kind};
 ghost use Rattle.lake_script.specs.Streams.{held, unread};
 ghost use Rattle.lake_script.specs.Tables.{told as told_by_table, AreOfTable};
-ghost use Rattle.lake_script.specs.Told.{lines_of, told, first_bad};
+ghost use Rattle.lake_script.specs.Told.{told, first_bad};
 ghost use Rattle.lake_command.specs.Words.{commands, Spells};
 
 use crate::words::{Command, read_words};

@@ -5,13 +5,14 @@ use Rattle.store_core.specs.Objects.{Objects, object_at, names_of}
 use Rattle.delta_actions.specs.Entry as actions
 use Rattle.delta_actions.specs.Commit.{IsCommit}
 use Rattle.parquet_file.specs.File.{IsFile, KeepsLimits}
-use Rattle.table_store.specs.Names.{commit_name, data_file_name}
+use Rattle.delta_actions.specs.Names.{commit_name, data_file_name}
 use Rattle.table_store.specs.Schema.{row_of}
 use Rattle.table_model.specs.Table.{Batch, Entry, creation, batch, close, batches}
 use Rattle.table_model.specs.Lawful.{IsLawful}
 use Rattle.table_store.specs.Holds.{Stands}
 use Rattle.sink_core.specs.Appending.{appending}
-use Rattle.commit_core.specs.Commits.{schema_text, creation as created}
+use Rattle.table_store.specs.Schema.{schema_text}
+use Rattle.commit_core.specs.Commits.{creation as created}
 use Rattle.commit_core.specs.Creating.{column_from}
 use Rattle.lake_script.specs.Tables.{State, nothing, table}
 

@@ -9,18 +9,18 @@ use Rattle.store_core.specs.ObjectLaws.{object_at-with_object_other}
 use Rattle.parquet_file.specs.declared.fault.FileFault.{FileFault}
 use Rattle.parquet_file.specs.Reading.{rows_at}
 use Rattle.parquet_file.specs.Writing.{written_file}
-use Rattle.parquet_file.proofs.Only.{rows-only}
+use Rattle.parquet_file.proofs.Callers.{rows-only}
 use Rattle.table_model.specs.Appends.{appended, with_batch}
 use Rattle.table_model.specs.declared.table.Appended.TheVariants.{Committed, Already, Differs}
 use Rattle.table_model.specs.Lawful.{IsLawful}
-use Rattle.table_store.specs.Names.{data_file_name}
-use Rattle.table_store.specs.Names as names
+use Rattle.delta_actions.specs.Names.{data_file_name}
+use Rattle.delta_actions.specs.Names as names
 use Rattle.table_model.specs.Rows.{same_rows}
 use Rattle.table_store.specs.Schema.{row_of}
 use Rattle.table_model.specs.Table as model
 use Rattle.table_model.specs.Table.{Entry, creation, batch, close, last_batch, is_closed}
-use Rattle.table_store.proofs.HoldingNames.{commit_name-data_file_name}
-use Rattle.table_model.proofs.Kept.{append_keeps}
+use Rattle.table_store.proofs.Callers.{commit_name-data_file_name}
+use Rattle.table_model.proofs.Callers.{append_keeps}
 use Rattle.sink_core.specs.Appending.{Batch, Request, Step, puts, stands, checked, count, appending, file_name, is_repeat, request_of, request_behind, file_or_refusal, batch_of, fitting, new_step, repeated_step, step_of, settled, answered, with_append, IsWellMade, PutsWell}
 use Rattle.commit_core.specs.Commits.{commit_text}
 use Rattle.lake_script.specs.Lines.{append, task}

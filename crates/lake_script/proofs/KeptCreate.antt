@@ -4,13 +4,14 @@ use Rattle.std.specs.Prelude.{bytes_eq, nat_le, is_some, cond}
 use Rattle.std.proofs.lemmas.Slice.Eq.{bytes_eq-Decides}
 use Rattle.store_core.specs.Objects.{Objects, object_at, with_object}
 use Rattle.store_core.specs.ObjectLaws.{with_object_stands, with_object_absent}
-use Rattle.table_store.specs.Names as names
+use Rattle.delta_actions.specs.Names as names
 use Rattle.table_model.specs.Table.{Entry, creation, close}
 use Rattle.table_model.specs.Lawful.{IsLawful}
-use Rattle.table_store.proofs.HoldingNames.{commit_name-data_file_name}
+use Rattle.table_store.proofs.Callers.{commit_name-data_file_name}
 use Rattle.commit_core.specs.declared.fault.CreateFault.{CreateFault}
 use Rattle.commit_core.specs.declared.fault.CreateFault.TheVariants.{BadId, BadSchema, TooLarge}
-use Rattle.commit_core.specs.Commits.{commit_name, commit_text, schema_text, creation as created}
+use Rattle.table_store.specs.Schema.{schema_text}
+use Rattle.commit_core.specs.Commits.{commit_name, commit_text, creation as created}
 use Rattle.commit_core.specs.Creating.{column_from, id_of, within, most_bytes, commit_from, unless_there, with_creation}
 use Rattle.lake_script.specs.Lines.{create}
 use Rattle.lake_bytes.specs.Results.{◌>>=◌, or_refusal}

@@ -10,7 +10,7 @@ use Rattle.std.proofs.lemmas.Slice.Eq.{bytes_eq-Decides}
 use Rattle.table_model.specs.Rows.{same_rows}
 use Rattle.table_store.specs.Schema.{row_of}
 use Rattle.table_model.specs.Table.{Batch, Entry, batches, batches_by, last, last_batch}
-use Rattle.table_model.proofs.Same.{same_rows-is}
+use Rattle.table_model.proofs.Callers.{same_rows-is}
 use Rattle.lake_script.proofs.KeptNames.{behind_first, first_in}
 
 -- ---- the last batch of an application

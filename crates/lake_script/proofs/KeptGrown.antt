@@ -8,7 +8,7 @@ use Rattle.store_core.specs.ObjectLaws.{with_object_absent}
 use Rattle.table_store.specs.Holds.{IsLawfulStore}
 use Rattle.table_store.specs.LawfulLogs.{HasLawfulLog}
 use Rattle.table_model.specs.Table.{creation}
-use Rattle.table_store.proofs.LawfulLogLemmas.{lawful_log}
+use Rattle.table_store.proofs.Callers.{lawful_log}
 use Rattle.commit_core.specs.declared.fault.CreateFault.{CreateFault}
 use Rattle.sink_core.specs.Appending.{checked, count, settled, with_append, with_file_alone}
 use Rattle.commit_core.specs.Commits.{commit_name}

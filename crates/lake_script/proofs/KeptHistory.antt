@@ -5,7 +5,7 @@ use Rattle.std.specs.List.{flat_map}
 use Rattle.std.proofs.lemmas.List.{append-nil}
 use Rattle.store_core.specs.Objects.{Objects, object_at, names_of}
 use Rattle.delta_actions.specs.Entry as actions
-use Rattle.table_store.specs.Names as names
+use Rattle.delta_actions.specs.Names as names
 use Rattle.table_model.specs.Table.{Entry, creation, batch, close}
 use Rattle.sink_core.specs.Appending.{appending}
 use Rattle.commit_core.specs.Commits.{commit_name, creation as created}

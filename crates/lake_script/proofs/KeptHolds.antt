@@ -5,7 +5,7 @@ use Rattle.delta_actions.specs.Entry as actions
 use Rattle.table_store.specs.Commits.{beside_info, StandFor, IsCommitOf}
 use Rattle.table_store.specs.Holds.{FileStands, HoldsFrom, Holds, IsLawfulStore}
 use Rattle.table_model.specs.Lawful.{IsLawful}
-use Rattle.table_store.specs.Names.{commit_name}
+use Rattle.delta_actions.specs.Names.{commit_name}
 use Rattle.table_store.specs.Schema.{Schema}
 use Rattle.table_model.specs.Table.{Entry, creation, batch, close, numbers_by}
 use Rattle.sink_core.specs.Appending.{appending}

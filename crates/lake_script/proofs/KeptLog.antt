@@ -5,13 +5,14 @@ use Rattle.std.specs.Option.{option_or}
 use Rattle.store_core.specs.Objects.{Objects, object_at, names_of}
 use Rattle.delta_actions.specs.Entry as actions
 use Rattle.delta_actions.specs.Commit.{IsCommit}
-use Rattle.table_store.specs.Names as names
+use Rattle.delta_actions.specs.Names as names
 use Rattle.table_model.specs.Table.{Batch, Entry, creation, batch, close, last, last_batch}
-use Rattle.table_model.proofs.Batches.{last_batch-append}
-use Rattle.table_store.proofs.HoldingNames.{commit_name-data_file_name}
-use Rattle.table_store.proofs.NamesOnce.{commit_name-once}
+use Rattle.table_model.proofs.Callers.{last_batch-append}
+use Rattle.table_store.proofs.Callers.{commit_name-data_file_name}
+use Rattle.table_store.proofs.Callers.{commit_name-once}
 use Rattle.sink_core.specs.Appending.{appending}
-use Rattle.commit_core.specs.Commits.{schema_text, commit_name, creation as created}
+use Rattle.table_store.specs.Schema.{schema_text}
+use Rattle.commit_core.specs.Commits.{commit_name, creation as created}
 use Rattle.commit_core.specs.Log.{bad_commit, all_of, commit_of, commits_from, commits_in, latest, latest_in, schema_in, number_in, column_in, last_number, log_of}
 use Rattle.lake_script.proofs.Kept.{IsCreationMade, IsMade, KeptFrom, IsNamed, of_commit, of_file, IsKept}
 

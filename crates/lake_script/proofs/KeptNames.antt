@@ -4,12 +4,12 @@ use Rattle.std.specs.Prelude.{bytes_eq, cond, is_some, option_map, slice_index_o
 use Rattle.std.specs.Str.{IsUtf8}
 use Rattle.std.proofs.lemmas.Slice.Eq.{bytes_eq-Decides}
 use Rattle.store_core.specs.Objects.{Objects, object_at}
-use Rattle.table_store.specs.Names.{data_file_name}
-use Rattle.table_store.specs.Names as names
+use Rattle.delta_actions.specs.Names.{data_file_name}
+use Rattle.delta_actions.specs.Names as names
 use Rattle.table_model.specs.Lawful.{Rises}
 use Rattle.table_model.specs.Table.{Batch, Entry, creation, batch, close, batches, batches_by, numbers_by, last, last_batch}
-use Rattle.table_model.proofs.Batches.{IsAbove, last_none, last_number, numbers_by-own}
-use Rattle.table_store.proofs.NamesOnce.{data_file_name-once}
+use Rattle.table_model.proofs.Callers.{IsAbove, last_none, last_number, numbers_by-own}
+use Rattle.table_store.proofs.Callers.{data_file_name-once}
 use Rattle.sink_core.specs.Appending.{file_name}
 use Rattle.commit_core.specs.Commits.{commit_name}
 use Rattle.lake_script.proofs.Kept.{IsKept, IsOwn, HasNoOther, KeptFrom, FileKept}

@@ -10,12 +10,12 @@ use Rattle.std.proofs.lemmas.Map.Text.{is_eq-slice_cmp}
 use Rattle.std.proofs.lemmas.Slice.Eq.{bytes_eq-Decides}
 use Rattle.store_core.specs.Objects.{Objects, name_order, object_at, names_of, with_object}
 use Rattle.store_core.specs.ObjectLaws.{with_object_absent, with_object_stands, object_at-with_object_same, object_at-with_object_other, object_at-with_object_kept}
-use Rattle.table_store.specs.Names.{commit_name, data_file_name}
+use Rattle.delta_actions.specs.Names.{commit_name, data_file_name}
 use Rattle.table_store.specs.Holds.{Stands}
 use Rattle.table_model.specs.Lawful.{IsLawful}
 use Rattle.table_model.specs.Table.{Batch, Entry, creation, batch, close, batches}
-use Rattle.table_model.proofs.Batches.{batches-append}
-use Rattle.table_store.proofs.HoldingNames.{commit_name-data_file_name}
+use Rattle.table_model.proofs.Callers.{batches-append}
+use Rattle.table_store.proofs.Callers.{commit_name-data_file_name}
 use Rattle.lake_script.proofs.Kept.{IsFileOf, FileKept, IsCommitMade, KeptFrom, IsNamed, of_commit, of_file, IsKept, IsOwn, HasNoOther}
 use Rattle.lake_script.proofs.KeptNames.{first_in}
 

@@ -10,16 +10,16 @@ use Rattle.store_core.specs.ObjectLaws.{object_at-with_object_same, object_at-wi
 use Rattle.parquet_file.specs.declared.fault.FileFault.{FileFault}
 use Rattle.parquet_file.specs.Reading.{rows_at}
 use Rattle.parquet_file.specs.Writing.{written_file}
-use Rattle.parquet_file.proofs.Only.{rows-only}
+use Rattle.parquet_file.proofs.Callers.{rows-only}
 use Rattle.table_model.specs.Appends.{appended}
 use Rattle.table_model.specs.declared.table.Appended.TheVariants.{Committed}
 use Rattle.table_model.specs.Lawful.{IsLawful}
-use Rattle.table_store.specs.Names.{data_file_name}
-use Rattle.table_store.specs.Names as names
+use Rattle.delta_actions.specs.Names.{data_file_name}
+use Rattle.delta_actions.specs.Names as names
 use Rattle.table_store.specs.Schema.{row_of}
 use Rattle.table_model.specs.Table as model
 use Rattle.table_model.specs.Table.{Entry, batch, last_batch}
-use Rattle.table_store.proofs.HoldingNames.{commit_name-data_file_name}
+use Rattle.table_store.proofs.Callers.{commit_name-data_file_name}
 use Rattle.sink_core.specs.Appending.{Batch, Step, puts, stands, checked, count, file_name, is_repeat, is_same, unless_other, where_same, file_or_refusal, batch_of, fitting, new_step, step_of, settled, with_append, with_file_alone, IsWellMade, PutsWell}
 use Rattle.sink_core.specs.Refusals.{Refusal, stale, differs}
 use Rattle.lake_bytes.specs.Results.{◌>>=◌, refused_if}

@@ -7,8 +7,8 @@ use Rattle.std.proofs.lemmas.Bool.Decides.{nat_tests}
 use Rattle.std.proofs.lemmas.List.Folds.{flat_map-map}
 use Rattle.store_core.specs.Objects.{Objects}
 use Rattle.delta_actions.specs.Entry as actions
-use Rattle.parquet_file.proofs.Only.{rows-only}
-use Rattle.table_store.specs.Names.{data_file_name}
+use Rattle.parquet_file.proofs.Callers.{rows-only}
+use Rattle.delta_actions.specs.Names.{data_file_name}
 use Rattle.table_model.specs.Rows.{Row}
 use Rattle.table_store.specs.Schema.{row_of}
 use Rattle.table_model.specs.Table.{Entry, creation, batch, close, last}
@@ -21,19 +21,20 @@ use Rattle.source_core.specs.Offsets.{offset_of}
 use Rattle.lake_bytes.specs.Results.{◌>>=◌}
 use Rattle.lake_script.specs.Tables as tables
 use Rattle.source_core.specs.Tailing as tails
-use Rattle.source_core.specs.Tailing.{Refusal, Handed, new_files, rows_of, rows_text, hand, handed_by, handed_text, tailed, files_at, end_of}
+use Rattle.table_store.specs.Logs.{new_files}
+use Rattle.source_core.specs.Tailing.{Refusal, Handed, rows_of, rows_text, hand, handed_by, handed_text, tailed, files_at, end_of}
 use Rattle.lake_script.specs.Told.{tailed_reply}
 use Rattle.lake_script.proofs.Kept.{FileKept, IsMade, KeptFrom, IsKept}
 use Rattle.lake_script.proofs.KeptLog.{AreMade, kept_log, log_of_nothing}
-use Rattle.source_core.proofs.KeptTailWalk.{file_of, rows_in, behind_all, behind_last, walked, row_missing}
-use Rattle.source_core.proofs.KeptTailPlace.{IsEntryFound, AreEntriesFound, as_many_commits}
-use Rattle.source_core.proofs.KeptTailSpot.{Ahead, Spot, stands, no_file, no_row, spotted}
+use Rattle.source_core.proofs.Callers.{file_of, rows_in, behind_all, behind_last, walked, row_missing}
+use Rattle.source_core.proofs.Callers.{IsEntryFound, AreEntriesFound, as_many_commits}
+use Rattle.source_core.proofs.Callers.{Ahead, Spot, stands, no_file, no_row, spotted}
 
 -- ---- the commits of a table and their files
 
 -- the commit of an entry brings its file, which stands and reads as its rows
 entry_found : (objects : Objects) (column : List ℕ) (entry : Entry) (made : List actions.Entry) → IsMade column entry made → FileKept objects column entry → IsEntryFound objects column entry made
-unfolding created appending new_files rows_of
+unfolding created appending rows_of
 entry_found objects column creation made is kept = rw is.are refl
 entry_found objects column (batch b) made is kept =
     let name = data_file_name b.application b.number in

@@ -9,8 +9,8 @@ use Rattle.table_model.specs.Reads.{Answer, handed, beyond, bad_place, position,
 use Rattle.table_model.specs.Resumed as resumed
 use Rattle.table_model.specs.Resumed.{reads_on, growth, beginning}
 use Rattle.table_model.specs.declared.reading.Place.{Place}
-use Rattle.table_model.proofs.Grown.{beginning_is_place, is_answered}
-use Rattle.table_model.proofs.Resumed.{final_grows, log_from_beginning, onward_in_the_log, all_after_short}
+use Rattle.table_model.proofs.Callers.{beginning_is_place, is_answered}
+use Rattle.table_model.proofs.Callers.{final_grows, log_from_beginning, onward_in_the_log, all_after_short}
 use Rattle.commit_core.specs.Log.{Log, Unreadable, log_of, bad_commit}
 use Rattle.lake_bytes.specs.Results.{◌>>=◌, refused_as}
 use Rattle.lake_script.specs.Tables.{State, nothing, table, entries_of}

@@ -3,7 +3,8 @@ use Rattle.std.proofs.Common.{◌≡◌, ℕ, ◌+◌, ◌≤◌, ◌∷◌, [],
 use Rattle.std.specs.List.{position_or_len, slice_split, onto_first}
 use Rattle.std.proofs.lemmas.Bool.{cases_Bool, cond-true, cond-false, ltb-true, ltb-false}
 use Rattle.std.proofs.lemmas.List.Splits.{slice_split_first, slice_split-cons_no}
-use Rattle.lake_script.specs.Told.{is_newline, lines_of}
+use Rattle.delta_actions.specs.Commit.{lines_of}
+use Rattle.lake_script.specs.Told.{is_newline}
 
 -- up to the first newline, and what stands behind it
 pub lines_of_found : (text : List ℕ) (at : ℕ) → position is_newline text ≡ Some at → lines_of text ≡ take at text ∷ lines_of (drop (at + 1) text)

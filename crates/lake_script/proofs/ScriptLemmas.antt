@@ -7,7 +7,8 @@ use Rattle.store_core.specs.Objects.{Objects}
 use Rattle.lake_script.specs.Scripts.{HoldsState, IsScript, ReadsOut}
 use Rattle.lake_script.specs.Sound.{AreSound}
 use Rattle.lake_script.specs.Tables as tables
-use Rattle.lake_script.specs.Told.{is_newline, lines_of, told, left}
+use Rattle.delta_actions.specs.Commit.{lines_of}
+use Rattle.lake_script.specs.Told.{is_newline, told, left}
 use Rattle.lake_script.proofs.KeptRuns.{told_by_tables, left_is_kept, left_is_short}
 use Rattle.lake_script.proofs.KeptScripts.{lines_told, kept_held, kept_reads_out}
 

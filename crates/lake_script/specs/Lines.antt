@@ -1,9 +1,10 @@
 -- The lines of a script: which bytes spell which line.
-use Rattle.std.specs.Prelude.{◌==◌, ℕ, ◌<◌, ◌^◌, ◌||◌, Bool, List, ⊤, Option, Some, None, codes, nat_eq, option_map, if◌then◌else◌}
-use Rattle.std.specs.List.{list_all, starts_with}
+use Rattle.std.specs.Prelude.{ℕ, ◌<◌, ◌^◌, ◌||◌, Bool, List, ⊤, Option, Some, None, codes, nat_eq, option_map, if◌then◌else◌}
+use Rattle.std.specs.List.{starts_with}
 use Rattle.std.specs.Str.{is_utf8}
 use Rattle.serde_json.specs.Data.{Items}
 use Rattle.serde_json.specs.View.{items_view}
+use Rattle.delta_actions.specs.Commit.{is_blank}
 use Rattle.lake_script.specs.declared.kind.Kind.{Kind}
 use Rattle.lake_script.specs.declared.verb.Verb.{Verb}
 use Rattle.lake_script.specs.declared.verb.Verb.TheVariants as verb
@@ -167,10 +168,6 @@ pub data Reading : Type 0 where
   skipped : Reading
   bad : Reading
   asks : Wish → Reading
-
--- nothing but spaces, tabs and carriage returns
-abbrev pub is_blank : List ℕ → Bool
-is_blank bytes = list_all (λ byte. byte == 32 || (byte == 9 || byte == 13)) bytes
 
 -- a number sign stands first
 abbrev pub is_comment : List ℕ → Bool

@@ -16,7 +16,8 @@ use Rattle.lake_script.specs.Replies.{bad_line}
 use Rattle.lake_script.specs.Streams.{StandsIn}
 use Rattle.source_core.specs.TailFaults as tail_texts
 use Rattle.source_core.specs.Tailing as tails
-use Rattle.lake_script.specs.Told.{lines_of, is_bad, reply_to_wish, left_by_wish}
+use Rattle.delta_actions.specs.Commit.{lines_of}
+use Rattle.lake_script.specs.Told.{is_bad, reply_to_wish, left_by_wish}
 
 -- the replies to lines that create a table, append a batch, show an object, read rows and tell the history, where a
 -- growth was refused

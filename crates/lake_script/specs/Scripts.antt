@@ -6,7 +6,7 @@ use Rattle.table_store.specs.Holds.{Holds}
 use Rattle.table_model.specs.Lawful.{IsLawful}
 use Rattle.lake_script.specs.Tables.{State, nothing, table, told, left, entries_of, AreOfTable}
 use Rattle.source_core.specs.Tails.{HandOutTheLog, HandOutAll, AreAnswered}
-use Rattle.lake_script.specs.Told.{lines_of}
+use Rattle.delta_actions.specs.Commit.{lines_of}
 
 -- the store holds the table that a script has made
 abbrev pub HoldsState : Objects → State → Type 0

@@ -9,7 +9,7 @@ use Rattle.serde_json.specs.Written.{compact_text}
 use Rattle.table_model.specs.Rows.{Row, whole, structure, no_values, value}
 use Rattle.table_store.specs.Schema.{row_of}
 use Rattle.table_model.specs.Table.{Batch, Entry, creation, batch, close}
-use Rattle.table_store.specs.Names.{data_file_name}
+use Rattle.delta_actions.specs.Names.{data_file_name}
 use Rattle.table_model.specs.Appends.{appended, with_batch}
 use Rattle.table_model.specs.declared.table.Appended.{Appended}
 use Rattle.table_model.specs.declared.table.Appended.TheVariants.{Committed, Already, Stale, Differs, StreamClosed}
@@ -30,7 +30,8 @@ use Rattle.lake_bytes.specs.Results.{◌>>=◌, or_refusal}
 use Rattle.sink_core.specs.RowsIn.{rows_from}
 use Rattle.source_core.specs.Tailing as tails
 use Rattle.source_core.specs.TailFaults as tail_texts
-use Rattle.lake_script.specs.Told.{lines_of, is_bad, not_yet}
+use Rattle.delta_actions.specs.Commit.{lines_of}
+use Rattle.lake_script.specs.Told.{is_bad, not_yet}
 
 -- what a script has made so far: no table, or one of a column and its entries
 pub data State : Type 0 where

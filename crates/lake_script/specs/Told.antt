@@ -1,6 +1,6 @@
 -- What a script is told.
 use Rattle.std.specs.Prelude.{◌==◌, ◌+◌, ◌++◌, ℕ, Bool, true, false, List, [], ◌∷◌, Option, Some, None, Result, Ok, Err, ⊤, if◌then◌else◌}
-use Rattle.std.specs.List.{slice_split}
+use Rattle.delta_actions.specs.Commit.{lines_of}
 use Rattle.hex.specs.Hex.{encode_lower}
 use Rattle.store_core.specs.Objects.{Objects, object_at}
 use Rattle.lake_script.specs.declared.engine.End.{End}
@@ -25,11 +25,8 @@ use Rattle.source_core.specs.Tailing.{tailed}
 abbrev pub is_newline : ℕ → Bool
 is_newline byte = byte == 10
 
--- a line ends at a newline and nowhere else; behind the last newline stands a last line, which may be empty
-abbrev pub lines_of : List ℕ → List (List ℕ)
-lines_of text = slice_split is_newline text
-
--- the lines of what is left, if something is
+-- The lines of what is left, if something is. A line ends at a newline and nowhere else; behind the last newline stands
+-- a last line, which may be empty.
 abbrev pub lines_left : Option (List ℕ) → List (List ℕ)
 lines_left None = []
 lines_left (Some text) = lines_of text

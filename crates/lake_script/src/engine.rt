@@ -10,7 +10,8 @@ ghost use Rattle.lake_script.specs.Scripts.{HoldsState, IsScript, ReadsOut};
 ghost use Rattle.lake_script.specs.Sound.{IsSound, AreSound};
 ghost use Rattle.lake_script.specs.Streams.{held, unread, StandsIn};
 ghost use Rattle.lake_script.specs.Tables.{told as told_by_table, left as table_left, AreOfTable};
-ghost use Rattle.lake_script.specs.Told.{lines_of, lines_left, is_newline, reply_to, left_by, is_bad, told, left, first_bad, Finishes};
+ghost use Rattle.delta_actions.specs.Commit.{lines_of};
+ghost use Rattle.lake_script.specs.Told.{lines_left, is_newline, reply_to, left_by, is_bad, told, left, first_bad, Finishes};
 
 use crate::inputs::{Input, InputError};
 use crate::outputs::{Output, OutputError};

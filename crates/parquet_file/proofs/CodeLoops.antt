@@ -1,16 +1,11 @@
 -- Reading one member after another, as a loop does: what was read and what is still read are what is read from the start.
-use Rattle.std.proofs.Common.{◌≡◌, ℕ, suc, ◌-◌, ◌+◌, ◌≤◌, ◌<◌, ℤ, w64, List, [], ◌∷◌, ◌++◌, Option, option_map, Result, Ok, Err, refl, sym, ap, ◌∙◌, append_assoc, arith}
+use Rattle.std.proofs.Common.{◌≡◌, ℕ, suc, ◌-◌, ◌+◌, ◌≤◌, ◌<◌, ℤ, w64, List, [], ◌∷◌, ◌++◌, Option, option_map, Result, Ok, Err, refl, sym, ap, ◌∙◌, arith}
 use Rattle.std.proofs.lemmas.List.{append-nil}
 use Rattle.lake_bytes.specs.Results.{◌>>=◌}
+use Rattle.lake_bytes.proofs.Callers.{with_front, with_front_beside, regroup_beside}
 use Rattle.lake_bytes.specs.LittleEndian.{signed_little_at}
 use Rattle.lake_bytes.specs.declared.fault.ByteFault.{ByteFault}
 use Rattle.parquet_file.specs.Plain.{plain_at}
-
--- ---- members read each by itself
-
--- what was read before, and what is still read
-abbrev pub with_front : {B E : Type 0} → List B → Result (List B) E → Result (List B) E
-with_front front read = read >>= λ ys. Ok (front ++ ys)
 
 -- ---- texts
 
@@ -19,28 +14,21 @@ with_texts front read = option_map (λ texts. front ++ texts) read
 
 -- ---- values added to rows
 
--- the rows with the values that are read behind them
-abbrev pub behind : {A E : Type 0} → List ℤ → Result (List ℤ × A) E → Result (List ℤ × A) E
-behind rows read = read >>= λ x. Ok (rows ++ x.0, x.1)
-
-abbrev pub rows_behind : {E : Type 0} → List ℤ → Result (List ℤ) E → Result (List ℤ) E
-rows_behind rows read = read >>= λ values. Ok (rows ++ values)
-
-pub added : {A E : Type 0} (old new : List ℤ) (x : A) (read : Result (List ℤ × A) E) → behind old read ≡ Ok (new, x) → (values : List ℤ) × (read ≡ Ok (values, x)) × (new ≡ old ++ values)
+pub added : {A E : Type 0} (old new : List ℤ) (x : A) (read : Result (List ℤ × A) E) → with_front_beside old read ≡ Ok (new, x) → (values : List ℤ) × (read ≡ Ok (values, x)) × (new ≡ old ++ values)
 added {A} old new x (Ok r) h =
     let p : ◌≡◌ {A = List ℤ × A} (old ++ r.0, r.1) (new, x) = cc in
     (r.0, ap (λ (y : A). Ok (r.0, y)) (ap (λ (q : List ℤ × A). q.1) p), sym (ap (λ (q : List ℤ × A). q.0) p))
 added old new x (Err e) h = cc
 
-pub not_added : {A E : Type 0} (old : List ℤ) (e : E) (read : Result (List ℤ × A) E) → behind old read ≡ Err e → read ≡ Err e
+pub not_added : {A E : Type 0} (old : List ℤ) (e : E) (read : Result (List ℤ × A) E) → with_front_beside old read ≡ Err e → read ≡ Err e
 not_added old e (Ok r) h = cc
 not_added old e (Err f) h = h
 
-pub rows_added : {E : Type 0} (old new : List ℤ) (read : Result (List ℤ) E) → rows_behind old read ≡ Ok new → (values : List ℤ) × (read ≡ Ok values) × (new ≡ old ++ values)
+pub rows_added : {E : Type 0} (old new : List ℤ) (read : Result (List ℤ) E) → with_front old read ≡ Ok new → (values : List ℤ) × (read ≡ Ok values) × (new ≡ old ++ values)
 rows_added old new (Ok values) h = (values, refl, cc)
 rows_added old new (Err e) h = cc
 
-pub rows_not_added : {E : Type 0} (old : List ℤ) (e : E) (read : Result (List ℤ) E) → rows_behind old read ≡ Err e → read ≡ Err e
+pub rows_not_added : {E : Type 0} (old : List ℤ) (e : E) (read : Result (List ℤ) E) → with_front old read ≡ Err e → read ≡ Err e
 rows_not_added old e (Ok values) h = cc
 rows_not_added old e (Err f) h = h
 
@@ -60,29 +48,25 @@ unkept_err e (Err f) h = cc
 
 -- ---- PLAIN values
 
-regroup_values : {A E : Type 0} (rows : List ℤ) (value : ℤ) (read : Result (List ℤ × A) E) → behind rows (read >>= λ r. Ok (value ∷ r.0, r.1)) ≡ behind (rows ++ value ∷ []) read
-regroup_values rows value (Ok r) = ap (λ (xs : List ℤ). Ok (xs, r.1)) (simp append_assoc)
-regroup_values rows value (Err e) = refl
-
 pub plain_goes_on : (rows : List ℤ) (count i : ℕ) (cursor after : List ℕ) (value : ℤ) (total : Result (List ℤ × List ℕ) ByteFault) → i < count → signed_little_at w64 cursor ≡ Ok (value, after)
-    → behind rows (plain_at (count - i) cursor) ≡ total → behind (rows ++ value ∷ []) (plain_at (count - (i + 1)) after) ≡ total
+    → with_front_beside rows (plain_at (count - i) cursor) ≡ total → with_front_beside (rows ++ value ∷ []) (plain_at (count - (i + 1)) after) ≡ total
 unfolding plain_at
 plain_goes_on rows count i cursor after value total lt h so_far =
     let k : count - i ≡ suc (count - (i + 1)) = omega arith in
-    let one : behind rows (plain_at (count - i) cursor) ≡ behind (rows ++ value ∷ []) (plain_at (count - (i + 1)) after) = rw (k, h) (regroup_values rows value (plain_at (count - (i + 1)) after)) in
+    let one : with_front_beside rows (plain_at (count - i) cursor) ≡ with_front_beside (rows ++ value ∷ []) (plain_at (count - (i + 1)) after) = rw (k, h) (regroup_beside rows (value ∷ []) (plain_at (count - (i + 1)) after)) in
     sym one ∙ so_far
 
 pub plain_fails : (rows : List ℤ) (count i : ℕ) (cursor : List ℕ) (fault : ByteFault) (total : Result (List ℤ × List ℕ) ByteFault) → i < count → signed_little_at w64 cursor ≡ Err fault
-    → behind rows (plain_at (count - i) cursor) ≡ total → total ≡ Err fault
+    → with_front_beside rows (plain_at (count - i) cursor) ≡ total → total ≡ Err fault
 unfolding plain_at
 plain_fails rows count i cursor fault total lt h so_far =
     let k : count - i ≡ suc (count - (i + 1)) = omega arith in
-    let one : behind rows (plain_at (count - i) cursor) ≡ Err fault = rw (k, h) refl in
+    let one : with_front_beside rows (plain_at (count - i) cursor) ≡ Err fault = rw (k, h) refl in
     sym so_far ∙ one
 
-pub plain_done : (rows : List ℤ) (count i : ℕ) (cursor : List ℕ) (total : Result (List ℤ × List ℕ) ByteFault) → count ≤ i → behind rows (plain_at (count - i) cursor) ≡ total → total ≡ Ok (rows, cursor)
+pub plain_done : (rows : List ℤ) (count i : ℕ) (cursor : List ℕ) (total : Result (List ℤ × List ℕ) ByteFault) → count ≤ i → with_front_beside rows (plain_at (count - i) cursor) ≡ total → total ≡ Ok (rows, cursor)
 unfolding plain_at
 plain_done rows count i cursor total le so_far =
     let k : count - i ≡ 0 = omega arith in
-    let one : behind rows (plain_at (count - i) cursor) ≡ Ok (rows, cursor) = rw k (ap (λ (xs : List ℤ). Ok (xs, cursor)) (append-nil rows)) in
+    let one : with_front_beside rows (plain_at (count - i) cursor) ≡ Ok (rows, cursor) = rw k (ap (λ (xs : List ℤ). Ok (xs, cursor)) (append-nil rows)) in
     sym so_far ∙ one

@@ -3,7 +3,7 @@ use Rattle.std.proofs.Common.{◌≡◌, ℕ, ℤ, cond, ltb, List, Ok, Err, ap,
 use Rattle.lake_bytes.specs.Results.{◌>>=◌}
 use Rattle.lake_bytes.specs.Varint.{IsBytes}
 use Rattle.thrift_core.specs.Reading.{struct_at}
-use Rattle.thrift_core.proofs.Found.{struct_at_found}
+use Rattle.thrift_core.proofs.Callers.{struct_at_found}
 use Rattle.parquet_file.specs.Metadata.{Metadata, metadata_of}
 use Rattle.parquet_file.specs.File.{Says, AreGroups, IsFile}
 use Rattle.parquet_file.specs.Frame.{frame_of}

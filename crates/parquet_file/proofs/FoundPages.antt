@@ -9,7 +9,7 @@ use Rattle.lake_bytes.specs.Varint.{IsBytes}
 use Rattle.thrift_core.specs.Tree.{Tree}
 use Rattle.thrift_core.specs.Spelling.{SpellsStruct}
 use Rattle.thrift_core.specs.Reading.{struct_at}
-use Rattle.thrift_core.proofs.Found.{struct_at_found}
+use Rattle.thrift_core.proofs.Callers.{struct_at_found}
 use Rattle.parquet_file.specs.Plain.{plain, plain_at}
 use Rattle.parquet_file.specs.Pages.{Header, header_of, plain_header, IsPage, ArePages, no_page, page}
 use Rattle.parquet_file.specs.Reading.{told_as, bytes_told_as, header_at, values_at, page_at, pages_at}

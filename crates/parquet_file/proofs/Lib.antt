@@ -23,3 +23,4 @@ pub mod WrittenGroups
 pub mod WrittenHeader
 pub mod WrittenPages
 pub mod WrittenSizes
+pub mod Callers

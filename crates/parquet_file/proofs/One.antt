@@ -2,7 +2,7 @@
 use Rattle.std.proofs.Common.{◌≡◌, ℕ, ◌+◌, ℤ, List, [], ◌∷◌, ◌++◌, length, take, Ok, sym, ap, subst, ◌∙◌, arith}
 use Rattle.std.proofs.lemmas.List.{append_cancel_left}
 use Rattle.thrift_core.specs.declared.wire.WireType.TheVariants as wire
-use Rattle.thrift_core.proofs.Told.{one_tree}
+use Rattle.thrift_core.proofs.Callers.{one_tree}
 use Rattle.parquet_file.specs.Metadata.{Element, Metadata, metadata_of}
 use Rattle.parquet_file.specs.File.{magic, Says, IsLongColumn, IsFile}
 use Rattle.parquet_file.specs.Reading.{rows_of}

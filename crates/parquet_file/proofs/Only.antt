@@ -1,7 +1,7 @@
 -- The rows that bytes are a file of are read.
 use Rattle.std.proofs.Common.{◌≡◌, ℕ, ◌≤◌, ℤ, true, List, ◌++◌, Ok, arith, refl}
 use Rattle.std.proofs.lemmas.Bool.{le-ltb}
-use Rattle.thrift_core.proofs.Again.{struct_at_again}
+use Rattle.thrift_core.proofs.Callers.{struct_at_again}
 use Rattle.parquet_file.specs.Metadata.{Metadata}
 use Rattle.parquet_file.specs.File.{magic, Says, IsFile, KeepsLimits}
 use Rattle.parquet_file.specs.Reading.{claims_within_limit, within_limits, metadata_at, rows_at}

@@ -5,7 +5,7 @@ use Rattle.std.proofs.lemmas.List.{take_at, drop_at}
 use Rattle.thrift_core.specs.Tree.{Tree}
 use Rattle.thrift_core.specs.Spelling.{SpellsStruct}
 use Rattle.thrift_core.specs.Reading.{counted, struct_ahead, fields_ahead, content_ahead, value_ahead, struct_at}
-use Rattle.thrift_core.proofs.Again.{struct_at_again}
+use Rattle.thrift_core.proofs.Callers.{struct_at_again}
 use Rattle.parquet_file.specs.Plain.{plain, plain_at}
 use Rattle.parquet_file.specs.Pages.{header_of, plain_header, IsPage, ArePages, no_page, page}
 use Rattle.parquet_file.specs.Reading.{header_at, values_at, page_at, pages_at}

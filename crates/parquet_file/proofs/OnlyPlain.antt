@@ -4,7 +4,7 @@ use Rattle.std.specs.Prelude.{FitsSigned}
 use Rattle.std.specs.Int.{w64, to_le_bytes, cast_unsigned}
 use Rattle.std.specs.List.{AllByRecursion}
 use Rattle.lake_bytes.specs.LittleEndian.{signed_little_at}
-use Rattle.lake_bytes.proofs.Fixed.{eight, below_64, signed_little_again}
+use Rattle.lake_bytes.proofs.Callers.{eight, below_64, signed_little_again}
 use Rattle.parquet_file.specs.Plain.{plain, plain_at}
 
 -- ---- what holds of each value

@@ -5,7 +5,7 @@ use Rattle.thrift_core.specs.Tree.{Tree, binary, depth, nodes}
 use Rattle.thrift_core.specs.Shape.{int32_form, binary_form, list_form}
 use Rattle.thrift_core.specs.Spelling.{SpellsStruct}
 use Rattle.thrift_core.specs.Writing.{HasForm}
-use Rattle.thrift_core.proofs.WrittenSpells.{struct_written}
+use Rattle.thrift_core.proofs.Callers.{struct_written}
 use Rattle.parquet_file.specs.File.{Says}
 use Rattle.parquet_file.specs.Metadata.{Element, Chunk, Group, Metadata, metadata_of, root_of, node_of, physical_type_of, chunk_of, group_of}
 use Rattle.parquet_file.specs.Writing.{whole, members, fields, element_form, root_tree, leaf_tree, column_form, column_tree, chunk_form, group_form, group_tree, groups_tree, footer_form, footer_tree, footer_bytes}

@@ -4,7 +4,7 @@ use Rattle.thrift_core.specs.Tree.{Tree}
 use Rattle.thrift_core.specs.Shape.{Form, forms, struct_form, int32_form}
 use Rattle.thrift_core.specs.Spelling.{SpellsStruct}
 use Rattle.thrift_core.specs.Writing.{HasForm}
-use Rattle.thrift_core.proofs.WrittenSpells.{struct_written}
+use Rattle.thrift_core.proofs.Callers.{struct_written}
 use Rattle.parquet_file.specs.Pages.{header_of, content_of_type, content_of, plain_header}
 use Rattle.parquet_file.specs.Writing.{whole, fields, header_form, header_tree, header_bytes}
 use Rattle.parquet_file.proofs.WrittenForms.{struct_has_form, fits_32}

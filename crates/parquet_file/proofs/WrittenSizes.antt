@@ -3,7 +3,7 @@ use Rattle.std.proofs.Common.{◌≡◌, ℕ, zero, suc, ◌*◌, ◌<◌, ◌�
 use Rattle.std.specs.Int.{to_le_bytes, cast_unsigned}
 use Rattle.std.proofs.lemmas.List.{length-append}
 use Rattle.lake_bytes.specs.Varint.{varint_bytes}
-use Rattle.lake_bytes.proofs.Groups.{SpellsNumber-varint_bytes}
+use Rattle.lake_bytes.proofs.Callers.{SpellsNumber-varint_bytes}
 use Rattle.thrift_core.specs.Tree.{Tree}
 use Rattle.thrift_core.specs.Writing.{written, field_header_bytes, list_header_bytes}
 use Rattle.parquet_file.specs.Plain.{plain}

@@ -12,9 +12,10 @@ use Rattle.table_store.specs.Schema.{row_of}
 use Rattle.table_model.specs.Table.{Entry, creation, batch, close}
 use Rattle.table_model.specs.Reads.{placed_rows, placed_from, is_before}
 use Rattle.table_model.specs.declared.reading.Place.{Place}
-use Rattle.table_model.proofs.Places.{none_before, rises_from, rises_lower}
+use Rattle.table_model.proofs.Callers.{none_before, rises_from, rises_lower}
 use Rattle.source_core.specs.Tailing as tails
-use Rattle.source_core.specs.Tailing.{LogFile, rows_of, new_files, numbered, files_from}
+use Rattle.table_store.specs.Logs.{new_files}
+use Rattle.source_core.specs.Tailing.{LogFile, rows_of, numbered, files_from}
 use Rattle.source_core.proofs.KeptTailWalk.{Found, file_of, rows_in, AreFound}
 
 -- ---- the files of a log and the rows of its table

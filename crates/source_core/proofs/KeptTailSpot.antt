@@ -14,7 +14,8 @@ use Rattle.table_model.specs.Table.{Batch, Entry, creation, batch, close}
 use Rattle.table_model.specs.Reads.{placed_rows, placed_entry, placed_from, is_before, is_place_from}
 use Rattle.table_model.specs.declared.reading.Place.{Place}
 use Rattle.source_core.specs.Tailing as tails
-use Rattle.source_core.specs.Tailing.{new_files, files_from, commit_at, unless_no_file, bad_place}
+use Rattle.table_store.specs.Logs.{new_files}
+use Rattle.source_core.specs.Tailing.{files_from, commit_at, unless_no_file, bad_place}
 use Rattle.source_core.proofs.KeptTailWalk.{Found, file_of, rows_in, AreFound, AreWithin, length-placed, within_none}
 use Rattle.source_core.proofs.KeptTailPlace.{AreEntriesFound, in_log, is_ahead, stands_before, later_files, later_rows, earlier_files, earlier_row, all_rows_before, rows_before}
 
@@ -175,7 +176,6 @@ module _ (objects : Objects) (column : List ℕ) where
 
   -- no version is left
   spot_at_end : (place : Place) (version : ℕ) → place.version ≡ version → place.file ≡ 0 → place.row ≡ 0 → Spot objects column place version zero [] []
-  unfolding new_files
   spot_at_end place version at file row = stands (rw (eq-eqb place.version version at, file, row) refl) (rw (file, row) refl) (record {
     founds = [];
     files = refl;

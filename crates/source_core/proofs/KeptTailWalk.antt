@@ -13,7 +13,7 @@ use Rattle.table_model.specs.Reads.{placed_rows}
 use Rattle.table_model.specs.Reads as reads
 use Rattle.table_model.specs.Table.{last}
 use Rattle.table_model.specs.declared.reading.Place.{Place}
-use Rattle.table_model.proofs.Places.{past}
+use Rattle.table_model.proofs.Callers.{past}
 use Rattle.source_core.specs.Tailing.{LogFile, Refusal, Handed, rows_of, bad_place, behind, is_done, hand}
 
 -- ---- rows with their places

@@ -4,3 +4,4 @@ pub mod KeptTailSpot
 pub mod KeptTailWalk
 pub mod OffsetLemmas
 pub mod TailLemmas
+pub mod Callers

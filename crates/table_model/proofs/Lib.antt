@@ -8,3 +8,4 @@ pub mod Read
 pub mod Resumed
 pub mod Same
 pub mod Seen
+pub mod Callers

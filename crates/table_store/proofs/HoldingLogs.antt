@@ -1,41 +1,41 @@
 -- The table that a store holds is the one that the store's log tells of.
-use Rattle.std.proofs.Common.{◌≡◌, ℕ, suc, List, [], ◌∷◌, ◌++◌, None, Some, refl, sym, ap, ap₂, subst, ◌∙◌}
-use Rattle.std.specs.Prelude.{if◌then◌else◌}
-use Rattle.std.specs.List.{flat_map}
+use Rattle.std.proofs.Common.{◌≡◌, ℕ, suc, List, [], ◌∷◌, ◌++◌, Option, None, Some, option_map, refl, sym, ap, ap₂, subst, ◌∙◌}
+use Rattle.std.specs.List.{flat_map, filter_map, cons_option}
+use Rattle.serde_json.specs.Data.{Data}
 use Rattle.store_core.specs.Objects.{Objects}
 use Rattle.delta_actions.specs.Entry as actions
 use Rattle.delta_actions.specs.Entry.{commit_info, protocol, meta_data, add, txn, other}
+use Rattle.delta_actions.specs.In.{txn_in}
+use Rattle.delta_actions.specs.Kinds.{Path}
 use Rattle.delta_actions.specs.Commit.{IsCommit}
 use Rattle.table_model.specs.Rows.{Row}
-use Rattle.table_store.specs.Names.{commit_name, data_file_name}
+use Rattle.delta_actions.specs.Names.{commit_name, data_file_name}
 use Rattle.table_store.specs.Schema.{Schema, IsFileOf}
 use Rattle.table_store.specs.Commits.{beside_info, StandFor}
 use Rattle.table_store.specs.Holds.{Stands, FileStands, HoldsFrom, Holds}
-use Rattle.table_store.specs.Logs.{LogFrom, IsLog, numbers, new_files, AreBatchesOf, AreBatches, AreRowsOf, AreRows}
+use Rattle.table_store.specs.Logs.{LogFrom, IsLog, numbers, new_file, new_files, AreBatchesOf, AreBatches, AreRowsOf, AreRows}
 use Rattle.table_model.specs.Table.{Batch, Entry, creation, batch, close, batches, rows}
 use Rattle.table_store.proofs.HoldingOne.{one_object, one_file, one_commit}
 
 -- ---- what tells only of the commit names no number and no file
 
+-- What an action tells that tells something more is told by those beside.
+told-beside_info : {B : Type 0} (tells : actions.Entry → Option B) → ((d : Data) → tells (commit_info d) ≡ None) → (made : List actions.Entry) → filter_map tells (beside_info made) ≡ filter_map tells made
+told-beside_info tells silent [] = refl
+told-beside_info tells silent (commit_info d ∷ others) = rw (silent d) (told-beside_info tells silent others)
+told-beside_info tells silent (protocol p ∷ others) = ap (cons_option (tells (protocol p))) (told-beside_info tells silent others)
+told-beside_info tells silent (meta_data m ∷ others) = ap (cons_option (tells (meta_data m))) (told-beside_info tells silent others)
+told-beside_info tells silent (add a ∷ others) = ap (cons_option (tells (add a))) (told-beside_info tells silent others)
+told-beside_info tells silent (txn t ∷ others) = ap (cons_option (tells (txn t))) (told-beside_info tells silent others)
+told-beside_info tells silent (other key d ∷ others) = ap (cons_option (tells (other key d))) (told-beside_info tells silent others)
+
 -- the numbers of a commit stand beside what tells of it
 pub numbers-beside_info : (made : List actions.Entry) → numbers (beside_info made) ≡ numbers made
-numbers-beside_info [] = refl
-numbers-beside_info (commit_info d ∷ others) = numbers-beside_info others
-numbers-beside_info (protocol p ∷ others) = numbers-beside_info others
-numbers-beside_info (meta_data m ∷ others) = numbers-beside_info others
-numbers-beside_info (add a ∷ others) = numbers-beside_info others
-numbers-beside_info (txn t ∷ others) = ap (λ (ns : List (List ℕ × ℕ)). (t.app_id, t.version) ∷ ns) (numbers-beside_info others)
-numbers-beside_info (other key d ∷ others) = numbers-beside_info others
+numbers-beside_info made = told-beside_info (λ action. option_map (λ t. (t.app_id, t.version)) (txn_in action)) (λ d. refl) made
 
 -- the new files of a commit stand beside what tells of it
 new_files-beside_info : (made : List actions.Entry) → new_files (beside_info made) ≡ new_files made
-new_files-beside_info [] = refl
-new_files-beside_info (commit_info d ∷ others) = new_files-beside_info others
-new_files-beside_info (protocol p ∷ others) = new_files-beside_info others
-new_files-beside_info (meta_data m ∷ others) = new_files-beside_info others
-new_files-beside_info (add a ∷ others) = ap (λ (keys : List (List ℕ)). if a.data_change then a.path.key ∷ keys else keys) (new_files-beside_info others)
-new_files-beside_info (txn t ∷ others) = new_files-beside_info others
-new_files-beside_info (other key d ∷ others) = new_files-beside_info others
+new_files-beside_info made = told-beside_info new_file (λ d. refl) made
 
 -- ---- an entry in front
 
@@ -49,13 +49,13 @@ AreBatchesOf-entry objects schema (batch b) entries beside ns stand file behind 
 AreBatchesOf-entry objects schema (close application) entries beside ns stand file behind = rw stand.actions behind
 
 -- The actions of an entry in front tell of the rows with those of the entry in front.
-AreRowsOf-entry : (objects : Objects) (schema : Schema) (entry : Entry) (entries : List Entry) (beside : List actions.Entry) (keys : List (List ℕ)) → StandFor schema entry beside → FileStands objects schema entry
-    → AreRowsOf objects schema keys (rows entries) → AreRowsOf objects schema (new_files beside ++ keys) (rows (entry ∷ entries))
-AreRowsOf-entry objects schema creation entries beside keys stand file behind = rw stand.actions behind
-AreRowsOf-entry objects schema (batch b) entries beside keys stand file behind =
+AreRowsOf-entry : (objects : Objects) (schema : Schema) (entry : Entry) (entries : List Entry) (beside : List actions.Entry) (paths : List Path) → StandFor schema entry beside → FileStands objects schema entry
+    → AreRowsOf objects schema paths (rows entries) → AreRowsOf objects schema (new_files beside ++ paths) (rows (entry ∷ entries))
+AreRowsOf-entry objects schema creation entries beside paths stand file behind = rw stand.actions behind
+AreRowsOf-entry objects schema (batch b) entries beside paths stand file behind =
     let named : Stands objects stand.file.path.key (λ bytes. IsFileOf schema bytes b.rows) = rw stand.named file in
     rw (stand.actions, stand.new_rows) (b.rows, rows entries, named, behind, refl)
-AreRowsOf-entry objects schema (close application) entries beside keys stand file behind = rw stand.actions behind
+AreRowsOf-entry objects schema (close application) entries beside paths stand file behind = rw stand.actions behind
 
 -- ---- the log of the table
 
@@ -71,7 +71,7 @@ HoldsFrom-log objects schema version (entry ∷ entries) holds =
       made ∷ later.0,
       ((holds.0.0, holds.0.1, holds.0.2.commit), later.1),
       subst (λ (ns : List (List ℕ × ℕ)). AreBatchesOf objects schema (ns ++ flat_map numbers later.0) (batches (entry ∷ entries))) (numbers-beside_info made) told,
-      subst (λ (keys : List (List ℕ)). AreRowsOf objects schema (keys ++ flat_map new_files later.0) (rows (entry ∷ entries))) (new_files-beside_info made) files,
+      subst (λ (paths : List Path). AreRowsOf objects schema (paths ++ flat_map new_files later.0) (rows (entry ∷ entries))) (new_files-beside_info made) files,
     )
 
 -- ---- one log, one list of batches, one list of rows
@@ -105,11 +105,11 @@ AreBatchesOf-one objects schema (n ∷ ns) (b ∷ bs) (c ∷ cs) p q =
     ap₂ (λ (x : Batch) (xs : List Batch). x ∷ xs) first (AreBatchesOf-one objects schema ns bs cs p.3 q.3)
 
 -- files hold one list of rows
-AreRowsOf-one : (objects : Objects) (schema : Schema) (keys : List (List ℕ)) (rs others : List Row) → AreRowsOf objects schema keys rs → AreRowsOf objects schema keys others → rs ≡ others
+AreRowsOf-one : (objects : Objects) (schema : Schema) (paths : List Path) (rs others : List Row) → AreRowsOf objects schema paths rs → AreRowsOf objects schema paths others → rs ≡ others
 AreRowsOf-one objects schema [] rs others p q = p ∙ sym q
-AreRowsOf-one objects schema (key ∷ keys) rs others p q =
-    let front : p.0 ≡ q.0 = rows_of_name objects schema key p.0 q.0 p.2 q.2 in
-    let behind : p.1 ≡ q.1 = AreRowsOf-one objects schema keys p.1 q.1 p.3 q.3 in
+AreRowsOf-one objects schema (path ∷ paths) rs others p q =
+    let front : p.0 ≡ q.0 = rows_of_name objects schema path.key p.0 q.0 p.2 q.2 in
+    let behind : p.1 ≡ q.1 = AreRowsOf-one objects schema paths p.1 q.1 p.3 q.3 in
     p.4 ∙ ap₂ (λ (xs ys : List Row). xs ++ ys) front behind ∙ sym q.4
 
 -- ---- what the log tells of is the table

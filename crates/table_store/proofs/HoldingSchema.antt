@@ -6,7 +6,7 @@ use Rattle.json.proofs.Printed.Strings.{content-escape}
 use Rattle.store_core.specs.Objects.{Objects}
 use Rattle.delta_actions.specs.Entry as actions
 use Rattle.delta_actions.specs.Entry.{protocol, meta_data, MetaDataEntry}
-use Rattle.table_store.specs.Names.{commit_name}
+use Rattle.delta_actions.specs.Names.{commit_name}
 use Rattle.table_store.specs.Schema.{Schema, schema_text}
 use Rattle.table_store.specs.Commits.{table_protocol, beside_info, IsCreation}
 use Rattle.table_store.specs.Holds.{Holds}
@@ -24,11 +24,11 @@ closed : (column a b c : List ℕ) → content plain ((((escape column ++ 34 ∷
 closed column a b c = simp append_assoc (content-escape column (a ++ (b ++ c)))
 
 -- behind the 34 bytes that all of them begin with stands the column's name in quotes
-column_again : (schema : Schema) → content plain (drop 34 (schema_text schema)) ≡ Some schema.column
+column_again : (schema : Schema) → content plain (drop 34 (schema_text schema.column)) ≡ Some schema.column
 unfolding escape_byte
 column_again schema = closed schema.column _ _ _
 
-schema_text_injective : (schema second : Schema) → schema_text schema ≡ schema_text second → schema ≡ second
+schema_text_injective : (schema second : Schema) → schema_text schema.column ≡ schema_text second.column → schema ≡ second
 schema_text_injective schema second same =
     let column : schema.column ≡ second.column = some_is schema.column second.column (sym (column_again schema) ∙ ap (λ (text : List ℕ). content plain (drop 34 text)) same ∙ column_again second) in
     λ i. record { column = column i }

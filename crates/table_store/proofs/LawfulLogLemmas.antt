@@ -6,7 +6,7 @@ use Rattle.std.proofs.lemmas.Slice.Eq.{bytes_eq-Decides}
 use Rattle.store_core.specs.Objects.{Objects}
 use Rattle.delta_actions.specs.Entry as actions
 use Rattle.delta_actions.specs.Commit.{IsCommit}
-use Rattle.table_store.specs.Names.{commit_name, data_file_name}
+use Rattle.delta_actions.specs.Names.{commit_name, data_file_name}
 use Rattle.table_store.specs.Schema.{Schema}
 use Rattle.table_store.specs.Commits.{beside_info, IsClose, StandFor}
 use Rattle.table_store.specs.Holds.{FileStands, HoldsFrom, IsLawfulStore}
@@ -14,10 +14,10 @@ use Rattle.table_model.specs.Lawful.{NoCreation, BeginsWithCreation, Rises, IsLa
 use Rattle.table_store.specs.Logs.{LogFrom, numbers}
 use Rattle.table_store.specs.LawfulLogs.{AreDifferent, IsLater, BeginsLog, numbers_of, HasLawfulLog}
 use Rattle.table_model.specs.Table.{Batch, Entry, creation, batch, close, batches, numbers_by}
-use Rattle.table_model.proofs.Batches.{Rises-tail, below_later}
+use Rattle.table_model.proofs.Callers.{Rises-tail, below_later}
 use Rattle.table_store.proofs.HoldingLogs.{HoldsFrom-log, numbers-beside_info}
 use Rattle.table_store.proofs.HoldingOne.{one_object, one_commit, one_entry}
-use Rattle.table_model.proofs.LawfulLemmas.{NoCreation-behind}
+use Rattle.table_model.proofs.Callers.{NoCreation-behind}
 
 -- ---- numbers of which each application's rise
 
@@ -120,7 +120,7 @@ module _ (objects : Objects) (schema : Schema) where
   later_entry creation entries beside none stand = absurd none
   later_entry (batch b) entries beside none stand =
       let key : stand.file.path.key ≡ data_file_name stand.number.app_id stand.number.version = stand.named ∙ ap₂ data_file_name (sym stand.by) (sym stand.numbered) in
-      rw stand.actions (inl (record { only = tt; some = λ e. absurd cc; different = (λ h. let no : h.0 < 0 = h.1 in omega (arith, no), tt); files = (key, stand.new_rows, tt) }))
+      rw stand.actions (inl (record { only = refl; some = λ e. absurd cc; different = (λ h. let no : h.0 < 0 = h.1 in omega (arith, no), tt); files = (key, stand.new_rows, tt) }))
   later_entry (close application) entries beside none stand = inr (application, stand)
 
   -- where no entry is a creation, each commit is a group or a close

@@ -11,3 +11,4 @@ pub mod NamesOnce
 pub mod SameText
 pub mod SchemaText
 pub mod Variants
+pub mod Callers

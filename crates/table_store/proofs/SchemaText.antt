@@ -18,5 +18,5 @@ text_reads d numbers shallow reads =
     let same = sym (ap tokens (print-outline d)) ∙ tokens-print (tree.json_tokens j) (ArePrintable-json_tokens j numbers) ∙ sym (append-nil (tree.json_tokens j)) in
     ap (λ p. option_and_then of_json (option_and_then (λ p. json.if_last p.0 p.1) p)) (ap (json.value max_depth) same ∙ value-json_tokens j max_depth [] shallow) ∙ reads
 
-pub schema_text_reads : (column : List ℕ) → read (schema_text (record { column = column })) ≡ Some (schema_data (record { column = column }))
-schema_text_reads column = text_reads (schema_data (record { column = column })) (((tt, (tt, (tt, (tt, tt)))), tt), (tt, tt)) (omega arith) refl
+pub schema_text_reads : (column : List ℕ) → read (schema_text column) ≡ Some (schema_data column)
+schema_text_reads column = text_reads (schema_data column) (((tt, (tt, (tt, (tt, tt)))), tt), (tt, tt)) (omega arith) refl

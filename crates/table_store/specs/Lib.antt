@@ -3,5 +3,4 @@ pub mod Found
 pub mod Holds
 pub mod LawfulLogs
 pub mod Logs
-pub mod Names
 pub mod Schema

@@ -1,12 +1,14 @@
 -- The log of a store as its commits' actions, and the batches and the rows that this log tells of (Delta PROTOCOL.md,
 -- "Delta Log Entries").
-use Rattle.std.specs.Prelude.{◌≡◌, ℕ, suc, List, [], ◌∷◌, ◌++◌, if◌then◌else◌, None}
-use Rattle.std.specs.List.{flat_map}
+use Rattle.std.specs.Prelude.{◌≡◌, ℕ, suc, List, [], ◌∷◌, ◌++◌, if◌then◌else◌, Option, Some, None, option_map}
+use Rattle.std.specs.List.{flat_map, filter_map}
+use Rattle.std.specs.Option.{option_and_then}
 use Rattle.store_core.specs.Objects.{Objects, object_at}
 use Rattle.delta_actions.specs.Entry as actions
-use Rattle.delta_actions.specs.Entry.{commit_info, protocol, meta_data, add, txn, other}
+use Rattle.delta_actions.specs.In.{add_in, txn_in}
+use Rattle.delta_actions.specs.Kinds.{Path}
 use Rattle.delta_actions.specs.Commit.{IsCommit}
-use Rattle.table_store.specs.Names.{commit_name, data_file_name}
+use Rattle.delta_actions.specs.Names.{commit_name, data_file_name}
 use Rattle.table_model.specs.Rows.{Row}
 use Rattle.table_store.specs.Schema.{Schema, IsFileOf}
 use Rattle.table_store.specs.Holds.{Stands}
@@ -23,23 +25,15 @@ IsLog objects log = LogFrom objects 0 log
 
 -- the application and the number of each `txn` action, in order (Delta PROTOCOL.md, "Transaction Identifiers")
 abbrev pub numbers : List actions.Entry → List (List ℕ × ℕ)
-numbers [] = []
-numbers (commit_info d ∷ others) = numbers others
-numbers (protocol p ∷ others) = numbers others
-numbers (meta_data m ∷ others) = numbers others
-numbers (add a ∷ others) = numbers others
-numbers (txn t ∷ others) = (t.app_id, t.version) ∷ numbers others
-numbers (other key d ∷ others) = numbers others
+numbers made = filter_map (λ action. option_map (λ t. (t.app_id, t.version)) (txn_in action)) made
 
--- the keys of the files with new rows that join the table, in order (Delta PROTOCOL.md, "Add File and Remove File")
-abbrev pub new_files : List actions.Entry → List (List ℕ)
-new_files [] = []
-new_files (commit_info d ∷ others) = new_files others
-new_files (protocol p ∷ others) = new_files others
-new_files (meta_data m ∷ others) = new_files others
-new_files (add a ∷ others) = if a.data_change then a.path.key ∷ new_files others else new_files others
-new_files (txn t ∷ others) = new_files others
-new_files (other key d ∷ others) = new_files others
+-- the file that an action brings new rows with (Delta PROTOCOL.md, "Add File and Remove File")
+abbrev pub new_file : actions.Entry → Option Path
+new_file action = option_and_then (λ a. if a.data_change then Some a.path else None) (add_in action)
+
+-- the files with new rows that join the table, in order
+abbrev pub new_files : List actions.Entry → List Path
+new_files made = filter_map new_file made
 
 -- For each number in order stands the batch of that application and number, with the rows of the file named for them.
 abbrev pub AreBatchesOf : Objects → Schema → List (List ℕ × ℕ) → List Batch → Type 0
@@ -54,10 +48,10 @@ abbrev pub AreBatches : Objects → Schema → List (List actions.Entry) → Lis
 AreBatches objects schema log bs = AreBatchesOf objects schema (flat_map numbers log) bs
 
 -- the rows of these files, one file behind the other
-abbrev pub AreRowsOf : Objects → Schema → List (List ℕ) → List Row → Type 0
+abbrev pub AreRowsOf : Objects → Schema → List Path → List Row → Type 0
 AreRowsOf objects schema [] rows = rows ≡ []
-AreRowsOf objects schema (key ∷ keys) rows =
-    (first others : List Row) × Stands objects key (λ bytes. IsFileOf schema bytes first) × AreRowsOf objects schema keys others × (rows ≡ first ++ others)
+AreRowsOf objects schema (path ∷ paths) rows =
+    (first others : List Row) × Stands objects path.key (λ bytes. IsFileOf schema bytes first) × AreRowsOf objects schema paths others × (rows ≡ first ++ others)
 
 -- the rows that a log tells of, in the order of its new files
 abbrev pub AreRows : Objects → Schema → List (List actions.Entry) → List Row → Type 0

@@ -15,12 +15,12 @@ field_data column = object (put (codes "name") (string column) (put (codes "type
     (put (codes "nullable") (boolean false) (put (codes "metadata") (object no_members) no_members))))
 
 -- a struct of this one field
-abbrev pub schema_data : Schema → Data
-schema_data schema = object (put (codes "type") (string (codes "struct")) (put (codes "fields") (array (item (field_data schema.column) no_items)) no_members))
+abbrev pub schema_data : List ℕ → Data
+schema_data column = object (put (codes "type") (string (codes "struct")) (put (codes "fields") (array (item (field_data column) no_items)) no_members))
 
--- the text of a schema: compact, its keys in order of bytes
-abbrev pub schema_text : Schema → List ℕ
-schema_text schema = compact_text (schema_data schema)
+-- the text of the schema of that column: compact, its keys in order of bytes
+abbrev pub schema_text : List ℕ → List ℕ
+schema_text column = compact_text (schema_data column)
 
 -- the row that has this number in its one column
 abbrev pub row_of : ℤ → Row

@@ -3,7 +3,7 @@
 ghost use Rattle.std.specs.Prelude.{◌≡◌, ◌≢◌, ◌<◌, ◌^◌, ℕ, suc, List, [], ◌∷◌, ◌++◌, length, None, IsUtf8};
 ghost use Rattle.store_core.specs.Objects.{Objects, object_at, with_object};
 ghost use Rattle.delta_actions.specs.Entry as actions;
-ghost use Rattle.table_store.specs.Names.{commit_name, data_file_name};
+ghost use Rattle.delta_actions.specs.Names.{commit_name, data_file_name};
 ghost use Rattle.table_store.specs.Schema.{Schema};
 ghost use Rattle.table_store.specs.Commits.{IsCommitOf};
 ghost use Rattle.table_store.specs.Holds.{Holds, FileStands, IsLawfulStore};

@@ -7,7 +7,6 @@ mod column;
 mod commit;
 mod held;
 mod holding;
-mod names;
 
 pub use held::{Held, held_by};
 pub use holding::{

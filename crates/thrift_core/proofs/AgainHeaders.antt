@@ -5,8 +5,8 @@ use Rattle.std.proofs.lemmas.Bool.{le-ltb, ne_eqb}
 use Rattle.std.proofs.lemmas.List.{take_at, drop_at}
 use Rattle.lake_bytes.specs.Varint.{SpellsNumber}
 use Rattle.lake_bytes.specs.Zigzag.{SpellsSigned}
-use Rattle.lake_bytes.proofs.Varints.{varint_stands}
-use Rattle.lake_bytes.proofs.Signs.{signed_stands}
+use Rattle.lake_bytes.proofs.Callers.{varint_stands}
+use Rattle.lake_bytes.proofs.Callers.{signed_stands}
 use Rattle.thrift_core.specs.Tree.{boolean, integer, binary, skipped}
 use Rattle.thrift_core.specs.Wire.{Announces}
 use Rattle.thrift_core.specs.Spelling.{InTurn, SpellsBoolean, one, two, none, SpellsByte, SpellsBinary, ListHeader, small_size, size_behind, FieldHeader, id_rises, id_behind}

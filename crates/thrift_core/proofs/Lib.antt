@@ -12,3 +12,4 @@ pub mod Written
 pub mod AsSpells
 pub mod WrittenSpells
 pub mod Shortest
+pub mod Callers

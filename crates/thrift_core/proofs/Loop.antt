@@ -1,8 +1,9 @@
 -- Reading one value after another, as a loop does.
-use Rattle.std.proofs.Common.{◌≡◌, ℕ, suc, ◌-◌, ◌+◌, ◌≤◌, ◌<◌, List, [], ◌∷◌, ◌++◌, Result, Ok, Err, ℤ, refl, sym, ap, ◌∙◌, append_assoc, add-one, arith}
+use Rattle.std.proofs.Common.{◌≡◌, ℕ, suc, ◌-◌, ◌+◌, ◌≤◌, ◌<◌, List, [], ◌∷◌, ◌++◌, Result, Ok, Err, ℤ, refl, sym, ap, ◌∙◌, add-one, arith}
 use Rattle.std.proofs.lemmas.List.{append-nil}
 use Rattle.std.proofs.lemmas.Bool.{ne_eqb}
-use Rattle.lake_bytes.specs.Results.{◌>>=◌}
+use Rattle.lake_bytes.specs.Outcome.{IsSaid}
+use Rattle.lake_bytes.proofs.Callers.{with_front_beside, regroup_beside}
 use Rattle.lake_bytes.specs.declared.fault.ByteFault.TheVariants.{Short}
 use Rattle.thrift_core.specs.Tree.{Tree}
 use Rattle.thrift_core.specs.declared.fault.ThriftFault.{ThriftFault}
@@ -12,83 +13,75 @@ use Rattle.thrift_core.specs.declared.fault.ReadError.TheVariants as errors
 use Rattle.thrift_core.specs.declared.source.Source.{Source}
 use Rattle.thrift_core.specs.declared.wire.WireType.{WireType}
 use Rattle.thrift_core.specs.declared.wire.WireType.TheVariants as wire
-use Rattle.thrift_core.specs.Reading.{Fails, byte_ahead, counted, repeated, field_ahead, fields_ahead, list_ahead, map_ahead, struct_ahead, content_ahead, value_ahead}
-
--- what was read before, and what is still read
-abbrev pub with_front : {A : Type 0} → List A → Result (List A × Source) ThriftFault → Result (List A × Source) ThriftFault
-with_front front read = read >>= λ x. Ok (front ++ x.0, x.1)
-
-regroup : {A : Type 0} (front : List A) (x : A) (read : Result (List A × Source) ThriftFault) → with_front front (read >>= λ r. Ok (x ∷ r.0, r.1)) ≡ with_front (front ++ x ∷ []) read
-regroup {A} front x (Ok r) = ap (λ (xs : List A). Ok (xs, r.1)) (simp append_assoc)
-regroup front x (Err f) = refl
+use Rattle.thrift_core.specs.Reading.{says, byte_ahead, counted, repeated, field_ahead, fields_ahead, list_ahead, map_ahead, struct_ahead, content_ahead, value_ahead}
 
 pub goes_on : {A : Type 0} (read : Source → Result (A × Source) ThriftFault) (front : List A) (count i : ℕ) (source : Source) (x : A) (after : Source) (total : Result (List A × Source) ThriftFault) → i < count → read source ≡ Ok (x, after)
-    → with_front front (repeated read (count - i) source) ≡ total → with_front (front ++ x ∷ []) (repeated read (count - (i + 1)) after) ≡ total
+    → with_front_beside front (repeated read (count - i) source) ≡ total → with_front_beside (front ++ x ∷ []) (repeated read (count - (i + 1)) after) ≡ total
 unfolding repeated
 goes_on read front count i source x after total lt h so_far =
     let k : count - i ≡ suc (count - (i + 1)) = omega arith in
-    let one : with_front front (repeated read (count - i) source) ≡ with_front (front ++ x ∷ []) (repeated read (count - (i + 1)) after) = rw (k, h) (regroup front x (repeated read (count - (i + 1)) after)) in
+    let one : with_front_beside front (repeated read (count - i) source) ≡ with_front_beside (front ++ x ∷ []) (repeated read (count - (i + 1)) after) = rw (k, h) (regroup_beside front (x ∷ []) (repeated read (count - (i + 1)) after)) in
     sym one ∙ so_far
 
-pub ends : {A : Type 0} (read : Source → Result (A × Source) ThriftFault) (e : ReadError) (front : List A) (count i : ℕ) (source : Source) (total : Result (List A × Source) ThriftFault) → i < count → Fails e (read source)
-    → with_front front (repeated read (count - i) source) ≡ total → Fails e total
+pub ends : {A : Type 0} (read : Source → Result (A × Source) ThriftFault) (e : ReadError) (front : List A) (count i : ℕ) (source : Source) (total : Result (List A × Source) ThriftFault) → i < count → IsSaid (says e) (read source)
+    → with_front_beside front (repeated read (count - i) source) ≡ total → IsSaid (says e) total
 unfolding repeated
 ends read errors.Memory front count i source total lt h so_far = tt
 ends read (errors.Fault f) front count i source total lt h so_far =
     let k : count - i ≡ suc (count - (i + 1)) = omega arith in
-    let one : with_front front (repeated read (count - i) source) ≡ Err f = rw (k, h) refl in
+    let one : with_front_beside front (repeated read (count - i) source) ≡ Err f = rw (k, h) refl in
     sym so_far ∙ one
 
-pub is_done : {A : Type 0} (read : Source → Result (A × Source) ThriftFault) (front : List A) (count i : ℕ) (source : Source) (total : Result (List A × Source) ThriftFault) → count ≤ i → with_front front (repeated read (count - i) source) ≡ total → total ≡ Ok (front, source)
+pub is_done : {A : Type 0} (read : Source → Result (A × Source) ThriftFault) (front : List A) (count i : ℕ) (source : Source) (total : Result (List A × Source) ThriftFault) → count ≤ i → with_front_beside front (repeated read (count - i) source) ≡ total → total ≡ Ok (front, source)
 unfolding repeated
 is_done {A} read front count i source total le so_far =
     let k : count - i ≡ 0 = omega arith in
-    let one : with_front front (repeated read (count - i) source) ≡ Ok (front, source) = rw k (ap (λ (xs : List A). Ok (xs, source)) (append-nil front)) in
+    let one : with_front_beside front (repeated read (count - i) source) ≡ Ok (front, source) = rw k (ap (λ (xs : List A). Ok (xs, source)) (append-nil front)) in
     sym so_far ∙ one
 
 -- ---- fields
 
 pub field_goes_on : (read : WireType → Source → Result (Tree × Source) ThriftFault) (front : List (ℤ × Tree)) (last : ℤ) (most i : ℕ) (source : Source) (header : ℕ) (mid : Source) (x : ℤ × Tree) (after : Source) (total : Result (List (ℤ × Tree) × Source) ThriftFault)
     → i < most → byte_ahead source ≡ Ok (header, mid) → (header ≡ 0 → ⊥) → field_ahead read last header mid ≡ Ok (x, after)
-    → with_front front (fields_ahead read last (most - i) source) ≡ total → with_front (front ++ x ∷ []) (fields_ahead read x.0 (most - (i + 1)) after) ≡ total
+    → with_front_beside front (fields_ahead read last (most - i) source) ≡ total → with_front_beside (front ++ x ∷ []) (fields_ahead read x.0 (most - (i + 1)) after) ≡ total
 unfolding fields_ahead
 field_goes_on read front last most i source header mid x after total lt first more h so_far =
     let k : most - i ≡ suc (most - (i + 1)) = omega arith in
-    let one : with_front front (fields_ahead read last (most - i) source) ≡ with_front (front ++ x ∷ []) (fields_ahead read x.0 (most - (i + 1)) after) = rw (k, first, ne_eqb header 0 more, h) (regroup front x (fields_ahead read x.0 (most - (i + 1)) after)) in
+    let one : with_front_beside front (fields_ahead read last (most - i) source) ≡ with_front_beside (front ++ x ∷ []) (fields_ahead read x.0 (most - (i + 1)) after) = rw (k, first, ne_eqb header 0 more, h) (regroup_beside front (x ∷ []) (fields_ahead read x.0 (most - (i + 1)) after)) in
     sym one ∙ so_far
 
 pub header_fails : (read : WireType → Source → Result (Tree × Source) ThriftFault) (e : ReadError) (front : List (ℤ × Tree)) (last : ℤ) (most i : ℕ) (source : Source) (total : Result (List (ℤ × Tree) × Source) ThriftFault)
-    → i < most → Fails e (byte_ahead source) → with_front front (fields_ahead read last (most - i) source) ≡ total → Fails e total
+    → i < most → IsSaid (says e) (byte_ahead source) → with_front_beside front (fields_ahead read last (most - i) source) ≡ total → IsSaid (says e) total
 unfolding fields_ahead
 header_fails read errors.Memory front last most i source total lt h so_far = tt
 header_fails read (errors.Fault f) front last most i source total lt h so_far =
     let k : most - i ≡ suc (most - (i + 1)) = omega arith in
-    let one : with_front front (fields_ahead read last (most - i) source) ≡ Err f = rw (k, h) refl in
+    let one : with_front_beside front (fields_ahead read last (most - i) source) ≡ Err f = rw (k, h) refl in
     sym so_far ∙ one
 
 pub field_fails : (read : WireType → Source → Result (Tree × Source) ThriftFault) (e : ReadError) (front : List (ℤ × Tree)) (last : ℤ) (most i : ℕ) (source : Source) (header : ℕ) (mid : Source) (total : Result (List (ℤ × Tree) × Source) ThriftFault)
-    → i < most → byte_ahead source ≡ Ok (header, mid) → (header ≡ 0 → ⊥) → Fails e (field_ahead read last header mid) → with_front front (fields_ahead read last (most - i) source) ≡ total → Fails e total
+    → i < most → byte_ahead source ≡ Ok (header, mid) → (header ≡ 0 → ⊥) → IsSaid (says e) (field_ahead read last header mid) → with_front_beside front (fields_ahead read last (most - i) source) ≡ total → IsSaid (says e) total
 unfolding fields_ahead
 field_fails read errors.Memory front last most i source header mid total lt first more h so_far = tt
 field_fails read (errors.Fault f) front last most i source header mid total lt first more h so_far =
     let k : most - i ≡ suc (most - (i + 1)) = omega arith in
-    let one : with_front front (fields_ahead read last (most - i) source) ≡ Err f = rw (k, first, ne_eqb header 0 more, h) refl in
+    let one : with_front_beside front (fields_ahead read last (most - i) source) ≡ Err f = rw (k, first, ne_eqb header 0 more, h) refl in
     sym so_far ∙ one
 
 pub fields_stop : (read : WireType → Source → Result (Tree × Source) ThriftFault) (front : List (ℤ × Tree)) (last : ℤ) (most i : ℕ) (source : Source) (header : ℕ) (mid : Source) (total : Result (List (ℤ × Tree) × Source) ThriftFault)
-    → i < most → byte_ahead source ≡ Ok (header, mid) → header ≡ 0 → with_front front (fields_ahead read last (most - i) source) ≡ total → total ≡ Ok (front, mid)
+    → i < most → byte_ahead source ≡ Ok (header, mid) → header ≡ 0 → with_front_beside front (fields_ahead read last (most - i) source) ≡ total → total ≡ Ok (front, mid)
 unfolding fields_ahead
 fields_stop read front last most i source header mid total lt first stop so_far =
     let k : most - i ≡ suc (most - (i + 1)) = omega arith in
-    let one : with_front front (fields_ahead read last (most - i) source) ≡ Ok (front, mid) = rw (k, first, stop) (ap (λ (xs : List (ℤ × Tree)). Ok (xs, mid)) (append-nil front)) in
+    let one : with_front_beside front (fields_ahead read last (most - i) source) ≡ Ok (front, mid) = rw (k, first, stop) (ap (λ (xs : List (ℤ × Tree)). Ok (xs, mid)) (append-nil front)) in
     sym so_far ∙ one
 
 pub fields_run_out : (read : WireType → Source → Result (Tree × Source) ThriftFault) (front : List (ℤ × Tree)) (last : ℤ) (most i : ℕ) (source : Source) (total : Result (List (ℤ × Tree) × Source) ThriftFault)
-    → most ≤ i → with_front front (fields_ahead read last (most - i) source) ≡ total → total ≡ Err (Bytes Short)
+    → most ≤ i → with_front_beside front (fields_ahead read last (most - i) source) ≡ total → total ≡ Err (Bytes Short)
 unfolding fields_ahead
 fields_run_out read front last most i source total le so_far =
     let k : most - i ≡ 0 = omega arith in
-    let one : with_front front (fields_ahead read last (most - i) source) ≡ Err (Bytes Short) = rw k refl in
+    let one : with_front_beside front (fields_ahead read last (most - i) source) ≡ Err (Bytes Short) = rw k refl in
     sym so_far ∙ one
 
 -- ---- nesting

@@ -8,8 +8,8 @@ use Rattle.lake_bytes.specs.Varint.{IsBytes, SpellsNumber, varint_at}
 use Rattle.lake_bytes.specs.Zigzag.{SpellsSigned, signed_at}
 use Rattle.lake_bytes.specs.declared.fault.ByteFault.{ByteFault}
 use Rattle.lake_bytes.specs.declared.fault.ByteFault.TheVariants as faults
-use Rattle.lake_bytes.proofs.Varints.{varint_found}
-use Rattle.lake_bytes.proofs.Signs.{signed_found}
+use Rattle.lake_bytes.proofs.Callers.{varint_found}
+use Rattle.lake_bytes.proofs.Callers.{signed_found}
 use Rattle.thrift_core.specs.Spelling.{InTurn}
 use Rattle.thrift_core.specs.Reading.{of_bytes, byte_ahead, varint_ahead, signed_ahead, bytes_ahead}
 use Rattle.thrift_core.specs.declared.fault.ThriftFault.{ThriftFault}

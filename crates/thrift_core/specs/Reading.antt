@@ -3,6 +3,7 @@ use Rattle.std.specs.Prelude.{◌≡◌, ℕ, zero, suc, ◌-◌, ◌/◌, ◌%�
 use Rattle.std.specs.Int.{w8, cast_signed}
 use Rattle.std.specs.Int.Signed.{le_z}
 use Rattle.lake_bytes.specs.Reading.{byte_at, bytes_at}
+use Rattle.lake_bytes.specs.Outcome.{Said, refuses, says_nothing, IsSaid}
 use Rattle.lake_bytes.specs.Results.{◌>>=◌}
 use Rattle.lake_bytes.specs.Varint.{varint_at}
 use Rattle.lake_bytes.specs.Zigzag.{signed_at}
@@ -18,18 +19,19 @@ use Rattle.thrift_core.specs.declared.source.Source.{Source}
 use Rattle.thrift_core.specs.declared.wire.WireType.{WireType}
 use Rattle.thrift_core.specs.declared.wire.WireType.TheVariants as wire
 
--- What a function returned, seen by view, and the source that it left are what reading gives, unless memory ran out.
-abbrev pub Fails : {A : Type 0} → ReadError → Result A ThriftFault → Type 0
-Fails errors.Memory read = Unit {0}
-Fails (errors.Fault fault) read = read ≡ Err fault
+-- what each fault of the code says
+abbrev pub says : ReadError → Said ThriftFault
+says errors.Memory = says_nothing
+says (errors.Fault fault) = refuses fault
 
+-- What a function returned, seen by view, and the source that it left are what reading gives, unless memory ran out.
 abbrev pub Reads : {X A : Type 0} → (X → A) → Result (A × Source) ThriftFault → Result X ReadError → Source → Type 0
 Reads view read (Ok x) new = read ≡ Ok (view x, new)
-Reads view read (Err e) new = Fails e read
+Reads view read (Err e) new = IsSaid (says e) read
 
 abbrev pub Counts : Result Source ThriftFault → Result Unit ReadError → Source → Type 0
 Counts counts (Ok x) new = counts ≡ Ok new
-Counts counts (Err e) new = Fails e counts
+Counts counts (Err e) new = IsSaid (says e) counts
 
 -- a reading of bytes alone
 abbrev pub of_bytes : {A : Type 0} → Result (A × List ℕ) ByteFault → Source → Result (A × Source) ThriftFault
@@ -195,4 +197,4 @@ struct_at bytes = do
 -- What a function returned, seen by view, and the bytes that are left are what reading gives, unless memory ran out. A refusal leaves all bytes.
 abbrev pub Gives : {X A : Type 0} → (X → A) → Result (A × List ℕ) ThriftFault → List ℕ → Result X ReadError → List ℕ → Type 0
 Gives view read old (Ok x) new = read ≡ Ok (view x, new)
-Gives view read old (Err e) new = Fails e read × (new ≡ old)
+Gives view read old (Err e) new = IsSaid (says e) read × (new ≡ old)

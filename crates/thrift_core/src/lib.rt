@@ -19,4 +19,3 @@ pub use shape::{FieldShape, Shape};
 pub use value::{Entry, Field, TValue};
 pub use wire::WireType;
 pub use writing::write_struct;
-

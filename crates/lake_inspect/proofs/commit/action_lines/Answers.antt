@@ -1,4 +1,4 @@
-use Rattle.delta_actions.proofs.PrintedLines.{are_printable}
+use Rattle.delta_actions.proofs.Callers.{are_printable}
 use Rattle.lake_inspect.proofs.commit.action_lines.Goals as goal
 
 pub print_line-requires : goal.print_line-requires

@@ -3,7 +3,8 @@ use Rattle.std.proofs.lemmas.Bool.{not-true, not-false}
 use Rattle.lake_script.specs.Streams.{held}
 use Rattle.lake_script.specs.Runs.{Tells}
 use Rattle.lake_script.specs.Sound.{AreSound}
-use Rattle.lake_script.specs.Told.{lines_of, lines_left, told_from, left_from, first_bad_from, told}
+use Rattle.delta_actions.specs.Commit.{lines_of}
+use Rattle.lake_script.specs.Told.{lines_left, told_from, left_from, first_bad_from, told}
 use Rattle.lake_script.proofs.RunLemmas.{lines_at_most-after, towards_next, towards_bad, left_next, left_here, left_by_bad, first_bad_next, first_bad_here, lines_left_none, told_from-none, left_from-none, first_bad_from-none, sound_next, sound_here, sound_none}
 use Rattle.lake_script.proofs.RunsLemmas.{Onward, onward_next, onward_stops, onward_done, onward_front, on_err}
 use Rattle.lake_script.proofs.StreamLemmas.{Towards, towards_done, stands_in_whole}

@@ -2,7 +2,8 @@ use Rattle.std.proofs.Common.{◌≡◌, ◌+◌, ◌≤◌, ◌^◌, false, opt
 use Rattle.lake_script.specs.Streams.{held}
 use Rattle.lake_script.specs.Runs.{Tells}
 use Rattle.lake_script.specs.Sound.{AreSound}
-use Rattle.lake_script.specs.Told.{lines_of, lines_left, told_from, left_from, first_bad_from, told, left, first_bad}
+use Rattle.delta_actions.specs.Commit.{lines_of}
+use Rattle.lake_script.specs.Told.{lines_left, told_from, left_from, first_bad_from, told, left, first_bad}
 use Rattle.lake_script.proofs.RunLemmas.{lines_at_most}
 use Rattle.lake_script.proofs.RunsLemmas.{Onward}
 use Rattle.lake_script.proofs.StreamLemmas.{Towards}

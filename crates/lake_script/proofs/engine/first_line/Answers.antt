@@ -1,6 +1,6 @@
 use Rattle.std.proofs.Common.{◌∷◌, ◌∙◌, ap, sym, ◌+◌, take, drop, length-drop}
 use Rattle.std.proofs.Math.Seq.{take-length}
-use Rattle.lake_script.specs.Told.{lines_of}
+use Rattle.delta_actions.specs.Commit.{lines_of}
 use Rattle.lake_script.proofs.LineLemmas.{lines_of_found, lines_of_none}
 use Rattle.lake_script.proofs.engine.first_line.Goals as goal
 

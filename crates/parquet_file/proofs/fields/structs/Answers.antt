@@ -3,7 +3,7 @@ use Rattle.std.proofs.lemmas.Int.{to_z-of_z}
 use Rattle.thrift_core.specs.Tree.{trees_of, list, value_of_field}
 use Rattle.thrift_core.specs.View.{view, views}
 use Rattle.thrift_core.specs.declared.value.TValue.{the_lemmas}
-use Rattle.thrift_core.proofs.Views.{view-List}
+use Rattle.thrift_core.proofs.Callers.{view-List}
 use Rattle.parquet_file.specs.Fields.{as_struct}
 use Rattle.parquet_file.proofs.CodeFields.{all_structs, list_in_field}
 use Rattle.parquet_file.proofs.fields.structs.Goals as goal

@@ -3,7 +3,7 @@ use Rattle.thrift_core.specs.View.{views}
 use Rattle.parquet_file.specs.Fields.{each}
 use Rattle.parquet_file.specs.Metadata.{chunk_of}
 use Rattle.parquet_file.specs.Views.{chunk_views}
-use Rattle.parquet_file.proofs.CodeLoops.{with_front}
+use Rattle.lake_bytes.proofs.Callers.{with_front}
 use Rattle.parquet_file.proofs.metadata.chunks.Given as goal
 
 abbrev pub invariant-loop-member : goal.invariant-loop-member

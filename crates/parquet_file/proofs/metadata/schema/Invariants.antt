@@ -3,7 +3,7 @@ use Rattle.thrift_core.specs.View.{views}
 use Rattle.parquet_file.specs.Fields.{each}
 use Rattle.parquet_file.specs.Metadata.{node_of, schema_of}
 use Rattle.parquet_file.specs.Views.{element_views}
-use Rattle.parquet_file.proofs.CodeLoops.{with_front}
+use Rattle.lake_bytes.proofs.Callers.{with_front}
 use Rattle.parquet_file.proofs.metadata.schema.Given as goal
 
 abbrev pub invariant-loop-other : goal.invariant-loop-other

@@ -8,11 +8,11 @@ use Rattle.table_store.proofs.SchemaText.{schema_text_reads}
 use Rattle.table_store.proofs.column.column_by_schema.Goals as goal
 
 -- what was read of the text of a schema
-value : (text column : List ℕ) (d : Data) → text ≡ schema_text (record { column = column }) → read text ≡ Some d → d ≡ schema_data (record { column = column })
+value : (text column : List ℕ) (d : Data) → text ≡ schema_text column → read text ≡ Some d → d ≡ schema_data column
 value text column d is reads = some_is _ _ (sym reads ∙ ap read is ∙ schema_text_reads column)
 
-some_value : (text column : List ℕ) → text ≡ schema_text (record { column = column }) → read text ≡ None → ⊥
-some_value text column is reads = let none : None ≡ Some (schema_data (record { column = column })) = sym reads ∙ ap read is ∙ schema_text_reads column in cc
+some_value : (text column : List ℕ) → text ≡ schema_text column → read text ≡ None → ⊥
+some_value text column is reads = let none : None ≡ Some (schema_data column) = sym reads ∙ ap read is ∙ schema_text_reads column in cc
 
 pub returns-in-Some-clause-told : goal.returns-in-Some-clause-told
 returns-in-Some-clause-told c = λ column is.

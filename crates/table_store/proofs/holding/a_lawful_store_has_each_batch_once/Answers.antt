@@ -1,7 +1,7 @@
 use Rattle.std.proofs.Common.{subst}
 use Rattle.table_model.specs.Lawful.{IsLawful}
 use Rattle.table_store.proofs.HoldingOne.{one_log}
-use Rattle.table_model.proofs.Kept.{later_is_greater}
+use Rattle.table_model.proofs.Callers.{later_is_greater}
 use Rattle.table_store.proofs.holding.a_lawful_store_has_each_batch_once.Goals as goal
 
 pub returns : goal.returns

@@ -1,7 +1,7 @@
 use Rattle.std.proofs.Common.{◌≡◌, length, pos, ◌+◌, ◌-◌, ◌*◌}
 use Rattle.thrift_core.specs.Reading.{value_ahead, repeated, entry_ahead, fields_ahead}
 use Rattle.thrift_core.specs.View.{views, entry_views, field_views}
-use Rattle.thrift_core.proofs.Loop.{with_front}
+use Rattle.lake_bytes.proofs.Callers.{with_front_beside}
 use Rattle.thrift_core.proofs.source.Source.+read.Given as goal
 
 abbrev pub decreases-value : goal.decreases-value
@@ -34,12 +34,12 @@ decreases-structure l = 6 * l.depth + 5
 -- what was read and what is still read are what is read from the start
 abbrev pub invariant-members-loop : goal.invariant-members-loop
 invariant-members-loop l =
-    with_front (views l.members.items) (repeated (value_ahead l.depth l.wire) (l.size - l.counter) l.self) ≡ repeated (value_ahead l.depth l.wire) l.size l.fn.self
+    with_front_beside (views l.members.items) (repeated (value_ahead l.depth l.wire) (l.size - l.counter) l.self) ≡ repeated (value_ahead l.depth l.wire) l.size l.fn.self
 
 abbrev pub invariant-entries-loop : goal.invariant-entries-loop
 invariant-entries-loop l =
-    with_front (entry_views l.entries.items) (repeated (entry_ahead (value_ahead l.depth) l.key l.value) (l.size - l.counter) l.self) ≡ repeated (entry_ahead (value_ahead l.depth) l.key l.value) l.size l.fn.self
+    with_front_beside (entry_views l.entries.items) (repeated (entry_ahead (value_ahead l.depth) l.key l.value) (l.size - l.counter) l.self) ≡ repeated (entry_ahead (value_ahead l.depth) l.key l.value) l.size l.fn.self
 
 abbrev pub invariant-fields-loop : goal.invariant-fields-loop
 invariant-fields-loop l =
-    with_front (field_views l.fields.items) (fields_ahead (value_ahead l.depth) l.last (l.end - l.counter) l.self) ≡ fields_ahead (value_ahead l.depth) (pos 0) (length l.fn.self.cursor) l.fn.self
+    with_front_beside (field_views l.fields.items) (fields_ahead (value_ahead l.depth) l.last (l.end - l.counter) l.self) ≡ fields_ahead (value_ahead l.depth) (pos 0) (length l.fn.self.cursor) l.fn.self
