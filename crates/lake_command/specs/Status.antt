@@ -1,5 +1,6 @@
 -- The exit status of a command.
-use Rattle.std.specs.Prelude.{ℕ, Option, Some, None}
+use Rattle.std.specs.Prelude.{◌≡◌, ◌⊎◌, ℕ, Bool, true, List, Option, Some, None}
+use Rattle.clap.specs.Words.{IsAmong}
 use Rattle.clap.specs.declared.error.kind.ErrorKind.{ErrorKind}
 use Rattle.clap.specs.declared.error.kind.ErrorKind.TheVariants.{DisplayHelp, DisplayVersion, OutOfMemory}
 use Rattle.lake_script.specs.declared.engine.End.{End}
@@ -23,3 +24,7 @@ status_of_kind DisplayHelp = 0
 status_of_kind DisplayVersion = 0
 status_of_kind OutOfMemory = 1
 status_of_kind _ = 2
+
+-- the status of words that have these faults: that of one of them, unless memory ran out
+abbrev pub IsStatusOf : List ErrorKind → (status : ℕ) → (is_short : Bool) → Type 0
+IsStatusOf kinds status is_short = ((status ≡ 1) × (is_short ≡ true)) ⊎ ((kind : ErrorKind) × IsAmong kind kinds × (status ≡ status_of_kind kind))

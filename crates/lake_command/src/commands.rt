@@ -1,11 +1,12 @@
 // One command, from its words to its exit status.
-ghost use Rattle.std.specs.Prelude.{◌≡◌, ◌≢◌, ℕ, [], false, map, IfSome};
+ghost use Rattle.std.specs.Prelude.{◌≡◌, ◌≢◌, ◌≤◌, ◌⊎◌, ℕ, [], true, false, length, map, IfSome};
 ghost use Rattle.std.specs.Io.KnownBytes.{Appends};
 ghost use Rattle.clap.specs.Words.{fault_of, kind_of};
 ghost use Rattle.delta_actions.specs.Commit.{lines_of};
 ghost use Rattle.lake_command.specs.declared.words.Command.{Command};
 ghost use Rattle.lake_script.specs.Runs.{MayBeTold, Tells};
-ghost use Rattle.lake_command.specs.Status.{status_of, status_at, status_of_kind};
+ghost use Rattle.lake_command.specs.Status.{status_of, status_at, status_of_kind, IsStatusOf};
+ghost use Rattle.lake_script.specs.declared.inputs.TheConstants.{MOST_READS};
 ghost use Rattle.lake_script.specs.Streams.{held, unread};
 ghost use Rattle.lake_script.specs.Tables.{told as told_by_table, AreOfTable};
 ghost use Rattle.lake_script.specs.Told.{told, first_bad};
@@ -88,7 +89,14 @@ pub fn command<S: AsStr, R: Read, W: Write, E: Write>(
     ensures status { (c : Command) → Spells (map S.text words.now) c → result.status ≢ REFUSED
         → IfSome (unread R.remaining input.old) (λ text. result.status ≡ status_at (first_bad text)) }
 
-    // Words that can't be read run nothing.
+    // A script is refused where its input or its output fails, or a growth was refused, and nowhere
+    // else; an input that passes its limits is one that fails.
+    ensures refused { (c : Command) → Spells (map S.text words.now) c → result.status ≡ REFUSED
+        → (result.is_short ≡ true) ⊎ ((input.new.is_broken ≡ true) ⊎ ((output.new.is_broken ≡ true)
+        ⊎ IfSome (unread R.remaining input.old) (λ text. MOST_READS ≤ length text))) }
+
+    // Words that can't be read have the status of what is wrong with them, and run nothing.
+    ensures misused { fault_of commands (map S.text words.now) ≢ [] → IsStatusOf (fault_of commands (map S.text words.now)) result.status result.is_short }
     ensures unread { fault_of commands (map S.text words.now) ≢ [] → (input.new ≡ input.old) × (output.new ≡ output.old) }
 {
     match read_words(alloc, words) {

@@ -169,6 +169,7 @@ fn answer_and_flush<S: Store, W: Write>(
     ensures tells { S.is_reliable store.old → OnOk result (Tells (held W.contents output.old) (W.contents output.new.writer)
         (λ written. Runs 1 (S.objects store.old) (lines_of text.now) written (S.objects store.new))) }
     ensures reliable { S.is_reliable store.old → S.is_reliable store.new }
+    ensures through { OnOk result (output.new.pending.items ≡ []) }
     ensures bad { IfOk result (λ bad. bad ≡ first_bad text.now) }
     ensures stands { S.is_reliable store.old → is_short.new ≡ false
         → OnErr result (StandsIn (held W.contents output.old) (W.contents output.new.writer) (told (S.objects store.old) text.now)) }
@@ -182,26 +183,42 @@ fn answer_and_flush<S: Store, W: Write>(
     Ok(bad)
 }
 
-// Answers the lines of a text, and tells how that ended.
-fn answer_text<S: Store, W: Write>(
+/// Runs a script that is given as text, of at most 1 GiB, over a store: answers each of its lines, up
+/// to the first bad one, and writes what waits then. It never ends as [`End::NotRead`].
+///
+/// Time is linear in the text, the objects that are put, compared and shown and the data files that
+/// rows are handed out of, and for each line that replays the log in the log's bytes and the names of
+/// the store, but for the store's own; many replies go in one write.
+pub fn run_text<S: Store, W: Write>(
     alloc: Global,
     text: &[u8],
     store: &mut S,
     output: &mut Output<W>,
 ) -> Outcome
     requires { length text.now ≤ 2 ^ 30 }
+    // Where the run finishes, no growth was refused, no object passed 64 MiB and the store loses no
+    // call, what is written is what is told for the text, and the objects are what it leaves.
     ensures told { S.is_reliable store.old → result.is_short ≡ false → Finishes result.end
         (λ _. Appends (held W.contents output.old) (W.contents output.new.writer) (told (S.objects store.old) text.now)
         × (S.objects store.new ≡ left (S.objects store.old) text.now) × AreSound (S.objects store.old) (lines_of text.now)) }
+    // Where a growth was refused, each line has its reply and effect, or is told of want of memory
+    // and leaves the objects as they were, but for a batch's file, which may stand.
     ensures tells { S.is_reliable store.old → Finishes result.end (λ _. Tells (held W.contents output.old) (W.contents output.new.writer)
         (λ written. Runs 1 (S.objects store.old) (lines_of text.now) written (S.objects store.new))) }
+    // Over an empty store this is what the plain table tells, where no line shows an object; the store
+    // then holds the table that was told, and reads over it hand out its rows.
     ensures script { S.is_reliable store.old → S.objects store.old ≡ [] → result.is_short ≡ false → Finishes result.end
         (λ _. IsScript (held W.contents output.old) (W.contents output.new.writer) text.now (S.objects store.new)) }
+    // Over an empty store that loses no call, the store that is left is lawful, and so is its log,
+    // however the run ends and whatever growth is refused on the way.
     ensures lawful { S.is_reliable store.old → S.objects store.old ≡ [] → IsLawfulStore (S.objects store.new) × HasLawfulLog (S.objects store.new) }
     ensures reliable { S.is_reliable store.old → S.is_reliable store.new }
+    ensures nothing_waits { Finishes result.end (λ _. output.new.pending.items ≡ []) }
     ensures finished { Finishes result.end (λ bad. (bad ≡ first_bad text.now) × (output.new.is_broken ≡ output.old.is_broken)) }
     ensures stands { S.is_reliable store.old → result.is_short ≡ false → result.end ≡ End.NotWritten
         → StandsIn (held W.contents output.old) (W.contents output.new.writer) (told (S.objects store.old) text.now) }
+    // Where a reply can't be given, this holds of some first lines, and what is written is a front
+    // of their replies.
     ensures front { S.is_reliable store.old → result.end ≡ End.NotWritten
         → TellsFront (held W.contents output.old) (W.contents output.new.writer)
         (λ written. RunsInPart 1 (S.objects store.old) (lines_of text.now) written (S.objects store.new)) }
@@ -276,6 +293,9 @@ pub fn run<R: Read, W: Write, S: Store>(
         TellsFront (held W.contents output.old) (W.contents output.new.writer)
         (λ written. RunsInPart 1 (S.objects store.old) (lines_of text) written (S.objects store.new))) }
 
+    // Nothing waits in the output when it is done.
+    ensures nothing_waits { Finishes result.end (λ _. output.new.pending.items ≡ []) }
+
     // A store that loses no call goes on to lose none.
     ensures reliable { S.is_reliable store.old → S.is_reliable store.new }
 
@@ -295,7 +315,7 @@ pub fn run<R: Read, W: Write, S: Store>(
 {
     let _ = restore;
     match input.read_to_end(alloc) {
-        Ok(text) => answer_text(alloc, text.as_slice(), store, output),
+        Ok(text) => run_text(alloc, text.as_slice(), store, output),
         Err(error) => Outcome {
             end: End::NotRead,
             is_short: error == InputError::Memory,

@@ -13,7 +13,7 @@ mod reply;
 mod showing;
 mod verb;
 
-pub use engine::{End, Outcome, run};
+pub use engine::{End, Outcome, run, run_text};
 pub use faults::{Fault, Refusal};
 pub use inputs::{Input, InputError, MOST_BYTES, MOST_READS};
 pub use outputs::{Output, OutputError};

@@ -1,4 +1,6 @@
 pub mod AppendLemmas
+pub mod CommittedLemmas
+pub mod FileLemmas
 pub mod RefusalLemmas
 pub mod RequestLemmas
 pub mod RowLemmas

@@ -1,7 +1,7 @@
 use Rattle.lake_script.proofs.KeptGrown.{part_is_lawful}
 use Rattle.lake_script.proofs.RunsLemmas.{in_part}
 use Rattle.lake_script.proofs.ScriptLemmas.{few_lines, script_told}
-use Rattle.lake_script.proofs.engine.answer_text.Goals as goal
+use Rattle.lake_script.proofs.engine.run_text.Goals as goal
 
 pub returns-in-Ok-None-clause-script : goal.returns-in-Ok-None-clause-script
 returns-in-Ok-None-clause-script g c = λ reliable empty whole.
