@@ -1,8 +1,10 @@
 pub mod Batches
+pub mod Facts
 pub mod Grown
 pub mod Handed
 pub mod Kept
 pub mod LawfulLemmas
+pub mod PartLemmas
 pub mod Places
 pub mod Read
 pub mod Resumed

@@ -7,7 +7,7 @@ use Rattle.table_model.specs.Rows.{Row}
 use Rattle.table_model.specs.Table.{Entry, rows, last}
 use Rattle.table_model.specs.Reads.{handed, beyond, bad_place, placed, is_before, position, is_place, is_beyond, end, behind, part, next_place, read}
 use Rattle.table_model.specs.declared.reading.Place.{Place}
-use Rattle.table_model.proofs.Batches.{last_none}
+use Rattle.table_model.proofs.Batches.{last_none, last_some}
 use Rattle.table_model.proofs.Places.{past, position_past, position_end, rows-placed, past_is_place, end_is_place}
 
 pub position-within : (place : Place) (entries : List Entry) → position place entries ≤ length (placed entries)
@@ -17,8 +17,8 @@ position-within place entries =
 
 -- ---- what an answer with rows says
 
-record IsHanded (max : ℕ) (place next : Place) (entries : List Entry) (out : List Row) : Type 0 where
-  stands : is_place place entries ≡ true
+pub record IsHanded (max : ℕ) (place next : Place) (entries : List Entry) (out : List Row) : Type 0 where
+  pub stands : is_place place entries ≡ true
   rows : out ≡ map (λ p. p.1) (part max place entries)
   onward : next ≡ next_place max place entries
 
@@ -28,7 +28,7 @@ handed_parts xs ys p q e =
     let other : p ≡ q = cc in
     (one, other)
 
-is_handed : (max : ℕ) (place next : Place) (entries : List Entry) (out : List Row) → read max place entries ≡ handed out next → IsHanded max place next entries out
+pub is_handed : (max : ℕ) (place next : Place) (entries : List Entry) (out : List Row) → read max place entries ≡ handed out next → IsHanded max place next entries out
 is_handed max place next entries out e =
     elim (cases_Bool (is_beyond place entries)) [
       | inl far ↦ let no : beyond (length entries) ≡ handed out next = rw far at e in absurd cc
@@ -48,11 +48,6 @@ record Between (max : ℕ) (place next : Place) (entries : List Entry) : Type 0 
   there : is_place next entries ≡ true
   same : take max (drop (position place entries) (rows entries)) ≡ take (position next entries - position place entries) (drop (position place entries) (rows entries))
   full : (length (part max place entries) ≡ max) ⊎ (position next entries ≡ length (rows entries))
-
-last_some : {A : Type 0} (xs : List A) (p : A) → last xs ≡ Some p → (front : List A) × (xs ≡ front ++ p ∷ [])
-last_some [] p e = absurd cc
-last_some (x ∷ []) p e = let is : x ≡ p = cc in ([], ap (λ y. y ∷ []) is)
-last_some (x ∷ y ∷ xs) p e = let on = last_some (y ∷ xs) p e in (x ∷ on.0, ap (λ ys. x ∷ ys) on.1)
 
 pub length-rows : (entries : List Entry) → length (rows entries) ≡ length (placed entries)
 length-rows entries = ap (λ (rs : List Row). length rs) (sym (rows-placed entries)) ∙ length-map (placed entries) (λ (p : Place × Row). p.1)

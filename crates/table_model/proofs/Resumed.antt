@@ -1,34 +1,17 @@
 -- Reads that go on where the last one ended hand out the log.
-use Rattle.std.proofs.Common.{◌≡◌, ℕ, ◌+◌, ◌-◌, ◌<◌, ◌≤◌, true, List, [], ◌∷◌, ◌++◌, length, take, drop, refl, sym, ap, subst, ◌∙◌, append_assoc, arith, inl, inr, length-drop}
-use Rattle.std.proofs.Math.Seq.{take-add}
-use Rattle.std.proofs.lemmas.List.{append-nil, take-append-le, drop-append-le, drop-drop, take_all}
+use Rattle.std.proofs.Common.{◌≡◌, ℕ, ◌+◌, ◌-◌, ◌<◌, ◌≤◌, true, List, [], ◌∷◌, ◌++◌, length, take, drop, refl, sym, ap, subst, ◌∙◌, append_assoc, arith, inl, inr}
+use Rattle.std.specs.Prelude.{sum_by}
+use Rattle.std.proofs.lemmas.List.{append-nil, take_all}
+use Rattle.std.proofs.lemmas.List.Sums.{sum_by-cons}
 use Rattle.table_model.specs.Rows.{Row}
 use Rattle.table_model.specs.Table.{Entry, rows}
-use Rattle.table_model.specs.Reads.{Answer, handed, beyond, bad_place, position, is_place, end, read}
-use Rattle.table_model.specs.Resumed.{Handed, rows_of, next_after, with_earlier, reads_on, growth, beginning}
+use Rattle.table_model.specs.Reads.{Answer, handed, beyond, bad_place, position, is_place, end, read, IsPart}
+use Rattle.table_model.specs.Resumed.{Handed, rows_of, next_after, with_earlier, reads_on, HandOut, growth, beginning}
 use Rattle.table_model.specs.declared.reading.Place.{Place}
 use Rattle.table_model.proofs.Places.{position_end}
-use Rattle.table_model.proofs.Read.{position-within, length-rows, rows_between, next_is_place, as_many}
-use Rattle.table_model.proofs.Grown.{rows-append, place_stays, position_stays, beginning_is_place, position_beginning}
-
--- ---- parts of a list
-
--- what stands between two positions
-abbrev between : {A : Type 0} → ℕ → ℕ → List A → List A
-between from to xs = take (to - from) (drop from xs)
-
-between_longer : {A : Type 0} (from to : ℕ) (xs ys : List A) → from ≤ to → to ≤ length xs → between from to (xs ++ ys) ≡ between from to xs
-between_longer {A = A} from to xs ys onward within =
-    let inside : from ≤ length xs = omega arith in
-    let left : to - from ≤ length (drop from xs) = omega (arith, length-drop from xs) in
-    ap (λ (zs : List A). take (to - from) zs) (drop-append-le from xs ys inside) ∙ take-append-le (to - from) (drop from xs) ys left
-
-between_joined : {A : Type 0} (from mid to : ℕ) (xs : List A) → from ≤ mid → mid ≤ to → between from mid xs ++ between mid to xs ≡ between from to xs
-between_joined {A = A} from mid to xs one other =
-    let reach : from + (mid - from) ≡ mid = omega arith in
-    let whole : (mid - from) + (to - mid) ≡ to - from = omega arith in
-    let second : drop (mid - from) (drop from xs) ≡ drop mid xs = drop-drop (mid - from) from xs ∙ ap (λ (n : ℕ). drop n xs) reach in
-    ap (λ (zs : List A). between from mid xs ++ take (to - mid) zs) (sym second) ∙ sym (take-add (mid - from) (to - mid) (drop from xs)) ∙ ap (λ (n : ℕ). take n (drop from xs)) whole
+use Rattle.table_model.proofs.Read.{length-rows, as_many}
+use Rattle.table_model.proofs.Grown.{place_stays, position_stays, beginning_is_place}
+use Rattle.table_model.proofs.PartLemmas.{read_is_part, no_part, parts_join, part_between, front_of_rows}
 
 -- ---- the table in the end
 
@@ -37,75 +20,77 @@ final_grows [] place entries = sym (append-nil entries)
 final_grows (r ∷ later) place entries =
     final_grows later (next_after place (read r.0 place (entries ++ r.1))) (entries ++ r.1) ∙ append_assoc entries r.1 (growth later)
 
-rows_in_the_end : (reads : List (ℕ × List Entry)) (place : Place) (entries : List Entry) → rows (reads_on reads place entries).final ≡ rows entries ++ rows (growth reads)
-rows_in_the_end reads place entries = ap (λ (es : List Entry). rows es) (final_grows reads place entries) ∙ rows-append entries (growth reads)
+-- ---- reads of any reader
 
--- ---- what reads hand out together
+-- the limits of several reads together
+abbrev limits : List (ℕ × List Entry) → ℕ
+limits reads = sum_by (λ r. r.0) reads
 
--- the rows of the final table from this position up to the place where the next read begins
-record IsLogFrom (from : ℕ) (h : Handed) : Type 0 where
-  onward : from ≤ position h.next h.final
-  there : is_place h.next h.final ≡ true
-  same : h.out ≡ take (position h.next h.final - from) (drop from (rows h.final))
+pub final_grows_any : (reads : List (ℕ × List Entry)) (place : Place) (entries : List Entry) (all : Handed) → HandOut reads place entries all → all.final ≡ entries ++ growth reads
+final_grows_any [] place entries all is = ap (λ (h : Handed). h.final) is ∙ sym (append-nil entries)
+final_grows_any (r ∷ later) place entries all h =
+    ap (λ (k : Handed). k.final) h.5 ∙ final_grows_any later h.1 (entries ++ r.1) h.2 h.4 ∙ append_assoc entries r.1 (growth later)
 
-position_in_rows : (place : Place) (entries : List Entry) → position place entries ≤ length (rows entries)
-position_in_rows place entries = omega (arith, position-within place entries, length-rows entries)
-
-nothing_yet : (place : Place) (entries : List Entry) → is_place place entries ≡ true → IsLogFrom (position place entries) (reads_on [] place entries)
-nothing_yet place entries good =
-    let none : 0 ≡ position place entries - position place entries = omega arith in
-    record { onward = omega arith; there = good; same = ap (λ (n : ℕ). take n (drop (position place entries) (rows entries))) none }
-
-after_answer : (max : ℕ) (place : Place) (table : List Entry) (later : List (ℕ × List Entry)) (answer : Answer) → is_place place table ≡ true → read max place table ≡ answer
-    → ((p : Place) → is_place p table ≡ true → IsLogFrom (position p table) (reads_on later p table))
-    → IsLogFrom (position place table) (with_earlier (rows_of answer) (reads_on later (next_after place answer) table))
-after_answer max place table later (handed out next) good is others =
-    let on = next_is_place max place next table out is in
-    let rest = others next on.1 in
-    let h = reads_on later next table in
-    let from = position place table in
-    let mid = position next table in
-    let to = position h.next h.final in
-    let first : out ≡ between from mid (rows h.final) =
-    rows_between max place next table out is ∙ sym (between_longer from mid (rows table) (rows (growth later)) on.0 (position_in_rows next table))
-    ∙ ap (λ (rs : List Row). between from mid rs) (sym (rows_in_the_end later next table)) in
-    record {
-      onward = omega (arith, on.0, rest.onward);
-      there = rest.there;
-      same = ap (λ (rs : List Row). rs ++ h.out) first ∙ ap (λ (rs : List Row). between from mid (rows h.final) ++ rs) rest.same ∙ between_joined from mid to (rows h.final) on.0 rest.onward;
-    }
-after_answer max place table later (beyond next) good is others =
-    let rest = others place good in record { onward = rest.onward; there = rest.there; same = rest.same }
-after_answer max place table later (bad_place version) good is others =
-    let rest = others place good in record { onward = rest.onward; there = rest.there; same = rest.same }
-
-all_reads : (reads : List (ℕ × List Entry)) (place : Place) (entries : List Entry) → is_place place entries ≡ true → IsLogFrom (position place entries) (reads_on reads place entries)
-all_reads [] place entries good = nothing_yet place entries good
-all_reads (r ∷ later) place entries good =
+pub handed_out : (reads : List (ℕ × List Entry)) (place : Place) (entries : List Entry) (all : Handed) → is_place place entries ≡ true → HandOut reads place entries all
+    → IsPart (sum_by (λ r. r.0) reads) place all.out all.next all.final
+handed_out [] place entries all good is = subst (λ (h : Handed). IsPart 0 place h.out h.next h.final) (sym is) (no_part 0 place entries good)
+handed_out (r ∷ later) place entries all good h =
     let table = entries ++ r.1 in
-    let there = place_stays place entries r.1 good in
-    let others : (p : Place) → is_place p table ≡ true → IsLogFrom (position p table) (reads_on later p table) = λ p. λ h. all_reads later p table h in
-    subst (λ (n : ℕ). IsLogFrom n (reads_on (r ∷ later) place entries)) (position_stays place entries r.1 good) (after_answer r.0 place table later (read r.0 place table) there refl others)
+    let rest = h.2 in
+    let grown = final_grows_any later h.1 table rest h.4 in
+    let others : IsPart (limits later) h.1 rest.out rest.next (table ++ growth later) =
+    subst (λ (es : List Entry). IsPart (limits later) h.1 rest.out rest.next es) grown (handed_out later h.1 table rest h.3.ends h.4) in
+    let both : IsPart (r.0 + limits later) place (h.0 ++ rest.out) rest.next rest.final =
+    subst (λ (es : List Entry). IsPart (r.0 + limits later) place (h.0 ++ rest.out) rest.next es) (sym grown) (parts_join r.0 (limits later) place h.1 rest.next table (growth later) h.0 rest.out h.3 others) in
+    subst (λ (k : Handed). IsPart (limits (r ∷ later)) place k.out k.next k.final) (sym h.5)
+    (subst (λ (n : ℕ). IsPart n place (h.0 ++ rest.out) rest.next rest.final) (sym (sum_by-cons (λ (x : ℕ × List Entry). x.0) r later)) both)
+
+pub any_from_beginning : (reads : List (ℕ × List Entry)) (entries : List Entry) (all : Handed) → HandOut reads beginning entries all → all.out ≡ take (position all.next all.final) (rows all.final)
+any_from_beginning reads entries all h = front_of_rows (limits reads) all.next all.final all.out (handed_out reads beginning entries all (beginning_is_place entries) h)
+
+-- ---- the function's reads are such reads
+
+one_read : (max : ℕ) (place : Place) (table : List Entry) (later : List (ℕ × List Entry)) (answer : Answer) → is_place place table ≡ true → read max place table ≡ answer
+    → ((p : Place) → is_place p table ≡ true → HandOut later p table (reads_on later p table))
+    → (out : List Row) × (next : Place) × (rest : Handed) × IsPart max place out next table × HandOut later next table rest
+    × (with_earlier (rows_of answer) (reads_on later (next_after place answer) table) ≡ with_earlier out rest)
+one_read max place table later (handed out next) good is others =
+    let part = read_is_part max place next table out is in (out, next, reads_on later next table, part, others next part.ends, refl)
+one_read max place table later (beyond next) good is others = ([], place, reads_on later place table, no_part max place table good, others place good, refl)
+one_read max place table later (bad_place version) good is others = ([], place, reads_on later place table, no_part max place table good, others place good, refl)
+
+pub function_hands_out : (reads : List (ℕ × List Entry)) (place : Place) (entries : List Entry) → is_place place entries ≡ true → HandOut reads place entries (reads_on reads place entries)
+function_hands_out [] place entries good = refl
+function_hands_out (r ∷ later) place entries good =
+    let table = entries ++ r.1 in
+    let others : (p : Place) → is_place p table ≡ true → HandOut later p table (reads_on later p table) = λ p. λ h. function_hands_out later p table h in
+    one_read r.0 place table later (read r.0 place table) (place_stays place entries r.1 good) refl others
+
+all_reads : (reads : List (ℕ × List Entry)) (place : Place) (entries : List Entry) → is_place place entries ≡ true
+    → IsPart (limits reads) place (reads_on reads place entries).out (reads_on reads place entries).next (reads_on reads place entries).final
+all_reads reads place entries good = handed_out reads place entries (reads_on reads place entries) good (function_hands_out reads place entries good)
+
+-- as many rows stand before the first place as in the beginning
+first_position : (reads : List (ℕ × List Entry)) (place : Place) (entries : List Entry) → is_place place entries ≡ true → position place (reads_on reads place entries).final ≡ position place entries
+first_position reads place entries good = ap (λ (es : List Entry). position place es) (final_grows reads place entries) ∙ position_stays place entries (growth reads) good
 
 -- ---- the law
 
 pub log_between : (reads : List (ℕ × List Entry)) (place : Place) (entries : List Entry) → is_place place entries ≡ true
     → (reads_on reads place entries).out ≡ take (position (reads_on reads place entries).next (reads_on reads place entries).final - position place entries) (drop (position place entries) (rows (reads_on reads place entries).final))
-log_between reads place entries good = (all_reads reads place entries good).same
+log_between reads place entries good =
+    let h = reads_on reads place entries in
+    part_between (limits reads) place h.next h.final h.out (all_reads reads place entries good)
+    ∙ ap (λ (n : ℕ). take (position h.next h.final - n) (drop n (rows h.final))) (first_position reads place entries good)
 
 pub onward_in_the_log : (reads : List (ℕ × List Entry)) (place : Place) (entries : List Entry) → is_place place entries ≡ true
     → (position place entries ≤ position (reads_on reads place entries).next (reads_on reads place entries).final) × (is_place (reads_on reads place entries).next (reads_on reads place entries).final ≡ true)
-onward_in_the_log reads place entries good = let all = all_reads reads place entries good in (all.onward, all.there)
-
--- ---- from the beginning
+onward_in_the_log reads place entries good =
+    let all = all_reads reads place entries good in (omega (arith, all.onward, first_position reads place entries good), all.ends)
 
 pub log_from_beginning : (reads : List (ℕ × List Entry)) (entries : List Entry)
     → (reads_on reads beginning entries).out ≡ take (position (reads_on reads beginning entries).next (reads_on reads beginning entries).final) (rows (reads_on reads beginning entries).final)
-log_from_beginning reads entries =
-    let h = reads_on reads beginning entries in
-    let at : IsLogFrom 0 h = subst (λ (n : ℕ). IsLogFrom n h) (position_beginning entries) (all_reads reads beginning entries (beginning_is_place entries)) in
-    let more : position h.next h.final - 0 ≡ position h.next h.final = omega arith in
-    at.same ∙ ap (λ (n : ℕ). take n (rows h.final)) more
+log_from_beginning reads entries = any_from_beginning reads entries (reads_on reads beginning entries) (function_hands_out reads beginning entries (beginning_is_place entries))
 
 -- ---- to the end
 

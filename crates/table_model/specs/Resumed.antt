@@ -1,8 +1,8 @@
 -- Reads that go on where the last one ended, while the table grows.
-use Rattle.std.specs.Prelude.{ℕ, List, [], ◌∷◌, ◌++◌}
+use Rattle.std.specs.Prelude.{◌≡◌, ℕ, List, [], ◌∷◌, ◌++◌}
 use Rattle.table_model.specs.Rows.{Row}
 use Rattle.table_model.specs.Table.{Entry}
-use Rattle.table_model.specs.Reads.{Answer, handed, beyond, bad_place, read}
+use Rattle.table_model.specs.Reads.{Answer, handed, read, IsPart}
 use Rattle.table_model.specs.declared.reading.Place.{Place}
 
 -- What several reads handed out together, the place where the next read begins, and the table that the last one read.
@@ -14,14 +14,12 @@ pub record Handed : Type 0 where
 -- the rows of an answer: a read that is refused hands out none
 abbrev pub rows_of : Answer → List Row
 rows_of (handed out next) = out
-rows_of (beyond next) = []
-rows_of (bad_place version) = []
+rows_of refused = []
 
 -- where the next read begins: a read that is refused leaves its place
 abbrev pub next_after : Place → Answer → Place
 next_after place (handed out next) = next
-next_after place (beyond next) = place
-next_after place (bad_place version) = place
+next_after place refused = place
 
 -- the same with the rows of earlier reads in front
 abbrev pub with_earlier : List Row → Handed → Handed
@@ -35,6 +33,13 @@ reads_on (r ∷ later) place entries =
     let table = entries ++ r.1 in
     let answer = read r.0 place table in
     with_earlier (rows_of answer) (reads_on later (next_after place answer) table)
+
+-- The same of any reader: each read hands out a part of the table as it stands then, whichever it may be.
+abbrev pub HandOut : List (ℕ × List Entry) → Place → List Entry → Handed → Type 0
+HandOut [] place entries all = all ≡ record { out = []; next = place; final = entries }
+HandOut (r ∷ later) place entries all =
+    let table = entries ++ r.1 in
+    (out : List Row) × (next : Place) × (rest : Handed) × IsPart r.0 place out next table × HandOut later next table rest × (all ≡ with_earlier out rest)
 
 -- all that the table grew by
 abbrev pub growth : List (ℕ × List Entry) → List Entry

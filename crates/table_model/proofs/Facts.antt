@@ -1,0 +1,217 @@
+-- What the answers of appends and closes tell of the table that they leave, and that it stays so while the table grows.
+use Rattle.std.proofs.Common.{◌≡◌, ℕ, zero, suc, ◌<◌, ◌≤◌, Bool, true, eqb, ltb, List, [], ◌∷◌, ◌++◌, length, get_or, slice_get, Option, Some, None, All, Contains, refl, sym, ap, subst, ◌∙◌, append_assoc, arith, inl, inr}
+use Rattle.std.specs.Prelude.{bytes_eq}
+use Rattle.std.proofs.lemmas.Bool.{false≢true, cases_Bool, eqb-true, eqb-false, ltb-true, ltb-false}
+use Rattle.std.proofs.lemmas.Slice.Eq.{bytes_eq-Decides}
+use Rattle.std.proofs.lemmas.List.{append-nil}
+use Rattle.std.proofs.lemmas.List.Elements.{All-contains, All-contains_itself, All-filter, Contains-append_left, Contains-append_right, Contains-push, filter_passes}
+use Rattle.table_model.specs.Rows.{Row, same_rows}
+use Rattle.table_model.specs.Table.{Batch, Entry, creation, batch, close, batches, batches_by, numbers_by, last, last_batch, is_closed}
+use Rattle.table_model.specs.Appends.{appended, appended_new, appended_behind, with_batch, closing, with_close, Tells, TellsClose}
+use Rattle.table_model.specs.Lawful.{NoCreation, BeginsWithCreation, Rises, IsLawful}
+use Rattle.table_model.specs.declared.table.Appended.{Appended}
+use Rattle.table_model.specs.declared.table.Appended.TheVariants.{Committed, Already, Stale, Differs, StreamClosed}
+use Rattle.table_model.specs.declared.table.Closing.{Closing}
+use Rattle.table_model.specs.declared.table.Closing.TheVariants.{Closed, AlreadyClosed}
+use Rattle.table_model.proofs.Same.{same_rows-is}
+use Rattle.table_model.proofs.Batches.{batches-append, numbers_by-append, last_some, last_number, IsAbove, Rises-front, all_below}
+
+-- ---- places and members of a list
+
+pub at_the_end : {A : Type 0} (xs : List A) (x : A) → slice_get (xs ++ x ∷ []) (length xs) ≡ Some x
+at_the_end [] x = refl
+at_the_end (y ∷ xs) x = at_the_end xs x
+
+at_the_front : {A : Type 0} (xs ys : List A) (k : ℕ) (x : A) → slice_get xs k ≡ Some x → slice_get (xs ++ ys) k ≡ Some x
+at_the_front [] ys k x e = absurd cc
+at_the_front (y ∷ xs) ys zero x e = e
+at_the_front (y ∷ xs) ys (suc k) x e = at_the_front xs ys k x e
+
+none_behind : {A : Type 0} (xs ys : List A) → xs ++ ys ≡ [] → (xs ≡ []) × (ys ≡ [])
+none_behind [] ys e = (refl, e)
+none_behind (x ∷ xs) ys e = absurd cc
+
+-- ---- what the tests of an append find
+
+-- the application's last batch is one of the table
+pub last_stands : (application : List ℕ) (entries : List Entry) (c : Batch) → last_batch application entries ≡ Some c → Contains (batches entries) c × (c.application ≡ application)
+last_stands application entries c is =
+    let own : Batch → Bool = λ b. bytes_eq b.application application in
+    let all = batches entries in
+    let cut = last_some (batches_by application entries) c is in
+    let among : Contains (batches_by application entries) c = subst (λ (bs : List Batch). Contains bs c) (sym cut.1) (Contains-push cut.0 c) in
+    let stands = All-contains (Contains all) (batches_by application entries) c (All-filter own (Contains all) all (All-contains_itself all)) among in
+    let named : own c ≡ true = All-contains (λ b. own b ≡ true) (batches_by application entries) c (filter_passes own all) among in
+    (stands, (bytes_eq-Decides c.application application).0 named)
+
+-- a list with x in it, cut there
+record IsCut {A : Type 0} (xs : List A) (x : A) : Type 0 where
+  before : List A
+  after : List A
+  is : xs ≡ before ++ x ∷ after
+
+cut_later : {A : Type 0} (y : A) (xs : List A) (x : A) → IsCut xs x → IsCut (y ∷ xs) x
+cut_later {A = A} y xs x cut = record { before = y ∷ cut.before; after = cut.after; is = ap (λ (zs : List A). y ∷ zs) cut.is }
+
+cut_at : {A : Type 0} (xs : List A) (x : A) (k : ℕ) → k < length xs → get_or xs k x ≡ x → IsCut xs x
+cut_at [] x k lt e = absurd (omega arith)
+cut_at {A = A} (y ∷ xs) x zero lt e = record { before = []; after = xs; is = ap (λ (z : A). z ∷ xs) e }
+cut_at (y ∷ xs) x (suc k) lt e = cut_later y xs x (cut_at xs x k (omega arith) e)
+
+-- where a stream is closed, its close stands
+cut_at_close : (application : List ℕ) (entries : List Entry) → is_closed application entries ≡ true → IsCut entries (close application)
+cut_at_close application [] shut = absurd (false≢true shut)
+cut_at_close application (creation ∷ entries) shut = cut_later creation entries (close application) (cut_at_close application entries shut)
+cut_at_close application (batch b ∷ entries) shut = cut_later (batch b) entries (close application) (cut_at_close application entries shut)
+cut_at_close application (close other ∷ entries) shut =
+    elim (cases_Bool (bytes_eq other application)) [
+      | inl own ↦
+          let is : other ≡ application = (bytes_eq-Decides other application).0 own in
+          record { before = []; after = entries; is = ap (λ (a : List ℕ). close a ∷ entries) is }
+      | inr foreign ↦
+          let later : is_closed application entries ≡ true = rw foreign at shut in
+          cut_later (close other) entries (close application) (cut_at_close application entries later)
+    ]
+
+close_stands : (application : List ℕ) (entries : List Entry) → is_closed application entries ≡ true → Contains entries (close application)
+close_stands application entries shut =
+    let cut = cut_at_close application entries shut in
+    subst (λ (es : List Entry). Contains es (close application)) (sym cut.is) (Contains-append_right cut.before (close application ∷ cut.after) (close application) (Contains-append_left (close application ∷ []) cut.after (close application) (Contains-push [] (close application))))
+
+-- ---- what an append tells
+
+new_tells : (b : Batch) (entries : List Entry) → IsAbove b.number (last (numbers_by b.application entries)) → Tells (appended_new b entries) b (with_batch (appended_new b entries) b entries)
+new_tells b entries above =
+    elim (cases_Bool (is_closed b.application entries)) [
+      | inl shut ↦ rw shut (close_stands b.application entries shut, λ lawful. all_below (numbers_by b.application entries) b.number (lawful.rises b.application) above)
+      | inr fresh ↦ rw fresh (at_the_end entries (batch b))
+    ]
+
+behind_tells : (b : Batch) (entries : List Entry) (before : Option Batch) → last_batch b.application entries ≡ before → Tells (appended_behind b entries before) b (with_batch (appended_behind b entries before) b entries)
+behind_tells b entries None is = new_tells b entries (rw (last_number b.application entries, is) tt)
+behind_tells b entries (Some before) is =
+    let found = last_stands b.application entries before is in
+    let named : before ≡ record b { number = before.number; rows = before.rows } = λ i. record { application = found.1 i; number = before.number; rows = before.rows } in
+    let stands : Contains (batches entries) (record b { number = before.number; rows = before.rows }) = subst (λ (c : Batch). Contains (batches entries) c) named found.0 in
+    elim (cases_Bool (ltb b.number before.number)) [
+      | inl below ↦ rw below (ltb-true b.number before.number below, before.rows, stands)
+      | inr over ↦ elim (cases_Bool (eqb b.number before.number)) [
+        | inl equal ↦
+            let same : b.number ≡ before.number = eqb-true b.number before.number equal in
+            let own : Contains (batches entries) (record b { rows = before.rows }) = subst (λ (n : ℕ). Contains (batches entries) (record b { number = n; rows = before.rows })) (sym same) stands in
+            elim (cases_Bool (same_rows b.rows before.rows)) [
+              | inl alike ↦
+                  let rows_are : before.rows ≡ b.rows = sym ((same_rows-is b.rows before.rows).0 alike) in
+                  rw (over, equal, alike) (refl, subst (λ (rs : List Row). Contains (batches entries) (record b { rows = rs })) rows_are own)
+              | inr differ ↦ rw (over, equal, differ) (before.rows, λ e. false≢true (sym differ ∙ (same_rows-is b.rows before.rows).1 (sym e)), own)
+            ]
+        | inr above ↦
+            let least : before.number ≤ b.number = ltb-false b.number before.number over in
+            let other : b.number ≡ before.number → ⊥ = eqb-false b.number before.number above in
+            let greater : before.number < b.number = omega arith in
+            rw (over, above) (new_tells b entries (rw (last_number b.application entries, is) greater))
+      ]
+    ]
+
+pub append_tells : (b : Batch) (entries : List Entry) → Tells (appended b entries) b (with_batch (appended b entries) b entries)
+append_tells b entries = behind_tells b entries (last_batch b.application entries) refl
+
+pub close_tells : (application : List ℕ) (entries : List Entry) → TellsClose (closing application entries) application (with_close application entries)
+close_tells application entries =
+    elim (cases_Bool (is_closed application entries)) [
+      | inl shut ↦ rw shut (close_stands application entries shut)
+      | inr fresh ↦ rw fresh (at_the_end entries (close application))
+    ]
+
+-- ---- the entry that is committed
+
+committed_is : (m n : ℕ) → Committed m ≡ Committed n → n ≡ m
+committed_is m n e = cc
+
+new_version : (b : Batch) (version : ℕ) (entries : List Entry) → appended_new b entries ≡ Committed version → version ≡ length entries
+new_version b version entries e =
+    elim (cases_Bool (is_closed b.application entries)) [
+      | inl shut ↦ let no : StreamClosed ≡ Committed version = rw shut at e in absurd cc
+      | inr fresh ↦ let is : Committed (length entries) ≡ Committed version = rw fresh at e in committed_is (length entries) version is
+    ]
+
+behind_version : (b : Batch) (version : ℕ) (entries : List Entry) (before : Option Batch) → appended_behind b entries before ≡ Committed version → version ≡ length entries
+behind_version b version entries None e = new_version b version entries e
+behind_version b version entries (Some before) e =
+    elim (cases_Bool (ltb b.number before.number)) [
+      | inl below ↦ let no : Stale before.number ≡ Committed version = rw below at e in absurd cc
+      | inr over ↦ elim (cases_Bool (eqb b.number before.number)) [
+        | inl equal ↦ elim (cases_Bool (same_rows b.rows before.rows)) [
+          | inl alike ↦ let no : Already b.number ≡ Committed version = rw (over, equal, alike) at e in absurd cc
+          | inr differ ↦ let no : Differs ≡ Committed version = rw (over, equal, differ) at e in absurd cc
+        ]
+        | inr above ↦ let new : appended_new b entries ≡ Committed version = rw (over, above) at e in new_version b version entries new
+      ]
+    ]
+
+pub next_batch : (b : Batch) (version : ℕ) (entries : List Entry) → appended b entries ≡ Committed version → (version ≡ length entries) × (with_batch (appended b entries) b entries ≡ entries ++ batch b ∷ [])
+next_batch b version entries e = (behind_version b version entries (last_batch b.application entries) e, ap (λ (a : Appended). with_batch a b entries) e)
+
+pub next_close : (application : List ℕ) (version : ℕ) (entries : List Entry) → closing application entries ≡ Closed version → (version ≡ length entries) × (with_close application entries ≡ entries ++ close application ∷ [])
+next_close application version entries e =
+    elim (cases_Bool (is_closed application entries)) [
+      | inl shut ↦ let no : AlreadyClosed ≡ Closed version = rw shut at e in absurd cc
+      | inr fresh ↦
+          let is : Closed (length entries) ≡ Closed version = rw fresh at e in
+          let at : version ≡ length entries = cc in
+          (at, rw fresh refl)
+    ]
+
+-- ---- the table that another one grew from
+
+NoCreation-front : (entries more : List Entry) → NoCreation (entries ++ more) → NoCreation entries
+NoCreation-front [] more none = tt
+NoCreation-front (creation ∷ entries) more none = none
+NoCreation-front (batch b ∷ entries) more none = NoCreation-front entries more none
+NoCreation-front (close application ∷ entries) more none = NoCreation-front entries more none
+
+begins-front : (entries more : List Entry) → BeginsWithCreation (entries ++ more) → BeginsWithCreation entries
+begins-front [] more begins = tt
+begins-front (creation ∷ entries) more begins = NoCreation-front entries more begins
+begins-front (batch b ∷ entries) more begins = begins
+begins-front (close application ∷ entries) more begins = begins
+
+-- no batch stands behind a close, not even in what the table grew by
+none_grown : (application : List ℕ) (entries more before after : List Entry) → IsLawful (entries ++ more) → entries ≡ before ++ close application ∷ after
+    → (numbers_by application after ≡ []) × (numbers_by application more ≡ [])
+none_grown application entries more before after lawful is =
+    let at : entries ++ more ≡ before ++ close application ∷ (after ++ more) = ap (λ (es : List Entry). es ++ more) is ∙ append_assoc before (close application ∷ after) more in
+    none_behind (numbers_by application after) (numbers_by application more) (sym (numbers_by-append application after more) ∙ lawful.closed application before (after ++ more) at)
+
+pub lawful-front : (entries more : List Entry) → IsLawful (entries ++ more) → IsLawful entries
+lawful-front entries more lawful = record {
+  begins = begins-front entries more lawful.begins;
+  rises = λ application. Rises-front (numbers_by application entries) (numbers_by application more) (subst Rises (numbers_by-append application entries more) (lawful.rises application));
+  closed = λ application before after is. (none_grown application entries more before after lawful is).0;
+}
+
+-- ---- what was told lasts
+
+pub batch_lasts : (b : Batch) (entries more : List Entry) → Contains (batches entries) b → Contains (batches (entries ++ more)) b
+batch_lasts b entries more stands = subst (λ (bs : List Batch). Contains bs b) (sym (batches-append entries more)) (Contains-append_left (batches entries) (batches more) b stands)
+
+-- no number comes behind a close
+still_below : (b : Batch) (entries more : List Entry) → Contains entries (close b.application) → (IsLawful entries → All (λ n. n < b.number) (numbers_by b.application entries))
+    → IsLawful (entries ++ more) → All (λ n. n < b.number) (numbers_by b.application (entries ++ more))
+still_below b entries more stands below lawful =
+    let cut = cut_at entries (close b.application) stands.0 stands.1 stands.2 in
+    let none : numbers_by b.application more ≡ [] = (none_grown b.application entries more cut.before cut.after lawful cut.is).1 in
+    let same : numbers_by b.application (entries ++ more) ≡ numbers_by b.application entries = numbers_by-append b.application entries more ∙ rw none (append-nil (numbers_by b.application entries)) in
+    subst (λ (ns : List ℕ). All (λ n. n < b.number) ns) (sym same) (below (lawful-front entries more lawful))
+
+pub append_lasts : (answer : Appended) (b : Batch) (entries more : List Entry) → Tells answer b entries → Tells answer b (entries ++ more)
+append_lasts (Committed version) b entries more told = at_the_front entries more version (batch b) told
+append_lasts (Already number) b entries more told = (told.0, batch_lasts b entries more told.1)
+append_lasts (Stale number) b entries more told = (told.0, told.1, batch_lasts (record b { number = number; rows = told.1 }) entries more told.2)
+append_lasts Differs b entries more told = (told.0, told.1, batch_lasts (record b { rows = told.0 }) entries more told.2)
+append_lasts StreamClosed b entries more told =
+    (Contains-append_left entries more (close b.application) told.0, still_below b entries more told.0 told.1)
+
+pub close_lasts : (answer : Closing) (application : List ℕ) (entries more : List Entry) → TellsClose answer application entries → TellsClose answer application (entries ++ more)
+close_lasts (Closed version) application entries more told = at_the_front entries more version (close application) told
+close_lasts AlreadyClosed application entries more told = Contains-append_left entries more (close application) told
