@@ -4,6 +4,8 @@ use Rattle.std.specs.Fmt.{signed_decimal}
 use Rattle.thrift_core.specs.FaultTexts as trees
 use Rattle.parquet_file.specs.declared.fault.FileFault.{FileFault}
 use Rattle.parquet_file.specs.declared.fault.FileFault.TheVariants.{BadMagic, BadFooter, Codec, Encoding, PageKind, BadOffset, CountMismatch, SchemaMismatch, TooLarge, NotUtf8, BadPage}
+use Rattle.parquet_file.specs.declared.fault.FileError.{FileError}
+use Rattle.parquet_file.specs.declared.fault.FileError.TheVariants.{Memory, Fault}
 
 abbrev pub fault_text : FileFault → List ℕ
 fault_text BadMagic = codes "P1 BadMagic"
@@ -17,3 +19,8 @@ fault_text SchemaMismatch = codes "P8 SchemaMismatch"
 fault_text TooLarge = codes "P9 TooLarge"
 fault_text NotUtf8 = codes "P10 NotUtf8"
 fault_text (BadPage fault) = codes "P11 BadPage " ++ trees.fault_text fault
+
+-- the printed form of an error: that of its fault
+abbrev pub error_text : FileError → List ℕ
+error_text Memory = codes "out of memory"
+error_text (Fault fault) = fault_text fault

@@ -1,7 +1,7 @@
 //! Why bytes are no file of a table's rows, or no file can be written.
 
 ghost use Rattle.std.specs.Prelude.{◌≡◌, Some};
-ghost use Rattle.parquet_file.specs.FaultTexts.{fault_text};
+ghost use Rattle.parquet_file.specs.FaultTexts.{error_text, fault_text};
 ghost use Rattle.parquet_file.specs.declared.fault.FileError.TheVariants.{Memory, Fault};
 
 use std::alloc::{AllocError, AllocFailed};
@@ -59,15 +59,24 @@ impl Display for FileFault {
     }
 }
 
-/// Why a file could not be read or written.
+/// Why a file could not be read or written. Its texts are written by hand, so that contracts know them.
 #[derive(Debug, Drop, Error)]
 pub enum FileError {
     /// A growth of memory was refused.
-    #[error("out of memory")]
     Memory,
     /// What is wrong with the file.
-    #[error("{0}")]
     Fault(FileFault),
+}
+
+impl Display for FileError {
+    ghost output = { λ error. Some (error_text error) };
+
+    fn fmt<W: fmt::Write>(&self, f: &mut Formatter<W>) -> fmt::Result {
+        match self {
+            FileError::Memory => f.write_str("out of memory"),
+            FileError::Fault(fault) => write!(f, "{fault}"),
+        }
+    }
 }
 
 impl From<AllocError> for FileError {

@@ -1,7 +1,7 @@
 //! Why bytes could not be read as a tree.
 
 ghost use Rattle.std.specs.Prelude.{◌≡◌, Some};
-ghost use Rattle.thrift_core.specs.FaultTexts.{fault_text};
+ghost use Rattle.thrift_core.specs.FaultTexts.{error_text, fault_text};
 ghost use Rattle.thrift_core.specs.declared.fault.ThriftFault.TheVariants.{Bytes};
 ghost use Rattle.thrift_core.specs.declared.fault.ReadError.TheVariants.{Memory, Fault};
 
@@ -49,15 +49,24 @@ impl From<ByteFault> for ThriftFault {
     }
 }
 
-/// Why a tree could not be read.
+/// Why a tree could not be read. Its texts are written by hand, so that contracts know them.
 #[derive(Debug, Drop, Error)]
 pub enum ReadError {
     /// A growth of memory was refused.
-    #[error("out of memory")]
     Memory,
     /// What is wrong with the bytes.
-    #[error("{0}")]
     Fault(ThriftFault),
+}
+
+impl Display for ReadError {
+    ghost output = { λ error. Some (error_text error) };
+
+    fn fmt<W: fmt::Write>(&self, f: &mut Formatter<W>) -> fmt::Result {
+        match self {
+            ReadError::Memory => f.write_str("out of memory"),
+            ReadError::Fault(fault) => write!(f, "{fault}"),
+        }
+    }
 }
 
 impl From<AllocError> for ReadError {
