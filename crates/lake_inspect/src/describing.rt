@@ -4,6 +4,7 @@ use crate::commit::commit_lines;
 use crate::kind::Kind;
 use crate::parquet::{footer_lines, page_line, row_lines};
 use crate::refusal::Refusal;
+use crate::schema::schema_lines;
 use crate::tree::push_value;
 use lake_bytes::Cursor;
 use std::alloc::{AllocError, Global};
@@ -15,6 +16,7 @@ pub fn describe(alloc: Global, kind: Kind<'_>, bytes: &[u8]) -> Result<Vec<Strin
     match kind {
         Kind::Footer => footer_lines(alloc, bytes),
         Kind::Rows(column) => row_lines(alloc, column, bytes),
+        Kind::Schema => schema_lines(alloc, bytes),
         Kind::Commit => commit_lines(alloc, bytes),
         _ => {
             let line = value_in_front(alloc, kind, bytes)?;

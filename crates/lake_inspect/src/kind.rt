@@ -21,6 +21,8 @@ pub enum Kind<'a> {
     Page,
     /// A Parquet file of one required long column of this name, of which the rows are told.
     Rows(&'a str),
+    /// The JSON text of a table's schema.
+    Schema,
     /// The lines of a Delta commit.
     Commit,
 }
@@ -29,7 +31,7 @@ pub enum Kind<'a> {
 pub const ROWS: &str = "rows";
 
 /// The other kinds: their words, and what is printed of them.
-pub const KINDS: [(&str, Kind<'static>, &str); 11] = [
+pub const KINDS: [(&str, Kind<'static>, &str); 12] = [
     ("varint", Kind::Varint, "A varint"),
     ("zigzag16", Kind::Zig16, "A zigzag varint of 16 bits"),
     ("zigzag32", Kind::Zig32, "A zigzag varint of 32 bits"),
@@ -40,6 +42,7 @@ pub const KINDS: [(&str, Kind<'static>, &str); 11] = [
     ("thrift", Kind::Thrift, "A struct of the Thrift protocol"),
     ("footer", Kind::Footer, "What a Parquet file's footer says"),
     ("page", Kind::Page, "The header of a Parquet page"),
+    ("schema", Kind::Schema, "The schema that a JSON text is"),
     ("commit", Kind::Commit, "The actions of a Delta commit"),
 ];
 

@@ -1,4 +1,4 @@
-//! A program that prints what bytes are: numbers, Thrift structs, Parquet files and Delta commits.
+//! A program that prints what bytes are: numbers, Thrift structs, Parquet files, schemas and Delta commits.
 #![tactic(auto)]
 
 mod cases;
@@ -8,6 +8,7 @@ mod kind;
 mod notation;
 mod parquet;
 mod refusal;
+mod schema;
 mod spoiling;
 mod tree;
 mod words;

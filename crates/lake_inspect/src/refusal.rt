@@ -6,12 +6,13 @@ ghost use Rattle.lake_inspect.specs.declared.refusal.Refusal.TheVariants.{Memory
 use delta_actions::ActionFault;
 use lake_bytes::ByteFault;
 use parquet_file::{FileError, FileFault};
+use schema_tree::SchemaFault;
 use std::alloc::{AllocError, AllocFailed};
 use thiserror::Error;
 use thrift_core::{ReadError, ThriftFault};
 
 /// Why bytes aren't what they were said to be, or couldn't be written.
-#[derive(Clone, Copy, Debug, Error)]
+#[derive(Debug, Drop, Error)]
 pub enum Refusal {
     /// A growth of memory was refused.
     #[error("out of memory")]
@@ -28,6 +29,9 @@ pub enum Refusal {
     /// They are no file, or no file can be written.
     #[error("refused {0}")]
     File(FileFault),
+    /// They are the text of no schema.
+    #[error("refused {0}")]
+    Schema(SchemaFault),
     /// They are no commit.
     #[error("refused {0}")]
     Commit(ActionFault),
@@ -63,6 +67,15 @@ impl From<FileError> for Refusal {
         match error {
             FileError::Memory => Refusal::Memory,
             FileError::Fault(fault) => Refusal::File(fault),
+        }
+    }
+}
+
+impl From<schema_tree::ReadError> for Refusal {
+    fn from(error: schema_tree::ReadError) -> Refusal {
+        match error {
+            schema_tree::ReadError::Memory => Refusal::Memory,
+            schema_tree::ReadError::Fault(fault) => Refusal::Schema(fault),
         }
     }
 }

@@ -1,0 +1,33 @@
+//! Schemas in lines.
+
+use crate::refusal::Refusal;
+use schema_tree::{Leaf, Schema, SchemaFault};
+use std::alloc::{AllocError, Global};
+use std::str::from_utf8;
+
+/// The text of the schema, as it is printed, and each of its leaves.
+pub fn schema_lines(alloc: Global, bytes: &[u8]) -> Result<Vec<String>, Refusal> {
+    let Ok(text) = from_utf8(bytes) else {
+        return Err(Refusal::Schema(SchemaFault::BadJson));
+    };
+    let schema = Schema::from_text(alloc, text)?;
+    let mut lines = vec![in alloc; schema.to_text(alloc)?]?;
+    for leaf in &schema.leaves(alloc)? {
+        lines.push(leaf_line(alloc, leaf)?)?;
+    }
+    Ok(lines)
+}
+
+/// A leaf: its path, and how many of the fields on it may be null.
+fn leaf_line(alloc: Global, leaf: &Leaf<'_, Global>) -> Result<String, AllocError> {
+    let mut line = String::from_str(alloc, "leaf ")?;
+    let mut gap = "";
+    for name in &leaf.names {
+        line.push_str(gap)?;
+        line.push_str(name)?;
+        gap = ".";
+    }
+    let nullables = leaf.nullables;
+    write!(line, ", {nullables} nullable")?;
+    Ok(line)
+}

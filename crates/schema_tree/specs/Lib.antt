@@ -1,0 +1,12 @@
+pub mod Primitives
+pub mod Tree
+pub mod Printing
+pub mod Limits
+pub mod Fault
+pub mod FaultTexts
+pub mod Reading
+pub mod Metadata
+pub mod View
+pub mod Leaves
+pub mod Sameness
+pub mod Schema

@@ -1,0 +1,80 @@
+//! A field's metadata.
+
+ghost use Rattle.std.specs.Prelude.{◌≡◌, ◌≤◌, IfOk, IsTrue, string_bytes, true, false, is_some};
+ghost use Rattle.serde_json.specs.Data.{object, no_members, depth};
+ghost use Rattle.serde_json.specs.Find.{as_object};
+ghost use Rattle.serde_json.specs.Read.{max_depth};
+ghost use Rattle.serde_json.specs.View.{view};
+ghost use Rattle.serde_json.specs.Written.{has_float};
+ghost use Rattle.schema_tree.specs.Metadata.{IsCompactObject, value_of};
+
+use serde_json::Value;
+use std::alloc::{AllocError, Allocator, Global};
+
+/// A field's metadata (Delta PROTOCOL.md, "Struct Field"): a JSON object, kept as its text with no spaces and
+/// keys in order of bytes.
+#[derive(Drop)]
+pub struct Metadata<A: Allocator> {
+    text: String<A>,
+    ghost is_object: { IsCompactObject (string_bytes text) },
+}
+
+impl Metadata<Global> {
+    /// The metadata without entries.
+    pub(crate) fn none(alloc: Global) -> Result<Metadata<Global>, AllocError>
+        ensures { IfOk result (λ m. value_of (string_bytes m.text) ≡ object no_members) }
+    {
+        Ok(Metadata {
+            text: String::from_str(alloc, "{}")?,
+        })
+    }
+
+    /// The metadata that an object is.
+    pub(crate) fn of_object(alloc: Global, value: &Value) -> Result<Metadata<Global>, AllocError>
+        requires object { is_some (as_object (view value.now)) ≡ true }
+        requires shallow { depth (view value.now) ≤ max_depth }
+        ensures { IfOk result (λ m. value_of (string_bytes m.text) ≡ view value.now) }
+    {
+        Ok(Metadata {
+            text: value.to_string(alloc)?,
+        })
+    }
+}
+
+impl<A: Allocator> Metadata<A> {
+    /// The JSON text.
+    pub fn as_str(&self) -> &str
+        ensures { result.now ≡ string_bytes self.now.text }
+    {
+        self.text.as_str()
+    }
+
+    /// The JSON object.
+    pub(crate) fn value(&self, alloc: Global) -> Result<Value, AllocError>
+        ensures { IfOk result (λ v. view v ≡ value_of (string_bytes self.now.text)) }
+    {
+        match Value::from_str(alloc, self.text.as_str()) {
+            Ok(value) => Ok(value),
+            Err(_) => Err(AllocError),
+        }
+    }
+
+    /// The same metadata in another allocator.
+    pub(crate) fn copy_into<B: Allocator>(&self, alloc: B) -> Result<Metadata<B>, AllocError>
+        ensures { IfOk result (λ m. string_bytes m.text ≡ string_bytes self.now.text) }
+    {
+        Ok(Metadata {
+            text: String::from_str(alloc, self.text.as_str())?,
+        })
+    }
+
+    /// Whether both are the same metadata. It takes no memory.
+    pub(crate) fn same<B: Allocator>(&self, other: &Metadata<B>) -> bool
+        ensures sound { IsTrue result
+            → value_of (string_bytes self.now.text) ≡ value_of (string_bytes other.now.text) }
+        ensures complete { has_float (value_of (string_bytes self.now.text)) ≡ false
+            → value_of (string_bytes self.now.text) ≡ value_of (string_bytes other.now.text) → IsTrue result }
+    {
+        self.text.as_str() == other.text.as_str()
+    }
+}

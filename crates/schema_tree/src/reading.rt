@@ -1,0 +1,271 @@
+//! JSON read as types, depth first.
+
+ghost use Rattle.std.specs.Prelude.{◌≡◌, ℕ, ◌≤◌, List, [], map, option_map, bytes_eq, codes, string_bytes, IfOk};
+ghost use Rattle.std.specs.List.{list_any};
+ghost use Rattle.serde_json.specs.Data.{depth, items_depth, object, no_members};
+ghost use Rattle.serde_json.specs.Find.{as_str, as_array};
+ghost use Rattle.lake_bytes.specs.Outcome.{Gives};
+ghost use Rattle.json_fields.specs.Fields.{needed, defaulted};
+ghost use Rattle.schema_tree.specs.Fault.{says};
+ghost use Rattle.schema_tree.specs.Metadata.{value_of};
+ghost use Rattle.serde_json.specs.Read.{max_depth};
+ghost use Rattle.serde_json.specs.View.{view as value_view, items_view};
+ghost use Rattle.json_fields.specs.Kinds.{field};
+ghost use Rattle.schema_tree.specs.Reading.{Reads, or_bad_type, any_value, as_map, object_of, node_of, struct_of, array_of, map_of, fields_behind, field_of, column_of, leaf_of};
+ghost use Rattle.schema_tree.specs.View.{view, field_view, field_views};
+
+use crate::counts::Counts;
+use crate::fault::{ReadError, SchemaFault};
+use crate::metadata::Metadata;
+use crate::node::{Field, Node};
+use crate::primitive::Primitive;
+use json_fields::Fields;
+use serde_json::Value;
+use std::alloc::{AllocError, Global};
+
+/// The member of that name, where a null one is missing.
+fn member<'a>(value: &'a Value, name: &str) -> Option<&'a Value>
+    ensures { option_map (λ v. value_view v.now) result ≡ field name.now (value_view value.now) }
+{
+    match value.get(name) {
+        Some(found) if !found.is_null() => Some(found),
+        _ => None,
+    }
+}
+
+/// The member of that name, which has to be there.
+#[tactic(auto, unfolding(json_fields::specs::Fields::needed, json_fields::specs::Fields::optional))]
+fn needed<'a>(value: &'a Value, name: &str) -> Result<&'a Value, ReadError>
+    ensures found { Gives says (λ v. value_view v.now) result
+        (or_bad_type (needed any_value name.now (value_view value.now))) }
+    ensures inside { IfOk result (λ v. depth (value_view v.now) ≤ depth (value_view value.now)) }
+{
+    match member(value, name) {
+        Some(found) => Ok(found),
+        None => Err(SchemaFault::bad_type().into()),
+    }
+}
+
+/// The text of that name, which has to be there.
+#[tactic(auto, unfolding(json_fields::specs::Fields::needed, json_fields::specs::Fields::optional))]
+pub(crate) fn needed_text<'a>(value: &'a Value, name: &str) -> Result<&'a str, ReadError>
+    ensures { Gives says (λ s. s.now) result (or_bad_type (needed as_str name.now (value_view value.now))) }
+{
+    match needed(value, name)?.as_str() {
+        Some(text) => Ok(text),
+        None => Err(SchemaFault::bad_type().into()),
+    }
+}
+
+/// The items of the array of that name, which has to be there.
+#[tactic(auto, unfolding(json_fields::specs::Fields::needed, json_fields::specs::Fields::optional))]
+fn needed_items<'a>(value: &'a Value, name: &str) -> Result<&'a [Value], ReadError>
+    ensures found { Gives says (λ v. items_view v.now) result
+        (or_bad_type (needed as_array name.now (value_view value.now))) }
+    ensures inside { IfOk result (λ v. items_depth (items_view v.now) ≤ depth (value_view value.now)) }
+{
+    match needed(value, name)?.as_array() {
+        Some(items) => Ok(items),
+        None => Err(SchemaFault::bad_type().into()),
+    }
+}
+
+/// The metadata of a field.
+#[tactic(auto, unfolding(json_fields::specs::Fields::defaulted, json_fields::specs::Fields::optional))]
+fn metadata_of(alloc: Global, value: &Value) -> Result<Metadata<Global>, ReadError>
+    requires { depth (value_view value.now) ≤ max_depth }
+    ensures { Gives says (λ m. value_of (string_bytes m.text)) result
+        (or_bad_type (defaulted as_map (codes "metadata") (object no_members) (value_view value.now))) }
+{
+    match member(value, "metadata") {
+        None => Ok(Metadata::none(alloc)?),
+        Some(found) if found.is_object() => Ok(Metadata::of_object(alloc, found)?),
+        Some(_) => Err(SchemaFault::bad_type().into()),
+    }
+}
+
+/// Whether one of the fields has this name.
+fn is_name_of(fields: &[Field<Global>], name: &str) -> bool
+    ensures { result ≡ list_any (bytes_eq name.now) (map (λ c. c.name) (field_views fields.now)) }
+{
+    fields.iter().any(|f| f.name.as_str() == name)
+}
+
+fn primitive(name: &str) -> Result<Node<Global>, ReadError>
+    ensures { Gives says view result (leaf_of name.now) }
+{
+    match Primitive::from_name(name) {
+        Some(primitive) => Ok(Node::Leaf(primitive)),
+        None => Err(SchemaFault::bad_type().into()),
+    }
+}
+
+impl Counts {
+    /// A type, below which so many levels less one may stand.
+    #[cycle(read)]
+    #[tactic(auto, unfolding(crate::specs::Reading::node_of, crate::specs::Reading::content_of))]
+    pub(crate) fn node(
+        &mut self,
+        alloc: Global,
+        below: u32,
+        value: &Value,
+    ) -> Result<Node<Global>, ReadError>
+        requires { depth (value_view value.now) ≤ max_depth }
+        ensures { Reads view (node_of below (value_view value.now) self.old) result self.new }
+    {
+        if below == 0 {
+            return Err(SchemaFault::TooDeep.into());
+        }
+        self.count(value)?;
+        match value {
+            Value::String(name) => primitive(name.as_str()),
+            Value::Object(_) => self.nested(alloc, below - 1, value),
+            _ => Err(SchemaFault::bad_type().into()),
+        }
+    }
+
+    /// A type given by an object.
+    #[cycle(read)]
+    #[tactic(auto, unfolding(crate::specs::Reading::object_of, crate::specs::Reading::nested_of))]
+    fn nested(
+        &mut self,
+        alloc: Global,
+        below: u32,
+        value: &Value,
+    ) -> Result<Node<Global>, ReadError>
+        requires { depth (value_view value.now) ≤ max_depth }
+        ensures { Reads view (object_of (node_of below) (value_view value.now) self.old) result self.new }
+    {
+        match needed_text(value, "type")? {
+            "struct" => {
+                let fields = self.fields(alloc, below, value)?;
+                Ok(Node::Struct(fields))
+            }
+            "array" => self.array(alloc, below, value),
+            "map" => self.map(alloc, below, value),
+            _ => Err(SchemaFault::bad_type().into()),
+        }
+    }
+
+    #[cycle(read)]
+    #[tactic(auto, unfolding(crate::specs::Reading::array_of))]
+    fn array(&mut self, alloc: Global, below: u32, value: &Value) -> Result<Node<Global>, ReadError>
+        requires { depth (value_view value.now) ≤ max_depth }
+        ensures { Reads view (array_of (node_of below) (value_view value.now) self.old) result self.new }
+    {
+        let fields = Fields { alloc, value };
+        let contains_null = fields.defaulted("containsNull", true)?;
+        let element = self.node(alloc, below, needed(value, "elementType")?)?;
+        Ok(Node::Array {
+            element: Box::new(alloc, element)?,
+            contains_null,
+        })
+    }
+
+    #[cycle(read)]
+    #[tactic(auto, unfolding(crate::specs::Reading::map_of))]
+    fn map(&mut self, alloc: Global, below: u32, value: &Value) -> Result<Node<Global>, ReadError>
+        requires { depth (value_view value.now) ≤ max_depth }
+        ensures { Reads view (map_of (node_of below) (value_view value.now) self.old) result self.new }
+    {
+        let fields = Fields { alloc, value };
+        let value_contains_null = fields.defaulted("valueContainsNull", true)?;
+        let key_type = needed(value, "keyType")?;
+        let value_type = needed(value, "valueType")?;
+        let key = self.node(alloc, below, key_type)?;
+        let value = self.node(alloc, below, value_type)?;
+        Ok(Node::Map {
+            key: Box::new(alloc, key)?,
+            value: Box::new(alloc, value)?,
+            value_contains_null,
+        })
+    }
+
+    /// The fields of a struct, in which so many levels may stand.
+    #[cycle(read)]
+    #[tactic(auto, unfolding(crate::specs::Reading::struct_of))]
+    pub(crate) fn fields(
+        &mut self,
+        alloc: Global,
+        below: u32,
+        value: &Value,
+    ) -> Result<Vec<Field<Global>>, ReadError>
+        requires { depth (value_view value.now) ≤ max_depth }
+        ensures { Reads (λ v. field_views v.items) (struct_of (node_of below) (value_view value.now) self.old) result self.new }
+    {
+        let items = needed_items(value, "fields")?;
+        if items.is_empty() {
+            return Err(SchemaFault::no_fields().into());
+        }
+        self.all_fields(alloc, below, items)
+    }
+
+    #[cycle(read)]
+    fn all_fields(
+        &mut self,
+        alloc: Global,
+        below: u32,
+        items: &[Value],
+    ) -> Result<Vec<Field<Global>>, ReadError>
+        requires { items_depth (items_view items.now) ≤ max_depth }
+        ensures { Reads (λ v. field_views v.items)
+            (fields_behind (node_of below) [] (items_view items.now) self.old) result self.new }
+    {
+        let mut fields = Vec::with_capacity(alloc, items.len().min(256))?;
+        for item in items {
+            let field = self.field(alloc, below, &fields, item)?;
+            fields.push(field)?;
+        }
+        Ok(fields)
+    }
+
+    /// A field behind these.
+    #[cycle(read)]
+    #[tactic(auto, unfolding(crate::specs::Reading::field_of))]
+    fn field(
+        &mut self,
+        alloc: Global,
+        below: u32,
+        before: &[Field<Global>],
+        value: &Value,
+    ) -> Result<Field<Global>, ReadError>
+        requires { depth (value_view value.now) ≤ max_depth }
+        ensures { Reads field_view (field_of (node_of below) (map (λ c. c.name) (field_views before.now))
+            (value_view value.now) self.old) result self.new }
+    {
+        let name = needed_text(value, "name")?;
+        if is_name_of(before, name) {
+            let error = ReadError::from(SchemaFault::double_name());
+            return Err(error.inside(alloc, name));
+        }
+        match self.column(alloc, below, name, value) {
+            Ok(field) => Ok(field),
+            Err(error) => Err(error.inside(alloc, name)),
+        }
+    }
+
+    /// What stands behind a field's name.
+    #[cycle(read)]
+    #[tactic(auto, unfolding(crate::specs::Reading::column_of))]
+    fn column(
+        &mut self,
+        alloc: Global,
+        below: u32,
+        name: &str,
+        value: &Value,
+    ) -> Result<Field<Global>, ReadError>
+        requires { depth (value_view value.now) ≤ max_depth }
+        ensures { Reads field_view (column_of (node_of below) name.now (value_view value.now) self.old) result self.new }
+    {
+        let fields = Fields { alloc, value };
+        let nullable = fields.defaulted("nullable", true)?;
+        let metadata = metadata_of(alloc, value)?;
+        let data_type = self.node(alloc, below, needed(value, "type")?)?;
+        Ok(Field {
+            name: String::from_str(alloc, name)?,
+            data_type,
+            nullable,
+            metadata,
+        })
+    }
+}
