@@ -5,12 +5,13 @@ use schema_tree::{Leaf, Schema, SchemaFault};
 use std::alloc::{AllocError, Global};
 use std::str::from_utf8;
 
-/// The text of the schema, as it is printed, and each of its leaves.
+/// The text of the schema, as it is printed, and each of its leaves. They are told from a copy, so that cases look at
+/// copies too.
 pub fn schema_lines(alloc: Global, bytes: &[u8]) -> Result<Vec<String>, Refusal> {
     let Ok(text) = from_utf8(bytes) else {
         return Err(Refusal::Schema(SchemaFault::BadJson));
     };
-    let schema = Schema::from_text(alloc, text)?;
+    let schema = Schema::from_text(alloc, text)?.copy_into(alloc)?;
     let mut lines = vec![in alloc; schema.to_text(alloc)?]?;
     for leaf in &schema.leaves(alloc)? {
         lines.push(leaf_line(alloc, leaf)?)?;

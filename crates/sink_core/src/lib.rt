@@ -2,6 +2,7 @@
 #![tactic(auto)]
 
 mod appending;
+mod committing;
 mod refusal;
 mod rows_in;
 
