@@ -1,7 +1,8 @@
 pub mod CommitLemmas
+pub mod CreationLemmas
 pub mod HistoryLemmas
 pub mod LogLemmas
 pub mod PieceLemmas
 pub mod PutLemmas
-pub mod SchemaLemmas
+pub mod AnswerLemmas
 pub mod Callers

@@ -2,5 +2,4 @@ pub mod Commits
 pub mod Creating
 pub mod Histories
 pub mod Log
-pub mod Schema
 pub mod Texts

@@ -1,17 +1,27 @@
 -- How refusals are told, and the texts of those of a table's creation.
 use Rattle.std.specs.Prelude.{ℕ, List, [], ◌∷◌, ◌++◌, codes}
+use Rattle.schema_tree.specs.Fault.{fault_of}
+use Rattle.schema_tree.specs.FaultTexts.{text_of}
+use Rattle.commit_core.specs.Creating.{Refusal, table_exists, bad_schema, bad_id, lost, too_large}
 use Rattle.commit_core.specs.declared.fault.CreateFault.{CreateFault}
 use Rattle.commit_core.specs.declared.fault.CreateFault.TheVariants as creating
 
 -- why a table isn't created
+abbrev pub refusal_text : Refusal → List ℕ
+refusal_text table_exists = codes "E1 TableExists"
+refusal_text (bad_schema fault) = codes "E2 BadSchema " ++ text_of fault
+refusal_text bad_id = codes "E3 BadId"
+refusal_text lost = codes "E5 Lost"
+refusal_text too_large = codes "E6 TooLarge"
+
+-- the same of the code's faults
 abbrev pub create_fault_text : CreateFault → List ℕ
-create_fault_text creating.NotYet = codes "N1 NotYet"
-create_fault_text creating.TableExists = codes "E1 TableExists"
-create_fault_text creating.BadSchema = codes "E2 BadSchema G1 BadJson"
-create_fault_text creating.BadId = codes "E3 BadId"
+create_fault_text creating.TableExists = refusal_text table_exists
+create_fault_text (creating.BadSchema fault) = refusal_text (bad_schema (fault_of fault))
+create_fault_text creating.BadId = refusal_text bad_id
 create_fault_text creating.Memory = codes "E4 Memory"
-create_fault_text creating.Lost = codes "E5 Lost"
-create_fault_text creating.TooLarge = codes "E6 TooLarge"
+create_fault_text creating.Lost = refusal_text lost
+create_fault_text creating.TooLarge = refusal_text too_large
 
 -- a fault's text, as it is told
 abbrev pub refused : List ℕ → List ℕ

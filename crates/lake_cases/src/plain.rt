@@ -3,10 +3,11 @@
 use crate::failure::Failure;
 use crate::notation::number;
 use crate::table::number_of;
+use row_core::Value;
 use std::alloc::Global;
 use std::io::Write;
 use std::str;
-use table_model::{Answer, Appended, Batch, Closing, Place, Table, Value, is_lawful};
+use table_model::{Answer, Appended, Batch, Closing, Place, Table, is_lawful};
 
 /// Answers the lines of a script over a plain table that was just created: `append APP NUMBER ROW ..`, `close APP` and
 /// `read MAX VERSION FILE ROW`. Blank lines have no answer.
@@ -64,7 +65,7 @@ fn batch_of(alloc: Global, text: &str) -> Result<Batch, Failure> {
     let number_word = words.next().ok_or(Failure::Misspelled)?;
     let mut rows = Vec::new(alloc);
     for word in words {
-        rows.push(Value::Struct(vec![in alloc; Value::Whole(number(word)?)]?))?;
+        rows.push(Value::Struct(vec![in alloc; Value::Int(number(word)?)]?))?;
     }
     Ok(Batch {
         application,

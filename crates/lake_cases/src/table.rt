@@ -1,10 +1,11 @@
 //! What is told of the store that a script leaves: the slow program of the definitions looks at it.
 
 use crate::failure::Failure;
+use row_core::Value;
 use std::alloc::Global;
 use std::io::Write;
 use store_core::{MemoryStore, Store};
-use table_model::{Batch, Entry, Value, is_lawful};
+use table_model::{Batch, Entry, is_lawful};
 use table_store::held_by;
 
 /// Adds which table a store holds, and whether it is lawful.
@@ -17,14 +18,17 @@ pub fn tell_table(
         out.extend_from_slice(b"no table\n")?;
         return Ok(());
     };
-    let column = &held.column;
     let count = held.entries.len();
     let judged = if is_lawful(&held.entries) {
         "lawful"
     } else {
         "unlawful"
     };
-    writeln!(out, "table {column}, {count} entries, {judged}")?;
+    match held.schema.long_column() {
+        Some(column) => write!(out, "table {column}")?,
+        None => write!(out, "table {}", held.schema.to_text(alloc)?)?,
+    }
+    writeln!(out, ", {count} entries, {judged}")?;
     Ok(())
 }
 
@@ -68,7 +72,7 @@ pub fn number_of(row: &Value) -> Option<i64> {
         return None;
     };
     match values.as_slice() {
-        [Value::Whole(number)] => Some(*number),
+        [Value::Int(number)] => Some(*number),
         _ => None,
     }
 }

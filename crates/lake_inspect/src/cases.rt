@@ -2,7 +2,8 @@
 
 use crate::describing::describe;
 use crate::kind::{Kind, ROWS, kind_named};
-use crate::notation::{Names, spelled};
+use crate::local_heap::heap_line;
+use crate::notation::{Names, number, spelled};
 use crate::refusal::Refusal;
 use crate::spoiling::spoil;
 use crate::writing::written;
@@ -12,7 +13,8 @@ use std::collections::BTreeMap;
 /// Answers the lines of a text. A blank line and one that begins with `#` are printed as they are.
 ///
 /// `KIND BYTES` tells what the bytes are, `rows COLUMN BYTES` the rows of a file; `write ..` what is written;
-/// `spoil KIND BYTES` what comes of spoiled bytes. `let NAME BYTES` and `let NAME write ..` name bytes.
+/// `spoil KIND BYTES` what comes of spoiled bytes; `heap BYTES SCHEMA` what comes of a schema that is copied into a heap
+/// of so many bytes. `let NAME BYTES` and `let NAME write ..` name bytes.
 pub fn cases(alloc: Global, text: &str) -> Result<String, AllocError> {
     let mut out = String::new(alloc);
     let mut names = BTreeMap::new(alloc);
@@ -49,6 +51,11 @@ fn answer(alloc: Global, names: &mut Names, line: &str) -> Result<String, Refusa
         "spoil" => {
             let (kind, rest) = kind_in_front(rest).ok_or(Refusal::BadSpelling)?;
             spoil(alloc, kind, &spelled(alloc, names, rest)?)
+        }
+        "heap" => {
+            let (size, rest) = rest.split_once(' ').ok_or(Refusal::BadSpelling)?;
+            let bytes = spelled(alloc, names, rest)?;
+            Ok(shortened(alloc, heap_line(alloc, number(size)?, &bytes)?)?)
         }
         _ => {
             let (kind, rest) = kind_in_front(line).ok_or(Refusal::BadSpelling)?;

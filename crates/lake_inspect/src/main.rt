@@ -5,6 +5,7 @@ mod cases;
 mod commit;
 mod describing;
 mod kind;
+mod local_heap;
 mod notation;
 mod parquet;
 mod refusal;

@@ -8,15 +8,20 @@ use std::str::from_utf8;
 /// The text of the schema, as it is printed, and each of its leaves. They are told from a copy, so that cases look at
 /// copies too.
 pub fn schema_lines(alloc: Global, bytes: &[u8]) -> Result<Vec<String>, Refusal> {
-    let Ok(text) = from_utf8(bytes) else {
-        return Err(Refusal::Schema(SchemaFault::BadJson));
-    };
-    let schema = Schema::from_text(alloc, text)?.copy_into(alloc)?;
+    let schema = schema_of(alloc, bytes)?.copy_into(alloc)?;
     let mut lines = vec![in alloc; schema.to_text(alloc)?]?;
     for leaf in &schema.leaves(alloc)? {
         lines.push(leaf_line(alloc, leaf)?)?;
     }
     Ok(lines)
+}
+
+/// The schema that bytes are the text of.
+pub fn schema_of(alloc: Global, bytes: &[u8]) -> Result<Schema<Global>, Refusal> {
+    match from_utf8(bytes) {
+        Ok(text) => Ok(Schema::from_text(alloc, text)?),
+        Err(_) => Err(Refusal::Schema(SchemaFault::BadJson)),
+    }
 }
 
 /// A leaf: its path, and how many of the fields on it may be null.

@@ -1,38 +1,30 @@
--- The file of an application's last batch, where its number is handed in again.
-use Rattle.std.proofs.Common.{◌≡◌, ℕ, ℤ, true, List, [], ◌∷◌, map, Some, Contains, refl, sym, ap}
-use Rattle.std.specs.Prelude.{bytes_eq}
+-- The file of an application's last batch, where its number is handed in again, and how the file of a batch is read.
+use Rattle.std.proofs.Common.{◌≡◌, ℕ, ℤ, List, [], ◌∷◌, map, Some, Ok, Contains, refl, sym, ap, subst, ◌∙◌}
 use Rattle.std.specs.Bool.{one_answer}
 use Rattle.std.specs.Ordering.{int_eq}
 use Rattle.std.specs.Cmp.Lexicographic.{pointwise}
 use Rattle.std.specs.Cmp.Rules.{signed_items}
-use Rattle.std.proofs.lemmas.List.Elements.{All-contains, All-contains_itself, All-filter, filter_passes}
-use Rattle.std.proofs.lemmas.Slice.Eq.{bytes_eq-Decides}
-use Rattle.table_model.specs.Rows.{same_rows}
+use Rattle.parquet_file.specs.Reading.{rows_at}
+use Rattle.parquet_file.proofs.Callers.{rows-only}
+use Rattle.schema_tree.specs.LongColumn.{one_long, long_column}
+use Rattle.schema_tree.specs.Tree.{Tree}
+use Rattle.row_core.specs.Rows.{same_rows}
 use Rattle.table_store.specs.Schema.{row_of}
-use Rattle.table_model.specs.Table.{Batch, Entry, batches, batches_by, last, last_batch}
-use Rattle.table_model.proofs.Callers.{same_rows-is}
-use Rattle.lake_script.proofs.KeptNames.{behind_first, first_in}
+use Rattle.table_model.specs.Table.{Batch, Entry, batches, last_batch}
+use Rattle.row_core.proofs.Callers.{same_rows-is}
+use Rattle.table_model.proofs.Callers.{last_stands as last_is_there}
+use Rattle.lake_script.proofs.Kept.{IsFileOf}
 
 -- ---- the last batch of an application
 
--- the last of a list is one of it
-last_in : {A : Type 0} (xs : List A) (y : A) → last xs ≡ Some y → Contains xs y
-last_in [] y is = absurd cc
-last_in (x ∷ []) y is = let same : x ≡ y = cc in rw same (first_in y [])
-last_in (x ∷ z ∷ xs) y is = behind_first x (z ∷ xs) y (last_in (z ∷ xs) y is)
-
 module _ (application : List ℕ) (entries : List Entry) (b : Batch) (is : last_batch application entries ≡ Some b) where
-  -- it is one of the application's batches
-  among : Contains (batches_by application entries) b
-  among = last_in (batches_by application entries) b is
-
-  -- so it is one of the table's
+  -- it is one of the table's
   pub last_stands : Contains (batches entries) b
-  last_stands = All-contains (Contains (batches entries)) (batches_by application entries) b (All-filter (λ (c : Batch). bytes_eq c.application application) (Contains (batches entries)) (batches entries) (All-contains_itself (batches entries))) among
+  last_stands = (last_is_there application entries b is).0
 
   -- and the application's
   pub last_own : b.application ≡ application
-  last_own = (bytes_eq-Decides b.application application).0 (All-contains (λ (c : Batch). bytes_eq c.application application ≡ true) (batches_by application entries) b (filter_passes (λ (c : Batch). bytes_eq c.application application) (batches entries)) among)
+  last_own = (last_is_there application entries b is).1
 
 -- ---- the same rows
 
@@ -54,3 +46,14 @@ same_numbers rows found =
     let alike = same_rows-is (map row_of rows) (map row_of found) in
     one_answer {P = found ≡ rows} (pointwise int_eq found rows) (same_rows (map row_of rows) (map row_of found)) (signed_items found rows)
     (λ e. rows_once rows found (alike.0 e), λ e. alike.1 (ap (map row_of) (sym e)))
+
+-- ---- a file that is read
+
+-- a schema is of one long column at most
+one_column : (schema : Tree) (column other : List ℕ) → schema ≡ one_long column → schema ≡ one_long other → other ≡ column
+one_column schema column other is also = let same : Some column ≡ Some other = ap long_column (sym is ∙ also) in cc
+
+-- a batch's file is read as the batch's numbers
+pub file_read : (schema : Tree) (column : List ℕ) (b : Batch) (bytes : List ℕ) → schema ≡ one_long column → (is : IsFileOf schema b bytes) → rows_at bytes column ≡ Ok is.numbers
+file_read schema column b bytes only is =
+    subst (λ (name : List ℕ). rows_at bytes name ≡ Ok is.numbers) (one_column schema column is.column only is.only) (rows-only bytes is.column is.numbers is.file is.limits)

@@ -9,9 +9,9 @@ use Rattle.table_store.specs.Holds.{IsLawfulStore}
 use Rattle.table_store.specs.LawfulLogs.{HasLawfulLog}
 use Rattle.table_model.specs.Table.{creation}
 use Rattle.table_store.proofs.Callers.{lawful_log}
-use Rattle.commit_core.specs.declared.fault.CreateFault.{CreateFault}
 use Rattle.sink_core.specs.Appending.{checked, count, settled, with_append, with_file_alone}
 use Rattle.commit_core.specs.Commits.{commit_name}
+use Rattle.commit_core.specs.Creating as creations
 use Rattle.commit_core.specs.Creating.{commit_from, with_creation}
 use Rattle.sink_core.specs.Appending.{MayAppend}
 use Rattle.lake_script.specs.Growth.{MayPut}
@@ -30,25 +30,25 @@ use Rattle.lake_script.proofs.KeptStep.{Stays, bare, keeps, GoesOn, append_goes_
 -- what stays, stays also where more entries may be
 more_room : (least most : ℕ) (objects : Objects) → least ≤ most → Stays least objects → Stays most objects
 more_room least most objects up (bare none) = bare none
-more_room least most objects up (keeps column entries kept files few) = keeps column entries kept files (omega (arith, up, few))
+more_room least most objects up (keeps schema entries kept files few) = keeps schema entries kept files (omega (arith, up, few))
 
 still : (most : ℕ) (objects : Objects) → Stays most objects → Stays (suc most) objects
 still most objects stays = more_room most (suc most) objects (omega arith) stays
 
 -- a creation where nothing stands
-created_over_nothing : (most at : ℕ) (schema : List ℕ) (commit : Result (List ℕ) CreateFault) → CreatesWell at schema commit → Stays (suc most) (with_creation [] commit)
-created_over_nothing most at schema (Err fault) well = bare refl
-created_over_nothing most at schema (Ok bytes) well =
+created_over_nothing : (most at : ℕ) (text : List ℕ) (commit : Result (List ℕ) creations.Refusal) → CreatesWell at text commit → Stays (suc most) (with_creation [] commit)
+created_over_nothing most at text (Err fault) well = bare refl
+created_over_nothing most at text (Ok bytes) well =
     let name = commit_name 0 in
     let one : with_object [] name bytes ≡ (name, bytes) ∷ [] = with_object_absent [] name bytes refl in
-    rw one (keeps well.column (creation ∷ []) (kept_creation name at schema well.column bytes (same_name 0) well.described well)
+    rw one (keeps well.read (creation ∷ []) (kept_creation name at text well.read bytes (same_name 0) well.described well)
     (λ application number found stands. absurd (no_data_file name bytes (same_name 0) application number (ap is_some stands))) (omega arith))
 
 -- a creation
-created_stays : (most : ℕ) (objects : Objects) (at : ℕ) (schema : List ℕ) (commit : Result (List ℕ) CreateFault) → CreatesWell at schema commit → Stays most objects → Stays (suc most) (with_creation objects commit)
-created_stays most objects at schema commit well (bare none) = rw none (created_over_nothing most at schema commit well)
-created_stays most objects at schema commit well (keeps column entries kept files up) =
-    rw (left_table objects commit (first_commit objects column entries kept)) (keeps column entries kept files (omega (arith, up)))
+created_stays : (most : ℕ) (objects : Objects) (at : ℕ) (text : List ℕ) (commit : Result (List ℕ) creations.Refusal) → CreatesWell at text commit → Stays most objects → Stays (suc most) (with_creation objects commit)
+created_stays most objects at text commit well (bare none) = rw none (created_over_nothing most at text commit well)
+created_stays most objects at text commit well (keeps schema entries kept files up) =
+    rw (left_table objects commit (first_commit objects schema entries kept)) (keeps schema entries kept files (omega (arith, up)))
 
 -- an append where nothing stands
 append_over_nothing : (most : ℕ) (application : List ℕ) (number at : ℕ) (fine : Result (Unit {0}) Refusal) → GoesOn (suc most) [] (step_of_nothing application number at fine)
@@ -63,7 +63,7 @@ append_stays most objects application number at items new small utf8 (inr (well,
   where
     goes : Stays most objects → GoesOn (suc most) objects (settled objects application number at items)
     goes (bare none) = rw (none, nothing_is application number at items) (append_over_nothing most application number at (checked application number (count items)))
-    goes (keeps column entries kept files up) = append_goes_on objects column entries kept files (omega (arith, up, small)) most up application number at items utf8 well
+    goes (keeps schema entries kept files up) = append_goes_on objects schema entries kept files (omega (arith, up, small)) most up application number at items utf8 well
 
     by_put : (new ≡ with_file_alone objects (settled objects application number at items)) ⊎ (new ≡ with_append objects (settled objects application number at items))
         → GoesOn (suc most) objects (settled objects application number at items) → Stays (suc most) new
@@ -98,7 +98,7 @@ lines_stay most number old (line ∷ lines) written new small stays (follows rep
 -- what stays is lawful
 stays_lawful : (most : ℕ) (objects : Objects) → most ≤ 2 ^ 31 → Stays most objects → IsLawfulStore objects
 stays_lawful most objects small (bare none) = subst IsLawfulStore (sym none) nothing_lawful
-stays_lawful most objects small (keeps column entries kept files up) = kept_lawful objects column entries kept (omega (arith, up, small))
+stays_lawful most objects small (keeps schema entries kept files up) = kept_lawful objects schema entries kept (omega (arith, up, small))
 
 -- Over a store of nothing, lines leave a lawful store, however many of them are answered.
 pub part_is_lawful : (old : Objects) (lines : List (List ℕ)) (written : List ℕ) (new : Objects) → length lines ≤ 2 ^ 31 → old ≡ [] → RunsInPart 1 old lines written new → IsLawfulStore new × HasLawfulLog new

@@ -3,6 +3,7 @@ use Rattle.std.proofs.Common.{◌≡◌, ℕ, zero, suc, ◌+◌, ◌<◌, ◌�
 use Rattle.std.specs.Fmt.{decimal}
 use Rattle.std.specs.List.{flat_map}
 use Rattle.std.proofs.lemmas.List.{append-nil}
+use Rattle.schema_tree.specs.Tree.{Tree}
 use Rattle.store_core.specs.Objects.{Objects, object_at, names_of}
 use Rattle.delta_actions.specs.Entry as actions
 use Rattle.delta_actions.specs.Names as names
@@ -17,26 +18,26 @@ use Rattle.lake_script.proofs.Kept.{IsMade, KeptFrom, IsKept}
 use Rattle.lake_script.proofs.KeptLog.{commit_read, none_behind}
 
 -- what is told of a commit's actions is what is told of its entry
-entry_is_told : (column : List ℕ) (entry : Entry) (made : List actions.Entry) → IsMade column entry made → flat_map action_told made ≡ entry_told entry
+entry_is_told : (schema : Tree) (entry : Entry) (made : List actions.Entry) → IsMade schema entry made → flat_map action_told made ≡ entry_told entry
 unfolding created appending
-entry_is_told column creation made is = rw is.are refl
-entry_is_told column (batch b) made is = rw is.are (append-nil (number_told b.application b.number))
-entry_is_told column (close application) made is = absurd is
+entry_is_told schema creation made is = rw is.are refl
+entry_is_told schema (batch b) made is = rw is.are (append-nil (number_told b.application b.number))
+entry_is_told schema (close application) made is = absurd is
 
 -- the lines of the versions that stand are those of their entries
-lines_told : (objects : Objects) (column : List ℕ) (most version end : ℕ) (entries : List Entry) (kept : KeptFrom objects column version entries) → length entries ≤ most → version + length entries ≡ end
+lines_told : (objects : Objects) (schema : Tree) (most version end : ℕ) (entries : List Entry) (kept : KeptFrom objects schema version entries) → length entries ≤ most → version + length entries ≡ end
     → object_at objects (names.commit_name end) ≡ None → history_from most version objects ≡ tables.history_from version entries
 unfolding history_from commit_name
-lines_told objects column zero version end [] kept enough is none = refl
-lines_told objects column (suc most) version end [] kept enough is none =
+lines_told objects schema zero version end [] kept enough is none = refl
+lines_told objects schema (suc most) version end [] kept enough is none =
     let here : version ≡ end = omega arith in
     rw (here, none) refl
-lines_told objects column zero version end (entry ∷ entries) kept enough is none = absurd (omega arith)
-lines_told objects column (suc most) version end (entry ∷ entries) kept enough is none =
+lines_told objects schema zero version end (entry ∷ entries) kept enough is none = absurd (omega arith)
+lines_told objects schema (suc most) version end (entry ∷ entries) kept enough is none =
     let more : history_from most (suc version) objects ≡ tables.history_from (suc version) entries =
-    lines_told objects column most (suc version) end entries kept.2 (omega arith) (omega arith) none in
+    lines_told objects schema most (suc version) end entries kept.2 (omega arith) (omega arith) none in
     rw (kept.0.1, commit_read kept.0.0 kept.0.2.made kept.0.2.commit, add-one, more)
-    (ap (λ (told : List ℕ). line_of (decimal version ++ told) ++ tables.history_from (suc version) entries) (entry_is_told column entry kept.0.2.made kept.0.2.is))
+    (ap (λ (told : List ℕ). line_of (decimal version ++ told) ++ tables.history_from (suc version) entries) (entry_is_told schema entry kept.0.2.made kept.0.2.is))
 
 -- a line is something
 line_stands : (text more : List ℕ) → or_bad_log (line_of text ++ more) ≡ line_of text ++ more
@@ -48,10 +49,10 @@ table_stands : (rest : List Entry) → or_bad_log (tables.history_from 0 (creati
 table_stands rest = line_stands (decimal 0 ++ []) (tables.history_from 1 rest)
 
 -- What is told of the versions of a store that keeps a table is what is told of its entries.
-pub history_told : (objects : Objects) (column : List ℕ) (entries : List Entry) → IsKept objects column entries → length entries < 2 ^ 62 → history_of objects ≡ tables.history_from 0 entries
-history_told objects column entries kept few =
+pub history_told : (objects : Objects) (schema : Tree) (entries : List Entry) → IsKept objects schema entries → length entries < 2 ^ 62 → history_of objects ≡ tables.history_from 0 entries
+history_told objects schema entries kept few =
     let lines : history_from (length (names_of objects)) 0 objects ≡ tables.history_from 0 entries =
-    lines_told objects column (length (names_of objects)) 0 (length entries) entries kept.kept kept.many (omega arith) (none_behind objects column entries kept few) in
+    lines_told objects schema (length (names_of objects)) 0 (length entries) entries kept.kept kept.many (omega arith) (none_behind objects schema entries kept few) in
     rw (lines, kept.begins) (table_stands kept.rest)
 
 -- a store of nothing has no log

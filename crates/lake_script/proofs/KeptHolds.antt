@@ -1,35 +1,32 @@
 -- A store that keeps a table holds it, and so it is lawful.
 use Rattle.std.proofs.Common.{◌≡◌, ℕ, suc, ◌+◌, ◌<◌, ◌^◌, List, [], ◌∷◌, ◌++◌, length, None, refl, ap, length-append, arith}
+use Rattle.schema_tree.specs.LongColumn.{one_long}
+use Rattle.schema_tree.specs.Tree.{Tree}
 use Rattle.store_core.specs.Objects.{Objects, object_at}
 use Rattle.delta_actions.specs.Entry as actions
 use Rattle.table_store.specs.Commits.{beside_info, StandFor, IsCommitOf}
 use Rattle.table_store.specs.Holds.{FileStands, HoldsFrom, Holds, IsLawfulStore}
 use Rattle.table_model.specs.Lawful.{IsLawful}
 use Rattle.delta_actions.specs.Names.{commit_name}
-use Rattle.table_store.specs.Schema.{Schema}
 use Rattle.table_model.specs.Table.{Entry, creation, batch, close, numbers_by}
 use Rattle.sink_core.specs.Appending.{appending}
 use Rattle.commit_core.specs.Commits.{creation as created}
 use Rattle.lake_script.proofs.Kept.{FileKept, IsMade, IsCommitMade, KeptFrom, IsKept}
 use Rattle.lake_script.proofs.KeptLog.{none_behind}
 
--- the schema of one column
-abbrev schema_of : (column : List ℕ) → Schema
-schema_of column = record { column = column }
-
 -- the actions that are made for an entry stand for it
-made_stands : (column : List ℕ) (entry : Entry) (made : List actions.Entry) → IsMade column entry made → StandFor (schema_of column) entry (beside_info made)
+made_stands : (schema : Tree) (entry : Entry) (made : List actions.Entry) → IsMade schema entry made → StandFor schema entry (beside_info made)
 unfolding created appending
-made_stands column creation made is = rw is.are (record {
+made_stands schema creation made is = rw is.are (record {
   metadata = _;
   actions = refl;
-  schema_string = refl;
+  schema_string = is.readable;
   unpartitioned = refl;
   parquet = refl;
   unconfigured = refl;
   unnamed = (refl, refl);
 })
-made_stands column (batch b) made is = rw is.are (record {
+made_stands schema (batch b) made is = rw is.are (record {
   number = _;
   file = _;
   actions = refl;
@@ -38,34 +35,34 @@ made_stands column (batch b) made is = rw is.are (record {
   named = refl;
   new_rows = refl;
 })
-made_stands column (close application) made is = absurd is
+made_stands schema (close application) made is = absurd is
 
 -- so bytes that are made for an entry are its commit
-commit_stands : (column : List ℕ) (entry : Entry) (bytes : List ℕ) → IsCommitMade column entry bytes → IsCommitOf (schema_of column) entry bytes
-commit_stands column entry bytes is = record { actions = is.made; commit = is.commit; stand = made_stands column entry is.made is.is }
+commit_stands : (schema : Tree) (entry : Entry) (bytes : List ℕ) → IsCommitMade schema entry bytes → IsCommitOf schema entry bytes
+commit_stands schema entry bytes is = record { actions = is.made; commit = is.commit; stand = made_stands schema entry is.made is.is }
 
 -- the file that is kept for an entry stands
-file_stands : (objects : Objects) (column : List ℕ) (entry : Entry) → FileKept objects column entry → FileStands objects (schema_of column) entry
-file_stands objects column creation kept = tt
-file_stands objects column (batch b) kept = (kept.0, kept.1, record { numbers = kept.2.numbers; file = kept.2.file; are = kept.2.are })
-file_stands objects column (close application) kept = absurd kept
+file_stands : (objects : Objects) (schema : Tree) (entry : Entry) → FileKept objects schema entry → FileStands objects schema entry
+file_stands objects schema creation kept = tt
+file_stands objects schema (batch b) kept = (kept.0, kept.1, record { column = kept.2.column; only = kept.2.only; numbers = kept.2.numbers; file = kept.2.file; are = kept.2.are })
+file_stands objects schema (close application) kept = absurd kept
 
 -- what is kept from a version on is held from it on, where no commit stands behind it
-holds_from : (objects : Objects) (column : List ℕ) (version end : ℕ) (entries : List Entry) → KeptFrom objects column version entries → version + length entries ≡ end
-    → object_at objects (commit_name end) ≡ None → HoldsFrom objects (schema_of column) version entries
-holds_from objects column version end [] kept is none =
+holds_from : (objects : Objects) (schema : Tree) (version end : ℕ) (entries : List Entry) → KeptFrom objects schema version entries → version + length entries ≡ end
+    → object_at objects (commit_name end) ≡ None → HoldsFrom objects schema version entries
+holds_from objects schema version end [] kept is none =
     let here : version ≡ end = omega arith in
     rw here none
-holds_from objects column version end (entry ∷ entries) kept is none =
-    ((kept.0.0, kept.0.1, commit_stands column entry kept.0.0 kept.0.2), file_stands objects column entry kept.1, holds_from objects column (suc version) end entries kept.2 (omega arith) none)
+holds_from objects schema version end (entry ∷ entries) kept is none =
+    ((kept.0.0, kept.0.1, commit_stands schema entry kept.0.0 kept.0.2), file_stands objects schema entry kept.1, holds_from objects schema (suc version) end entries kept.2 (omega arith) none)
 
 -- A store that keeps a table holds it.
-pub kept_holds : (objects : Objects) (column : List ℕ) (entries : List Entry) → IsKept objects column entries → length entries < 2 ^ 62 → Holds objects (record { column = column }) entries
-kept_holds objects column entries kept few = holds_from objects column 0 (length entries) entries kept.kept (omega arith) (none_behind objects column entries kept few)
+pub kept_holds : (objects : Objects) (schema : Tree) (entries : List Entry) → IsKept objects schema entries → length entries < 2 ^ 62 → Holds objects schema entries
+kept_holds objects schema entries kept few = holds_from objects schema 0 (length entries) entries kept.kept (omega arith) (none_behind objects schema entries kept few)
 
 -- A store that keeps a table is lawful.
-pub kept_lawful : (objects : Objects) (column : List ℕ) (entries : List Entry) → IsKept objects column entries → length entries < 2 ^ 62 → IsLawfulStore objects
-kept_lawful objects column entries kept few = record { schema = schema_of column; entries = entries; holds = kept_holds objects column entries kept few; lawful = kept.lawful }
+pub kept_lawful : (objects : Objects) (schema : Tree) (entries : List Entry) → IsKept objects schema entries → length entries < 2 ^ 62 → IsLawfulStore objects
+kept_lawful objects schema entries kept few = record { schema = schema; entries = entries; holds = kept_holds objects schema entries kept few; lawful = kept.lawful }
 
 -- where there is no entry no stream was closed
 no_close : (application : List ℕ) (before after : List Entry) → [] ≡ before ++ close application ∷ after → numbers_by application after ≡ []
@@ -77,4 +74,4 @@ no_entries_lawful = record { begins = tt; rises = λ application. tt; closed = n
 
 -- A store of nothing is lawful: it holds no entry.
 pub nothing_lawful : IsLawfulStore []
-nothing_lawful = record { schema = schema_of []; entries = []; holds = refl; lawful = no_entries_lawful }
+nothing_lawful = record { schema = one_long []; entries = []; holds = refl; lawful = no_entries_lawful }

@@ -3,6 +3,7 @@ use Rattle.std.proofs.Common.{◌≡◌, ℕ, zero, suc, ◌^◌, ◌<◌, ◌�
 use Rattle.std.specs.Prelude.{bytes_eq, cond, is_some, option_map, slice_index_or}
 use Rattle.std.specs.Str.{IsUtf8}
 use Rattle.std.proofs.lemmas.Slice.Eq.{bytes_eq-Decides}
+use Rattle.schema_tree.specs.Tree.{Tree}
 use Rattle.store_core.specs.Objects.{Objects, object_at}
 use Rattle.delta_actions.specs.Names.{data_file_name}
 use Rattle.delta_actions.specs.Names as names
@@ -51,16 +52,16 @@ none_in_nothing y has = omega (arith, has.1)
 -- ---- the batches of a kept table
 
 -- each batch's application is text, and its file stands
-pub batch_stands : (objects : Objects) (column : List ℕ) (version : ℕ) (entries : List Entry) (b : Batch) → KeptFrom objects column version entries → Contains (batches entries) b
-    → IsUtf8 b.application × FileKept objects column (batch b)
-batch_stands objects column version [] b kept has = absurd (none_in_nothing b has)
-batch_stands objects column version (creation ∷ entries) b kept has = batch_stands objects column (suc version) entries b kept.2 has
-batch_stands objects column version (batch c ∷ entries) b kept has =
+pub batch_stands : (objects : Objects) (schema : Tree) (version : ℕ) (entries : List Entry) (b : Batch) → KeptFrom objects schema version entries → Contains (batches entries) b
+    → IsUtf8 b.application × FileKept objects schema (batch b)
+batch_stands objects schema version [] b kept has = absurd (none_in_nothing b has)
+batch_stands objects schema version (creation ∷ entries) b kept has = batch_stands objects schema (suc version) entries b kept.2 has
+batch_stands objects schema version (batch c ∷ entries) b kept has =
     elim (first_or_behind c (batches entries) b has) [
-      | inl same ↦ subst (λ (d : Batch). IsUtf8 d.application × FileKept objects column (batch d)) same (kept.0.2.is.utf8, kept.1)
-      | inr later ↦ batch_stands objects column (suc version) entries b kept.2 later
+      | inl same ↦ subst (λ (d : Batch). IsUtf8 d.application × FileKept objects schema (batch d)) same (kept.0.2.is.utf8, kept.1)
+      | inr later ↦ batch_stands objects schema (suc version) entries b kept.2 later
     ]
-batch_stands objects column version (close application ∷ entries) b kept has = absurd kept.1
+batch_stands objects schema version (close application ∷ entries) b kept has = absurd kept.1
 
 -- a batch's number is one of its application's
 number_among : (entries : List Entry) (b : Batch) → Contains (batches entries) b → Contains (numbers_by b.application entries) b.number
@@ -108,13 +109,13 @@ none_unless None never = refl
 none_unless (Some x) never = absurd (never refl)
 
 -- no file stands under a number above the application's last one
-pub no_file : (objects : Objects) (column : List ℕ) (entries : List Entry) (application : List ℕ) (number : ℕ) → IsKept objects column entries → HasNoOther objects entries → IsUtf8 application → number < 10 ^ 63
+pub no_file : (objects : Objects) (schema : Tree) (entries : List Entry) (application : List ℕ) (number : ℕ) → IsKept objects schema entries → HasNoOther objects entries → IsUtf8 application → number < 10 ^ 63
     → IsAbove number (option_map (λ (b : Batch). b.number) (last_batch application entries)) → object_at objects (data_file_name application number) ≡ None
-no_file objects column entries application number kept own utf8 small above =
+no_file objects schema entries application number kept own utf8 small above =
     none_unless (object_at objects (data_file_name application number)) (λ some. never (own application number some))
   where
     never : IsOwn entries (data_file_name application number) → ⊥
     never (b, has, is) =
-        let parts = data_file_name-once application b.application number b.number utf8 (batch_stands objects column 0 entries b kept.kept has).0 small is in
+        let parts = data_file_name-once application b.application number b.number utf8 (batch_stands objects schema 0 entries b kept.kept has).0 small is in
         let there : Contains (numbers_by application entries) number = rw (parts.0, parts.1) (number_among entries b has) in
         none_above (numbers_by application entries) number _ (last_number application entries) (kept.lawful.rises application) there above

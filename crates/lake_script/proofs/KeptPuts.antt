@@ -8,6 +8,7 @@ use Rattle.std.specs.BTreeMap.{insert_entry}
 use Rattle.std.proofs.lemmas.List.Elements.{Contains-append_left, Contains-append_right}
 use Rattle.std.proofs.lemmas.Map.Text.{is_eq-slice_cmp}
 use Rattle.std.proofs.lemmas.Slice.Eq.{bytes_eq-Decides}
+use Rattle.schema_tree.specs.Tree.{Tree}
 use Rattle.store_core.specs.Objects.{Objects, name_order, object_at, names_of, with_object}
 use Rattle.store_core.specs.ObjectLaws.{with_object_absent, with_object_stands, object_at-with_object_same, object_at-with_object_other, object_at-with_object_kept}
 use Rattle.delta_actions.specs.Names.{commit_name, data_file_name}
@@ -27,16 +28,16 @@ module _ (objects : Objects) (name bytes : List ℕ) where
   Stands-put other P stands = (stands.0, object_at-with_object_kept objects name bytes other stands.0 stands.1, stands.2)
 
   -- and so does a batch's file
-  FileKept-put : (column : List ℕ) (entry : Entry) → FileKept objects column entry → FileKept (with_object objects name bytes) column entry
-  FileKept-put column creation kept = tt
-  FileKept-put column (batch b) kept = Stands-put (data_file_name b.application b.number) (IsFileOf column b) kept
-  FileKept-put column (close application) kept = kept
+  FileKept-put : (schema : Tree) (entry : Entry) → FileKept objects schema entry → FileKept (with_object objects name bytes) schema entry
+  FileKept-put schema creation kept = tt
+  FileKept-put schema (batch b) kept = Stands-put (data_file_name b.application b.number) (IsFileOf schema b) kept
+  FileKept-put schema (close application) kept = kept
 
   -- a put takes nothing away
-  KeptFrom-put : (column : List ℕ) (version : ℕ) (entries : List Entry) → KeptFrom objects column version entries → KeptFrom (with_object objects name bytes) column version entries
-  KeptFrom-put column version [] kept = tt
-  KeptFrom-put column version (entry ∷ entries) kept =
-      (Stands-put (commit_name version) (IsCommitMade column entry) kept.0, FileKept-put column entry kept.1, KeptFrom-put column (suc version) entries kept.2)
+  KeptFrom-put : (schema : Tree) (version : ℕ) (entries : List Entry) → KeptFrom objects schema version entries → KeptFrom (with_object objects name bytes) schema version entries
+  KeptFrom-put schema version [] kept = tt
+  KeptFrom-put schema version (entry ∷ entries) kept =
+      (Stands-put (commit_name version) (IsCommitMade schema entry) kept.0, FileKept-put schema entry kept.1, KeptFrom-put schema (suc version) entries kept.2)
 
   -- what is put under a free name stands
   pub put_stands : object_at objects name ≡ None → object_at (with_object objects name bytes) name ≡ Some bytes
@@ -51,13 +52,13 @@ module _ (objects : Objects) (name bytes : List ℕ) where
       by_name false is = before other (ap is_some (sym (object_at-with_object_other objects name bytes other (λ e. let one = (bytes_eq-Decides other name).1 e in cc))) ∙ some)
 
 -- the next version's commit, with its file, is one entry more
-KeptFrom-push : (objects : Objects) (column : List ℕ) (version next : ℕ) (entries : List Entry) (entry : Entry) → next ≡ version + length entries → KeptFrom objects column version entries
-    → Stands objects (commit_name next) (IsCommitMade column entry) → FileKept objects column entry → KeptFrom objects column version (entries ++ entry ∷ [])
-KeptFrom-push objects column version next [] entry at kept commit file =
+KeptFrom-push : (objects : Objects) (schema : Tree) (version next : ℕ) (entries : List Entry) (entry : Entry) → next ≡ version + length entries → KeptFrom objects schema version entries
+    → Stands objects (commit_name next) (IsCommitMade schema entry) → FileKept objects schema entry → KeptFrom objects schema version (entries ++ entry ∷ [])
+KeptFrom-push objects schema version next [] entry at kept commit file =
     let same : next ≡ version = omega (arith, at) in
-    (subst (λ (v : ℕ). Stands objects (commit_name v) (IsCommitMade column entry)) same commit, file, tt)
-KeptFrom-push objects column version next (first ∷ entries) entry at kept commit file =
-    (kept.0, kept.1, KeptFrom-push objects column (suc version) next entries entry (omega (arith, at)) kept.2 commit file)
+    (subst (λ (v : ℕ). Stands objects (commit_name v) (IsCommitMade schema entry)) same commit, file, tt)
+KeptFrom-push objects schema version next (first ∷ entries) entry at kept commit file =
+    (kept.0, kept.1, KeptFrom-push objects schema (suc version) next entries entry (omega (arith, at)) kept.2 commit file)
 
 -- ---- how many names there are
 
@@ -92,18 +93,17 @@ names_kept objects name bytes = by_found (object_at objects name) refl
 -- ---- one file more
 
 -- A data file that is put changes nothing of the table that is kept.
-pub kept_file : (objects : Objects) (column : List ℕ) (entries : List Entry) (application : List ℕ) (number : ℕ) (file : List ℕ) → IsKept objects column entries
-    → IsKept (with_object objects (data_file_name application number) file) column entries
-kept_file objects column entries application number file kept =
+pub kept_file : (objects : Objects) (schema : Tree) (entries : List Entry) (application : List ℕ) (number : ℕ) (file : List ℕ) → IsKept objects schema entries
+    → IsKept (with_object objects (data_file_name application number) file) schema entries
+kept_file objects schema entries application number file kept =
     let name = data_file_name application number in
     record {
-      kept = KeptFrom-put objects name file column 0 entries kept.kept;
+      kept = KeptFrom-put objects name file schema 0 entries kept.kept;
       rest = kept.rest;
       begins = kept.begins;
       lawful = kept.lawful;
       named = named_put objects name file (IsNamed entries) kept.named (of_file application number refl);
       many = omega (arith, kept.many, names_kept objects name file);
-      readable = kept.readable;
     }
 
 -- ---- one batch more
@@ -114,33 +114,32 @@ named_more entries b name (of_commit version lt is) = of_commit version (omega (
 named_more entries b name (of_file application number is) = of_file application number is
 
 -- Where a batch's file stands, the next version's commit, put under a free name, is one entry more.
-pub kept_commit : (objects : Objects) (column : List ℕ) (entries : List Entry) (b : Batch) (commit : List ℕ) → IsKept objects column entries → IsLawful (entries ++ batch b ∷ [])
-    → FileKept objects column (batch b) → object_at objects (commit_name (length entries)) ≡ None → IsCommitMade column (batch b) commit
-    → IsKept (with_object objects (commit_name (length entries)) commit) column (entries ++ batch b ∷ [])
-kept_commit objects column entries b commit kept lawful file free is_commit =
+pub kept_commit : (objects : Objects) (schema : Tree) (entries : List Entry) (b : Batch) (commit : List ℕ) → IsKept objects schema entries → IsLawful (entries ++ batch b ∷ [])
+    → FileKept objects schema (batch b) → object_at objects (commit_name (length entries)) ≡ None → IsCommitMade schema (batch b) commit
+    → IsKept (with_object objects (commit_name (length entries)) commit) schema (entries ++ batch b ∷ [])
+kept_commit objects schema entries b commit kept lawful file free is_commit =
     let next = commit_name (length entries) in
     let more : length (entries ++ batch b ∷ []) ≡ length entries + 1 = length-append entries (batch b ∷ []) in
     record {
-      kept = KeptFrom-push (with_object objects next commit) column 0 (length entries) entries (batch b) (omega arith) (KeptFrom-put objects next commit column 0 entries kept.kept)
-          (commit, put_stands objects next commit free, is_commit) (FileKept-put objects next commit column (batch b) file);
+      kept = KeptFrom-push (with_object objects next commit) schema 0 (length entries) entries (batch b) (omega arith) (KeptFrom-put objects next commit schema 0 entries kept.kept)
+          (commit, put_stands objects next commit free, is_commit) (FileKept-put objects next commit schema (batch b) file);
       rest = kept.rest ++ batch b ∷ [];
       begins = ap (λ (es : List Entry). es ++ batch b ∷ []) kept.begins;
       lawful = lawful;
       named = named_put objects next commit (IsNamed (entries ++ batch b ∷ [])) (λ other some. named_more entries b other (kept.named other some)) (of_commit (length entries) (omega (arith, more)) refl);
       many = omega (arith, more, kept.many, names_put objects next commit free);
-      readable = kept.readable;
     }
 
 -- A batch's file and then the next version's commit, put under free names, are one entry more.
-pub kept_more : (objects : Objects) (column : List ℕ) (entries : List Entry) (b : Batch) (file commit : List ℕ) → IsKept objects column entries → IsLawful (entries ++ batch b ∷ [])
-    → object_at objects (data_file_name b.application b.number) ≡ None → object_at objects (commit_name (length entries)) ≡ None → IsFileOf column b file → IsCommitMade column (batch b) commit
-    → IsKept (with_object (with_object objects (data_file_name b.application b.number) file) (commit_name (length entries)) commit) column (entries ++ batch b ∷ [])
-kept_more objects column entries b file commit kept lawful no_file no_commit is_file is_commit =
+pub kept_more : (objects : Objects) (schema : Tree) (entries : List Entry) (b : Batch) (file commit : List ℕ) → IsKept objects schema entries → IsLawful (entries ++ batch b ∷ [])
+    → object_at objects (data_file_name b.application b.number) ≡ None → object_at objects (commit_name (length entries)) ≡ None → IsFileOf schema b file → IsCommitMade schema (batch b) commit
+    → IsKept (with_object (with_object objects (data_file_name b.application b.number) file) (commit_name (length entries)) commit) schema (entries ++ batch b ∷ [])
+kept_more objects schema entries b file commit kept lawful no_file no_commit is_file is_commit =
     let name = data_file_name b.application b.number in
     let next = commit_name (length entries) in
     let filed : Objects = with_object objects name file in
     let free : object_at filed next ≡ None = object_at-with_object_other objects name file next (commit_name-data_file_name (length entries) b.application b.number) ∙ no_commit in
-    kept_commit filed column entries b commit (kept_file objects column entries b.application b.number file kept) lawful (file, put_stands objects name file no_file, is_file) free is_commit
+    kept_commit filed schema entries b commit (kept_file objects schema entries b.application b.number file kept) lawful (file, put_stands objects name file no_file, is_file) free is_commit
 
 -- And no data file stands then that is no batch's, where none stood before.
 pub no_other_more : (objects : Objects) (entries : List Entry) (b : Batch) (file commit : List ℕ) → HasNoOther objects entries

@@ -3,12 +3,13 @@
 use Rattle.std.proofs.Common.{◌≡◌, ℕ, suc, ◌+◌, ◌<◌, ◌≤◌, ◌^◌, Bool, true, false, List, [], ◌∷◌, length, Result, Ok, Err, refl, ap, ◌∙◌, arith, inl, inr, length-append}
 use Rattle.std.proofs.lemmas.Bool.{cases_Bool}
 use Rattle.serde_json.specs.Data.{Items}
+use Rattle.schema_tree.specs.Tree.{Tree}
 use Rattle.store_core.specs.Objects.{Objects}
 use Rattle.table_model.specs.Table.{Batch, Entry, batch}
 use Rattle.table_model.specs.Appends.{appended, with_batch}
 use Rattle.table_model.specs.declared.table.Appended.{Appended}
 use Rattle.table_model.specs.declared.table.Appended.TheVariants.{Committed, Already, Stale, Differs, StreamClosed}
-use Rattle.commit_core.specs.declared.fault.CreateFault.{CreateFault}
+use Rattle.commit_core.specs.Creating as creations
 use Rattle.commit_core.specs.Histories.{history_of, bad_log}
 use Rattle.lake_script.specs.Lines.{Wish, create, task, history, show, hex, append, tail, Reading, skipped, bad, asks, reading_of}
 use Rattle.source_core.specs.Offsets.{offset_of}
@@ -30,17 +31,17 @@ pub record Given : Type 0 where
       → IsSoundWish objects (task (append application number at items))
       → (told.reply_to_wish objects (task (append application number at items)) ≡ tables.reply_to_wish state (task (append application number at items)))
       × Keeps (told.left_by_wish objects (task (append application number at items))) (tables.left_by_wish state (task (append application number at items)))
-  pub tail_told : (objects : Objects) (column : List ℕ) (entries : List Entry) → IsKept objects column entries → length entries < 2 ^ 62 → (max : ℕ) (offset : List ℕ)
-      → tailed_reply (tailed objects max offset) ≡ tables.tail_reply (table column entries) max (offset_of offset)
+  pub tail_told : (objects : Objects) (schema : Tree) (entries : List Entry) → IsKept objects schema entries → length entries < 2 ^ 62 → (max : ℕ) (offset : List ℕ)
+      → tailed_reply (tailed objects max offset) ≡ tables.tail_reply (table schema entries) max (offset_of offset)
   pub tail_of_nothing : (max : ℕ) (offset : List ℕ) → tailed_reply (tailed [] max offset) ≡ tables.tail_reply nothing max (offset_of offset)
-  pub history_told : (objects : Objects) (column : List ℕ) (entries : List Entry) → IsKept objects column entries → length entries < 2 ^ 62 → history_of objects ≡ tables.history_from 0 entries
+  pub history_told : (objects : Objects) (schema : Tree) (entries : List Entry) → IsKept objects schema entries → length entries < 2 ^ 62 → history_of objects ≡ tables.history_from 0 entries
   pub history_of_nothing : history_of [] ≡ bad_log 0
 
 -- ---- a line adds one entry at most
 
 -- a creation leaves one entry, or what was there
-created_one : (state : State) (found : Result (List ℕ) CreateFault) → length (entries_of (tables.with_table state found)) ≤ suc (length (entries_of state))
-created_one state (Ok column) = omega arith
+created_one : (state : State) (found : Result Tree creations.Refusal) → length (entries_of (tables.with_table state found)) ≤ suc (length (entries_of state))
+created_one state (Ok schema) = omega arith
 created_one state (Err why) = omega arith
 
 -- an append leaves one entry more, or what was there
@@ -54,8 +55,8 @@ batch_one StreamClosed b entries = omega arith
 -- the same of a table, where there is one
 appended_one : (state : State) (answer : Result Batch Refusal) → length (entries_of (tables.with_append state answer)) ≤ suc (length (entries_of state))
 appended_one nothing answer = omega arith
-appended_one (table column entries) (Ok b) = batch_one (appended b entries) b entries
-appended_one (table column entries) (Err refusal) = omega arith
+appended_one (table schema entries) (Ok b) = batch_one (appended b entries) b entries
+appended_one (table schema entries) (Err refusal) = omega arith
 
 -- what a line asks for adds one entry at most
 wish_one : (state : State) (wish : Wish) → length (entries_of (tables.left_by_wish state wish)) ≤ suc (length (entries_of state))
@@ -108,12 +109,12 @@ module _ (given : Given) where
   tail_state : (objects : Objects) (state : State) → Keeps objects state → length (entries_of state) < 2 ^ 62 → (max : ℕ) (offset : List ℕ)
       → tailed_reply (tailed objects max offset) ≡ tables.tail_reply state max (offset_of offset)
   tail_state objects nothing keeps small max offset = ap (λ (o : Objects). tailed_reply (tailed o max offset)) keeps ∙ given.tail_of_nothing max offset
-  tail_state objects (table column entries) keeps small max offset = given.tail_told objects column entries keeps.0 small max offset
+  tail_state objects (table schema entries) keeps small max offset = given.tail_told objects schema entries keeps.0 small max offset
 
   -- so is the history
   history_state : (objects : Objects) (state : State) → Keeps objects state → length (entries_of state) < 2 ^ 62 → history_of objects ≡ tables.history_reply state
   history_state objects nothing keeps small = ap history_of keeps ∙ given.history_of_nothing
-  history_state objects (table column entries) keeps small = given.history_told objects column entries keeps.0 small
+  history_state objects (table schema entries) keeps small = given.history_told objects schema entries keeps.0 small
 
   -- what a line asks for is told as by the table
   wish_told : (objects : Objects) (state : State) (wish : Wish) → Keeps objects state → length (entries_of state) < 2 ^ 62 → IsSoundWish objects wish → ShowsNoObject wish

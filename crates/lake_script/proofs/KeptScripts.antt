@@ -33,20 +33,20 @@ read_told (bad_place version) said is = is
 
 pub reads_told : GivenReads
 reads_told = record {
-  handed_told = λ objects column entries kept small.
-      let log = kept_log objects column entries kept small in
-      (record { column = column; commits = log.0 }, log.2, λ max place. read_told _ _ (handed_told objects column entries log.0 kept.kept log.1 max place));
+  handed_told = λ objects schema entries kept small.
+      let log = kept_log objects schema entries kept small in
+      (record { schema = schema; commits = log.0 }, log.2, λ max place. read_told _ _ (handed_told objects schema entries log.0 kept.kept log.1 max place));
   log_of_nothing = log_of_nothing;
 }
 
 -- the store that keeps a table holds it
 pub kept_held : (objects : Objects) (state : State) → Keeps objects state → length (entries_of state) < 2 ^ 62 → HoldsState objects state
 kept_held objects nothing keeps small = keeps
-kept_held objects (table column entries) keeps small = (kept_holds objects column entries keeps.0 small, keeps.0.lawful)
+kept_held objects (table schema entries) keeps small = (kept_holds objects schema entries keeps.0 small, keeps.0.lawful)
 
 kept_answers : (objects : Objects) (state : State) → Keeps objects state → length (entries_of state) < 2 ^ 62 → AnswersReads objects state
 kept_answers objects nothing keeps small = tt
-kept_answers objects (table column entries) keeps small = are_answered reads_told objects column entries keeps.0 small
+kept_answers objects (table schema entries) keeps small = are_answered reads_told objects schema entries keeps.0 small
 
 -- and reads over it hand out its rows
 pub kept_reads_out : (objects : Objects) (state : State) → Keeps objects state → length (entries_of state) < 2 ^ 62 → ReadsOut objects state

@@ -5,12 +5,13 @@ use Rattle.std.specs.Str.{IsUtf8}
 use Rattle.std.specs.Cmp.Rules.{signed_items}
 use Rattle.std.proofs.lemmas.Slice.Eq.{bytes_eq-Decides}
 use Rattle.serde_json.specs.Data.{Items}
+use Rattle.schema_tree.specs.LongColumn.{one_long}
+use Rattle.schema_tree.specs.Tree.{Tree}
 use Rattle.store_core.specs.Objects.{Objects, object_at, with_object}
 use Rattle.store_core.specs.ObjectLaws.{object_at-with_object_same, object_at-with_object_other}
 use Rattle.parquet_file.specs.declared.fault.FileFault.{FileFault}
 use Rattle.parquet_file.specs.Reading.{rows_at}
 use Rattle.parquet_file.specs.Writing.{written_file}
-use Rattle.parquet_file.proofs.Callers.{rows-only}
 use Rattle.table_model.specs.Appends.{appended}
 use Rattle.table_model.specs.declared.table.Appended.TheVariants.{Committed}
 use Rattle.table_model.specs.Lawful.{IsLawful}
@@ -20,24 +21,25 @@ use Rattle.table_store.specs.Schema.{row_of}
 use Rattle.table_model.specs.Table as model
 use Rattle.table_model.specs.Table.{Entry, batch, last_batch}
 use Rattle.table_store.proofs.Callers.{commit_name-data_file_name}
-use Rattle.sink_core.specs.Appending.{Batch, Step, puts, stands, checked, count, file_name, is_repeat, is_same, unless_other, where_same, file_or_refusal, batch_of, fitting, new_step, step_of, settled, with_append, with_file_alone, IsWellMade, PutsWell}
+use Rattle.sink_core.specs.Appending.{Batch, Step, puts, stands, checked, count, row_column, file_name, is_repeat, is_same, unless_other, where_same, file_or_refusal, batch_of, fitting, new_step, step_of, settled, with_append, with_file_alone, IsWellMade, PutsWell}
 use Rattle.sink_core.specs.Refusals.{Refusal, stale, differs}
 use Rattle.lake_bytes.specs.Results.{◌>>=◌, refused_if}
 use Rattle.sink_core.specs.RowsIn.{rows_from}
 use Rattle.lake_script.proofs.Kept.{IsFileOf, FileKept, IsKept}
-use Rattle.lake_script.proofs.KeptAppend.{small_number, stays_open, lawful_after, asked, made_with, handed_in, file_made, commit_made, step_behind, step_is}
+use Rattle.lake_script.proofs.KeptAppend.{small_number, stays_open, lawful_after, asked, made_with, handed_in, file_made, commit_made, column_is, step_with, step_behind, step_is}
+use Rattle.lake_script.proofs.KeptFile.{file_read}
 use Rattle.lake_script.proofs.KeptLog.{none_behind}
 use Rattle.lake_script.proofs.KeptNames.{same_name, same_file_name}
 use Rattle.lake_script.proofs.KeptPuts.{Stands-put, put_stands, kept_file, kept_commit}
 
 -- each data file that stands is one of rows
-abbrev pub AreFiles : Objects → (column : List ℕ) → Type 0
-AreFiles objects column = (application : List ℕ) (number : ℕ) (bytes : List ℕ) → object_at objects (data_file_name application number) ≡ Some bytes → (b : model.Batch) × IsFileOf column b bytes
+abbrev pub AreFiles : Objects → (schema : Tree) → Type 0
+AreFiles objects schema = (application : List ℕ) (number : ℕ) (bytes : List ℕ) → object_at objects (data_file_name application number) ≡ Some bytes → (b : model.Batch) × IsFileOf schema b bytes
 
 -- what stands behind some lines: nothing, or a table of so many entries at most, with data files besides
 pub data Stays (most : ℕ) (objects : Objects) : Type 0 where
   bare : objects ≡ [] → Stays most objects
-  keeps : (column : List ℕ) (entries : List Entry) → IsKept objects column entries → AreFiles objects column → length entries ≤ most → Stays most objects
+  keeps : (schema : Tree) (entries : List Entry) → IsKept objects schema entries → AreFiles objects schema → length entries ≤ most → Stays most objects
 
 -- ---- a put over such a store
 
@@ -58,16 +60,16 @@ stood_or_put objects name bytes other found is = by_name (bytes_eq other name) r
     by_name false e = inl (sym (object_at-with_object_other objects name bytes other (λ same. let one = (bytes_eq-Decides other name).1 same in cc)) ∙ is)
 
 -- a file of rows may be put
-files_put : (objects : Objects) (column name : List ℕ) (b : model.Batch) (bytes : List ℕ) → AreFiles objects column → IsFileOf column b bytes → AreFiles (with_object objects name bytes) column
-files_put objects column name b bytes files is application number found there =
+files_put : (objects : Objects) (schema : Tree) (name : List ℕ) (b : model.Batch) (bytes : List ℕ) → AreFiles objects schema → IsFileOf schema b bytes → AreFiles (with_object objects name bytes) schema
+files_put objects schema name b bytes files is application number found there =
     elim (stood_or_put objects name bytes (data_file_name application number) found there) [
       | inl before ↦ files application number found before
-      | inr put ↦ (b, subst (IsFileOf column b) put.1 is)
+      | inr put ↦ (b, subst (IsFileOf schema b) put.1 is)
     ]
 
 -- and any commit
-files_commit : (objects : Objects) (column : List ℕ) (version : ℕ) (bytes : List ℕ) → AreFiles objects column → AreFiles (with_object objects (names.commit_name version) bytes) column
-files_commit objects column version bytes files application number found there =
+files_commit : (objects : Objects) (schema : Tree) (version : ℕ) (bytes : List ℕ) → AreFiles objects schema → AreFiles (with_object objects (names.commit_name version) bytes) schema
+files_commit objects schema version bytes files application number found there =
     elim (stood_or_put objects (names.commit_name version) bytes (data_file_name application number) found there) [
       | inl before ↦ files application number found before
       | inr put ↦ absurd (commit_name-data_file_name version application number (sym put.0))
@@ -79,8 +81,8 @@ files_commit objects column version bytes files application number found there =
 abbrev pub GoesOn : (most : ℕ) → Objects → Result Step Refusal → Type 0
 GoesOn most objects step = Stays most (with_file_alone objects step) × Stays most (with_append objects step)
 
-module _ (objects : Objects) (column : List ℕ) (entries : List Entry) (kept : IsKept objects column entries) (files : AreFiles objects column) (few : length entries < 2 ^ 62) (most : ℕ) (up : length entries ≤ most)
-    (application : List ℕ) (number at : ℕ) (utf8 : IsUtf8 application) (fits : number ≤ 999_999_999_999) (rows : List ℤ) where
+module _ (objects : Objects) (schema : Tree) (entries : List Entry) (kept : IsKept objects schema entries) (files : AreFiles objects schema) (few : length entries < 2 ^ 62) (most : ℕ) (up : length entries ≤ most)
+    (column : List ℕ) (only : schema ≡ one_long column) (application : List ℕ) (number at : ℕ) (utf8 : IsUtf8 application) (fits : number ≤ 999_999_999_999) (rows : List ℤ) where
   -- the batch that is put with this file
   abbrev made : (file : List ℕ) → Batch
   made file = made_with (length entries) column rows application number at file
@@ -91,22 +93,22 @@ module _ (objects : Objects) (column : List ℕ) (entries : List Entry) (kept : 
 
   -- where nothing is put, the table is kept
   unchanged : Stays (suc most) objects
-  unchanged = keeps column entries kept files (omega (arith, up))
+  unchanged = keeps schema entries kept files (omega (arith, up))
 
   -- a file that is read as these rows is one of them
-  same_file : (old : List ℕ) → object_at objects (data_file_name application number) ≡ Some old → is_same rows (rows_at old column) ≡ true → IsFileOf column (handed_in application number rows) old
+  same_file : (old : List ℕ) → object_at objects (data_file_name application number) ≡ Some old → is_same rows (rows_at old column) ≡ true → IsFileOf schema (handed_in application number rows) old
   same_file old there same =
       let known = files application number old there in
-      let read : rows_at old column ≡ Ok known.1.numbers = rows-only old column known.1.numbers known.1.file known.1.limits in
+      let read : rows_at old column ≡ Ok known.1.numbers = file_read schema column known.0 old only known.1 in
       let alike : known.1.numbers ≡ rows = (signed_items known.1.numbers rows).0 (sym (ap (is_same rows) read) ∙ same) in
-      record { numbers = known.1.numbers; file = known.1.file; limits = known.1.limits; are = ap (map row_of) (sym alike) }
+      record { column = known.1.column; only = known.1.only; numbers = known.1.numbers; file = known.1.file; limits = known.1.limits; are = ap (map row_of) (sym alike) }
 
   -- behind the put of a file of rows, one stands under the name
   file_behind : (file : List ℕ) (found : Option (List ℕ)) → object_at objects (data_file_name application number) ≡ found → unless_other column rows (data_file_name application number) found ≡ Ok tt
-      → IsFileOf column (handed_in application number rows) file → FileKept (with_object objects (data_file_name application number) file) column (batch (handed_in application number rows))
+      → IsFileOf schema (handed_in application number rows) file → FileKept (with_object objects (data_file_name application number) file) schema (batch (handed_in application number rows))
   file_behind file None there free is = (file, put_stands objects (data_file_name application number) file there, is)
   file_behind file (Some old) there free is =
-      Stands-put objects (data_file_name application number) file (data_file_name application number) (IsFileOf column (handed_in application number rows)) (old, there, same_file old there (passes (is_same rows (rows_at old column)) free))
+      Stands-put objects (data_file_name application number) file (data_file_name application number) (IsFileOf schema (handed_in application number rows)) (old, there, same_file old there (passes (is_same rows (rows_at old column)) free))
     where
       passes : (same : Bool) → refused_if (not same) (differs (data_file_name application number)) ≡ Ok tt → same ≡ true
       passes true free = refl
@@ -122,17 +124,17 @@ module _ (objects : Objects) (column : List ℕ) (entries : List Entry) (kept : 
       let name = data_file_name application number in
       let next = names.commit_name (length entries) in
       let filed : Objects = with_object objects name file in
-      let is_file = file_made (length entries) column rows application number at file well in
-      let is_commit = commit_made (length entries) column rows application number at file utf8 fits well in
-      let lawful : IsLawful (entries ++ batch b ∷ []) = rw new at (lawful_after objects column entries b kept) in
-      let filed_kept : IsKept filed column entries = kept_file objects column entries application number file kept in
-      let filed_files : AreFiles filed column = files_put objects column name b file files is_file in
-      let there : FileKept filed column (batch b) = file_behind file (object_at objects name) refl (rw (same_file_name application number) at free) is_file in
-      let more : IsKept (with_object filed next (made file).commit) column (entries ++ batch b ∷ []) =
-      kept_commit filed column entries b (made file).commit filed_kept lawful there (none_behind filed column entries filed_kept few) is_commit in
-      let alone : Stays (suc most) filed = keeps column entries filed_kept filed_files (omega (arith, up)) in
+      let is_file = file_made schema (length entries) column rows application number at file only well in
+      let is_commit = commit_made schema (length entries) column rows application number at file utf8 fits well in
+      let lawful : IsLawful (entries ++ batch b ∷ []) = rw new at (lawful_after objects schema entries b kept) in
+      let filed_kept : IsKept filed schema entries = kept_file objects schema entries application number file kept in
+      let filed_files : AreFiles filed schema = files_put objects schema name b file files is_file in
+      let there : FileKept filed schema (batch b) = file_behind file (object_at objects name) refl (rw (same_file_name application number) at free) is_file in
+      let more : IsKept (with_object filed next (made file).commit) schema (entries ++ batch b ∷ []) =
+      kept_commit filed schema entries b (made file).commit filed_kept lawful there (none_behind filed schema entries filed_kept few) is_commit in
+      let alone : Stays (suc most) filed = keeps schema entries filed_kept filed_files (omega (arith, up)) in
       let whole : Stays (suc most) (with_object filed next (made file).commit) =
-      keeps column (entries ++ batch b ∷ []) more (files_commit filed column (length entries) (made file).commit filed_files) (omega (arith, up, length-append entries (batch b ∷ []))) in
+      keeps schema (entries ++ batch b ∷ []) more (files_commit filed schema (length entries) (made file).commit filed_files) (omega (arith, up, length-append entries (batch b ∷ []))) in
       rw (same_file_name application number, same_name (length entries)) (alone, rw (same_file_name application number) at whole)
 
   -- what is done for a new number
@@ -162,7 +164,7 @@ module _ (objects : Objects) (column : List ℕ) (entries : List Entry) (kept : 
       → PutsWell application number at (behind (is_repeat number (option_map (λ (b : model.Batch). b.number) last)))
       → GoesOn (suc most) objects (behind (is_repeat number (option_map (λ (b : model.Batch). b.number) last)))
   behind_goes_on None is well =
-      let open_ = stays_open objects column 0 entries application kept.kept in
+      let open_ = stays_open objects schema 0 entries application kept.kept in
       new_goes_on (rw (is, open_) refl) well
   behind_goes_on (Some before) is well = by_tests (ltb number before.number) (eqb number before.number) refl refl well
     where
@@ -172,19 +174,28 @@ module _ (objects : Objects) (column : List ℕ) (entries : List Entry) (kept : 
       by_tests true equal under same well = (unchanged, unchanged)
       by_tests false true over same well = again_goes_on (where_same column rows (file_name application number) (object_at objects (file_name application number)))
       by_tests false false over other well =
-          let open_ = stays_open objects column 0 entries application kept.kept in
+          let open_ = stays_open objects schema 0 entries application kept.kept in
           new_goes_on (rw (is, over, other, open_) refl) well
 
 -- An append over a table that is kept leaves one that is kept, however far it comes.
-pub append_goes_on : (objects : Objects) (column : List ℕ) (entries : List Entry) → IsKept objects column entries → AreFiles objects column → length entries < 2 ^ 62 → (most : ℕ) → length entries ≤ most
+pub append_goes_on : (objects : Objects) (schema : Tree) (entries : List Entry) → IsKept objects schema entries → AreFiles objects schema → length entries < 2 ^ 62 → (most : ℕ) → length entries ≤ most
     → (application : List ℕ) (number at : ℕ) (items : Items) → IsUtf8 application → PutsWell application number at (settled objects application number at items) → GoesOn (suc most) objects (settled objects application number at items)
-append_goes_on objects column entries kept files few most up application number at items utf8 well =
-    let is = step_is objects column entries application number at items kept few in
-    rw is (by_tests (checked application number (count items)) (rows_from 0 column items) refl (rw is at well))
+append_goes_on objects schema entries kept files few most up application number at items utf8 well =
+    let is = step_is objects schema entries application number at items kept few in
+    rw is (by_tests (checked application number (count items)) (row_column schema) refl refl (rw is at well))
   where
-    by_tests : (fine : Result (Unit {0}) Refusal) (read : Result (List ℤ) Refusal) → checked application number (count items) ≡ fine → PutsWell application number at (step_behind objects column entries application number at fine read)
-        → GoesOn (suc most) objects (step_behind objects column entries application number at fine read)
-    by_tests (Err why) read is well = let same = keeps column entries kept files (omega (arith, up)) in (same, same)
-    by_tests (Ok passed) (Err why) is well = let same = keeps column entries kept files (omega (arith, up)) in (same, same)
-    by_tests (Ok passed) (Ok numbers) is well =
-        behind_goes_on objects column entries kept files few most up application number at utf8 (small_number application number (count items) is) numbers (last_batch application entries) refl well
+    same : GoesOn (suc most) objects (Ok stands)
+    same = let still = keeps schema entries kept files (omega (arith, up)) in (still, still)
+
+    by_read : (column : List ℕ) (read : Result (List ℤ) Refusal) → schema ≡ one_long column → number ≤ 999_999_999_999 → PutsWell application number at (step_with objects entries application number at column read)
+        → GoesOn (suc most) objects (step_with objects entries application number at column read)
+    by_read column (Err why) only small well = same
+    by_read column (Ok numbers) only small well =
+        behind_goes_on objects schema entries kept files few most up column only application number at utf8 small numbers (last_batch application entries) refl well
+
+    by_tests : (fine : Result (Unit {0}) Refusal) (column : Result (List ℕ) Refusal) → checked application number (count items) ≡ fine → row_column schema ≡ column
+        → PutsWell application number at (step_behind objects entries application number at items fine column) → GoesOn (suc most) objects (step_behind objects entries application number at items fine column)
+    by_tests (Err why) column is takes well = same
+    by_tests (Ok passed) (Err why) is takes well = same
+    by_tests (Ok passed) (Ok column) is takes well =
+        by_read column (rows_from 0 column items) (column_is schema column takes) (small_number application number (count items) is) well

@@ -5,11 +5,13 @@ use Rattle.std.specs.List.{flat_map}
 use Rattle.std.proofs.lemmas.Bool.{cases_Bool}
 use Rattle.std.proofs.lemmas.Bool.Decides.{nat_tests}
 use Rattle.std.proofs.lemmas.List.Folds.{flat_map-map}
+use Rattle.schema_tree.specs.LongColumn.{long_column}
+use Rattle.schema_tree.specs.Tree.{Tree}
 use Rattle.store_core.specs.Objects.{Objects}
 use Rattle.delta_actions.specs.Entry as actions
 use Rattle.parquet_file.proofs.Callers.{rows-only}
 use Rattle.delta_actions.specs.Names.{data_file_name}
-use Rattle.table_model.specs.Rows.{Row}
+use Rattle.row_core.specs.Rows.{Row}
 use Rattle.table_store.specs.Schema.{row_of}
 use Rattle.table_model.specs.Table.{Entry, creation, batch, close, last}
 use Rattle.table_model.specs.Reads.{Answer, handed, beyond, bad_place, is_beyond, is_place, behind, part, next_place, end, read}
@@ -22,7 +24,7 @@ use Rattle.lake_bytes.specs.Results.{◌>>=◌}
 use Rattle.lake_script.specs.Tables as tables
 use Rattle.source_core.specs.Tailing as tails
 use Rattle.table_store.specs.Logs.{new_files}
-use Rattle.source_core.specs.Tailing.{Refusal, Handed, rows_of, rows_text, hand, handed_by, handed_text, tailed, files_at, end_of}
+use Rattle.source_core.specs.Tailing.{Refusal, Handed, rows_of, rows_text, hand, handed_by, handed_text, tailed, files_at, end_of, column_name}
 use Rattle.lake_script.specs.Told.{tailed_reply}
 use Rattle.lake_script.proofs.Kept.{FileKept, IsMade, KeptFrom, IsKept}
 use Rattle.lake_script.proofs.KeptLog.{AreMade, kept_log, log_of_nothing}
@@ -33,23 +35,24 @@ use Rattle.source_core.proofs.Callers.{Ahead, Spot, stands, no_file, no_row, spo
 -- ---- the commits of a table and their files
 
 -- the commit of an entry brings its file, which stands and reads as its rows
-entry_found : (objects : Objects) (column : List ℕ) (entry : Entry) (made : List actions.Entry) → IsMade column entry made → FileKept objects column entry → IsEntryFound objects column entry made
+entry_found : (objects : Objects) (schema : Tree) (entry : Entry) (made : List actions.Entry) → IsMade schema entry made → FileKept objects schema entry → IsEntryFound objects (long_column schema) entry made
 unfolding created appending rows_of
-entry_found objects column creation made is kept = rw is.are refl
-entry_found objects column (batch b) made is kept =
+entry_found objects schema creation made is kept = rw is.are refl
+entry_found objects schema (batch b) made is kept =
     let name = data_file_name b.application b.number in
-    let reads = rows-only kept.0 column kept.2.numbers kept.2.file kept.2.limits in
-    (record { text = name; key = name }, kept.2.numbers, rw is.are refl, kept.2.are, λ version. rw (kept.1, reads) refl)
-entry_found objects column (close application) made is kept = absurd is
+    let column : long_column schema ≡ Some kept.2.column = ap long_column kept.2.only in
+    let reads = rows-only kept.0 kept.2.column kept.2.numbers kept.2.file kept.2.limits in
+    (record { text = name; key = name }, kept.2.numbers, rw is.are refl, kept.2.are, λ version. rw (column, kept.1, reads) refl)
+entry_found objects schema (close application) made is kept = absurd is
 
 -- so does each commit of a table
-entries_found : (objects : Objects) (column : List ℕ) (version : ℕ) (entries : List Entry) (commits : List (List actions.Entry)) → KeptFrom objects column version entries → AreMade column entries commits
-    → AreEntriesFound objects column entries commits
-entries_found objects column version [] [] kept made = tt
-entries_found objects column version [] (commit ∷ commits) kept made = absurd made
-entries_found objects column version (entry ∷ entries) [] kept made = absurd made
-entries_found objects column version (entry ∷ entries) (commit ∷ commits) kept made =
-    (entry_found objects column entry commit made.0 kept.1, entries_found objects column (suc version) entries commits kept.2 made.1)
+entries_found : (objects : Objects) (schema : Tree) (version : ℕ) (entries : List Entry) (commits : List (List actions.Entry)) → KeptFrom objects schema version entries → AreMade schema entries commits
+    → AreEntriesFound objects (long_column schema) entries commits
+entries_found objects schema version [] [] kept made = tt
+entries_found objects schema version [] (commit ∷ commits) kept made = absurd made
+entries_found objects schema version (entry ∷ entries) [] kept made = absurd made
+entries_found objects schema version (entry ∷ entries) (commit ∷ commits) kept made =
+    (entry_found objects schema entry commit made.0 kept.1, entries_found objects schema (suc version) entries commits kept.2 made.1)
 
 -- ---- a read
 
@@ -63,10 +66,10 @@ IsTold (bad_place version) said = said ≡ Err (tails.bad_place version)
 not_beyond : (place : Place) (entries : List Entry) → is_beyond place entries ≡ false → (place.version < 0 + length entries) ⊎ ((place.version ≡ 0 + length entries) × (place.file ≡ 0) × (place.row ≡ 0))
 not_beyond place entries near = grind (arith, nat_tests)
 
-module _ (objects : Objects) (column : List ℕ) (entries : List Entry) (commits : List (List actions.Entry)) (many : length commits ≡ length entries) (max : ℕ) (place : Place) where
+module _ (objects : Objects) (schema : Tree) (entries : List Entry) (commits : List (List actions.Entry)) (many : length commits ≡ length entries) (max : ℕ) (place : Place) where
   -- the log
   log : Log
-  log = record { column = column; commits = commits }
+  log = record { schema = schema; commits = commits }
 
   -- a place beyond the log is told as such
   far_told : is_beyond place entries ≡ true → IsTold (read max place entries) (handed_by objects log max place)
@@ -79,15 +82,15 @@ module _ (objects : Objects) (column : List ℕ) (entries : List Entry) (commits
 
   -- what is handed out of the files from a place on
   handed_of : is_beyond place entries ≡ false → tails.unless_no_file place (length (new_files (tails.commit_at place.version commits))) ≡ Ok tt → (files : List tails.LogFile) → files_at place commits ≡ files
-      → handed_by objects log max place ≡ hand objects column (end_of commits) max place.row [] place files
+      → handed_by objects log max place ≡ hand objects (long_column schema) (end_of commits) max place.row [] place files
   unfolding handed_by log
   handed_of near file files are = rw (near_commits near, file, are) refl
 
   -- the rows ahead of a place are handed out
-  rows_told : is_beyond place entries ≡ false → is_place place entries ≡ true → tails.unless_no_file place (length (new_files (tails.commit_at place.version commits))) ≡ Ok tt → Ahead objects column place 0 entries commits
+  rows_told : is_beyond place entries ≡ false → is_place place entries ≡ true → tails.unless_no_file place (length (new_files (tails.commit_at place.version commits))) ≡ Ok tt → Ahead objects (long_column schema) place 0 entries commits
       → IsTold (read max place entries) (handed_by objects log max place)
   rows_told near is file ahead =
-      let goes = walked objects column (end_of commits) ahead.founds max place.row [] place ahead.found ahead.within in
+      let goes = walked objects (long_column schema) (end_of commits) ahead.founds max place.row [] place ahead.found ahead.within in
       let out = take max (drop place.row (rows_in ahead.founds)) in
       let same : out ≡ part max place entries = ap (λ (ps : List (Place × Row)). take max ps) (sym ahead.rows) in
       let last_end : end_of commits ≡ end entries = ap (λ (n : ℕ). record { version = n; file = 0; row = 0 }) many in
@@ -103,24 +106,24 @@ module _ (objects : Objects) (column : List ℕ) (entries : List Entry) (commits
   bad_told near no_place said = rw (near, no_place) said
 
   -- what is told of a place that isn't beyond the log
-  spot_told : is_beyond place entries ≡ false → Spot objects column place 0 place.version entries commits → IsTold (read max place entries) (handed_by objects log max place)
+  spot_told : is_beyond place entries ≡ false → Spot objects (long_column schema) place 0 place.version entries commits → IsTold (read max place entries) (handed_by objects log max place)
   unfolding handed_by log
   spot_told near (stands is file ahead) = rows_told near is file ahead
   spot_told near (no_file is file) = bad_told near is (rw (near_commits near, file) refl)
   spot_told near (no_row is file short) =
-      let read_on = row_missing objects column (end_of commits) short.first short.founds max place.row place short.found short.past_it in
+      let read_on = row_missing objects (long_column schema) (end_of commits) short.first short.founds max place.row place short.found short.past_it in
       bad_told near is (handed_of near file (map file_of (short.first ∷ short.founds)) short.files ∙ read_on ∙ ap (λ (version : ℕ). Err (tails.bad_place version)) short.at)
 
 -- A read of a log is what a read of the table answers.
-pub handed_told : (objects : Objects) (column : List ℕ) (entries : List Entry) (commits : List (List actions.Entry)) → KeptFrom objects column 0 entries → AreMade column entries commits → (max : ℕ) (place : Place)
-    → IsTold (read max place entries) (handed_by objects (record { column = column; commits = commits }) max place)
+pub handed_told : (objects : Objects) (schema : Tree) (entries : List Entry) (commits : List (List actions.Entry)) → KeptFrom objects schema 0 entries → AreMade schema entries commits → (max : ℕ) (place : Place)
+    → IsTold (read max place entries) (handed_by objects (record { schema = schema; commits = commits }) max place)
 unfolding log
-handed_told objects column entries commits kept made max place =
-    let found = entries_found objects column 0 entries commits kept made in
-    let many = as_many_commits objects column entries commits found in
+handed_told objects schema entries commits kept made max place =
+    let found = entries_found objects schema 0 entries commits kept made in
+    let many = as_many_commits objects (long_column schema) entries commits found in
     elim (cases_Bool (is_beyond place entries)) [
-      | inl far ↦ far_told objects column entries commits many max place far
-      | inr near ↦ spot_told objects column entries commits many max place near (spotted objects column place 0 place.version entries commits found (omega arith) (not_beyond place entries near))
+      | inl far ↦ far_told objects schema entries commits many max place far
+      | inr near ↦ spot_told objects schema entries commits many max place near (spotted objects (long_column schema) place 0 place.version entries commits found (omega arith) (not_beyond place entries near))
     ]
 
 -- ---- its text
@@ -135,11 +138,11 @@ text_told column (bad_place version) said told = rw told refl
 
 module _ (objects : Objects) (max : ℕ) (offset : List ℕ) where
   -- a read from an offset on that can be read, by what is handed out
-  tail_from : (column : List ℕ) (entries : List Entry) (commits : List (List actions.Entry)) (place : Option Place) → offset_of offset ≡ place → log_of objects ≡ Ok (record { column = column; commits = commits })
-      → ((at : Place) → IsTold (read max at entries) (handed_by objects (record { column = column; commits = commits }) max at)) → tailed_reply (tailed objects max offset) ≡ tables.tail_reply (tables.table column entries) max place
+  tail_from : (schema : Tree) (entries : List Entry) (commits : List (List actions.Entry)) (place : Option Place) → offset_of offset ≡ place → log_of objects ≡ Ok (record { schema = schema; commits = commits })
+      → ((at : Place) → IsTold (read max at entries) (handed_by objects (record { schema = schema; commits = commits }) max at)) → tailed_reply (tailed objects max offset) ≡ tables.tail_reply (tables.table schema entries) max place
   unfolding tailed
-  tail_from column entries commits None is log told = rw is refl
-  tail_from column entries commits (Some place) is log told = rw (is, log) (text_told column (read max place entries) (handed_by objects (record { column = column; commits = commits }) max place) (told place))
+  tail_from schema entries commits None is log told = rw is refl
+  tail_from schema entries commits (Some place) is log told = rw (is, log) (text_told (column_name schema) (read max place entries) (handed_by objects (record { schema = schema; commits = commits }) max place) (told place))
 
   -- the same over no objects
   tail_of_none : (place : Option Place) → offset_of offset ≡ place → tailed_reply (tailed [] max offset) ≡ tables.tail_reply tables.nothing max place
@@ -148,11 +151,11 @@ module _ (objects : Objects) (max : ℕ) (offset : List ℕ) where
   tail_of_none (Some place) is = rw (is, log_of_nothing) refl
 
 -- Over a store that keeps a table a read is told what the table tells.
-pub tail_told : (objects : Objects) (column : List ℕ) (entries : List Entry) → IsKept objects column entries → length entries < 2 ^ 62 → (max : ℕ) (offset : List ℕ)
-    → tailed_reply (tailed objects max offset) ≡ tables.tail_reply (tables.table column entries) max (offset_of offset)
-tail_told objects column entries kept few max offset =
-    let log = kept_log objects column entries kept few in
-    tail_from objects max offset column entries log.0 (offset_of offset) refl log.2 (λ place. handed_told objects column entries log.0 kept.kept log.1 max place)
+pub tail_told : (objects : Objects) (schema : Tree) (entries : List Entry) → IsKept objects schema entries → length entries < 2 ^ 62 → (max : ℕ) (offset : List ℕ)
+    → tailed_reply (tailed objects max offset) ≡ tables.tail_reply (tables.table schema entries) max (offset_of offset)
+tail_told objects schema entries kept few max offset =
+    let log = kept_log objects schema entries kept few in
+    tail_from objects max offset schema entries log.0 (offset_of offset) refl log.2 (λ place. handed_told objects schema entries log.0 kept.kept log.1 max place)
 
 -- A read of nothing is told that there is no table.
 pub tail_of_nothing : (max : ℕ) (offset : List ℕ) → tailed_reply (tailed [] max offset) ≡ tables.tail_reply tables.nothing max (offset_of offset)

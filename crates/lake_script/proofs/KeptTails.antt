@@ -1,8 +1,9 @@
 -- Where a store keeps a table, reads one after another hand out the table's rows.
 use Rattle.std.proofs.Common.{◌≡◌, ℕ, ◌<◌, ◌^◌, ℤ, true, List, [], ◌∷◌, ◌++◌, length, map, take, Result, Ok, Err, IsOk, refl, sym, ap, subst, ◌∙◌, arith}
 use Rattle.std.proofs.lemmas.List.{append-nil, map-append, length-map, take_all}
+use Rattle.schema_tree.specs.Tree.{Tree}
 use Rattle.store_core.specs.Objects.{Objects}
-use Rattle.table_model.specs.Rows.{Row}
+use Rattle.row_core.specs.Rows.{Row}
 use Rattle.table_store.specs.Schema.{row_of}
 use Rattle.table_model.specs.Table.{Entry, rows}
 use Rattle.table_model.specs.Reads.{Answer, handed, beyond, bad_place, position, is_place, read}
@@ -152,15 +153,15 @@ reads_as objects entries log is answers max place =
 
 -- what is known of single reads
 pub record GivenReads : Type 0 where
-  pub handed_told : (objects : Objects) (column : List ℕ) (entries : List Entry) → IsKept objects column entries → length entries < 2 ^ 62
+  pub handed_told : (objects : Objects) (schema : Tree) (entries : List Entry) → IsKept objects schema entries → length entries < 2 ^ 62
       → (log : Log) × (log_of objects ≡ Ok log) × ((max : ℕ) (place : Place) → IsRead (handed_by objects log max place) (read max place entries))
   pub log_of_nothing : log_of [] ≡ Err (bad_commit 0)
 
 module _ (given : GivenReads) where
   -- a store that keeps a table reads as it
-  kept_reads : (objects : Objects) (column : List ℕ) (entries : List Entry) → IsKept objects column entries → length entries < 2 ^ 62 → ReadsAs objects entries
-  kept_reads objects column entries kept small =
-      let told = given.handed_told objects column entries kept small in
+  kept_reads : (objects : Objects) (schema : Tree) (entries : List Entry) → IsKept objects schema entries → length entries < 2 ^ 62 → ReadsAs objects entries
+  kept_reads objects schema entries kept small =
+      let told = given.handed_told objects schema entries kept small in
       reads_as objects entries told.0 told.1 told.2
 
   -- where nothing stands, a read is refused
@@ -182,15 +183,15 @@ module _ (given : GivenReads) where
   hand_out_the_log objects nothing keeps small =
       let none : HandOutTheLog [] [] = λ limits. nothing_hands limits beginning ∙ sym (take_all (position (tails [] limits beginning).next []) [] (omega arith)) in
       subst (λ (o : Objects). HandOutTheLog o []) (sym keeps) none
-  hand_out_the_log objects (table column entries) keeps small = reads_log objects entries (kept_reads objects column entries keeps.0 small)
+  hand_out_the_log objects (table schema entries) keeps small = reads_log objects entries (kept_reads objects schema entries keeps.0 small)
 
   -- and all of them, where the last read handed out fewer than its limit
   pub hand_out_all : (objects : Objects) (state : State) → Keeps objects state → length (entries_of state) < 2 ^ 62 → HandOutAll objects (entries_of state)
   hand_out_all objects nothing keeps small =
       let none : HandOutAll [] [] = λ earlier max short. nothing_hands (earlier ++ max ∷ []) beginning in
       subst (λ (o : Objects). HandOutAll o []) (sym keeps) none
-  hand_out_all objects (table column entries) keeps small = reads_all objects entries (kept_reads objects column entries keeps.0 small)
+  hand_out_all objects (table schema entries) keeps small = reads_all objects entries (kept_reads objects schema entries keeps.0 small)
 
   -- and none is refused
-  pub are_answered : (objects : Objects) (column : List ℕ) (entries : List Entry) → IsKept objects column entries → length entries < 2 ^ 62 → AreAnswered objects
-  are_answered objects column entries kept small = reads_answered objects entries (kept_reads objects column entries kept small)
+  pub are_answered : (objects : Objects) (schema : Tree) (entries : List Entry) → IsKept objects schema entries → length entries < 2 ^ 62 → AreAnswered objects
+  are_answered objects schema entries kept small = reads_answered objects entries (kept_reads objects schema entries kept small)

@@ -11,12 +11,12 @@ use Rattle.delta_actions.specs.Commit.{lines_of}
 -- the store holds the table that a script has made
 abbrev pub HoldsState : Objects → State → Type 0
 HoldsState objects nothing = objects ≡ []
-HoldsState objects (table column entries) = Holds objects (record { column = column }) entries × IsLawful entries
+HoldsState objects (table schema entries) = Holds objects schema entries × IsLawful entries
 
 -- Where there is a table, no read is refused that goes on where the one before ended.
 abbrev pub AnswersReads : Objects → State → Type 0
 AnswersReads objects nothing = Unit {0}
-AnswersReads objects (table column entries) = AreAnswered objects
+AnswersReads objects (table schema entries) = AreAnswered objects
 
 -- Reads over the store of a table that follow one another are answered, and hand out the table's rows, whatever their
 -- limits: from the beginning up to where they came, and all once one hands out fewer rows than its limit.

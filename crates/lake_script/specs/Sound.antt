@@ -2,17 +2,15 @@
 use Rattle.std.specs.Prelude.{◌≡◌, ◌≢◌, ℕ, List, [], ◌∷◌, Bool, true, false, Some, Result, Ok, Err}
 use Rattle.std.specs.Str.{IsUtf8}
 use Rattle.store_core.specs.Objects.{Objects}
-use Rattle.commit_core.specs.declared.fault.CreateFault.{CreateFault}
-use Rattle.commit_core.specs.declared.fault.CreateFault.TheVariants.{TooLarge}
 use Rattle.sink_core.specs.Appending.{settled, PutsWell}
-use Rattle.commit_core.specs.Creating.{commit_from, CreatesWell}
+use Rattle.commit_core.specs.Creating.{too_large, commit_from, CreatesWell}
 use Rattle.lake_script.specs.Lines.{append, Wish, create, task, Reading, skipped, bad, asks, reading_of}
 use Rattle.sink_core.specs.Refusals.{file_too_large}
 use Rattle.lake_script.specs.Told.{is_bad, reply_to_wish, left_by_wish, left_by}
 
 -- what a line puts is well made, and didn't pass 64 MiB
 abbrev pub IsSoundWish : Objects → Wish → Type 0
-IsSoundWish objects (create id at schema) = CreatesWell at schema (commit_from id at schema) × (commit_from id at schema ≢ Err TooLarge)
+IsSoundWish objects (create id at schema) = CreatesWell at schema (commit_from id at schema) × (commit_from id at schema ≢ Err too_large)
 IsSoundWish objects (task (append application number at items)) = IsUtf8 application × PutsWell application number at (settled objects application number at items)
     × (settled objects application number at items ≢ Err file_too_large)
 IsSoundWish objects _ = Unit {0}

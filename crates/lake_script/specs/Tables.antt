@@ -1,4 +1,4 @@
--- What a script is told, by a plain table: a column and a list of entries, one a version. No store, file or commit is
+-- What a script is told, by a plain table: a schema and a list of entries, one a version. No store, file or commit is
 -- spoken of; a data file's name stands in one reply. Lines that show an object are none of a table's, so nothing is said
 -- of them here (`AreOfTable`).
 use Rattle.std.specs.Prelude.{ℕ, suc, ◌+◌, List, [], ◌∷◌, ◌++◌, map, Option, None, Some, Result, Ok, Err, codes, if◌then◌else◌}
@@ -6,7 +6,7 @@ use Rattle.std.specs.Fmt.{decimal}
 use Rattle.std.specs.List.{flat_map}
 use Rattle.serde_json.specs.Data.{string, Items}
 use Rattle.serde_json.specs.Written.{compact_text}
-use Rattle.table_model.specs.Rows.{Row, whole, structure, no_values, value}
+use Rattle.row_core.specs.Rows.{Row, whole, structure, no_values, value}
 use Rattle.table_store.specs.Schema.{row_of}
 use Rattle.table_model.specs.Table.{Batch, Entry, creation, batch, close}
 use Rattle.delta_actions.specs.Names.{data_file_name}
@@ -15,50 +15,51 @@ use Rattle.table_model.specs.declared.table.Appended.{Appended}
 use Rattle.table_model.specs.declared.table.Appended.TheVariants.{Committed, Already, Stale, Differs, StreamClosed}
 use Rattle.table_model.specs.declared.reading.Place.{Place}
 use Rattle.table_model.specs.Reads.{Answer, handed, beyond, bad_place, read}
-use Rattle.commit_core.specs.declared.fault.CreateFault.{CreateFault}
-use Rattle.commit_core.specs.declared.fault.CreateFault.TheVariants.{BadId, BadSchema, TableExists}
-use Rattle.sink_core.specs.Appending.{checked, count}
-use Rattle.commit_core.specs.Creating.{column_from, id_of}
+use Rattle.schema_tree.specs.Reading.{schema_of}
+use Rattle.schema_tree.specs.Tree.{Tree}
+use Rattle.sink_core.specs.Appending.{checked, count, row_column}
+use Rattle.commit_core.specs.Creating as creations
+use Rattle.commit_core.specs.Creating.{table_exists, bad_schema, bad_id, id_of}
 use Rattle.commit_core.specs.Histories.{number_told}
 use Rattle.commit_core.specs.Histories as histories
 use Rattle.lake_script.specs.Lines.{Wish, create, task, history, show, hex, append, tail, Reading, skipped, bad, asks, reading_of}
 use Rattle.source_core.specs.Offsets.{offset_of}
 use Rattle.sink_core.specs.Refusals as appends
-use Rattle.commit_core.specs.Texts.{create_fault_text, refused, line_of}
+use Rattle.commit_core.specs.Texts as texts
+use Rattle.commit_core.specs.Texts.{refused, line_of}
 use Rattle.lake_script.specs.Replies.{created, committed_at, already, bad_line}
-use Rattle.lake_bytes.specs.Results.{◌>>=◌, or_refusal}
+use Rattle.lake_bytes.specs.Results.{◌>>=◌, or_refusal, refused_as}
 use Rattle.sink_core.specs.RowsIn.{rows_from}
 use Rattle.source_core.specs.Tailing as tails
 use Rattle.source_core.specs.TailFaults as tail_texts
 use Rattle.delta_actions.specs.Commit.{lines_of}
 use Rattle.lake_script.specs.Told.{is_bad, not_yet}
 
--- what a script has made so far: no table, or one of a column and its entries
+-- what a script has made so far: no table, or one of a schema and its entries
 pub data State : Type 0 where
   nothing : State
-  table : (column : List ℕ) → List Entry → State
+  table : (schema : Tree) → List Entry → State
 
 -- ---- create
 
--- the column of the table that a line describes, or the first reason why it describes none
-abbrev pub described : (id schema : List ℕ) → Result (List ℕ) CreateFault
+-- the schema of the table that a line describes, or the first reason why it describes none
+abbrev pub described : (id schema : List ℕ) → Result Tree creations.Refusal
 described id schema = do
-  found ← column_from schema
-  own ← or_refusal (id_of id) BadId
-  or_refusal found BadSchema
+  own ← or_refusal (id_of id) bad_id
+  refused_as bad_schema (schema_of schema)
 
 -- one table is created, and no second one
-abbrev pub creating : State → Result (List ℕ) CreateFault → Result (List ℕ) CreateFault
+abbrev pub creating : State → Result Tree creations.Refusal → Result Tree creations.Refusal
 creating state (Err why) = Err why
-creating nothing (Ok column) = Ok column
-creating (table old entries) (Ok column) = Err TableExists
+creating nothing (Ok schema) = Ok schema
+creating (table old entries) (Ok schema) = Err table_exists
 
-abbrev pub created_reply : Result (List ℕ) CreateFault → List ℕ
-created_reply (Ok column) = line_of created
-created_reply (Err why) = line_of (refused (create_fault_text why))
+abbrev pub created_reply : Result Tree creations.Refusal → List ℕ
+created_reply (Ok schema) = line_of created
+created_reply (Err why) = line_of (refused (texts.refusal_text why))
 
-abbrev pub with_table : State → Result (List ℕ) CreateFault → State
-with_table state (Ok column) = table column (creation ∷ [])
+abbrev pub with_table : State → Result Tree creations.Refusal → State
+with_table state (Ok schema) = table schema (creation ∷ [])
 with_table state (Err why) = state
 
 -- ---- append
@@ -66,8 +67,9 @@ with_table state (Err why) = state
 -- the batch that a line hands in, or the first reason why it hands in none
 abbrev pub batch_in : State → (application : List ℕ) (number : ℕ) → Items → Result Batch appends.Refusal
 batch_in nothing application number items = checked application number (count items) >>= λ fine. Err (appends.bad_log 0)
-batch_in (table column entries) application number items = do
+batch_in (table schema entries) application number items = do
   fine ← checked application number (count items)
+  column ← row_column schema
   rows ← rows_from 0 column items
   Ok (record { application = application; number = number; rows = map row_of rows })
 
@@ -81,7 +83,7 @@ answer_text b StreamClosed = refused (codes "S2 StreamClosed")
 
 abbrev pub entries_of : State → List Entry
 entries_of nothing = []
-entries_of (table column entries) = entries
+entries_of (table schema entries) = entries
 
 abbrev pub appended_reply : State → Result Batch appends.Refusal → List ℕ
 appended_reply state (Ok b) = line_of (answer_text b (appended b (entries_of state)))
@@ -89,8 +91,8 @@ appended_reply state (Err refusal) = line_of (refused (appends.refusal_text refu
 
 abbrev pub with_append : State → Result Batch appends.Refusal → State
 with_append nothing answer = nothing
-with_append (table column entries) (Ok b) = table column (with_batch (appended b entries) b entries)
-with_append (table column entries) (Err refusal) = table column entries
+with_append (table schema entries) (Ok b) = table schema (with_batch (appended b entries) b entries)
+with_append (table schema entries) (Err refusal) = table schema entries
 
 -- ---- tail
 
@@ -107,7 +109,7 @@ read_text column (bad_place version) = line_of (refused (tail_texts.refusal_text
 -- a read from a place on
 abbrev pub read_from : State → (max : ℕ) → Place → List ℕ
 read_from nothing max place = line_of (refused (tail_texts.refusal_text (tails.bad_log 0)))
-read_from (table column entries) max place = read_text column (read max place entries)
+read_from (table schema entries) max place = read_text (tails.column_name schema) (read max place entries)
 
 -- a read from an offset on, where its text can be read
 abbrev pub tail_reply : State → (max : ℕ) → Option Place → List ℕ
@@ -127,7 +129,7 @@ history_from version (entry ∷ entries) = line_of (decimal version ++ entry_tol
 
 abbrev pub history_reply : State → List ℕ
 history_reply nothing = histories.bad_log 0
-history_reply (table column entries) = history_from 0 entries
+history_reply (table schema entries) = history_from 0 entries
 
 -- ---- lines
 

@@ -6,17 +6,18 @@ use Rattle.store_core.specs.Objects.{Objects, object_at}
 use Rattle.lake_script.specs.declared.engine.End.{End}
 use Rattle.lake_script.specs.declared.engine.End.TheVariants.{Done, BadLine, NotRead, NotWritten}
 use Rattle.lake_script.specs.declared.faults.Fault.TheVariants.{NotYet, NoSuchName}
-use Rattle.commit_core.specs.declared.fault.CreateFault.{CreateFault}
 use Rattle.sink_core.specs.Appending.{appended_by, settled, with_append}
 use Rattle.sink_core.specs.declared.appending.Appended.{Appended}
 use Rattle.sink_core.specs.declared.appending.Appended.TheVariants.{Committed, Already}
 use Rattle.commit_core.specs.Commits.{commit_name}
+use Rattle.commit_core.specs.Creating as creations
 use Rattle.commit_core.specs.Creating.{commit_from, created_by, with_creation}
 use Rattle.commit_core.specs.Histories.{history_of}
 use Rattle.lake_script.specs.Lines.{append, tail, Wish, create, task, history, show, hex, Reading, skipped, bad, asks, reading_of}
 use Rattle.sink_core.specs.Refusals.{Refusal, refusal_text}
 use Rattle.lake_script.specs.Replies.{fault_text, created, committed_at, already, bad_line}
-use Rattle.commit_core.specs.Texts.{create_fault_text, refused, line_of}
+use Rattle.commit_core.specs.Texts as texts
+use Rattle.commit_core.specs.Texts.{refused, line_of}
 use Rattle.source_core.specs.TailFaults as tail_texts
 use Rattle.source_core.specs.Tailing as tails
 use Rattle.source_core.specs.Tailing.{tailed}
@@ -32,9 +33,9 @@ lines_left None = []
 lines_left (Some text) = lines_of text
 
 -- the reply to a line that creates a table
-abbrev pub created_reply : Result (List ℕ) CreateFault → List ℕ
+abbrev pub created_reply : Result (List ℕ) creations.Refusal → List ℕ
 created_reply (Ok bytes) = line_of created
-created_reply (Err refusal) = line_of (refused (create_fault_text refusal))
+created_reply (Err refusal) = line_of (refused (texts.refusal_text refusal))
 
 -- the reply to a line that appends a batch
 abbrev pub appended_reply : Result Appended Refusal → List ℕ

@@ -76,7 +76,7 @@ impl Reply {
     {
         match self {
             Reply::Created => output.say("Created 0"),
-            Reply::NotCreated(fault) => output.say(Refusal(*fault)),
+            Reply::NotCreated(fault) => output.say(Refusal(fault)),
             Reply::Appended(Appended::Committed(version)) => {
                 output.say(format_args!("Committed {version}"))
             }

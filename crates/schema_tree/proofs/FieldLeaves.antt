@@ -1,7 +1,8 @@
 -- The leaves of fields, put one field after another.
 use Rattle.std.proofs.Common.{◌≡◌, ℕ, zero, suc, Bool, true, false, ◌+◌, ◌<◌, ◌≤◌, max, List, [], ◌∷◌, ◌++◌, if◌then◌else◌, length, get_or, map, refl, ◌∙◌, sym, ap, subst, append_assoc, arith, rules}
 use Rattle.std.proofs.lemmas.List.{map-append}
-use Rattle.schema_tree.specs.Leaves.{LeafPath, leaves_of_fields, leaves_of_column, leaf_under, leaf_inside}
+use Rattle.schema_tree.specs.Leaves.{LeafPath, leaves_of_fields, leaves_of_column, leaf_inside}
+use Rattle.schema_tree.specs.Internal.{leaf_under}
 use Rattle.schema_tree.specs.Limits.{levels, levels_of_fields}
 use Rattle.schema_tree.specs.Tree.{Column, fields_of}
 use Rattle.schema_tree.specs.View.{field_view, field_views}

@@ -1,7 +1,5 @@
 -- What is wrong with a schema's text, and how a call's answer compares with what the definitions say.
-use Rattle.std.specs.Prelude.{◌≡◌, ℕ, List, ◌∷◌, ◌++◌, Option, Some, None, option_map, string_bytes}
-use Rattle.json_fields.specs.declared.fault.FieldFault.{FieldFault}
-use Rattle.json_fields.specs.declared.fault.FieldFault.TheVariants as fields
+use Rattle.std.specs.Prelude.{ℕ, List, ◌∷◌, ◌++◌, Option, Some, None, option_map, string_bytes}
 use Rattle.lake_bytes.specs.Outcome.{Said, refuses, says_nothing}
 use Rattle.schema_tree.specs.declared.paths.ColumnPath.{ColumnPath}
 use Rattle.schema_tree.specs.declared.fault.SchemaFault.{SchemaFault}
@@ -54,14 +52,3 @@ fault_of (faults.NoFields path) = no_fields (path_of path)
 abbrev pub says : ReadError → Said Fault
 says errors.Memory = says_nothing
 says (errors.Fault fault) = refuses (fault_of fault)
-
--- The second error is the first one told from outside the field of this name, unless memory ran out.
-abbrev pub IsToldOutside : List ℕ → ReadError → ReadError → Type 0
-IsToldOutside name old errors.Memory = Unit {0}
-IsToldOutside name errors.Memory (errors.Fault new) = ⊥
-IsToldOutside name (errors.Fault old) (errors.Fault new) = fault_of new ≡ inside name (fault_of old)
-
--- a field that is missing or of another kind: what holds it is no type
-abbrev pub told_of_field : FieldFault → ReadError → Type 0
-told_of_field fields.Memory e = e ≡ errors.Memory
-told_of_field (fields.BadField name) e = says e ≡ refuses (bad_type None)

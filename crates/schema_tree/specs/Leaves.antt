@@ -31,7 +31,3 @@ abbrev mutual
 -- the leaves of a field
 abbrev pub leaves_of_column : Column → List LeafPath
 leaves_of_column c = map (leaf_inside c.name c.nullable) (leaves_of c.data_type)
-
--- the leaf as it is seen from outside the fields above it, of which so many may be null
-abbrev pub leaf_under : List (List ℕ) → ℕ → LeafPath → LeafPath
-leaf_under above nullables leaf = record { names = above ++ leaf.names; nullables = nullables + leaf.nullables }

@@ -2,6 +2,7 @@ pub mod Primitives
 pub mod Tree
 pub mod Printing
 pub mod Limits
+pub mod LongColumn
 pub mod Fault
 pub mod FaultTexts
 pub mod Reading
@@ -10,3 +11,4 @@ pub mod View
 pub mod Leaves
 pub mod Sameness
 pub mod Schema
+pub mod Internal

@@ -33,15 +33,15 @@ abbrev mutual
 
 -- how many primitive types there are
 abbrev mutual
-  pub leaves : Tree → ℕ
-  leaves (leaf p) = 1
-  leaves (struct fs) = leaves_of_fields fs
-  leaves (array t nullable) = leaves t
-  leaves (map k v nullable) = leaves k + leaves v
+  pub leaf_count : Tree → ℕ
+  leaf_count (leaf p) = 1
+  leaf_count (struct fs) = leaf_count_of_fields fs
+  leaf_count (array t nullable) = leaf_count t
+  leaf_count (map k v nullable) = leaf_count k + leaf_count v
 
-  pub leaves_of_fields : Fields → ℕ
-  leaves_of_fields no_fields = 0
-  leaves_of_fields (field name t nullable metadata fs) = leaves t + leaves_of_fields fs
+  pub leaf_count_of_fields : Fields → ℕ
+  leaf_count_of_fields no_fields = 0
+  leaf_count_of_fields (field name t nullable metadata fs) = leaf_count t + leaf_count_of_fields fs
 
 abbrev pub has_field : Fields → Bool
 has_field no_fields = false
@@ -69,5 +69,5 @@ pub record IsWithinLimits (t : Tree) : Type 0 where
   pub sound : is_sound t ≡ true
   pub levels_fit : levels t ≤ 16
   pub nodes_fit : nodes t ≤ 1024
-  pub leaves_fit : leaves t ≤ 256
+  pub leaves_fit : leaf_count t ≤ 256
   pub nests : depth (data_of t) ≤ max_depth

@@ -1,11 +1,17 @@
--- The tree that a `Node` stands for.
+-- The tree that a `Node` stands for, and what a `Metadata` stands for.
 use Rattle.std.specs.Prelude.{List, map, string_bytes}
+use Rattle.serde_json.specs.Data.{Data}
 use Rattle.schema_tree.specs.Tree as tree
 use Rattle.schema_tree.specs.Tree.{Tree, Column, fields_of}
 use Rattle.schema_tree.specs.Metadata.{value_of}
+use Rattle.schema_tree.specs.declared.metadata.Metadata.{Metadata}
 use Rattle.schema_tree.specs.declared.node.Node.{Node, fold-Node}
 use Rattle.schema_tree.specs.declared.node.Node.TheOpen.{Node-F, Field-F}
 use Rattle.schema_tree.specs.declared.node.Field.{Field, fold-Field}
+
+-- the JSON object that a field's metadata is
+abbrev pub metadata_of : {A : Type 0} → Metadata A → Data
+metadata_of m = value_of (string_bytes m.text)
 
 -- one level, with each type inside already seen as its tree
 abbrev pub view_step : {A : Type 0} → Node-F A Tree Column → Tree
@@ -15,7 +21,7 @@ view_step (Node-F.Array element nullable) = tree.array element.value nullable
 view_step (Node-F.Map key value nullable) = tree.map key.value value.value nullable
 
 abbrev pub field_step : {A : Type 0} → Field-F A Tree Column → Column
-field_step f = record { name = string_bytes f.name; data_type = f.data_type; nullable = f.nullable; metadata = value_of (string_bytes f.metadata.text) }
+field_step f = record { name = string_bytes f.name; data_type = f.data_type; nullable = f.nullable; metadata = metadata_of f.metadata }
 
 abbrev pub view : {A : Type 0} → Node A → Tree
 view {A = A} = fold-Node A Tree Column view_step field_step

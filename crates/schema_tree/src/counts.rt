@@ -1,6 +1,7 @@
 //! How many types a reader has met.
 
-ghost use Rattle.schema_tree.specs.Reading.{counted, CountsAs};
+ghost use Rattle.schema_tree.specs.Internal.{met_of, CountsAs};
+ghost use Rattle.schema_tree.specs.Reading.{counted};
 ghost use Rattle.serde_json.specs.View.{view};
 
 use crate::fault::{ReadError, SchemaFault};
@@ -23,7 +24,7 @@ impl Counts {
     /// One more type. TooMany where that is above the limits.
     #[tactic(auto, unfolding(crate::specs::Reading::counted))]
     pub(crate) fn count(&mut self, value: &Value) -> Result<(), ReadError>
-        ensures { CountsAs (counted (view value.now) self.old) result self.new }
+        ensures { CountsAs (counted (view value.now) (met_of self.old)) result self.new }
     {
         if self.nodes >= MAX_NODES {
             return Err(SchemaFault::TooMany.into());

@@ -2,11 +2,11 @@
 
 ghost use Rattle.std.specs.Prelude.{◌≡◌, Some, None};
 ghost use Rattle.schema_tree.specs.FaultTexts.{error_text, fault_text};
-ghost use Rattle.schema_tree.specs.Fault.{fault_of, bad_type, double_name, no_fields, IsToldOutside};
+ghost use Rattle.schema_tree.specs.Fault.{fault_of, bad_type, double_name, no_fields};
+ghost use Rattle.schema_tree.specs.Internal.{IsToldOutside};
 ghost use Rattle.schema_tree.specs.declared.fault.ReadError.TheVariants.{Memory, Fault};
 
 use crate::paths::ColumnPath;
-use json_fields::FieldFault;
 use std::alloc::{AllocError, AllocFailed, Global};
 use std::fmt;
 use std::fmt::{Display, Formatter};
@@ -139,19 +139,5 @@ impl From<SchemaFault> for ReadError {
 
     fn from(fault: SchemaFault) -> ReadError {
         ReadError::Fault(fault)
-    }
-}
-
-// A field of a type that is missing or of another kind: what holds it is no type.
-impl From<FieldFault> for ReadError {
-    ghost use Rattle.schema_tree.specs.Fault.{told_of_field};
-
-    ghost from_gives = { told_of_field };
-
-    fn from(fault: FieldFault) -> ReadError {
-        match fault {
-            FieldFault::BadField { field: _ } => ReadError::Fault(SchemaFault::bad_type()),
-            FieldFault::Memory => ReadError::Memory,
-        }
     }
 }

@@ -5,7 +5,9 @@
 mod copying;
 mod counts;
 mod fault;
+mod fractions;
 mod laws;
+mod long_column;
 mod metadata;
 mod node;
 mod paths;

@@ -6,6 +6,7 @@ ghost use Rattle.serde_json.specs.Find.{as_object};
 ghost use Rattle.serde_json.specs.Read.{max_depth};
 ghost use Rattle.serde_json.specs.View.{view};
 ghost use Rattle.serde_json.specs.Written.{has_float};
+ghost use Rattle.schema_tree.specs.LongColumn.{is_empty};
 ghost use Rattle.schema_tree.specs.Metadata.{IsCompactObject, value_of};
 
 use serde_json::Value;
@@ -20,9 +21,11 @@ pub struct Metadata<A: Allocator> {
 }
 
 impl Metadata<Global> {
+    ghost use Rattle.schema_tree.specs.View.{metadata_of};
+
     /// The metadata without entries.
     pub(crate) fn none(alloc: Global) -> Result<Metadata<Global>, AllocError>
-        ensures { IfOk result (λ m. value_of (string_bytes m.text) ≡ object no_members) }
+        ensures { IfOk result (λ m. metadata_of m ≡ object no_members) }
     {
         Ok(Metadata {
             text: String::from_str(alloc, "{}")?,
@@ -33,7 +36,7 @@ impl Metadata<Global> {
     pub(crate) fn of_object(alloc: Global, value: &Value) -> Result<Metadata<Global>, AllocError>
         requires object { is_some (as_object (view value.now)) ≡ true }
         requires shallow { depth (view value.now) ≤ max_depth }
-        ensures { IfOk result (λ m. value_of (string_bytes m.text) ≡ view value.now) }
+        ensures { IfOk result (λ m. metadata_of m ≡ view value.now) }
     {
         Ok(Metadata {
             text: value.to_string(alloc)?,
@@ -42,16 +45,26 @@ impl Metadata<Global> {
 }
 
 impl<A: Allocator> Metadata<A> {
-    /// The JSON text.
+    ghost use Rattle.schema_tree.specs.View.{metadata_of};
+
+    /// The JSON text: no spaces, and keys in order of bytes.
     pub fn as_str(&self) -> &str
-        ensures { result.now ≡ string_bytes self.now.text }
+        ensures object { value_of result.now ≡ metadata_of self.now }
+        ensures compact { IsCompactObject result.now }
     {
         self.text.as_str()
     }
 
+    /// Whether it has no entries.
+    pub(crate) fn is_empty(&self) -> bool
+        ensures { result ≡ is_empty (metadata_of self.now) }
+    {
+        self.text.as_str() == "{}"
+    }
+
     /// The JSON object.
     pub(crate) fn value(&self, alloc: Global) -> Result<Value, AllocError>
-        ensures { IfOk result (λ v. view v ≡ value_of (string_bytes self.now.text)) }
+        ensures { IfOk result (λ v. view v ≡ metadata_of self.now) }
     {
         match Value::from_str(alloc, self.text.as_str()) {
             Ok(value) => Ok(value),
@@ -70,10 +83,9 @@ impl<A: Allocator> Metadata<A> {
 
     /// Whether both are the same metadata. It takes no memory.
     pub(crate) fn same<B: Allocator>(&self, other: &Metadata<B>) -> bool
-        ensures sound { IsTrue result
-            → value_of (string_bytes self.now.text) ≡ value_of (string_bytes other.now.text) }
-        ensures complete { has_float (value_of (string_bytes self.now.text)) ≡ false
-            → value_of (string_bytes self.now.text) ≡ value_of (string_bytes other.now.text) → IsTrue result }
+        ensures sound { IsTrue result → metadata_of self.now ≡ metadata_of other.now }
+        ensures complete { has_float (metadata_of self.now) ≡ false
+            → metadata_of self.now ≡ metadata_of other.now → IsTrue result }
     {
         self.text.as_str() == other.text.as_str()
     }

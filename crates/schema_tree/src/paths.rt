@@ -24,7 +24,7 @@ impl ColumnPath {
     }
 
     /// The path of what stands there inside the field of this name.
-    pub(crate) fn inside(self, alloc: Global, name: &str) -> Result<ColumnPath, AllocError>
+    pub fn inside(self, alloc: Global, name: &str) -> Result<ColumnPath, AllocError>
         ensures { IfOk result (λ path. path_of path ≡ path_inside name.now (path_of self)) }
     {
         let mut names = String::from_str(alloc, name)?;

@@ -1,55 +1,41 @@
 //! JSON read as types, depth first.
 
-ghost use Rattle.std.specs.Prelude.{◌≡◌, ℕ, ◌≤◌, List, [], map, option_map, bytes_eq, codes, string_bytes, IfOk};
+ghost use Rattle.std.specs.Prelude.{◌≡◌, ℕ, ◌≤◌, List, [], map, bytes_eq, codes, true, IfOk};
 ghost use Rattle.std.specs.List.{list_any};
 ghost use Rattle.serde_json.specs.Data.{depth, items_depth, object, no_members};
-ghost use Rattle.serde_json.specs.Find.{as_str, as_array};
+ghost use Rattle.serde_json.specs.Find.{as_str, as_bool, as_array};
 ghost use Rattle.lake_bytes.specs.Outcome.{Gives};
-ghost use Rattle.json_fields.specs.Fields.{needed, defaulted};
 ghost use Rattle.schema_tree.specs.Fault.{says};
-ghost use Rattle.schema_tree.specs.Metadata.{value_of};
 ghost use Rattle.serde_json.specs.Read.{max_depth};
 ghost use Rattle.serde_json.specs.View.{view as value_view, items_view};
-ghost use Rattle.json_fields.specs.Kinds.{field};
-ghost use Rattle.schema_tree.specs.Reading.{Reads, or_bad_type, any_value, as_map, object_of, node_of, struct_of, array_of, map_of, fields_behind, field_of, column_of, leaf_of};
-ghost use Rattle.schema_tree.specs.View.{view, field_view, field_views};
+ghost use Rattle.schema_tree.specs.Internal.{met_of, Reads};
+ghost use Rattle.schema_tree.specs.Reading.{needed, defaulted, any_value, as_map, object_of, node_of, struct_of, array_of, map_of, fields_behind, field_of, column_of, leaf_of};
+ghost use Rattle.schema_tree.specs.View.{view, field_view, field_views, metadata_of};
 
 use crate::counts::Counts;
 use crate::fault::{ReadError, SchemaFault};
 use crate::metadata::Metadata;
 use crate::node::{Field, Node};
 use crate::primitive::Primitive;
-use json_fields::Fields;
 use serde_json::Value;
-use std::alloc::{AllocError, Global};
-
-/// The member of that name, where a null one is missing.
-fn member<'a>(value: &'a Value, name: &str) -> Option<&'a Value>
-    ensures { option_map (λ v. value_view v.now) result ≡ field name.now (value_view value.now) }
-{
-    match value.get(name) {
-        Some(found) if !found.is_null() => Some(found),
-        _ => None,
-    }
-}
+use std::alloc::Global;
 
 /// The member of that name, which has to be there.
-#[tactic(auto, unfolding(json_fields::specs::Fields::needed, json_fields::specs::Fields::optional))]
+#[tactic(auto, unfolding(crate::specs::Reading::needed))]
 fn needed<'a>(value: &'a Value, name: &str) -> Result<&'a Value, ReadError>
-    ensures found { Gives says (λ v. value_view v.now) result
-        (or_bad_type (needed any_value name.now (value_view value.now))) }
+    ensures found { Gives says (λ v. value_view v.now) result (needed any_value name.now (value_view value.now)) }
     ensures inside { IfOk result (λ v. depth (value_view v.now) ≤ depth (value_view value.now)) }
 {
-    match member(value, name) {
+    match value.get(name) {
         Some(found) => Ok(found),
         None => Err(SchemaFault::bad_type().into()),
     }
 }
 
 /// The text of that name, which has to be there.
-#[tactic(auto, unfolding(json_fields::specs::Fields::needed, json_fields::specs::Fields::optional))]
+#[tactic(auto, unfolding(crate::specs::Reading::needed))]
 pub(crate) fn needed_text<'a>(value: &'a Value, name: &str) -> Result<&'a str, ReadError>
-    ensures { Gives says (λ s. s.now) result (or_bad_type (needed as_str name.now (value_view value.now))) }
+    ensures { Gives says (λ s. s.now) result (needed as_str name.now (value_view value.now)) }
 {
     match needed(value, name)?.as_str() {
         Some(text) => Ok(text),
@@ -58,10 +44,9 @@ pub(crate) fn needed_text<'a>(value: &'a Value, name: &str) -> Result<&'a str, R
 }
 
 /// The items of the array of that name, which has to be there.
-#[tactic(auto, unfolding(json_fields::specs::Fields::needed, json_fields::specs::Fields::optional))]
+#[tactic(auto, unfolding(crate::specs::Reading::needed))]
 fn needed_items<'a>(value: &'a Value, name: &str) -> Result<&'a [Value], ReadError>
-    ensures found { Gives says (λ v. items_view v.now) result
-        (or_bad_type (needed as_array name.now (value_view value.now))) }
+    ensures found { Gives says (λ v. items_view v.now) result (needed as_array name.now (value_view value.now)) }
     ensures inside { IfOk result (λ v. items_depth (items_view v.now) ≤ depth (value_view value.now)) }
 {
     match needed(value, name)?.as_array() {
@@ -70,14 +55,28 @@ fn needed_items<'a>(value: &'a Value, name: &str) -> Result<&'a [Value], ReadErr
     }
 }
 
-/// The metadata of a field.
-#[tactic(auto, unfolding(json_fields::specs::Fields::defaulted, json_fields::specs::Fields::optional))]
-fn metadata_of(alloc: Global, value: &Value) -> Result<Metadata<Global>, ReadError>
-    requires { depth (value_view value.now) ≤ max_depth }
-    ensures { Gives says (λ m. value_of (string_bytes m.text)) result
-        (or_bad_type (defaulted as_map (codes "metadata") (object no_members) (value_view value.now))) }
+/// The truth value of that name; true where it is absent.
+#[tactic(auto, unfolding(crate::specs::Reading::defaulted))]
+fn truth_or_true(value: &Value, name: &str) -> Result<bool, ReadError>
+    ensures { Gives says (λ b. b) result (defaulted as_bool name.now true (value_view value.now)) }
 {
-    match member(value, "metadata") {
+    match value.get(name) {
+        None => Ok(true),
+        Some(found) => match found.as_bool() {
+            Some(truth) => Ok(truth),
+            None => Err(SchemaFault::bad_type().into()),
+        },
+    }
+}
+
+/// The metadata of a field; that without entries where it is absent.
+#[tactic(auto, unfolding(crate::specs::Reading::defaulted))]
+fn metadata_or_none(alloc: Global, value: &Value) -> Result<Metadata<Global>, ReadError>
+    requires { depth (value_view value.now) ≤ max_depth }
+    ensures { Gives says metadata_of result
+        (defaulted as_map (codes "metadata") (object no_members) (value_view value.now)) }
+{
+    match value.get("metadata") {
         None => Ok(Metadata::none(alloc)?),
         Some(found) if found.is_object() => Ok(Metadata::of_object(alloc, found)?),
         Some(_) => Err(SchemaFault::bad_type().into()),
@@ -111,7 +110,7 @@ impl Counts {
         value: &Value,
     ) -> Result<Node<Global>, ReadError>
         requires { depth (value_view value.now) ≤ max_depth }
-        ensures { Reads view (node_of below (value_view value.now) self.old) result self.new }
+        ensures { Reads view (node_of below (value_view value.now) (met_of self.old)) result self.new }
     {
         if below == 0 {
             return Err(SchemaFault::TooDeep.into());
@@ -134,7 +133,7 @@ impl Counts {
         value: &Value,
     ) -> Result<Node<Global>, ReadError>
         requires { depth (value_view value.now) ≤ max_depth }
-        ensures { Reads view (object_of (node_of below) (value_view value.now) self.old) result self.new }
+        ensures { Reads view (object_of (node_of below) (value_view value.now) (met_of self.old)) result self.new }
     {
         match needed_text(value, "type")? {
             "struct" => {
@@ -151,10 +150,9 @@ impl Counts {
     #[tactic(auto, unfolding(crate::specs::Reading::array_of))]
     fn array(&mut self, alloc: Global, below: u32, value: &Value) -> Result<Node<Global>, ReadError>
         requires { depth (value_view value.now) ≤ max_depth }
-        ensures { Reads view (array_of (node_of below) (value_view value.now) self.old) result self.new }
+        ensures { Reads view (array_of (node_of below) (value_view value.now) (met_of self.old)) result self.new }
     {
-        let fields = Fields { alloc, value };
-        let contains_null = fields.defaulted("containsNull", true)?;
+        let contains_null = truth_or_true(value, "containsNull")?;
         let element = self.node(alloc, below, needed(value, "elementType")?)?;
         Ok(Node::Array {
             element: Box::new(alloc, element)?,
@@ -166,10 +164,9 @@ impl Counts {
     #[tactic(auto, unfolding(crate::specs::Reading::map_of))]
     fn map(&mut self, alloc: Global, below: u32, value: &Value) -> Result<Node<Global>, ReadError>
         requires { depth (value_view value.now) ≤ max_depth }
-        ensures { Reads view (map_of (node_of below) (value_view value.now) self.old) result self.new }
+        ensures { Reads view (map_of (node_of below) (value_view value.now) (met_of self.old)) result self.new }
     {
-        let fields = Fields { alloc, value };
-        let value_contains_null = fields.defaulted("valueContainsNull", true)?;
+        let value_contains_null = truth_or_true(value, "valueContainsNull")?;
         let key_type = needed(value, "keyType")?;
         let value_type = needed(value, "valueType")?;
         let key = self.node(alloc, below, key_type)?;
@@ -191,7 +188,8 @@ impl Counts {
         value: &Value,
     ) -> Result<Vec<Field<Global>>, ReadError>
         requires { depth (value_view value.now) ≤ max_depth }
-        ensures { Reads (λ v. field_views v.items) (struct_of (node_of below) (value_view value.now) self.old) result self.new }
+        ensures { Reads (λ v. field_views v.items)
+            (struct_of (node_of below) (value_view value.now) (met_of self.old)) result self.new }
     {
         let items = needed_items(value, "fields")?;
         if items.is_empty() {
@@ -209,7 +207,7 @@ impl Counts {
     ) -> Result<Vec<Field<Global>>, ReadError>
         requires { items_depth (items_view items.now) ≤ max_depth }
         ensures { Reads (λ v. field_views v.items)
-            (fields_behind (node_of below) [] (items_view items.now) self.old) result self.new }
+            (fields_behind (node_of below) [] (items_view items.now) (met_of self.old)) result self.new }
     {
         let mut fields = Vec::with_capacity(alloc, items.len().min(256))?;
         for item in items {
@@ -231,7 +229,7 @@ impl Counts {
     ) -> Result<Field<Global>, ReadError>
         requires { depth (value_view value.now) ≤ max_depth }
         ensures { Reads field_view (field_of (node_of below) (map (λ c. c.name) (field_views before.now))
-            (value_view value.now) self.old) result self.new }
+            (value_view value.now) (met_of self.old)) result self.new }
     {
         let name = needed_text(value, "name")?;
         if is_name_of(before, name) {
@@ -255,11 +253,11 @@ impl Counts {
         value: &Value,
     ) -> Result<Field<Global>, ReadError>
         requires { depth (value_view value.now) ≤ max_depth }
-        ensures { Reads field_view (column_of (node_of below) name.now (value_view value.now) self.old) result self.new }
+        ensures { Reads field_view
+            (column_of (node_of below) name.now (value_view value.now) (met_of self.old)) result self.new }
     {
-        let fields = Fields { alloc, value };
-        let nullable = fields.defaulted("nullable", true)?;
-        let metadata = metadata_of(alloc, value)?;
+        let nullable = truth_or_true(value, "nullable")?;
+        let metadata = metadata_or_none(alloc, value)?;
         let data_type = self.node(alloc, below, needed(value, "type")?)?;
         Ok(Field {
             name: String::from_str(alloc, name)?,

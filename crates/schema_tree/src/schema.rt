@@ -34,19 +34,22 @@ pub const MAX_DEPTH: u32 = 16;
 /// The schema of a table: a struct, within the limits (Delta PROTOCOL.md, "Schema Serialization Format").
 #[derive(Drop)]
 pub struct Schema<A: Allocator> {
-    fields: Vec<Field<A>, A>,
+    pub(crate) fields: Vec<Field<A>, A>,
     ghost within_limits: { IsWithinLimits (struct (fields_of (field_views fields.items))) },
 }
 
 impl Schema<Global> {
     ghost use Rattle.schema_tree.specs.Schema.{tree_of};
 
-    /// Reads a schema's text (Delta PROTOCOL.md, "Schema Serialization Format"). A missing or null `nullable`,
-    /// `containsNull` or `valueContainsNull` is true, and a missing or null `metadata` is `{}`. Other keys are
-    /// skipped.
+    /// Reads a schema's text (Delta PROTOCOL.md, "Schema Serialization Format"). An absent `nullable`,
+    /// `containsNull` or `valueContainsNull` is true, and an absent `metadata` is `{}`; null is refused there like
+    /// any other value of another kind. Other keys are skipped.
     ///
-    /// G1 to G6 for the first fault, depth first: at a type its depth, the counts, its kind and its fields in
-    /// turn; at a field first its name.
+    /// G1 to G6 for the first fault, depth first: at a type its depth (at most 16, a top field is at 1), the
+    /// counts (at most 1,024 types with the root, of them 256 given by a text), its kind and its fields in turn; at
+    /// a field its name, whether it stands twice, its nullability, its metadata, and then its type. `Memory` where
+    /// a growth was refused. The time is linear in the text, but for the names of one struct, which are compared
+    /// pairwise.
     pub fn from_text(alloc: Global, text: &str) -> Result<Schema<Global>, ReadError>
         // The schema or the fault is the one that the text has, unless memory runs out.
         ensures { Gives says tree_of result (schema_of text.now) }
@@ -86,7 +89,8 @@ impl<A: Allocator> Schema<A> {
         &self.fields
     }
 
-    /// The schema's JSON text: no spaces, and keys in order of bytes.
+    /// The schema's JSON text (Delta PROTOCOL.md, "Schema Serialization Format"): no spaces, and keys in order of
+    /// bytes. It fails only for want of memory; the time is linear in the text.
     pub fn to_text(&self, alloc: Global) -> Result<String, AllocError>
         // It is read as the same schema.
         ensures reads { IfOk result (λ s. schema_of (string_bytes s) ≡ Ok (tree_of self.now)) }
@@ -99,7 +103,7 @@ impl<A: Allocator> Schema<A> {
         struct_value(alloc, items)?.to_string(alloc)
     }
 
-    /// The same schema in another allocator.
+    /// The same schema in another allocator. It fails only for want of memory; the time is linear in the schema.
     pub fn copy_into<B: Allocator + Copy>(&self, alloc: B) -> Result<Schema<B>, AllocError>
         ensures { IfOk result (λ s. tree_of s ≡ tree_of self.now) }
     {
@@ -108,7 +112,7 @@ impl<A: Allocator> Schema<A> {
     }
 
     /// Whether both are the same schema: names, order, types, nullability and metadata agree. It takes no
-    /// memory.
+    /// memory, and the time is linear in the shorter one.
     pub fn same<B: Allocator>(&self, other: &Schema<B>) -> bool
         ensures sound { IsTrue result → tree_of self.now ≡ tree_of other.now }
         // How a number with a fraction or an exponent in metadata is compared is left open.
@@ -118,7 +122,7 @@ impl<A: Allocator> Schema<A> {
         same_fields(&self.fields, &other.fields)
     }
 
-    /// The leaves, depth first.
+    /// The leaves, depth first. It fails only for want of memory; the time is linear in the schema times its depth.
     pub fn leaves<B: Allocator + Copy>(&self, alloc: B) -> Result<Vec<Leaf<'_, B>, B>, AllocError>
         ensures { IfOk result (λ v. map leaf_view v.items ≡ leaves_of (tree_of self.now)) }
     {

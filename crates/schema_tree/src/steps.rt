@@ -1,7 +1,8 @@
 //! The leaves of a type.
 
 ghost use Rattle.std.specs.Prelude.{◌≡◌, ◌+◌, ◌<◌, ◌^◌, [], ◌∷◌, ◌++◌, map, OnOk};
-ghost use Rattle.schema_tree.specs.Leaves.{bare_leaf, leaves_of, leaves_of_fields, leaves_of_column, leaf_under};
+ghost use Rattle.schema_tree.specs.Leaves.{bare_leaf, leaves_of, leaves_of_fields, leaves_of_column};
+ghost use Rattle.schema_tree.specs.Internal.{leaf_under};
 ghost use Rattle.schema_tree.specs.Limits.{levels, levels_of_fields};
 ghost use Rattle.schema_tree.specs.Schema.{leaf_view};
 ghost use Rattle.schema_tree.specs.Tree.{fields_of};

@@ -18,6 +18,8 @@ pub enum RowFault {
     WrongKind,
     /// A whole number outside -2^63 .. 2^63 - 1.
     OutOfRange,
+    /// The table has a column whose type has no rows.
+    Unsupported,
     /// A key that is no column.
     Unknown,
 }
@@ -30,6 +32,7 @@ impl Display for RowFault {
             RowFault::Missing => "V1 Missing",
             RowFault::WrongKind => "V2 WrongKind",
             RowFault::OutOfRange => "V3 OutOfRange",
+            RowFault::Unsupported => "V4 Unsupported",
             RowFault::Unknown => "V5 Unknown",
         })
     }
@@ -38,7 +41,8 @@ impl Display for RowFault {
 /// Why a batch of rows isn't appended. Its texts are written by hand, so that contracts know them.
 #[derive(Debug, Drop, Error)]
 pub enum AppendFault {
-    /// More rows than a file has today, or a table of other columns.
+    /// More rows than a file has today, or a table that isn't of one required long column, or whose schema can't be
+    /// read.
     NotYet,
     /// The application's id has no bytes, or over 64.
     BadApp,
@@ -46,12 +50,13 @@ pub enum AppendFault {
     TooLarge,
     /// The file passes 64 MiB.
     FileTooLarge,
-    /// The commit of that version can't be read, or no commit says what the table's columns are.
+    /// The commit of that version can't be read, or no commit has a schema.
     BadLog {
         version: u64,
     },
     /// The first row that is wrong, by its index from 0. The path is the column or key that is
-    /// wrong, and empty where the row is.
+    /// wrong, and empty where the row is; of a column without rows it is the names of the fields that
+    /// lead there, joined by `.`, and the index is 0.
     BadRow {
         index: u64,
         fault: RowFault,

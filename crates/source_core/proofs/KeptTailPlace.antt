@@ -1,13 +1,13 @@
 -- Where a place stands among the files of a log and among the rows of its table.
 use Rattle.std.proofs.Common.{◌≡◌, ℕ, suc, ◌-◌, ◌<◌, ℤ, Bool, true, false, min, ltb, List, [], ◌∷◌, length, map, Ok, refl, ap, ◌∙◌, arith, inl, inr}
-use Rattle.std.specs.Prelude.{filter, not}
+use Rattle.std.specs.Prelude.{Option, filter, not}
 use Rattle.std.proofs.lemmas.Bool.{cases_Bool}
 use Rattle.std.proofs.lemmas.Bool.Decides.{nat_tests}
 use Rattle.std.proofs.lemmas.List.Elements.{filter-append}
 use Rattle.store_core.specs.Objects.{Objects}
 use Rattle.delta_actions.specs.Kinds.{Path}
 use Rattle.delta_actions.specs.Entry as actions
-use Rattle.table_model.specs.Rows.{Row}
+use Rattle.row_core.specs.Rows.{Row}
 use Rattle.table_store.specs.Schema.{row_of}
 use Rattle.table_model.specs.Table.{Entry, creation, batch, close}
 use Rattle.table_model.specs.Reads.{placed_rows, placed_from, is_before}
@@ -21,35 +21,35 @@ use Rattle.source_core.proofs.KeptTailWalk.{Found, file_of, rows_in, AreFound}
 -- ---- the files of a log and the rows of its table
 
 -- a commit brings the file of its entry, which reads as the entry's rows
-abbrev pub IsEntryFound : Objects → (column : List ℕ) → Entry → List actions.Entry → Type 0
+abbrev pub IsEntryFound : Objects → (column : Option (List ℕ)) → Entry → List actions.Entry → Type 0
 IsEntryFound objects column creation made = new_files made ≡ []
 IsEntryFound objects column (batch b) made = (path : Path) × (numbers : List ℤ) × (new_files made ≡ path ∷ []) × (b.rows ≡ map row_of numbers)
     × ((version : ℕ) → rows_of objects column (record { version = version; file = 0; path = path }) ≡ Ok numbers)
 IsEntryFound objects column (close application) made = ⊥
 
 -- the same of a table's entries and the commits of its log, one behind the other
-abbrev pub AreEntriesFound : Objects → (column : List ℕ) → List Entry → List (List actions.Entry) → Type 0
+abbrev pub AreEntriesFound : Objects → (column : Option (List ℕ)) → List Entry → List (List actions.Entry) → Type 0
 AreEntriesFound objects column [] [] = Unit {0}
 AreEntriesFound objects column [] (made ∷ commits) = ⊥
 AreEntriesFound objects column (entry ∷ entries) [] = ⊥
 AreEntriesFound objects column (entry ∷ entries) (made ∷ commits) = IsEntryFound objects column entry made × AreEntriesFound objects column entries commits
 
 -- there is a commit for each entry
-pub as_many_commits : (objects : Objects) (column : List ℕ) (entries : List Entry) (commits : List (List actions.Entry)) → AreEntriesFound objects column entries commits → length commits ≡ length entries
+pub as_many_commits : (objects : Objects) (column : Option (List ℕ)) (entries : List Entry) (commits : List (List actions.Entry)) → AreEntriesFound objects column entries commits → length commits ≡ length entries
 as_many_commits objects column [] [] found = refl
 as_many_commits objects column [] (made ∷ commits) found = absurd found
 as_many_commits objects column (entry ∷ entries) [] found = absurd found
 as_many_commits objects column (entry ∷ entries) (made ∷ commits) found = ap suc (as_many_commits objects column entries commits found.1)
 
 -- The files of commits from a version on, and the rows of their entries.
-pub record InLog (objects : Objects) (column : List ℕ) (version : ℕ) (entries : List Entry) (commits : List (List actions.Entry)) : Type 0 where
+pub record InLog (objects : Objects) (column : Option (List ℕ)) (version : ℕ) (entries : List Entry) (commits : List (List actions.Entry)) : Type 0 where
   pub founds : List Found
   pub files : files_from version commits ≡ map file_of founds
   pub found : AreFound objects column founds
   pub rows : placed_from version entries ≡ rows_in founds
 
 -- each log of found entries has its files and its rows
-pub in_log : (objects : Objects) (column : List ℕ) (version : ℕ) (entries : List Entry) (commits : List (List actions.Entry)) → AreEntriesFound objects column entries commits → InLog objects column version entries commits
+pub in_log : (objects : Objects) (column : Option (List ℕ)) (version : ℕ) (entries : List Entry) (commits : List (List actions.Entry)) → AreEntriesFound objects column entries commits → InLog objects column version entries commits
 in_log objects column version [] [] found = record { founds = []; files = refl; found = tt; rows = refl }
 in_log objects column version [] (made ∷ commits) found = absurd found
 in_log objects column version (entry ∷ entries) [] found = absurd found

@@ -1,6 +1,6 @@
 -- The tests of a place, by the files of a log and by the entries of its table.
 use Rattle.std.proofs.Common.{◌≡◌, ℕ, zero, suc, ◌+◌, ◌≤◌, ◌<◌, true, false, leb, List, [], ◌∷◌, ◌++◌, length, map, drop, Ok, Err, refl, sym, ap, ◌∙◌, arith, inl, inr, ◌⊎◌, length-append}
-use Rattle.std.specs.Prelude.{filter, not}
+use Rattle.std.specs.Prelude.{Option, filter, not}
 use Rattle.std.proofs.Math.Seq.{drop-append-add}
 use Rattle.std.proofs.lemmas.Bool.{cases_Bool, lt-ltb, leb-true, leb-false, eq-eqb, ne_eqb}
 use Rattle.std.proofs.lemmas.Bool.Decides.{nat_tests}
@@ -8,7 +8,7 @@ use Rattle.std.proofs.lemmas.List.{length-map}
 use Rattle.std.proofs.lemmas.List.Elements.{filter-append}
 use Rattle.store_core.specs.Objects.{Objects}
 use Rattle.delta_actions.specs.Entry as actions
-use Rattle.table_model.specs.Rows.{Row}
+use Rattle.row_core.specs.Rows.{Row}
 use Rattle.table_store.specs.Schema.{row_of}
 use Rattle.table_model.specs.Table.{Batch, Entry, creation, batch, close}
 use Rattle.table_model.specs.Reads.{placed_rows, placed_entry, placed_from, is_before, is_place_from}
@@ -24,7 +24,7 @@ abbrev pub count_before : Place → (version : ℕ) → List Entry → ℕ
 count_before place version entries = length (filter (stands_before place) (placed_from version entries))
 
 -- The files from a place on read as the rows from it on, but for those in the first file before it.
-pub record Ahead (objects : Objects) (column : List ℕ) (place : Place) (version : ℕ) (entries : List Entry) (commits : List (List actions.Entry)) : Type 0 where
+pub record Ahead (objects : Objects) (column : Option (List ℕ)) (place : Place) (version : ℕ) (entries : List Entry) (commits : List (List actions.Entry)) : Type 0 where
   pub founds : List Found
   pub files : filter (is_ahead place) (files_from version commits) ≡ map file_of founds
   pub found : AreFound objects column founds
@@ -32,7 +32,7 @@ pub record Ahead (objects : Objects) (column : List ℕ) (place : Place) (versio
   pub rows : drop (count_before place version entries) (placed_from version entries) ≡ drop place.row (rows_in founds)
 
 -- The first file from a place on has fewer rows than the place passes over.
-pub record Short (objects : Objects) (column : List ℕ) (place : Place) (version : ℕ) (commits : List (List actions.Entry)) : Type 0 where
+pub record Short (objects : Objects) (column : Option (List ℕ)) (place : Place) (version : ℕ) (commits : List (List actions.Entry)) : Type 0 where
   pub first : Found
   pub founds : List Found
   pub files : filter (is_ahead place) (files_from version commits) ≡ map file_of (first ∷ founds)
@@ -42,7 +42,7 @@ pub record Short (objects : Objects) (column : List ℕ) (place : Place) (versio
 
 -- what the two tests say of a place, the commit of whose version is the one behind so many: a read can begin there, or
 -- the version has no such file, or the file has no such row
-pub data Spot (objects : Objects) (column : List ℕ) (place : Place) (version behind : ℕ) (entries : List Entry) (commits : List (List actions.Entry)) : Type 0 where
+pub data Spot (objects : Objects) (column : Option (List ℕ)) (place : Place) (version behind : ℕ) (entries : List Entry) (commits : List (List actions.Entry)) : Type 0 where
   stands : is_place_from version place entries ≡ true → unless_no_file place (length (new_files (commit_at behind commits))) ≡ Ok tt → Ahead objects column place version entries commits
       → Spot objects column place version behind entries commits
   no_file : is_place_from version place entries ≡ false → unless_no_file place (length (new_files (commit_at behind commits))) ≡ Err (bad_place place.version) → Spot objects column place version behind entries commits
@@ -63,7 +63,7 @@ not_ahead_here version file row = grind (arith, nat_tests)
 row_passed : (version file row at : ℕ) → is_before (record { version = version; file = 0; row = at }) (record { version = version; file = suc file; row = row }) ≡ true
 row_passed version file row at = grind (arith, nat_tests)
 
-module _ (objects : Objects) (column : List ℕ) where
+module _ (objects : Objects) (column : Option (List ℕ)) where
   -- all files and all rows of later versions are ahead
   later_ahead : (place : Place) (version : ℕ) (entries : List Entry) (commits : List (List actions.Entry)) → AreEntriesFound objects column entries commits → place.version < version → place.row ≡ 0
       → Ahead objects column place version entries commits

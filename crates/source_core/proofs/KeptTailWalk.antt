@@ -1,13 +1,13 @@
 -- What is handed out of files that can be read: rows in order, from a place on.
 use Rattle.std.proofs.Common.{◌≡◌, ℕ, zero, suc, ◌+◌, ◌-◌, ◌≤◌, ◌<◌, ℤ, true, false, eqb, List, [], ◌∷◌, ◌++◌, length, map, take, drop, Ok, Err, refl, sym, ap, ◌∙◌, append_assoc, arith, inl, inr, length-append}
-use Rattle.std.specs.Prelude.{Result, ◌==◌, if◌then◌else◌}
+use Rattle.std.specs.Prelude.{Option, Result, ◌==◌, if◌then◌else◌}
 use Rattle.std.proofs.Math.Bool.{and-false}
 use Rattle.std.proofs.lemmas.Bool.{cases_Bool, le-ltb, lt-ltb, ne_eqb, eqb-true, and_parts}
 use Rattle.std.proofs.lemmas.Bool.Decides.{nat_tests}
 use Rattle.std.proofs.lemmas.List.{append-nil, map-append, length-map, length-take, drop-map, take-map, drop-append-le}
 use Rattle.store_core.specs.Objects.{Objects}
 use Rattle.delta_actions.specs.Kinds.{Path}
-use Rattle.table_model.specs.Rows.{Row}
+use Rattle.row_core.specs.Rows.{Row}
 use Rattle.table_store.specs.Schema.{row_of}
 use Rattle.table_model.specs.Reads.{placed_rows}
 use Rattle.table_model.specs.Reads as reads
@@ -91,7 +91,7 @@ rows_in [] = []
 rows_in (f ∷ fs) = placed_rows f.version 0 (map row_of f.numbers) ++ rows_in fs
 
 -- each file reads as its numbers
-abbrev pub AreFound : Objects → (column : List ℕ) → List Found → Type 0
+abbrev pub AreFound : Objects → (column : Option (List ℕ)) → List Found → Type 0
 AreFound objects column [] = Unit {0}
 AreFound objects column (f ∷ fs) = (rows_of objects column (file_of f) ≡ Ok f.numbers) × AreFound objects column fs
 
@@ -189,7 +189,7 @@ pub within_none : (fs : List Found) → AreWithin 0 fs
 within_none [] = refl
 within_none (f ∷ fs) = omega arith
 
-module _ (objects : Objects) (column : List ℕ) (end : Place) where
+module _ (objects : Objects) (column : Option (List ℕ)) (end : Place) where
   -- what is handed out of files that can be read
   pub walked : (fs : List Found) (most skip : ℕ) (rows : List ℤ) (next : Place) → AreFound objects column fs → AreWithin skip fs
       → Goes end most rows next (drop skip (rows_in fs)) (hand objects column end most skip rows next (map file_of fs))

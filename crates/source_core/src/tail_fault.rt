@@ -14,7 +14,7 @@ use thiserror::Error;
 /// know them.
 #[derive(Debug, Drop, Error)]
 pub enum TailFault {
-    /// A table of other columns than a table can have today.
+    /// A table whose schema can't be read, or a file of a table that isn't of one required long column.
     NotYet,
     /// The offset's text is no offset.
     BadOffsetText,
@@ -36,7 +36,7 @@ pub enum TailFault {
         file: u64,
         fault: FileFault,
     },
-    /// The commit of that version can't be read, or no commit says what the table's columns are.
+    /// The commit of that version can't be read, or no commit has a schema.
     BadLog {
         version: u64,
     },

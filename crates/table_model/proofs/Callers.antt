@@ -1,10 +1,8 @@
 -- The lemmas that proofs of other crates may cite.
 pub use Rattle.table_model.proofs.Batches.{IsAbove, Rises-tail, batches-append, below_later, last_batch-append, last_none, last_number, numbers_by-own}
-pub use Rattle.table_model.proofs.Facts.{append_lasts, append_tells, batch_lasts, close_lasts, close_tells, last_stands, lawful-front}
+pub use Rattle.table_model.proofs.Facts.{last_stands}
 pub use Rattle.table_model.proofs.Grown.{beginning_is_place, is_answered}
 pub use Rattle.table_model.proofs.Kept.{append_keeps, later_is_greater}
 pub use Rattle.table_model.proofs.LawfulLemmas.{NoCreation-behind}
-pub use Rattle.table_model.proofs.PartLemmas.{front_of_rows, further, no_part, part_stays, parts_join, read_is_part}
 pub use Rattle.table_model.proofs.Places.{none_before, past, rises_from, rises_lower}
 pub use Rattle.table_model.proofs.Resumed.{all_after_short, final_grows, log_from_beginning, onward_in_the_log}
-pub use Rattle.table_model.proofs.Same.{same_rows-is}

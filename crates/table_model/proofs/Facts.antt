@@ -5,7 +5,7 @@ use Rattle.std.proofs.lemmas.Bool.{false≢true, cases_Bool, eqb-true, eqb-false
 use Rattle.std.proofs.lemmas.Slice.Eq.{bytes_eq-Decides}
 use Rattle.std.proofs.lemmas.List.{append-nil}
 use Rattle.std.proofs.lemmas.List.Elements.{All-contains, All-contains_itself, All-filter, Contains-append_left, Contains-append_right, Contains-push, filter_passes}
-use Rattle.table_model.specs.Rows.{Row, same_rows}
+use Rattle.row_core.specs.Rows.{Row, same_rows}
 use Rattle.table_model.specs.Table.{Batch, Entry, creation, batch, close, batches, batches_by, numbers_by, last, last_batch, is_closed}
 use Rattle.table_model.specs.Appends.{appended, appended_new, appended_behind, with_batch, closing, with_close, Tells, TellsClose}
 use Rattle.table_model.specs.Lawful.{NoCreation, BeginsWithCreation, Rises, IsLawful}
@@ -13,7 +13,7 @@ use Rattle.table_model.specs.declared.table.Appended.{Appended}
 use Rattle.table_model.specs.declared.table.Appended.TheVariants.{Committed, Already, Stale, Differs, StreamClosed}
 use Rattle.table_model.specs.declared.table.Closing.{Closing}
 use Rattle.table_model.specs.declared.table.Closing.TheVariants.{Closed, AlreadyClosed}
-use Rattle.table_model.proofs.Same.{same_rows-is}
+use Rattle.row_core.proofs.Callers.{same_rows-is}
 use Rattle.table_model.proofs.Batches.{batches-append, numbers_by-append, last_some, last_number, IsAbove, Rises-front, all_below}
 
 -- ---- places and members of a list

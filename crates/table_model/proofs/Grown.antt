@@ -5,7 +5,7 @@ use Rattle.std.proofs.lemmas.Bool.{cases_Bool, eq-eqb, eqb-true, le-leb}
 use Rattle.std.proofs.lemmas.Bool.Decides.{nat_tests}
 use Rattle.std.proofs.lemmas.List.{append-nil}
 use Rattle.std.proofs.lemmas.List.Elements.{filter-append}
-use Rattle.table_model.specs.Rows.{Row}
+use Rattle.row_core.specs.Rows.{Row}
 use Rattle.table_model.specs.Table.{Batch, Entry, creation, batch, close, rows, batches, rows_of_batches}
 use Rattle.table_model.specs.Reads.{handed, placed_entry, placed_from, placed, is_before, position, files, is_in_files, is_place_from, is_place, is_beyond, end, part, next_place, read}
 use Rattle.table_model.specs.Resumed.{beginning}

@@ -8,6 +8,5 @@ pub mod PartLemmas
 pub mod Places
 pub mod Read
 pub mod Resumed
-pub mod Same
 pub mod Seen
 pub mod Callers

@@ -6,7 +6,7 @@ use Rattle.std.proofs.lemmas.Bool.{lt-ltb, le-leb, eq-eqb, ne_eqb}
 use Rattle.std.proofs.lemmas.Bool.Decides.{nat_tests}
 use Rattle.std.proofs.lemmas.List.{map-append}
 use Rattle.std.proofs.lemmas.List.Elements.{filter-append}
-use Rattle.table_model.specs.Rows.{Row}
+use Rattle.row_core.specs.Rows.{Row}
 use Rattle.table_model.specs.Table.{Batch, Entry, creation, batch, close, rows}
 use Rattle.table_model.specs.Reads.{placed_rows, placed_entry, placed_from, placed, is_before, position, is_place_from, is_place, end}
 use Rattle.table_model.specs.declared.reading.Place.{Place}

@@ -3,7 +3,7 @@ use Rattle.std.proofs.Common.{◌≡◌, ℕ, ◌+◌, ◌-◌, ◌≤◌, min, 
 use Rattle.std.proofs.lemmas.Bool.{cases_Bool, eqb-true, eqb-false}
 use Rattle.std.proofs.lemmas.List.{take-append-drop, length-take, length-map, take-map, drop-map, take_all}
 use Rattle.std.proofs.lemmas.List.Filters.{length-filter_both}
-use Rattle.table_model.specs.Rows.{Row}
+use Rattle.row_core.specs.Rows.{Row}
 use Rattle.table_model.specs.Table.{Entry, rows, last}
 use Rattle.table_model.specs.Reads.{handed, beyond, bad_place, placed, is_before, position, is_place, is_beyond, end, behind, part, next_place, read}
 use Rattle.table_model.specs.declared.reading.Place.{Place}

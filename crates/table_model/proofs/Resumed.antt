@@ -3,7 +3,7 @@ use Rattle.std.proofs.Common.{◌≡◌, ℕ, ◌+◌, ◌-◌, ◌<◌, ◌≤�
 use Rattle.std.specs.Prelude.{sum_by}
 use Rattle.std.proofs.lemmas.List.{append-nil, take_all}
 use Rattle.std.proofs.lemmas.List.Sums.{sum_by-cons}
-use Rattle.table_model.specs.Rows.{Row}
+use Rattle.row_core.specs.Rows.{Row}
 use Rattle.table_model.specs.Table.{Entry, rows}
 use Rattle.table_model.specs.Reads.{Answer, handed, beyond, bad_place, position, is_place, end, read, IsPart}
 use Rattle.table_model.specs.Resumed.{Handed, rows_of, next_after, with_earlier, reads_on, HandOut, growth, beginning}

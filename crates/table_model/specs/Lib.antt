@@ -2,6 +2,5 @@ pub mod Appends
 pub mod Lawful
 pub mod Reads
 pub mod Resumed
-pub mod Rows
 pub mod Table
 pub mod Views

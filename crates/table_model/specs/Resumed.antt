@@ -1,6 +1,6 @@
 -- Reads that go on where the last one ended, while the table grows.
 use Rattle.std.specs.Prelude.{◌≡◌, ℕ, List, [], ◌∷◌, ◌++◌}
-use Rattle.table_model.specs.Rows.{Row}
+use Rattle.row_core.specs.Rows.{Row}
 use Rattle.table_model.specs.Table.{Entry}
 use Rattle.table_model.specs.Reads.{Answer, handed, read, IsPart}
 use Rattle.table_model.specs.declared.reading.Place.{Place}

@@ -1,7 +1,7 @@
 //! Laws of the plain table, each a function with an empty body whose contract is the law.
 
 ghost use Rattle.std.specs.Prelude.{◌≡◌, ◌↔◌, ◌<◌, ◌≤◌, ◌-◌, ◌⊎◌, IsTrue, ℕ, List, [], ◌∷◌, ◌++◌, length, take, drop, true};
-ghost use Rattle.table_model.specs.Rows.{Row, same_rows};
+ghost use Rattle.row_core.specs.Rows.{Row};
 ghost use Rattle.table_model.specs.Table.{Batch, Entry, creation, batch, batches_by, rows};
 ghost use Rattle.table_model.specs.Appends.{appended, with_batch, with_close};
 ghost use Rattle.table_model.specs.Reads.{read, handed, position, is_place, end};
@@ -9,11 +9,6 @@ ghost use Rattle.table_model.specs.Resumed.{reads_on, growth, beginning};
 ghost use Rattle.table_model.specs.Lawful.{IsLawful};
 ghost use Rattle.table_model.specs.declared.reading.Place.{Place};
 ghost use Rattle.table_model.specs.declared.table.Appended.TheVariants.{Already};
-
-/// Rows are the same exactly where they are equal.
-pub fn equal_rows_are_the_same()
-    ensures { (xs ys : List Row) → IsTrue (same_rows xs ys) ↔ (xs ≡ ys) }
-{}
 
 /// A table that was just created is lawful.
 pub fn a_new_table_is_lawful()

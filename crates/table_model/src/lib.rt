@@ -11,7 +11,6 @@ mod parts;
 mod placed;
 mod reading;
 mod table;
-mod value;
 
 pub use answers::{
     a_commit_is_the_next_version, a_lawful_table_was_lawful, answers_are_facts, facts_last,
@@ -20,8 +19,7 @@ pub use lawful::is_lawful;
 pub use laws::{
     a_committed_batch_stands_already, a_new_table_is_lawful,
     a_read_hands_the_rows_between_its_places, appends_keep_lawful, closes_keep_lawful,
-    equal_rows_are_the_same, numbers_stand_once, places_stay, reads_to_the_end_hand_out_all,
-    resumed_reads_hand_out_the_log,
+    numbers_stand_once, places_stay, reads_to_the_end_hand_out_all, resumed_reads_hand_out_the_log,
 };
 pub use parts::{
     a_part_from_the_beginning_is_a_front, a_part_is_the_only_one, a_read_comes_further,
@@ -29,4 +27,3 @@ pub use parts::{
 };
 pub use reading::{Answer, Place};
 pub use table::{Appended, Batch, Closing, Entry, Table};
-pub use value::Value;

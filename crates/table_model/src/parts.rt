@@ -1,7 +1,7 @@
 //! Laws of the parts of a table that reads hand out, whichever reader hands them out.
 
 ghost use Rattle.std.specs.Prelude.{◌≡◌, ◌⊎◌, ℕ, ◌+◌, ◌<◌, Bool, List, [], ◌++◌, take, sum_by, true, false};
-ghost use Rattle.table_model.specs.Rows.{Row};
+ghost use Rattle.row_core.specs.Rows.{Row};
 ghost use Rattle.table_model.specs.Table.{Entry, rows};
 ghost use Rattle.table_model.specs.Reads.{read, handed, position, is_place, end, IsPart, MayEnd};
 ghost use Rattle.table_model.specs.Resumed.{Handed, HandOut, reads_on, growth, beginning};

@@ -8,7 +8,7 @@ use Rattle.delta_actions.specs.Entry.{commit_info, protocol, meta_data, add, txn
 use Rattle.delta_actions.specs.In.{txn_in}
 use Rattle.delta_actions.specs.Kinds.{Path}
 use Rattle.delta_actions.specs.Commit.{IsCommit}
-use Rattle.table_model.specs.Rows.{Row}
+use Rattle.row_core.specs.Rows.{Row}
 use Rattle.delta_actions.specs.Names.{commit_name, data_file_name}
 use Rattle.table_store.specs.Schema.{Schema, IsFileOf}
 use Rattle.table_store.specs.Commits.{beside_info, StandFor}

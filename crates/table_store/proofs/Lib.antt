@@ -9,6 +9,5 @@ pub mod LawfulLogLemmas
 pub mod LeftLemmas
 pub mod NamesOnce
 pub mod SameText
-pub mod SchemaText
 pub mod Variants
 pub mod Callers

@@ -89,8 +89,8 @@ same_at_mark mark (x ∷ xs) (y ∷ ys) s t p q same =
     (λ i. first i ∷ parts.0 i, parts.1)
 
 -- what was read is one value
-ok_is : {E : Type 0} (read : Result (List ℕ) E) (xs ys : List ℕ) → read ≡ Ok xs → read ≡ Ok ys → xs ≡ ys
-ok_is read xs ys p q = cc
+pub ok_is : {A E : Type 0} (read : Result A E) (x y : A) → read ≡ Ok x → read ≡ Ok y → x ≡ y
+ok_is read x y p q = cc
 
 -- bytes are one-to-one with their text
 encode_lower-once : (xs ys : List ℕ) → IsBytes xs → IsBytes ys → encode_lower xs ≡ encode_lower ys → xs ≡ ys

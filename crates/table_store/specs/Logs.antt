@@ -9,7 +9,7 @@ use Rattle.delta_actions.specs.In.{add_in, txn_in}
 use Rattle.delta_actions.specs.Kinds.{Path}
 use Rattle.delta_actions.specs.Commit.{IsCommit}
 use Rattle.delta_actions.specs.Names.{commit_name, data_file_name}
-use Rattle.table_model.specs.Rows.{Row}
+use Rattle.row_core.specs.Rows.{Row}
 use Rattle.table_store.specs.Schema.{Schema, IsFileOf}
 use Rattle.table_store.specs.Holds.{Stands}
 use Rattle.table_model.specs.Table.{Batch}

@@ -10,7 +10,7 @@ ghost use Rattle.table_store.specs.Holds.{Holds, FileStands, IsLawfulStore};
 ghost use Rattle.table_model.specs.Lawful.{BeginsWithCreation, IsLawful};
 ghost use Rattle.table_store.specs.Logs.{IsLog, AreBatches, AreRows};
 ghost use Rattle.table_store.specs.LawfulLogs.{HasLawfulLog};
-ghost use Rattle.table_model.specs.Rows.{Row};
+ghost use Rattle.row_core.specs.Rows.{Row};
 ghost use Rattle.table_model.specs.Table.{Batch, Entry, batch, batches, rows};
 
 /// A store holds one table at most: one log of entries, and where the log begins with the creation, one schema. (A

@@ -3,10 +3,10 @@
 //! calls no code of this crate.
 #![tactic(auto)]
 
-mod column;
 mod commit;
 mod held;
 mod holding;
+mod schema;
 
 pub use held::{Held, held_by};
 pub use holding::{

@@ -1,6 +1,7 @@
 use Rattle.std.proofs.Common.{◌≡◌, ◌+◌, ◌++◌, ◌∷◌, [], map, OnOk, Bor, List, ℕ, take, ap, sym, ◌∙◌, subst, arith}
 use Rattle.std.proofs.lemmas.List.{map_more, map_push}
-use Rattle.schema_tree.specs.Leaves.{leaves_of, leaves_of_fields, leaf_under}
+use Rattle.schema_tree.specs.Leaves.{leaves_of, leaves_of_fields}
+use Rattle.schema_tree.specs.Internal.{leaf_under}
 use Rattle.schema_tree.specs.Schema.{leaf_view}
 use Rattle.schema_tree.specs.Tree.{fields_of}
 use Rattle.schema_tree.specs.View.{view, field_view, field_views}

@@ -1,6 +1,7 @@
 use Rattle.std.proofs.Common.{◌≡◌, ◌+◌, ◌*◌, [], map, drop}
 use Rattle.serde_json.specs.View.{items_view}
 use Rattle.lake_bytes.proofs.Callers.{with_front_beside}
+use Rattle.schema_tree.specs.Internal.{met_of}
 use Rattle.schema_tree.specs.Reading.{node_of, fields_behind}
 use Rattle.schema_tree.specs.View.{field_views}
 use Rattle.schema_tree.proofs.counts.Counts.+read.Given as goal
@@ -32,4 +33,4 @@ decreases-nested l = 6 * l.below + 5
 -- the fields that were read and those that are still read are all that are read from the start
 abbrev pub invariant-all_fields-loop-item : goal.invariant-all_fields-loop-item
 invariant-all_fields-loop-item l =
-    with_front_beside (field_views l.fields.items) (fields_behind (node_of l.below) (map (λ c. c.name) (field_views l.fields.items)) (items_view (drop l.item-index l.items)) l.self) ≡ fields_behind (node_of l.below) [] (items_view l.items) l.fn.self
+    with_front_beside (field_views l.fields.items) (fields_behind (node_of l.below) (map (λ c. c.name) (field_views l.fields.items)) (items_view (drop l.item-index l.items)) (met_of l.self)) ≡ fields_behind (node_of l.below) [] (items_view l.items) (met_of l.fn.self)

@@ -1,0 +1,12 @@
+pub mod Same
+pub mod Truths
+pub mod Fields
+pub mod KnownNames
+pub mod ConformsReads
+pub mod ReadConforms
+pub mod PrintedFields
+pub mod ReadFields
+pub mod Values
+pub mod ByteLists
+pub mod FirstColumn
+pub mod Callers

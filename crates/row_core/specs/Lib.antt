@@ -1,0 +1,9 @@
+pub mod Rows
+pub mod Views
+pub mod Unsupported
+pub mod Conforms
+pub mod Fault
+pub mod FaultTexts
+pub mod ToldOutside
+pub mod Reading
+pub mod Printing

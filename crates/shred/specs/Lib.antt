@@ -1,0 +1,7 @@
+pub mod Shape
+pub mod Fits
+pub mod Ways
+pub mod Columns
+pub mod Faults
+pub mod Assembly
+pub mod Views

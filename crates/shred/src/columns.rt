@@ -1,0 +1,18 @@
+//! Columns and their cells.
+
+/// The values of one leaf in all rows (Apache Parquet, "Nested Encoding").
+#[derive(Debug, Drop)]
+pub struct Column<V> {
+    /// For each row how many optional fields of the way to the leaf, from the top, come before the first null: the
+    /// definition level. It is the highest, the number of all optional fields on the way, where nothing is null.
+    pub levels: Vec<u64>,
+    /// The values of the rows in which nothing on the way is null, in order.
+    pub values: Vec<V>,
+}
+
+/// What a column has of one row: a level, and the value where nothing on the way is null.
+#[derive(Debug, Drop)]
+pub(crate) struct Cell<V> {
+    pub(crate) level: u64,
+    pub(crate) value: Option<V>,
+}

@@ -1,0 +1,23 @@
+//! Rows as columns with definition levels, as Apache Parquet has them without repeated fields ("Nested Encoding"),
+//! and back. It knows no bytes and no physical types.
+#![tactic(auto)]
+
+mod assembling;
+mod cells;
+mod columns;
+mod fault;
+mod laws;
+mod rows;
+mod shapes;
+mod shredding;
+mod ways;
+
+pub use assembling::assemble;
+pub use columns::Column;
+pub use fault::ShredError;
+pub use laws::{
+    columns_are_shredded_again, columns_have_one_list_of_rows, rows_are_assembled_again,
+    rows_that_fit_have_columns, uneven_columns_are_told_apart,
+};
+pub use shapes::{Shape, ShapeField};
+pub use shredding::shred;

@@ -1,5 +1,0 @@
-use Rattle.table_model.proofs.Same.{same_rows-is}
-use Rattle.table_model.proofs.laws.equal_rows_are_the_same.Goals as goal
-
-pub returns : goal.returns
-returns c = same_rows-is
