@@ -21,12 +21,12 @@ use Rattle.shred.proofs.Proper.{some_same, matrix_proper}
 
 -- ---- first cells and those behind them
 
-heads_long : (n : ℕ) (css : List (List Cell)) → AreLong (suc n) css → length (heads css) ≡ length css
+pub heads_long : (n : ℕ) (css : List (List Cell)) → AreLong (suc n) css → length (heads css) ≡ length css
 heads_long n [] long = refl
 heads_long n ([] ∷ css) long = let never : 0 ≡ suc n = long.0 in absurd (omega arith)
 heads_long n ((c ∷ cs) ∷ css) long = ap suc (heads_long n css long.1)
 
-tails_long : (n : ℕ) (css : List (List Cell)) → AreLong (suc n) css → AreLong n (map (drop 1) css)
+pub tails_long : (n : ℕ) (css : List (List Cell)) → AreLong (suc n) css → AreLong n (map (drop 1) css)
 tails_long n [] long = tt
 tails_long n ([] ∷ css) long = let never : 0 ≡ suc n = long.0 in absurd (omega arith)
 tails_long n ((c ∷ cs) ∷ css) long = let one : suc (length cs) ≡ suc n = long.0 in (omega arith, tails_long n css long.1)
@@ -69,7 +69,7 @@ Rows s css rs = All (FitsShape s) rs × (css ≡ matrix s rs)
 none_fit : (s : Shape) → All (FitsShape s) []
 none_fit s = λ k d h. absurd (omega (arith, h))
 
-rows_sound : (s : Shape) (n : ℕ) (css : List (List Cell)) (rs : List Row) → AreLong n css → length css ≡ length (ways s) → rows_made s n css ≡ Ok rs → All (FitsShape s) rs × (css ≡ matrix s rs)
+pub rows_sound : (s : Shape) (n : ℕ) (css : List (List Cell)) (rs : List Row) → AreLong n css → length css ≡ length (ways s) → rows_made s n css ≡ Ok rs → All (FitsShape s) rs × (css ≡ matrix s rs)
 rows_sound s zero css rs long same h = subst (λ xs. Rows s css xs) (ok_same [] rs h) (none_fit s, nothing_in css (ways s) long same)
 rows_sound s (suc n) css rs long same h =
     let left = map (drop 1) css in

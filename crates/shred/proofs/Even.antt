@@ -12,13 +12,13 @@ use Rattle.shred.specs.Faults.{uneven_columns}
 use Rattle.shred.specs.Assembly.{is_even, cells_in, cells_of_column, cells_of_columns}
 use Rattle.shred.proofs.Rests.{bind_ok, ok_same, or_ok, level_same, level_is}
 
-abbrev levels_of : List Cell → List ℕ
+abbrev pub levels_of : List Cell → List ℕ
 levels_of cells = map (λ c. c.level) cells
 
-abbrev found_in : List Cell → List Value
+abbrev pub found_in : List Cell → List Value
 found_in cells = filter_map (λ c. c.value) cells
 
-abbrev tops_in : ℕ → List ℕ → ℕ
+abbrev pub tops_in : ℕ → List ℕ → ℕ
 tops_in top ls = count_by (λ level. level == top) ls
 
 -- ---- a column is that of its cells
@@ -27,7 +27,7 @@ levels_on : (n : Bool) (top l : ℕ) (ls : List ℕ) (v : Value) (vs : List Valu
 levels_on true top l ls v vs is one other = rw is (ap (λ ms. l ∷ ms) one)
 levels_on false top l ls v vs is one other = rw is (ap (λ ms. l ∷ ms) other)
 
-levels_again : (top : ℕ) (ls : List ℕ) (vs : List Value) → levels_of (cells_in top ls vs) ≡ ls
+pub levels_again : (top : ℕ) (ls : List ℕ) (vs : List Value) → levels_of (cells_in top ls vs) ≡ ls
 levels_again top [] vs = refl
 levels_again top (l ∷ ls) [] = ap (λ ms. l ∷ ms) (levels_again top ls [])
 levels_again top (l ∷ ls) (v ∷ vs) = levels_on (l == top) top l ls v vs refl (levels_again top ls vs) (levels_again top ls (v ∷ vs))

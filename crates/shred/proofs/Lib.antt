@@ -17,3 +17,8 @@ pub mod Assembled
 pub mod Filled
 pub mod Callers
 pub mod Uneven
+pub mod ConformsFits
+pub mod FailsAt
+pub mod RowFails
+pub mod Mismatched
+pub mod RowsBefore

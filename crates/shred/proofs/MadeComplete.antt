@@ -18,11 +18,11 @@ values_again : (vs : Values) → values_of (list_of vs) ≡ vs
 values_again no_values = refl
 values_again (value v vs) = ap (value v) (values_again vs)
 
-has_have : (fs : Fields) → HasFields (struct fs) → HaveFields fs
+pub has_have : (fs : Fields) → HasFields (struct fs) → HaveFields fs
 has_have no_fields has = absurd has
 has_have (field name optional s fs) has = has
 
-absent_there : (level : ℕ) → is_absent level (absent_cell level) ≡ true
+pub absent_there : (level : ℕ) → is_absent level (absent_cell level) ≡ true
 absent_there level = rw (level_same level) refl
 
 -- ---- nulls are passed
@@ -57,7 +57,7 @@ mutual
 pub has_way : (s : Shape) → HasFields s → (w : List Step) × (ws : List (List Step)) × (ways s ≡ w ∷ ws)
 has_way s has = ways_some s has
 
-begins_null : (s : Shape) (m level : ℕ) (left : List Cell) → HasFields s → begins_absent level (absent_cells m (ways s) ++ left) ≡ is_absent level (absent_cell m)
+pub begins_null : (s : Shape) (m level : ℕ) (left : List Cell) → HasFields s → begins_absent level (absent_cells m (ways s) ++ left) ≡ is_absent level (absent_cell m)
 begins_null s m level left has = ap (λ ws. begins_absent level (absent_cells m ws ++ left)) (ways_some s has).2
 
 deeper : (optional : Bool) (m level : ℕ) → level < m → level < level_inside optional m
@@ -75,7 +75,7 @@ field_deep false optional s m level v left is has fit h inner =
     ap (λ n. begins_absent level ((if n then absent_cells m (ways s) else cells_of s (level_inside optional m) v) ++ left)) is ∙ inner (level_inside optional m) (deeper optional m level h) (fits_inside optional (FitsShape s) v is fit)
 
 mutual
-  begins_deep : (s : Shape) (m level : ℕ) (v : Value) (left : List Cell) → HasFields s → FitsShape s v → level < m → begins_absent level (cells_of s m v ++ left) ≡ false
+  pub begins_deep : (s : Shape) (m level : ℕ) (v : Value) (left : List Cell) → HasFields s → FitsShape s v → level < m → begins_absent level (cells_of s m v ++ left) ≡ false
   begins_deep leaf m level v left has fit h = rw (level_above m level h) refl
   begins_deep (struct fs) m level (structure vs) left has fit h = fields_deep fs m level vs left has fit h
   begins_deep (struct fs) m level _ left has fit h = absurd fit

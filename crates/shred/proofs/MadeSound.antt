@@ -17,9 +17,11 @@ absent_under level s [] = refl
 absent_under level s (w ∷ ws) = ap (λ cs. absent_cell level ∷ cs) (absent_under level s ws)
 
 -- the cells of nulls, those of the first field in front
+pub absent_both : (level : ℕ) (s : Step) (ws others : List (List Step)) → absent_cells level (under (s ∷ []) ws ++ others) ≡ absent_cells level ws ++ absent_cells level others
+absent_both level s ws others = map-append (λ way. absent_cell level) (under (s ∷ []) ws) others ∙ ap (λ cs. cs ++ absent_cells level others) (absent_under level s ws)
+
 pub absent_split : (level : ℕ) (s : Step) (ws others : List (List Step)) (left : List Cell) → absent_cells level (under (s ∷ []) ws ++ others) ++ left ≡ absent_cells level ws ++ (absent_cells level others ++ left)
-absent_split level s ws others left =
-    ap (λ cs. cs ++ left) (map-append (λ way. absent_cell level) (under (s ∷ []) ws) others ∙ ap (λ cs. cs ++ absent_cells level others) (absent_under level s ws)) ∙ append_assoc (absent_cells level ws) (absent_cells level others) left
+absent_split level s ws others left = ap (λ cs. cs ++ left) (absent_both level s ws others) ∙ append_assoc (absent_cells level ws) (absent_cells level others) left
 
 passed_leaf : (n : Bool) (level : ℕ) (c : Cell) (cells left : List Cell) → is_absent level c ≡ n → passed leaf level (c ∷ cells) ≡ Ok left → (c ∷ cells) ≡ absent_cell level ∷ left
 passed_leaf true level c cells left is h =
@@ -67,7 +69,7 @@ optional_sound false s level cells v left inner is h =
     let go : field_made true (passed s) (made s) level cells ≡ made s (level + 1) cells = rw is refl in
     there_sound true s level cells v left (inner (level + 1) cells v left (sym go ∙ h))
 
-field_sound : (optional : Bool) (s : Shape) (level : ℕ) (cells : List Cell) (v : Value) (left : List Cell) → Sound s → field_made optional (passed s) (made s) level cells ≡ Ok (v, left) → FitsField optional (FitsShape s) v × (cells ≡ field_cells optional s level v ++ left)
+pub field_sound : (optional : Bool) (s : Shape) (level : ℕ) (cells : List Cell) (v : Value) (left : List Cell) → Sound s → field_made optional (passed s) (made s) level cells ≡ Ok (v, left) → FitsField optional (FitsShape s) v × (cells ≡ field_cells optional s level v ++ left)
 field_sound true s level cells v left inner h = optional_sound (begins_absent level cells) s level cells v left inner refl h
 field_sound false s level cells v left inner h = there_sound false s level cells v left (inner level cells v left h)
 

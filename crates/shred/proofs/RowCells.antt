@@ -117,15 +117,15 @@ mutual
 
 -- ---- how many there are
 
-under_length : (above : List Step) (ws : List (List Step)) → length (under above ws) ≡ length ws
+pub under_length : (above : List Step) (ws : List (List Step)) → length (under above ws) ≡ length ws
 under_length above [] = refl
 under_length above (w ∷ ws) = ap suc (under_length above ws)
 
-absent_length : (level : ℕ) (ws : List (List Step)) → length (absent_cells level ws) ≡ length ws
+pub absent_length : (level : ℕ) (ws : List (List Step)) → length (absent_cells level ws) ≡ length ws
 absent_length level [] = refl
 absent_length level (w ∷ ws) = ap suc (absent_length level ws)
 
-field_length : (n optional : Bool) (s : Shape) (level : ℕ) (v : Value) → is_null v ≡ n → FitsField optional (FitsShape s) v → (FitsShape s v → length (cells_of s (level_inside optional level) v) ≡ length (ways s))
+pub field_length : (n optional : Bool) (s : Shape) (level : ℕ) (v : Value) → is_null v ≡ n → FitsField optional (FitsShape s) v → (FitsShape s v → length (cells_of s (level_inside optional level) v) ≡ length (ways s))
     → length (if is_null v then absent_cells level (ways s) else cells_of s (level_inside optional level) v) ≡ length (ways s)
 field_length true optional s level v is fit inner = rw is (absent_length level (ways s))
 field_length false optional s level v is fit inner = rw is (inner (fits_inside optional (FitsShape s) v is fit))

@@ -10,18 +10,19 @@ use Rattle.shred.specs.Shape.{Shape, leaf, struct, Fields, no_fields, field}
 use Rattle.shred.specs.Ways.{Step, ways, highest}
 use Rattle.shred.specs.Columns.{Cell, Column}
 use Rattle.shred.specs.Faults.{Fault, uneven_columns, level_mismatch, inside}
-use Rattle.shred.specs.Assembly.{IsWhole, AreEven, is_absent, value_in, begins_absent, passed, passed_fields, field_made, made, made_fields, is_even, cells_in, cells_of_column, cells_of_columns, row_count, heads, row_made, rows_made, assembled}
+use Rattle.shred.specs.Assembly.{IsWhole, AreEven, is_absent, value_in, begins_absent, passed, passed_fields, field_made, made, made_fields, is_even, cells_of_column, cells_of_columns, row_count, heads, row_made, rows_made, assembled}
+use Rattle.shred.specs.Mismatch.{cells_of_ways}
 use Rattle.shred.proofs.Rests.{bind_ok, or_ok, level_same, level_is}
 
 -- ---- a row is never refused as uneven
 
-err_same : {A : Type 0} (e f : Fault) → (let r : Result A Fault = Err e in r) ≡ Err f → e ≡ f
+pub err_same : {A : Type 0} (e f : Fault) → (let r : Result A Fault = Err e in r) ≡ Err f → e ≡ f
 err_same e f h = cc
 
-ok_err : {A : Type 0} (x : A) (e : Fault) → Ok x ≡ Err e → ⊥
+pub ok_err : {A : Type 0} (x : A) (e : Fault) → Ok x ≡ Err e → ⊥
 ok_err x e h = absurd cc
 
-bind_err : {A B : Type 0} (r : Result A Fault) (f : A → Result B Fault) (e : Fault) → (r >>= f) ≡ Err e → (r ≡ Err e) ⊎ ((x : A) × (r ≡ Ok x) × (f x ≡ Err e))
+pub bind_err : {A B : Type 0} (r : Result A Fault) (f : A → Result B Fault) (e : Fault) → (r >>= f) ≡ Err e → (r ≡ Err e) ⊎ ((x : A) × (r ≡ Ok x) × (f x ≡ Err e))
 bind_err {A} {B} (Err d) f e h = inl (ap (λ x. Err x) (err_same d e h))
 bind_err (Ok x) f e h = inr (x, refl, h)
 
@@ -86,7 +87,7 @@ mutual
 row_fair : (s : Shape) (cells : List Cell) → Fair (row_made s cells)
 row_fair s cells h = bind_fair (made s 0 cells) (λ row. Ok row.0) (made_fair s 0 cells) (λ row e. ok_fair row.0 e) h
 
-rows_fair : (s : Shape) (n : ℕ) (css : List (List Cell)) → Fair (rows_made s n css)
+pub rows_fair : (s : Shape) (n : ℕ) (css : List (List Cell)) → Fair (rows_made s n css)
 rows_fair s zero css h = ok_fair [] h
 rows_fair s (suc n) css h =
     let others = rows_made s n (map (drop 1) css) in
@@ -97,8 +98,8 @@ rows_fair s (suc n) css h =
 same_level : (m n : ℕ) → m ≡ n → (m == n) ≡ true
 same_level m n h = ap (λ k. m == k) (sym h) ∙ level_same m
 
-even_opens : (rows : ℕ) (ws : List (List Step)) (cs : List Column) → AllZip (IsWhole rows) ws cs → (css : List (List Cell)) × (cells_of_columns rows (map highest ws) cs ≡ Ok css)
-even_opens rows [] [] even = ([], refl)
+pub even_opens : (rows : ℕ) (ws : List (List Step)) (cs : List Column) → AllZip (IsWhole rows) ws cs → cells_of_columns rows (map highest ws) cs ≡ Ok (cells_of_ways ws cs)
+even_opens rows [] [] even = refl
 even_opens rows [] (c ∷ cs) even = absurd even
 even_opens rows (w ∷ ws) [] even = absurd even
 even_opens rows (w ∷ ws) (c ∷ cs) even =
@@ -106,7 +107,7 @@ even_opens rows (w ∷ ws) (c ∷ cs) even =
     let values = same_level (count_by (λ level. level == highest w) c.levels) (length c.values) even.0.values_each in
     let one : is_even rows (highest w) c ≡ true = and_from (length c.levels == rows) (count_by (λ level. level == highest w) c.levels == length c.values) levels values in
     let rest = even_opens rows ws cs even.1 in
-    (cells_in (highest w) c.levels c.values ∷ rest.0, rw (one, rest.1) refl)
+    rw (one, rest) refl
 
 column_even : (n : Bool) (rows : ℕ) (way : List Step) (c : Column) (cells : List Cell) → is_even rows (highest way) c ≡ n → cells_of_column rows (highest way) c ≡ Some cells → IsWhole rows way c
 column_even true rows way c cells is h =
@@ -119,7 +120,7 @@ column_even false rows way c cells is h =
     let go : cells_of_column rows (highest way) c ≡ None = rw is refl in
     absurd (none-some cells (sym go ∙ h))
 
-opens_even : (rows : ℕ) (ws : List (List Step)) (cs : List Column) (css : List (List Cell)) → cells_of_columns rows (map highest ws) cs ≡ Ok css → AllZip (IsWhole rows) ws cs
+pub opens_even : (rows : ℕ) (ws : List (List Step)) (cs : List Column) (css : List (List Cell)) → cells_of_columns rows (map highest ws) cs ≡ Ok css → AllZip (IsWhole rows) ws cs
 opens_even rows [] [] css h = tt
 opens_even rows [] (c ∷ cs) css h = absurd cc
 opens_even rows (w ∷ ws) [] css h = absurd cc
@@ -133,7 +134,7 @@ or_err : {A : Type 0} (o : Option A) (e : Fault) → or_refusal o uneven_columns
 or_err {A} None e h = sym (err_same {A = A} uneven_columns e h)
 or_err (Some x) e h = absurd cc
 
-refused_uneven : (rows : ℕ) (tops : List ℕ) (cs : List Column) (e : Fault) → cells_of_columns rows tops cs ≡ Err e → e ≡ uneven_columns
+pub refused_uneven : (rows : ℕ) (tops : List ℕ) (cs : List Column) (e : Fault) → cells_of_columns rows tops cs ≡ Err e → e ≡ uneven_columns
 refused_uneven rows [] [] e h = absurd cc
 refused_uneven rows [] (c ∷ cs) e h = sym (err_same {A = List (List Cell)} uneven_columns e h)
 refused_uneven rows (top ∷ tops) [] e h = sym (err_same {A = List (List Cell)} uneven_columns e h)
@@ -151,9 +152,10 @@ refused_uneven rows (top ∷ tops) (c ∷ cs) e h =
 even_fair : (s : Shape) (given : List Column) → AreEven s given → Fair (assembled s given)
 unfolding assembled
 even_fair s given even h =
+    let css = cells_of_ways (ways s) given in
     let opened = even_opens (row_count given) (ways s) given even in
-    let go : (cells_of_columns (row_count given) (map highest (ways s)) given >>= λ cells. rows_made s (row_count given) cells) ≡ rows_made s (row_count given) opened.0 = rw opened.1 refl in
-    rows_fair s (row_count given) opened.0 (sym go ∙ h)
+    let go : (cells_of_columns (row_count given) (map highest (ways s)) given >>= λ cells. rows_made s (row_count given) cells) ≡ rows_made s (row_count given) css = rw opened refl in
+    rows_fair s (row_count given) css (sym go ∙ h)
 
 uneven_from : (s : Shape) (given : List Column) (r : Result (List (List Cell)) Fault) → cells_of_columns (row_count given) (map highest (ways s)) given ≡ r → (AreEven s given → ⊥) → assembled s given ≡ Err uneven_columns
 unfolding assembled

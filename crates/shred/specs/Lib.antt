@@ -4,4 +4,5 @@ pub mod Ways
 pub mod Columns
 pub mod Faults
 pub mod Assembly
+pub mod Mismatch
 pub mod Views

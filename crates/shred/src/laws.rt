@@ -1,12 +1,21 @@
 //! Laws of rows and their columns, each a function with an empty body whose contract is the law.
 
-ghost use Rattle.std.specs.Prelude.{◌≡◌, ◌↔◌, List, All, IsSome, Ok, Err};
+ghost use Rattle.std.specs.Prelude.{◌≡◌, ◌↔◌, ℕ, List, All, IsSome, Ok, Err};
+ghost use Rattle.row_core.specs.Conforms.{Conforms};
 ghost use Rattle.row_core.specs.Rows.{Row};
+ghost use Rattle.schema_tree.specs.Fault.{Path};
+ghost use Rattle.schema_tree.specs.Tree.{Tree};
 ghost use Rattle.shred.specs.Assembly.{assembled, AreEven};
 ghost use Rattle.shred.specs.Columns.{Column, columns, AreColumnsOf};
-ghost use Rattle.shred.specs.Faults.{uneven_columns};
+ghost use Rattle.shred.specs.Faults.{uneven_columns, level_mismatch};
 ghost use Rattle.shred.specs.Fits.{FitsShape};
-ghost use Rattle.shred.specs.Shape.{Shape, HasFields};
+ghost use Rattle.shred.specs.Mismatch.{FailsFirst, IsMismatch, StopsAt};
+ghost use Rattle.shred.specs.Shape.{Shape, HasFields, shape_of};
+
+/// Rows that conform to a schema fit its shape, that of `Shape::of_schema`, so that they can be shredded.
+pub fn rows_that_conform_fit()
+    ensures { (t : Tree) (r : Row) → Conforms t r → FitsShape (shape_of t) r }
+{}
 
 /// Rows that fit have columns.
 pub fn rows_that_fit_have_columns()
@@ -35,4 +44,23 @@ pub fn columns_have_one_list_of_rows()
 pub fn uneven_columns_are_told_apart()
     ensures { (shape : Shape) (given : List Column) → (assembled shape given ≡ Err uneven_columns)
         ↔ (AreEven shape given → ⊥) }
+{}
+
+/// Columns are refused for a mismatch just where they are even and there is a row at which they stop: cut to the rows
+/// before it they are the columns of rows that fit, and no row that fits has its cells. Each struct has a field.
+pub fn mismatches_come_at_a_row_that_cannot_be_made()
+    ensures refused { (shape : Shape) (given : List Column) → HasFields shape
+        → ((path : Path) × (assembled shape given ≡ Err (level_mismatch path)))
+        ↔ (AreEven shape given × ((place : ℕ) × StopsAt shape given place)) }
+    // It is the row at which the leaf that is told fails.
+    ensures same { (shape : Shape) (given : List Column) (place leaf : ℕ) → HasFields shape → AreEven shape given
+        → FailsFirst shape given place leaf → StopsAt shape given place }
+{}
+
+/// Columns are refused for a mismatch with a path just where they are even and the first row that they don't give
+/// fails first at the leaf of this path, depth first: some row that fits has the cells of the leaves before, and none
+/// has these and the leaf's. Each struct has a field.
+pub fn mismatches_are_told_at_the_first_leaf()
+    ensures { (shape : Shape) (given : List Column) (path : Path) → HasFields shape
+        → (assembled shape given ≡ Err (level_mismatch path)) ↔ IsMismatch shape given path }
 {}

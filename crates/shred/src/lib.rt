@@ -16,8 +16,10 @@ pub use assembling::assemble;
 pub use columns::Column;
 pub use fault::ShredError;
 pub use laws::{
-    columns_are_shredded_again, columns_have_one_list_of_rows, rows_are_assembled_again,
-    rows_that_fit_have_columns, uneven_columns_are_told_apart,
+    columns_are_shredded_again, columns_have_one_list_of_rows,
+    mismatches_are_told_at_the_first_leaf, mismatches_come_at_a_row_that_cannot_be_made,
+    rows_are_assembled_again, rows_that_conform_fit, rows_that_fit_have_columns,
+    uneven_columns_are_told_apart,
 };
 pub use shapes::{Shape, ShapeField};
 pub use shredding::shred;
