@@ -5,6 +5,7 @@ use crate::kind::{Kind, ROWS, kind_named};
 use crate::local_heap::heap_line;
 use crate::notation::{Names, number, spelled};
 use crate::refusal::Refusal;
+use crate::rows::table_lines;
 use crate::spoiling::spoil;
 use crate::writing::written;
 use std::alloc::{AllocError, Global};
@@ -14,7 +15,8 @@ use std::collections::BTreeMap;
 ///
 /// `KIND BYTES` tells what the bytes are, `rows COLUMN BYTES` the rows of a file; `write ..` what is written;
 /// `spoil KIND BYTES` what comes of spoiled bytes; `heap BYTES SCHEMA` what comes of a schema that is copied into a heap
-/// of so many bytes. `let NAME BYTES` and `let NAME write ..` name bytes.
+/// of so many bytes; `row SCHEMA ROW`, `columns SCHEMA ROWS` and `assemble SCHEMA COLUMNS` what comes of rows and columns
+/// of a schema, which is one word. `let NAME BYTES` and `let NAME write ..` name bytes.
 pub fn cases(alloc: Global, text: &str) -> Result<String, AllocError> {
     let mut out = String::new(alloc);
     let mut names = BTreeMap::new(alloc);
@@ -56,6 +58,10 @@ fn answer(alloc: Global, names: &mut Names, line: &str) -> Result<String, Refusa
             let (size, rest) = rest.split_once(' ').ok_or(Refusal::BadSpelling)?;
             let bytes = spelled(alloc, names, rest)?;
             Ok(shortened(alloc, heap_line(alloc, number(size)?, &bytes)?)?)
+        }
+        "row" | "columns" | "assemble" => {
+            let lines = table_lines(alloc, names, word, rest)?;
+            Ok(shortened(alloc, joined(alloc, &lines)?)?)
         }
         _ => {
             let (kind, rest) = kind_in_front(line).ok_or(Refusal::BadSpelling)?;

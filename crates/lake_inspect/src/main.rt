@@ -1,4 +1,4 @@
-//! A program that prints what bytes are: numbers, Thrift structs, Parquet files, schemas and Delta commits.
+//! A program that prints what bytes are: numbers, Thrift structs, Parquet files, schemas, rows and Delta commits.
 #![tactic(auto)]
 
 mod cases;
@@ -9,6 +9,7 @@ mod local_heap;
 mod notation;
 mod parquet;
 mod refusal;
+mod rows;
 mod schema;
 mod spoiling;
 mod tree;

@@ -6,7 +6,9 @@ ghost use Rattle.lake_inspect.specs.declared.refusal.Refusal.TheVariants.{Memory
 use delta_actions::ActionFault;
 use lake_bytes::ByteFault;
 use parquet_file::{FileError, FileFault};
+use row_core::{RowError, RowFault};
 use schema_tree::SchemaFault;
+use shred::ShredError;
 use std::alloc::{AllocError, AllocFailed};
 use thiserror::Error;
 use thrift_core::{ReadError, ThriftFault};
@@ -32,6 +34,12 @@ pub enum Refusal {
     /// They are the text of no schema.
     #[error("refused {0}")]
     Schema(SchemaFault),
+    /// A JSON value is no row.
+    #[error("refused {0}")]
+    Row(RowFault),
+    /// Columns are those of no rows.
+    #[error("refused {0}")]
+    Columns(ShredError),
     /// They are no commit.
     #[error("refused {0}")]
     Commit(ActionFault),
@@ -76,6 +84,24 @@ impl From<schema_tree::ReadError> for Refusal {
         match error {
             schema_tree::ReadError::Memory => Refusal::Memory,
             schema_tree::ReadError::Fault(fault) => Refusal::Schema(fault),
+        }
+    }
+}
+
+impl From<RowError> for Refusal {
+    fn from(error: RowError) -> Refusal {
+        match error {
+            RowError::Memory => Refusal::Memory,
+            RowError::Fault(fault) => Refusal::Row(fault),
+        }
+    }
+}
+
+impl From<ShredError> for Refusal {
+    fn from(error: ShredError) -> Refusal {
+        match error {
+            ShredError::Memory => Refusal::Memory,
+            error => Refusal::Columns(error),
         }
     }
 }

@@ -25,7 +25,7 @@ pub fn schema_of(alloc: Global, bytes: &[u8]) -> Result<Schema<Global>, Refusal>
 }
 
 /// A leaf: its path, and how many of the fields on it may be null.
-fn leaf_line(alloc: Global, leaf: &Leaf<'_, Global>) -> Result<String, AllocError> {
+pub fn leaf_line(alloc: Global, leaf: &Leaf<'_, Global>) -> Result<String, AllocError> {
     let mut line = String::from_str(alloc, "leaf ")?;
     let mut gap = "";
     for name in &leaf.names {
