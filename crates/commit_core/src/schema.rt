@@ -8,8 +8,8 @@ use schema_tree::Schema;
 use std::alloc::{AllocError, Global};
 
 /// The text of a schema in a table's metadata (Delta PROTOCOL.md, "Change Metadata"): compact, with keys in
-/// order of bytes. Where a number in a field's metadata has a fraction or an exponent, it is the text
-/// that was given.
+/// order of bytes. Where a number in a field's metadata has a fraction or an exponent, is `-0` or is
+/// beyond 64 bits, it is the whole text that was given.
 pub(crate) fn kept_text(
     alloc: Global,
     given: &str,
