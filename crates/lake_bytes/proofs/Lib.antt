@@ -5,3 +5,8 @@ pub mod Fixed
 pub mod Outcomes
 pub mod Loops
 pub mod Callers
+pub mod BitLemmas
+pub mod RunLemmas
+pub mod HybridLemmas
+pub mod GroupedLemmas
+pub mod ValueLemmas

@@ -6,3 +6,5 @@ pub mod Texts
 pub mod Results
 pub mod Options
 pub mod Outcome
+pub mod Hybrid
+pub mod Internal

@@ -17,6 +17,8 @@ pub enum ByteFault {
     VarintTooLong,
     /// The number is out of its type's range.
     OutOfRange,
+    /// A run of a hybrid has no values.
+    BadRun,
 }
 
 impl Display for ByteFault {
@@ -27,6 +29,7 @@ impl Display for ByteFault {
             ByteFault::Short => "B1 Short",
             ByteFault::VarintTooLong => "B2 VarintTooLong",
             ByteFault::OutOfRange => "B3 OutOfRange",
+            ByteFault::BadRun => "B4 BadRun",
         })
     }
 }

@@ -1,9 +1,10 @@
 //! Laws of the spellings, each a function with an empty body whose contract is the law.
 
-ghost use Rattle.std.specs.Prelude.{◌≡◌, ℕ, ℤ, ◌<◌, ◌≤◌, ◌^◌, ◌++◌, List, Ok, length, FitsSigned};
+ghost use Rattle.std.specs.Prelude.{◌≡◌, ℕ, ℤ, ◌<◌, ◌≤◌, ◌^◌, ◌++◌, All, List, Ok, length, FitsSigned};
 ghost use Rattle.std.specs.Int.{w32, w64, to_le_bytes, cast_unsigned};
 ghost use Rattle.lake_bytes.specs.Reading.{ReadsFront};
 ghost use Rattle.lake_bytes.specs.Varint.{IsBytes, IsVarint, SpellsNumber, varint_bytes, varint_at};
+ghost use Rattle.lake_bytes.specs.Hybrid.{HoldsValues, hybrid_at, hybrid_bytes};
 ghost use Rattle.lake_bytes.specs.Zigzag.{SpellsSigned, zigzag, signed_at};
 ghost use Rattle.lake_bytes.specs.LittleEndian.{little_at, signed_little_at};
 
@@ -47,4 +48,18 @@ pub fn little_endian_is_read_again()
     ensures eight { (n : ℕ) (rest : List ℕ) → n < 2 ^ 64 → little_at w64 (to_le_bytes w64 n ++ rest) ≡ Ok (n, rest) }
     ensures signed_four { (z : ℤ) (rest : List ℕ) → FitsSigned w32 z → signed_little_at w32 (to_le_bytes w32 (cast_unsigned w32 z) ++ rest) ≡ Ok (z, rest) }
     ensures signed_eight { (z : ℤ) (rest : List ℕ) → FitsSigned w64 z → signed_little_at w64 (to_le_bytes w64 (cast_unsigned w64 z) ++ rest) ≡ Ok (z, rest) }
+{}
+
+/// Reading a hybrid from the left gives values exactly where a front of the bytes is runs of enough, and so bytes hold
+/// one list of so many values at most. What is written for values is read again as them, whatever follows it.
+pub fn a_hybrid_is_read_where_it_stands()
+    ensures found { (width count : ℕ) (bytes values rest : List ℕ) → IsBytes bytes
+        → hybrid_at width count bytes ≡ Ok (values, rest) → HoldsValues width count bytes values }
+    ensures stands { (width count : ℕ) (bytes values : List ℕ) → HoldsValues width count bytes values
+        → (rest : List ℕ) × (hybrid_at width count bytes ≡ Ok (values, rest)) }
+    ensures one { (width count : ℕ) (bytes values others : List ℕ) → HoldsValues width count bytes values
+        → HoldsValues width count bytes others → values ≡ others }
+    ensures again { (width : ℕ) (values rest : List ℕ) → All (λ value. value < 2 ^ width) values
+        → length values < 2 ^ 63
+        → hybrid_at width (length values) (hybrid_bytes width values ++ rest) ≡ Ok (values, rest) }
 {}
