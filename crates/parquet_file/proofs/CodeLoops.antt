@@ -1,16 +1,11 @@
 -- Reading one member after another, as a loop does: what was read and what is still read are what is read from the start.
-use Rattle.std.proofs.Common.{◌≡◌, ℕ, suc, ◌-◌, ◌+◌, ◌≤◌, ◌<◌, ℤ, w64, List, [], ◌∷◌, ◌++◌, Option, option_map, Result, Ok, Err, refl, sym, ap, ◌∙◌, arith}
+use Rattle.std.proofs.Common.{◌≡◌, ℕ, suc, ◌-◌, ◌+◌, ◌≤◌, ◌<◌, ℤ, w64, List, [], ◌∷◌, ◌++◌, Result, Ok, Err, refl, sym, ap, ◌∙◌, arith}
 use Rattle.std.proofs.lemmas.List.{append-nil}
 use Rattle.lake_bytes.specs.Results.{◌>>=◌}
 use Rattle.lake_bytes.proofs.Callers.{with_front, with_front_beside, regroup_beside}
 use Rattle.lake_bytes.specs.LittleEndian.{signed_little_at}
 use Rattle.lake_bytes.specs.declared.fault.ByteFault.{ByteFault}
 use Rattle.parquet_file.specs.Plain.{plain_at}
-
--- ---- texts
-
-abbrev pub with_texts : List (List ℕ) → Option (List (List ℕ)) → Option (List (List ℕ))
-with_texts front read = option_map (λ texts. front ++ texts) read
 
 -- ---- values added to rows
 

@@ -5,13 +5,13 @@ use Rattle.std.proofs.lemmas.Bool.{lt-ltb, le-ltb}
 use Rattle.lake_bytes.specs.Outcome.{IsSaid}
 use Rattle.lake_bytes.specs.Results.{◌>>=◌}
 use Rattle.lake_bytes.proofs.Callers.{with_front, regroup}
-use Rattle.parquet_file.specs.Metadata.{Group}
-use Rattle.parquet_file.specs.Outcome.{says}
+use Rattle.parquet_footer.specs.Metadata.{Group}
+use Rattle.parquet_footer.specs.Outcome.{says}
 use Rattle.parquet_file.specs.Reading.{page_at, pages_at, rows_of_group, rows_of_groups}
-use Rattle.parquet_file.specs.declared.fault.FileError.{FileError}
-use Rattle.parquet_file.specs.declared.fault.FileError.TheVariants as errors
-use Rattle.parquet_file.specs.declared.fault.FileFault.{FileFault}
-use Rattle.parquet_file.specs.declared.fault.FileFault.TheVariants.{BadOffset, CountMismatch}
+use Rattle.parquet_footer.specs.declared.fault.FileError.{FileError}
+use Rattle.parquet_footer.specs.declared.fault.FileError.TheVariants as errors
+use Rattle.parquet_footer.specs.declared.fault.FileFault.{FileFault}
+use Rattle.parquet_footer.specs.declared.fault.FileFault.TheVariants.{BadOffset, CountMismatch}
 use Rattle.parquet_file.proofs.CodeLoops.{rows_not_added, unkept, unkept_ok, unkept_err}
 
 -- a fault of what is read is one of what is added

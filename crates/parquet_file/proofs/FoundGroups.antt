@@ -5,14 +5,14 @@ use Rattle.std.proofs.lemmas.Bool.{leb-true, eqb-true, not-false, both_ways}
 use Rattle.std.proofs.lemmas.Bool.Decides.{Decides-int_eq}
 use Rattle.lake_bytes.specs.Results.{◌>>=◌}
 use Rattle.lake_bytes.specs.Varint.{IsBytes}
-use Rattle.parquet_file.specs.Metadata.{Chunk, Group, Metadata}
+use Rattle.parquet_footer.specs.Metadata.{Chunk, Group, Metadata}
 use Rattle.parquet_file.specs.Pages.{without_values, from_place}
 use Rattle.parquet_file.specs.File.{IsLongColumn, IsChunkOf, Holds, IsGroup, AreGroups}
 use Rattle.parquet_file.specs.Reading.{is_long_column, pages_at, first_place, values_of_chunk, is_path, chunk_at, or_mismatch, rows_of_group, rows_of_groups, claimed_rows, rows_of}
-use Rattle.parquet_file.specs.declared.fault.FileFault.TheVariants.{Codec, BadOffset, CountMismatch, SchemaMismatch}
+use Rattle.parquet_footer.specs.declared.fault.FileFault.TheVariants.{Codec, BadOffset, CountMismatch, SchemaMismatch}
 use Rattle.parquet_file.proofs.OnlyPlain.{Conform, all_join}
 use Rattle.parquet_file.proofs.OnlyGroups.{column_decides, path_decides}
-use Rattle.parquet_file.proofs.FoundSteps.{bind_ok, ok_is, passed, held, chosen}
+use Rattle.parquet_footer.proofs.Callers.{bind_ok, ok_is, passed, held, chosen}
 use Rattle.parquet_file.proofs.FoundPages.{pages_found}
 
 -- ---- chunks

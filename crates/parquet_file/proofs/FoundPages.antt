@@ -12,11 +12,13 @@ use Rattle.thrift_core.specs.Reading.{struct_at}
 use Rattle.thrift_core.proofs.Callers.{struct_at_found}
 use Rattle.parquet_file.specs.Plain.{plain, plain_at}
 use Rattle.parquet_file.specs.Pages.{Header, header_of, plain_header, IsPage, ArePages, no_page, page}
-use Rattle.parquet_file.specs.Reading.{told_as, bytes_told_as, header_at, values_at, page_at, pages_at}
-use Rattle.parquet_file.specs.declared.fault.FileFault.{FileFault}
-use Rattle.parquet_file.specs.declared.fault.FileFault.TheVariants.{BadPage, PageKind, BadOffset, CountMismatch, Encoding}
+use Rattle.parquet_footer.specs.Reading.{told_as}
+use Rattle.parquet_file.specs.Reading.{bytes_told_as, header_at, values_at, page_at, pages_at}
+use Rattle.parquet_footer.specs.declared.fault.FileFault.{FileFault}
+use Rattle.parquet_footer.specs.declared.fault.FileFault.TheVariants.{BadPage, PageKind, BadOffset, CountMismatch, Encoding}
 use Rattle.parquet_file.proofs.OnlyPlain.{Conform, all_join, length-plain}
-use Rattle.parquet_file.proofs.FoundSteps.{bind_ok, ok_is, passed, held, told_ok, bytes_told_ok, bytes_behind, bytes_before, bytes_after}
+use Rattle.parquet_footer.proofs.Callers.{bind_ok, ok_is, passed, held, told_ok, bytes_behind, bytes_before, bytes_after}
+use Rattle.parquet_file.proofs.FoundSteps.{bytes_told_ok}
 use Rattle.parquet_file.proofs.FoundPlain.{AreValues, plain_found}
 
 -- ---- a header

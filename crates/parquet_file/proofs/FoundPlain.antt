@@ -1,7 +1,7 @@
 -- Values that are read stand in the bytes by PLAIN.
 use Rattle.std.proofs.Common.{◌≡◌, ℕ, zero, suc, ◌^◌, ◌<◌, ◌≤◌, ℤ, ltb, List, [], ◌∷◌, ◌++◌, length, take, drop, Ok, refl, sym, ap, subst, ◌∙◌, arith, length-take}
 use Rattle.std.specs.Prelude.{FitsSigned}
-use Rattle.std.specs.Int.{w32, w64, to_le_bytes, from_le_bytes, cast_signed, cast_unsigned}
+use Rattle.std.specs.Int.{w64, to_le_bytes, from_le_bytes, cast_signed, cast_unsigned}
 use Rattle.std.proofs.Math.Facts.{sfits_to_z}
 use Rattle.std.proofs.lemmas.Bool.{ltb-false}
 use Rattle.std.proofs.lemmas.Int.{of_z-to_z}
@@ -13,12 +13,9 @@ use Rattle.lake_bytes.specs.Varint.{IsBytes}
 use Rattle.lake_bytes.specs.declared.fault.ByteFault.TheVariants.{Short}
 use Rattle.parquet_file.specs.Plain.{plain, plain_at}
 use Rattle.parquet_file.proofs.OnlyPlain.{Conform}
-use Rattle.parquet_file.proofs.FoundSteps.{bind_ok, ok_is, passed, bytes_before, bytes_behind}
+use Rattle.parquet_footer.proofs.Callers.{bind_ok, ok_is, passed, bytes_before, bytes_behind}
 
--- four bytes are a number of 32 bits, and eight one of 64
-pub four_below : (bytes : List ℕ) → IsBytes bytes → from_le_bytes w32 bytes < 2 ^ 32
-four_below bytes h = omega (arith, h 0, h 1, h 2, h 3)
-
+-- eight bytes are a number of 64 bits
 pub eight_below : (bytes : List ℕ) → IsBytes bytes → from_le_bytes w64 bytes < 2 ^ 64
 eight_below bytes h = omega (arith, h 0, h 1, h 2, h 3, h 4, h 5, h 6, h 7)
 

@@ -1,9 +1,7 @@
-pub mod CodeFields
+pub mod CodeMembers
 pub mod CodeLoops
 pub mod CodePages
 pub mod Found
-pub mod FoundFooter
-pub mod FoundFrame
 pub mod FoundGroups
 pub mod FoundLimits
 pub mod FoundPages
@@ -12,7 +10,6 @@ pub mod FoundSteps
 pub mod FoundTold
 pub mod One
 pub mod Only
-pub mod OnlyFrame
 pub mod OnlyGroups
 pub mod OnlyPages
 pub mod OnlyPlain

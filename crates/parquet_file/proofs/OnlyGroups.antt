@@ -2,13 +2,14 @@
 use Rattle.std.proofs.Common.{◌≡◌, ◌≢◌, ℕ, suc, ◌+◌, ◌≤◌, ℤ, pos, true, false, ◌&&◌, eqb, List, [], ◌∷◌, length, Option, Some, None, Ok, refl, ap, subst, arith, length-append, eq-eqb, inl, inr}
 use Rattle.std.specs.Bool.{Decides}
 use Rattle.std.specs.Str.{bytes_eq}
-use Rattle.std.proofs.lemmas.Bool.{le-leb, le-ltb, ne_eqb, eqb-true, and_parts, and_from, false_from_ne_true}
+use Rattle.std.proofs.lemmas.Bool.{le-leb, ne_eqb, eqb-true, and_parts, and_from, false_from_ne_true}
 use Rattle.std.proofs.lemmas.Bool.Decides.{Decides-int_eq}
 use Rattle.std.proofs.lemmas.Slice.Eq.{bytes_eq-Decides}
-use Rattle.parquet_file.specs.Metadata.{Element, Chunk, Group, Metadata}
+use Rattle.parquet_footer.specs.Metadata.{Element, Chunk, Group, Metadata}
 use Rattle.parquet_file.specs.Pages.{without_values, from_place}
 use Rattle.parquet_file.specs.File.{IsLongLeaf, IsLongColumn, IsChunkOf, Holds, IsGroup, AreGroups}
-use Rattle.parquet_file.specs.Reading.{claims_within_limit, is_number, is_long_leaf, is_long_column, first_place, values_of_chunk, is_path, chunk_at, rows_of_group, rows_of_groups, rows_of}
+use Rattle.parquet_footer.specs.Footer.{GroupsWithinLimit}
+use Rattle.parquet_file.specs.Reading.{is_number, is_long_leaf, is_long_column, first_place, values_of_chunk, is_path, chunk_at, rows_of_group, rows_of_groups, rows_of}
 use Rattle.parquet_file.proofs.OnlyPlain.{Conform, all_split}
 use Rattle.parquet_file.proofs.OnlyPages.{pages_again}
 
@@ -87,11 +88,11 @@ groups_again bytes name (group ∷ groups) rows (first, others, one, more, whole
     rw (group_again bytes name group first one parts.0, groups_again bytes name groups others more parts.1, whole) refl
 
 -- no group claims more rows than there are
-pub claims_again : (bytes name : List ℕ) (groups : List Group) (rows : List ℤ) → AreGroups bytes name groups rows → length rows ≤ 4194304 → claims_within_limit groups ≡ true
-claims_again bytes name [] rows p few = refl
-claims_again bytes name (group ∷ groups) rows (first, others, one, more, whole) few =
+pub groups_claim : (bytes name : List ℕ) (groups : List Group) (rows : List ℤ) → AreGroups bytes name groups rows → length rows ≤ 4194304 → GroupsWithinLimit groups
+groups_claim bytes name [] rows p few = tt
+groups_claim bytes name (group ∷ groups) rows (first, others, one, more, whole) few =
     let count : length rows ≡ length first + length others = omega (arith, ap length whole, length-append first others) in
-    rw (le-ltb 4194304 group.num_rows (omega (arith, one.counted, count))) (claims_again bytes name groups others more (omega (arith, count)))
+    (omega (arith, one.counted, count), groups_claim bytes name groups others more (omega (arith, count)))
 
 -- ---- the table
 

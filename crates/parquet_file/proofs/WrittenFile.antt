@@ -3,13 +3,14 @@ use Rattle.std.proofs.Common.{◌≡◌, ℕ, ◌+◌, ◌<◌, ◌≤◌, ℤ, 
 use Rattle.std.specs.List.{AllByRecursion}
 use Rattle.std.proofs.lemmas.Bool.{ltb-false}
 use Rattle.std.proofs.lemmas.List.{append-nil}
-use Rattle.parquet_file.specs.declared.fault.FileError.{FileError}
-use Rattle.parquet_file.specs.Outcome.{Gives}
-use Rattle.parquet_file.specs.File.{IsFile, KeepsLimits, AreGroups, IsGroup, Holds, magic}
+use Rattle.parquet_footer.specs.declared.fault.FileError.{FileError}
+use Rattle.parquet_footer.specs.Outcome.{Gives}
+use Rattle.parquet_footer.specs.Frame.{magic}
+use Rattle.parquet_file.specs.File.{IsFile, KeepsLimits, AreGroups, IsGroup, Holds}
 use Rattle.parquet_file.specs.Pages.{IsPage, no_page, page, from_place}
 use Rattle.parquet_file.specs.Plain.{plain}
 use Rattle.parquet_file.specs.Writing.{header_tree, header_bytes, pages_bytes, footer_bytes, file_bytes, written_file}
-use Rattle.parquet_file.specs.declared.fault.FileFault.TheVariants.{TooLarge}
+use Rattle.parquet_footer.specs.declared.fault.FileFault.TheVariants.{TooLarge}
 use Rattle.parquet_file.proofs.One.{rows-one}
 use Rattle.parquet_file.proofs.WrittenSizes.{pages_short, footer_short}
 use Rattle.parquet_file.proofs.WrittenHeader.{header_spelled, header_says}

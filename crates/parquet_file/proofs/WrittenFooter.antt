@@ -6,8 +6,8 @@ use Rattle.thrift_core.specs.Shape.{int32_form, binary_form, list_form}
 use Rattle.thrift_core.specs.Spelling.{SpellsStruct}
 use Rattle.thrift_core.specs.Writing.{HasForm}
 use Rattle.thrift_core.proofs.Callers.{struct_written}
-use Rattle.parquet_file.specs.File.{Says}
-use Rattle.parquet_file.specs.Metadata.{Element, Chunk, Group, Metadata, metadata_of, root_of, node_of, physical_type_of, chunk_of, group_of}
+use Rattle.parquet_footer.specs.Footer.{Says}
+use Rattle.parquet_footer.specs.Metadata.{Element, Chunk, Group, Metadata, metadata_of, root_of, node_of, physical_type_of, chunk_of, group_of}
 use Rattle.parquet_file.specs.Writing.{whole, members, fields, element_form, root_tree, leaf_tree, column_form, column_tree, chunk_form, group_form, group_tree, groups_tree, footer_form, footer_tree, footer_bytes}
 use Rattle.parquet_file.proofs.WrittenForms.{struct_has_form, fits_32, fits_64}
 use Rattle.parquet_file.proofs.WrittenGroups.{footer_around, one_group}

@@ -2,7 +2,7 @@
 use Rattle.std.proofs.Common.{◌≡◌, ℕ, ◌+◌, ◌*◌, ◌<◌, ℤ, List, [], ◌∷◌, ◌++◌, length, refl, ap, ◌∙◌, arith, w32, append_assoc}
 use Rattle.std.specs.Int.{to_le_bytes}
 use Rattle.std.proofs.lemmas.List.{length-append}
-use Rattle.parquet_file.specs.File.{magic, framed}
+use Rattle.parquet_footer.specs.Frame.{magic, framed}
 use Rattle.parquet_file.specs.Plain.{plain}
 use Rattle.parquet_file.specs.Writing.{header_bytes, pages_bytes, footer_bytes, file_bytes}
 use Rattle.parquet_file.proofs.WrittenSizes.{plain_length}

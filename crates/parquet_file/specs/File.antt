@@ -1,36 +1,11 @@
 -- Which bytes are a Parquet file of a table's rows, for a table of one required long column (Parquet, File Format).
-use Rattle.std.specs.Prelude.{◌≡◌, ℕ, ◌<◌, ◌≤◌, ◌^◌, ℤ, pos, List, [], ◌∷◌, ◌++◌, length, Some, Ok, codes, FitsSigned, ◌⊎◌}
+use Rattle.std.specs.Prelude.{◌≡◌, ℕ, ◌<◌, ◌≤◌, ◌^◌, ℤ, pos, List, [], ◌∷◌, ◌++◌, length, Some, FitsSigned, ◌⊎◌}
 use Rattle.std.specs.List.{AllByRecursion}
-use Rattle.std.specs.Int.{w32, w64, to_le_bytes}
-use Rattle.thrift_core.specs.Tree.{Tree}
-use Rattle.thrift_core.specs.Spelling.{SpellsStruct}
-use Rattle.parquet_file.specs.Metadata.{Element, Chunk, Group, Metadata, metadata_of}
+use Rattle.std.specs.Int.{w64}
+use Rattle.parquet_footer.specs.Footer.{Says}
+use Rattle.parquet_footer.specs.Frame.{magic, framed}
+use Rattle.parquet_footer.specs.Metadata.{Element, Chunk, Group, Metadata}
 use Rattle.parquet_file.specs.Pages.{HasPages}
-
--- the bytes at both ends of a file
-abbrev pub magic : List ℕ
-magic = codes "PAR1"
-
--- The file is `magic`, the pages, the footer, its length in four bytes, and `magic`.
-abbrev pub framed : List ℕ → List ℕ → List ℕ
-framed pages footer = magic ++ (pages ++ (footer ++ (to_le_bytes w32 (length footer) ++ magic)))
-
--- A front of the footer spells the struct that says this of the file.
-pub record Says (footer : List ℕ) (metadata : Metadata) : Type 0 where
-  pub front : List ℕ
-  pub rest : List ℕ
-  pub tree : Tree
-  pub parts : footer ≡ front ++ rest
-  pub spelled : SpellsStruct front tree
-  pub stands : metadata_of tree ≡ Ok metadata
-
--- The bytes are framed, and their footer says this of the file.
-pub record HasFooter (bytes : List ℕ) (metadata : Metadata) : Type 0 where
-  pub pages : List ℕ
-  pub footer : List ℕ
-  pub frame : bytes ≡ framed pages footer
-  pub length_fits : length footer < 2 ^ 32
-  pub says : Says footer metadata
 
 -- A required leaf of this name and of type INT64: type 2, repetition 0, no children.
 pub record IsLongLeaf (name : List ℕ) (leaf : Element) : Type 0 where
@@ -86,13 +61,3 @@ pub record IsFile (bytes name : List ℕ) (rows : List ℤ) : Type 0 where
 pub record KeepsLimits (bytes : List ℕ) (rows : List ℤ) : Type 0 where
   pub size : length bytes ≤ 67108864
   pub most_rows : length rows ≤ 4194304
-
--- no group claims more rows than a file may have
-abbrev pub GroupsWithinLimit : List Group → Type 0
-GroupsWithinLimit [] = Unit {0}
-GroupsWithinLimit (group ∷ groups) = (group.num_rows ≤ 4194304) × GroupsWithinLimit groups
-
--- Neither the file nor one of its groups claims more rows than a file may have.
-pub record ClaimsWithinLimit (metadata : Metadata) : Type 0 where
-  pub rows : metadata.num_rows ≤ 4194304
-  pub groups : GroupsWithinLimit metadata.row_groups

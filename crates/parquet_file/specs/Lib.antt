@@ -1,11 +1,7 @@
 pub mod Plain
-pub mod Fields
-pub mod Metadata
 pub mod Pages
 pub mod File
-pub mod Frame
 pub mod Reading
 pub mod Writing
 pub mod Views
 pub mod Outcome
-pub mod FaultTexts

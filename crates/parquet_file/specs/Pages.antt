@@ -5,7 +5,7 @@ use Rattle.lake_bytes.specs.Results.{◌>>=◌}
 use Rattle.thrift_core.specs.Tree.{Tree}
 use Rattle.thrift_core.specs.Spelling.{SpellsStruct}
 use Rattle.thrift_core.specs.declared.fault.ThriftFault.{ThriftFault}
-use Rattle.parquet_file.specs.Fields.{as_integer, as_struct, needed, count}
+use Rattle.thrift_core.specs.Fields.{as_integer, as_struct, needed, count}
 use Rattle.parquet_file.specs.Plain.{plain}
 
 -- A page's header (PageHeader with the header of its type): its type, its two sizes, and for a data page and a

@@ -1,5 +1,5 @@
 -- Reading a file: its rows, or the first fault in the order of the tests.
-use Rattle.std.specs.Prelude.{ℕ, zero, suc, ◌+◌, ◌-◌, ◌==◌, ◌&&◌, not, ℤ, pos, List, [], ◌∷◌, ◌++◌, length, take, drop, Bool, true, false, nat_lt, bytes_eq, unsigned_abs, Option, Some, None, Result, Ok, Err, if◌then◌else◌}
+use Rattle.std.specs.Prelude.{ℕ, zero, suc, ◌+◌, ◌-◌, ◌==◌, ◌&&◌, not, ℤ, pos, List, [], ◌∷◌, ◌++◌, length, take, drop, Bool, false, nat_lt, bytes_eq, unsigned_abs, Option, Some, None, Result, Ok, Err, if◌then◌else◌}
 use Rattle.std.specs.Ordering.{int_eq}
 use Rattle.std.specs.Int.Signed.{le_z}
 use Rattle.lake_bytes.specs.Results.{◌>>=◌}
@@ -7,41 +7,18 @@ use Rattle.lake_bytes.specs.declared.fault.ByteFault.{ByteFault}
 use Rattle.thrift_core.specs.Reading.{struct_at}
 use Rattle.thrift_core.specs.declared.fault.ThriftFault.{ThriftFault}
 use Rattle.thrift_core.specs.declared.fault.ThriftFault.TheVariants.{Bytes}
-use Rattle.parquet_file.specs.Metadata.{Element, Chunk, Group, Metadata, metadata_of}
+use Rattle.parquet_footer.specs.Metadata.{Element, Chunk, Group, Metadata}
 use Rattle.parquet_file.specs.Pages.{Header, header_of}
 use Rattle.parquet_file.specs.Plain.{plain_at}
-use Rattle.parquet_file.specs.Frame.{frame_of}
-use Rattle.parquet_file.specs.declared.fault.FileFault.{FileFault}
-use Rattle.parquet_file.specs.declared.fault.FileFault.TheVariants.{BadFooter, Codec, Encoding, PageKind, BadOffset, CountMismatch, SchemaMismatch, TooLarge, BadPage}
+use Rattle.parquet_footer.specs.Frame.{frame_of}
+use Rattle.parquet_footer.specs.Reading.{told_as, metadata_at}
+use Rattle.parquet_footer.specs.declared.fault.FileFault.{FileFault}
+use Rattle.parquet_footer.specs.declared.fault.FileFault.TheVariants.{Codec, Encoding, PageKind, BadOffset, CountMismatch, SchemaMismatch, BadPage}
 
--- a reading of Thrift, whose faults are told as the footer's or a page's
-abbrev pub told_as : {A : Type 0} → (ThriftFault → FileFault) → Result A ThriftFault → Result A FileFault
-told_as fault (Ok x) = Ok x
-told_as fault (Err f) = Err (fault f)
-
+-- a reading of numbers, whose faults are told as a page's
 abbrev pub bytes_told_as : {A : Type 0} → (ThriftFault → FileFault) → Result A ByteFault → Result A FileFault
 bytes_told_as fault (Ok x) = Ok x
 bytes_told_as fault (Err f) = Err (fault (Bytes f))
-
--- ---- the footer
-
--- no group claims more rows than a file may have
-abbrev pub claims_within_limit : List Group → Bool
-claims_within_limit [] = true
-claims_within_limit (group ∷ groups) = not (nat_lt 4194304 group.num_rows) && claims_within_limit groups
-
-unfoldable pub within_limits : Metadata → Result Metadata FileFault
-within_limits m = if nat_lt 4194304 m.num_rows then Err TooLarge else (if claims_within_limit m.row_groups then Ok m else Err TooLarge)
-
--- what a footer says, up to the tests of the table's schema
-unfoldable pub metadata_at : List ℕ → Result Metadata FileFault
-metadata_at footer = do
-  read ← told_as BadFooter (struct_at footer)
-  metadata ← told_as BadFooter (metadata_of read.0)
-  within_limits metadata
-
-unfoldable pub footer_at : List ℕ → Result Metadata FileFault
-footer_at bytes = frame_of bytes >>= λ parts. metadata_at parts.1
 
 -- ---- the schema
 

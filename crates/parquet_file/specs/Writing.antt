@@ -4,9 +4,9 @@ use Rattle.thrift_core.specs.Tree.{Tree, integer, binary, list, struct, trees_of
 use Rattle.thrift_core.specs.Shape.{Form, int32_form, int64_form, binary_form, list_form, struct_form, forms}
 use Rattle.thrift_core.specs.Writing.{written}
 use Rattle.parquet_file.specs.Plain.{plain}
-use Rattle.parquet_file.specs.File.{framed}
-use Rattle.parquet_file.specs.declared.fault.FileFault.{FileFault}
-use Rattle.parquet_file.specs.declared.fault.FileFault.TheVariants.{TooLarge}
+use Rattle.parquet_footer.specs.Frame.{framed}
+use Rattle.parquet_footer.specs.declared.fault.FileFault.{FileFault}
+use Rattle.parquet_footer.specs.declared.fault.FileFault.TheVariants.{TooLarge}
 
 -- a whole number, a text and a list of a Thrift struct
 abbrev pub whole : ℕ → Tree

@@ -2,18 +2,18 @@
 
 ghost use Rattle.std.specs.Prelude.{◌≡◌, ◌≤◌, length, IfOk};
 ghost use Rattle.thrift_core.specs.View.{view};
-ghost use Rattle.parquet_file.specs.Outcome.{Gives};
+ghost use Rattle.parquet_footer.specs.Outcome.{Gives};
 ghost use Rattle.parquet_file.specs.Pages.{content_of, content_of_type, header_of};
 ghost use Rattle.parquet_file.specs.Reading.{header_at};
-ghost use Rattle.parquet_file.specs.declared.fault.FileFault.TheVariants.{BadPage};
+ghost use Rattle.parquet_footer.specs.declared.fault.FileFault.TheVariants.{BadPage};
 ghost use Rattle.parquet_file.specs.Views.{header_view};
 ghost use Rattle.lake_bytes.specs.Reading.{IsReading, id};
 
 use crate::enums::{DATA_PAGE, DICTIONARY_PAGE};
-use crate::fault::{FileError, FileFault};
-use crate::fields::{count, integer, structure};
 use lake_bytes::Cursor;
+use parquet_footer::{FileError, FileFault};
 use std::alloc::Global;
+use thrift_core::fields::{count, integer, structure};
 use thrift_core::{ReadError, TValue, ThriftFault, read_struct};
 
 /// What the header of a data page says (Parquet, PageHeader and DataPageHeader).
@@ -64,7 +64,7 @@ pub(crate) fn bad_page(fault: ThriftFault) -> FileFault
 }
 
 #[tactic(auto, unfolding(crate::specs::Pages::header_of))]
-fn header(tree: &TValue) -> Result<PageHeader, ThriftFault>
+fn header(tree: &TValue<Global>) -> Result<PageHeader, ThriftFault>
     ensures { IsReading header_view result (header_of (view tree.now)) }
 {
     let page_type = integer(tree, 1)?;
@@ -82,7 +82,7 @@ fn header(tree: &TValue) -> Result<PageHeader, ThriftFault>
 
 /// How many values a page of this type has, and their encoding; nothing of a type that isn't read.
 #[tactic(auto, unfolding(crate::specs::Pages::content_of_type))]
-fn content_of_type(tree: &TValue, page_type: i64) -> Result<(u64, i64), ThriftFault>
+fn content_of_type(tree: &TValue<Global>, page_type: i64) -> Result<(u64, i64), ThriftFault>
     ensures { result ≡ content_of_type page_type (view tree.now) }
 {
     match page_type {
@@ -93,7 +93,7 @@ fn content_of_type(tree: &TValue, page_type: i64) -> Result<(u64, i64), ThriftFa
 }
 
 #[tactic(auto, unfolding(crate::specs::Pages::content_of))]
-fn content(tree: &TValue) -> Result<(u64, i64), ThriftFault>
+fn content(tree: &TValue<Global>) -> Result<(u64, i64), ThriftFault>
     ensures { result ≡ content_of (view tree.now) }
 {
     Ok((count(tree, 1)?, integer(tree, 2)?))

@@ -3,23 +3,18 @@
 #![tactic(auto)]
 
 mod enums;
-mod fault;
-mod fields;
-mod footer;
-mod frame;
 mod header;
 mod laws;
-mod metadata;
 mod pages;
 mod rows;
 mod shapes;
 mod trees;
 mod writing;
 
-pub use fault::{FileError, FileFault};
-pub use footer::{ColumnChunk, Footer, RowGroup, SchemaElement};
-pub use frame::MAX_FILE_SIZE;
 pub use laws::one_list_of_rows;
-pub use metadata::MAX_FILE_ROWS;
+pub use parquet_footer::{
+    ColumnChunk, FileError, FileFault, Footer, MAX_FILE_ROWS, MAX_FILE_SIZE, RowGroup,
+    SchemaElement,
+};
 pub use rows::read_rows;
 pub use writing::{MAX_PAGE_ROWS, write_file};

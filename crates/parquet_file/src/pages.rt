@@ -5,12 +5,12 @@ ghost use Rattle.parquet_file.specs.Outcome.{Adds, AddsRows};
 ghost use Rattle.parquet_file.specs.Plain.{plain_at};
 ghost use Rattle.parquet_file.specs.Reading.{values_at, page_at, pages_at, bytes_told_as};
 ghost use Rattle.parquet_file.specs.Views.{header_view};
-ghost use Rattle.parquet_file.specs.declared.fault.FileFault.TheVariants.{BadPage};
+ghost use Rattle.parquet_footer.specs.declared.fault.FileFault.TheVariants.{BadPage};
 
 use crate::enums::PLAIN;
-use crate::fault::{FileError, FileFault};
 use crate::header::{PageHeader, bad_page, read_header};
 use lake_bytes::Cursor;
+use parquet_footer::{FileError, FileFault};
 use std::alloc::Global;
 
 /// The values of the pages from a place on, up to `count` of them, added to the rows. `bytes` are the file's

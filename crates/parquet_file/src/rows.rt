@@ -2,23 +2,24 @@
 
 ghost use Rattle.std.specs.Prelude.{◌≡◌, ◌==◌, List, ℤ, option_map, length, IfOk, string_bytes};
 ghost use Rattle.lake_bytes.specs.Reading.{IsReading};
+ghost use Rattle.thrift_core.specs.View.{texts_view};
 ghost use Rattle.parquet_file.specs.File.{IsFile, KeepsLimits};
-ghost use Rattle.parquet_file.specs.Frame.{frame_of};
-ghost use Rattle.parquet_file.specs.Outcome.{Gives, AddsRows, Finds, Refuses, Tests};
+ghost use Rattle.parquet_footer.specs.Frame.{frame_of};
+ghost use Rattle.parquet_footer.specs.Outcome.{Gives, Finds, Refuses};
+ghost use Rattle.parquet_file.specs.Outcome.{AddsRows, Tests};
 ghost use Rattle.parquet_file.specs.Reading.{rows_at, rows_of, claimed_rows, rows_of_groups, rows_of_group, values_of_chunk, first_place, chunk_at, is_path, is_long_column, is_long_leaf, is_number};
-ghost use Rattle.parquet_file.specs.Views.{footer_view, group_view, group_views, chunk_view, chunk_views, texts_view, element_view, element_views};
+ghost use Rattle.parquet_footer.specs.Views.{footer_view, group_view, group_views, chunk_view, chunk_views, element_view, element_views};
 
 use crate::enums::{INT64, REQUIRED, UNCOMPRESSED};
-use crate::fault::{FileError, FileFault};
-use crate::footer::{ColumnChunk, Footer, RowGroup, SchemaElement};
-use crate::frame::split_file;
-use crate::metadata::read_metadata;
 use crate::pages::add_pages;
+use parquet_footer::{
+    ColumnChunk, FileError, FileFault, Footer, RowGroup, SchemaElement, split_file,
+};
 use std::alloc::Global;
 
 /// Reads the rows of a file, for a table of one required column of type long with this name (Parquet, File Format).
 ///
-/// P9, P1, P2 and P9 again as [`crate::Footer::read`] has them. P8 where the file's columns aren't the table's. Then
+/// P9, P1, P2 and P9 again as [`Footer::read`] has them. P8 where the file's columns aren't the table's. Then
 /// row group by row group: P8 where it has no chunk of the column, and P3 for the chunk's codec; page by page P6 for
 /// one that begins before byte 4 or not before the footer, P11 for its header, P5 for its type, P6 where it runs into
 /// the footer, P7 for two sizes that differ, P4 for its encoding, P11 for too few bytes, and P7 for bytes behind its
@@ -48,7 +49,7 @@ fn rows_in(alloc: Global, column: &str, bytes: &[u8]) -> Result<Vec<i64>, FileEr
     ensures early { Refuses result (frame_of bytes.now) }
 {
     let (front, footer) = split_file(bytes)?;
-    let footer = read_metadata(alloc, footer)?;
+    let footer = Footer::of_bytes(alloc, footer)?;
     rows_by_footer(alloc, column, front, &footer)
 }
 

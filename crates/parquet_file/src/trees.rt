@@ -18,7 +18,7 @@ const CREATED_BY: &[u8] = b"lake version 1";
 const FIRST_PAGE: i64 = 4;
 
 /// A field that is a whole number.
-fn integer(id: i16, number: i64) -> Field
+fn integer(id: i16, number: i64) -> Field<Global>
     ensures { field_view result ≡ (id, tree.integer number) }
 {
     Field {
@@ -28,7 +28,7 @@ fn integer(id: i16, number: i64) -> Field
 }
 
 /// A field that is a text.
-fn text(alloc: Global, id: i16, text: &[u8]) -> Result<Field, AllocError>
+fn text(alloc: Global, id: i16, text: &[u8]) -> Result<Field<Global>, AllocError>
     ensures { IfOk result (λ field. field_view field ≡ (id, tree.binary text.now)) }
 {
     let value = TValue::Bytes(Vec::from_slice(alloc, text)?);
@@ -36,7 +36,7 @@ fn text(alloc: Global, id: i16, text: &[u8]) -> Result<Field, AllocError>
 }
 
 /// The header of a data page of so many values (Parquet, PageHeader).
-pub(crate) fn header_tree(alloc: Global, values: u32) -> Result<TValue, AllocError>
+pub(crate) fn header_tree(alloc: Global, values: u32) -> Result<TValue<Global>, AllocError>
     requires { values ≤ 4096 }
     ensures { IfOk result (λ tree. view tree ≡ header_tree values) }
 {
@@ -65,7 +65,7 @@ pub(crate) fn footer_tree(
     column: &str,
     rows: u32,
     size: u32,
-) -> Result<TValue, AllocError>
+) -> Result<TValue<Global>, AllocError>
     ensures { IfOk result (λ tree. view tree ≡ footer_tree column.now rows size) }
 {
     let schema = vec![in alloc; root(alloc)?, leaf(alloc, column)?]?;
@@ -86,7 +86,7 @@ pub(crate) fn footer_tree(
 }
 
 /// The root of the schema, with one child (Parquet, SchemaElement).
-fn root(alloc: Global) -> Result<TValue, AllocError>
+fn root(alloc: Global) -> Result<TValue<Global>, AllocError>
     ensures { IfOk result (λ tree. view tree ≡ root_tree) }
 {
     let fields = vec![in alloc; text(alloc, 4, ROOT)?, integer(5, 1)]?;
@@ -94,7 +94,7 @@ fn root(alloc: Global) -> Result<TValue, AllocError>
 }
 
 /// The leaf of a required column of type INT64.
-fn leaf(alloc: Global, column: &str) -> Result<TValue, AllocError>
+fn leaf(alloc: Global, column: &str) -> Result<TValue<Global>, AllocError>
     ensures { IfOk result (λ tree. view tree ≡ leaf_tree column.now) }
 {
     let fields = vec![in alloc;
@@ -106,7 +106,7 @@ fn leaf(alloc: Global, column: &str) -> Result<TValue, AllocError>
 }
 
 /// The row groups. No rows are no group.
-fn groups(alloc: Global, column: &str, rows: u32, size: u32) -> Result<TValue, AllocError>
+fn groups(alloc: Global, column: &str, rows: u32, size: u32) -> Result<TValue<Global>, AllocError>
     ensures { IfOk result (λ tree. view tree ≡ groups_tree column.now rows size) }
 {
     let mut groups = Vec::new(alloc);
@@ -117,7 +117,7 @@ fn groups(alloc: Global, column: &str, rows: u32, size: u32) -> Result<TValue, A
 }
 
 /// The row group, with its one chunk (Parquet, RowGroup).
-fn group(alloc: Global, column: &str, rows: u32, size: u32) -> Result<TValue, AllocError>
+fn group(alloc: Global, column: &str, rows: u32, size: u32) -> Result<TValue<Global>, AllocError>
     ensures { IfOk result (λ tree. view tree ≡ group_tree column.now rows size) }
 {
     let chunk = vec![in alloc;
@@ -140,7 +140,12 @@ fn group(alloc: Global, column: &str, rows: u32, size: u32) -> Result<TValue, Al
 }
 
 /// What the footer says of the one chunk (Parquet, ColumnMetaData).
-fn column_tree(alloc: Global, column: &str, rows: u32, size: u32) -> Result<TValue, AllocError>
+fn column_tree(
+    alloc: Global,
+    column: &str,
+    rows: u32,
+    size: u32,
+) -> Result<TValue<Global>, AllocError>
     ensures { IfOk result (λ tree. view tree ≡ column_tree column.now rows size) }
 {
     let encodings = vec![in alloc; TValue::Int(PLAIN), TValue::Int(RLE)]?;

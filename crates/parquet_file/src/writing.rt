@@ -4,15 +4,15 @@ ghost use Rattle.std.specs.Prelude.{◌≡◌, ℤ, FitsSigned, Err, List, [], �
 ghost use Rattle.std.specs.Int.{w32, w64, to_le_bytes};
 ghost use Rattle.std.specs.List.{AllByRecursion};
 ghost use Rattle.parquet_file.specs.Plain.{plain};
-ghost use Rattle.parquet_file.specs.File.{IsFile, KeepsLimits, magic};
-ghost use Rattle.parquet_file.specs.Outcome.{Gives};
+ghost use Rattle.parquet_footer.specs.Frame.{magic};
+ghost use Rattle.parquet_file.specs.File.{IsFile, KeepsLimits};
+ghost use Rattle.parquet_footer.specs.Outcome.{Gives};
 ghost use Rattle.parquet_file.specs.Writing.{written_file, file_bytes, header_bytes, footer_bytes};
 
-use crate::fault::{FileError, FileFault};
-use crate::frame::{MAGIC, MAX_FILE_SIZE};
 use crate::shapes::{FOOTER, PAGE_HEADER};
 use crate::trees::{footer_tree, header_tree};
 use lake_bytes::{write_i64_le, write_u32_le};
+use parquet_footer::{FileError, FileFault, MAGIC, MAX_FILE_SIZE};
 use std::alloc::{AllocError, Global};
 use thrift_core::write_struct;
 

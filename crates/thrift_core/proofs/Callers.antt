@@ -2,5 +2,4 @@
 pub use Rattle.thrift_core.proofs.Again.{struct_at_again}
 pub use Rattle.thrift_core.proofs.Found.{struct_at_found}
 pub use Rattle.thrift_core.proofs.Told.{one_tree}
-pub use Rattle.thrift_core.proofs.Views.{view-List}
 pub use Rattle.thrift_core.proofs.WrittenSpells.{struct_written}

@@ -12,4 +12,5 @@ pub mod Written
 pub mod AsSpells
 pub mod WrittenSpells
 pub mod Shortest
+pub mod FieldKinds
 pub mod Callers

@@ -7,3 +7,4 @@ pub mod Shape
 pub mod Writing
 pub mod SpellsAs
 pub mod FaultTexts
+pub mod Fields

@@ -1,5 +1,5 @@
 -- The tree that a `TValue` stands for.
-use Rattle.std.specs.Prelude.{List, ℤ, map}
+use Rattle.std.specs.Prelude.{ℕ, List, ℤ, map, Vec}
 use Rattle.thrift_core.specs.Tree as tree
 use Rattle.thrift_core.specs.Tree.{Tree}
 use Rattle.thrift_core.specs.declared.value.TValue.{TValue, fold-TValue}
@@ -8,7 +8,7 @@ use Rattle.thrift_core.specs.declared.value.Entry.{Entry, fold-Entry}
 use Rattle.thrift_core.specs.declared.value.Field.{Field, fold-Field}
 
 -- one level, with each value inside already seen as its tree
-abbrev pub view_step : TValue-F Tree (Tree × Tree) (ℤ × Tree) → Tree
+abbrev pub view_step : {A : Type 0} → TValue-F A Tree (Tree × Tree) (ℤ × Tree) → Tree
 view_step (TValue-F.Bool b) = tree.boolean b
 view_step (TValue-F.Int z) = tree.integer z
 view_step (TValue-F.Bytes v) = tree.binary v.items
@@ -17,26 +17,29 @@ view_step (TValue-F.Map v) = tree.map (tree.entries_of v.items)
 view_step (TValue-F.Struct v) = tree.struct (tree.fields_of v.items)
 view_step TValue-F.Skipped = tree.skipped
 
-abbrev pub entry_step : Entry-F Tree (Tree × Tree) (ℤ × Tree) → Tree × Tree
+abbrev pub entry_step : {A : Type 0} → Entry-F A Tree (Tree × Tree) (ℤ × Tree) → Tree × Tree
 entry_step e = (e.key, e.value)
 
-abbrev pub field_step : Field-F Tree (Tree × Tree) (ℤ × Tree) → ℤ × Tree
+abbrev pub field_step : {A : Type 0} → Field-F A Tree (Tree × Tree) (ℤ × Tree) → ℤ × Tree
 field_step f = (f.id, f.value)
 
-abbrev pub view : TValue → Tree
-view = fold-TValue Tree (Tree × Tree) (ℤ × Tree) view_step entry_step field_step
+abbrev pub view : {A : Type 0} → TValue A → Tree
+view {A = A} = fold-TValue A Tree (Tree × Tree) (ℤ × Tree) view_step entry_step field_step
 
-abbrev pub entry_view : Entry → Tree × Tree
-entry_view = fold-Entry Tree (Tree × Tree) (ℤ × Tree) view_step entry_step field_step
+abbrev pub entry_view : {A : Type 0} → Entry A → Tree × Tree
+entry_view {A = A} = fold-Entry A Tree (Tree × Tree) (ℤ × Tree) view_step entry_step field_step
 
-abbrev pub field_view : Field → ℤ × Tree
-field_view = fold-Field Tree (Tree × Tree) (ℤ × Tree) view_step entry_step field_step
+abbrev pub field_view : {A : Type 0} → Field A → ℤ × Tree
+field_view {A = A} = fold-Field A Tree (Tree × Tree) (ℤ × Tree) view_step entry_step field_step
 
-abbrev pub views : List TValue → List Tree
+abbrev pub views : {A : Type 0} → List (TValue A) → List Tree
 views vs = map view vs
 
-abbrev pub entry_views : List Entry → List (Tree × Tree)
+abbrev pub entry_views : {A : Type 0} → List (Entry A) → List (Tree × Tree)
 entry_views es = map entry_view es
 
-abbrev pub field_views : List Field → List (ℤ × Tree)
+abbrev pub field_views : {A : Type 0} → List (Field A) → List (ℤ × Tree)
 field_views fs = map field_view fs
+
+abbrev pub texts_view : {A : Type 0} → List (Vec ℕ A) → List (List ℕ)
+texts_view ts = map (λ t. t.items) ts

@@ -6,11 +6,12 @@ ghost use Rattle.thrift_core.specs.View.{view, field_view};
 
 use crate::fault::ThriftFault;
 use crate::value::{Field, TValue};
+use std::alloc::Allocator;
 
-impl TValue {
+impl<A: Allocator> TValue<A> {
     /// The value of a field of a struct, of several of this id the last. None where the struct has none,
     /// or the value is no struct. The time is linear in the fields.
-    pub fn field(&self, id: i16) -> Option<&TValue>
+    pub fn field(&self, id: i16) -> Option<&TValue<A>>
         ensures { option_map (λ v. view v.now) result ≡ value_of_field id (view self.now) }
     {
         let TValue::Struct(fields) = self else {
@@ -26,7 +27,7 @@ impl TValue {
     }
 
     /// The value of a field that has to be there: TH4 where [`TValue::field`] gives none.
-    pub fn required(&self, id: i16) -> Result<&TValue, ThriftFault>
+    pub fn required(&self, id: i16) -> Result<&TValue<A>, ThriftFault>
         ensures found { IfOk result (λ v. value_of_field id (view self.now) ≡ Some (view v.now)) }
         ensures missing { IfErr result (λ fault. (value_of_field id (view self.now) ≡ None) × (fault ≡ ThriftFault.MissingField id)) }
     {
@@ -34,7 +35,7 @@ impl TValue {
     }
 }
 
-fn has_id(field: &Field, id: i16) -> bool
+fn has_id<A: Allocator>(field: &Field<A>, id: i16) -> bool
     ensures { IsTrue result ↔ ((field_view field.now).0 ≡ id) }
 {
     field.id == id

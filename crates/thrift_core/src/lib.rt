@@ -4,6 +4,7 @@
 
 mod fault;
 mod field;
+pub mod fields;
 mod laws;
 mod reading;
 mod shape;

@@ -13,7 +13,7 @@ use crate::source::Source;
 use crate::value::{Entry, Field, TValue};
 use crate::wire::WireType;
 use lake_bytes::{ByteFault, Cursor};
-use std::alloc::Global;
+use std::alloc::Allocator;
 
 /// The most structs, lists and maps that may stand in one another, the outermost counted.
 pub const MAX_DEPTH: u32 = 32;
@@ -29,10 +29,13 @@ pub const MAX_NODES: u32 = 262_144;
 /// number can't be read or is out of its type's range. TH1 for another type number, and for a boolean in a
 /// list, a set or a map that is neither 0, 1 nor 2. TH2 where more than [`MAX_DEPTH`] structs, lists and maps
 /// stand in one another, and TH3 for more than [`MAX_NODES`] values. After a refusal the cursor stands where
-/// it stood.
+/// it stood, and so it does where `alloc` refuses a growth.
 ///
-/// The time is linear in the bytes that are read, the memory in the values.
-pub fn read_struct(alloc: Global, cursor: &mut Cursor<'_>) -> Result<TValue, ReadError>
+/// The tree lies in the memory of `alloc`. The time is linear in the bytes that are read, the memory in the values.
+pub fn read_struct<A: Allocator + Copy>(
+    alloc: A,
+    cursor: &mut Cursor<'_>,
+) -> Result<TValue<A>, ReadError>
     // A front of the bytes spells the tree, and the bytes behind it are left.
     ensures found { IfOk result (λ tree. ReadsFront SpellsStruct cursor.old (view tree) cursor.new) }
     // A tree that a front of the bytes spells is read, unless memory runs out.
@@ -47,7 +50,10 @@ pub fn read_struct(alloc: Global, cursor: &mut Cursor<'_>) -> Result<TValue, Rea
 
 /// The struct in front of the cursor, as reading from the left has it.
 #[tactic(auto, unfolding(crate::specs::Reading::struct_at))]
-fn next_struct(alloc: Global, cursor: &mut Cursor<'_>) -> Result<TValue, ReadError>
+fn next_struct<A: Allocator + Copy>(
+    alloc: A,
+    cursor: &mut Cursor<'_>,
+) -> Result<TValue<A>, ReadError>
     ensures exact { Gives view (struct_at cursor.old) cursor.old result cursor.new }
     ensures bytes { IsBytes cursor.old }
 {
@@ -68,7 +74,7 @@ fn next_struct(alloc: Global, cursor: &mut Cursor<'_>) -> Result<TValue, ReadErr
 impl<'a> Source<'a> {
     /// A boolean in a list, a set or a map.
     #[tactic(auto, unfolding(crate::specs::Reading::boolean_ahead))]
-    fn boolean(&mut self) -> Result<TValue, ReadError>
+    fn boolean<A: Allocator>(&mut self) -> Result<TValue<A>, ReadError>
         ensures { Reads view (boolean_ahead self.old) result self.new }
     {
         let byte = self.byte()?;
@@ -82,7 +88,7 @@ impl<'a> Source<'a> {
     }
 
     #[tactic(auto, unfolding(crate::specs::Reading::byte_number_ahead))]
-    fn byte_number(&mut self) -> Result<TValue, ReadError>
+    fn byte_number<A: Allocator>(&mut self) -> Result<TValue<A>, ReadError>
         ensures { Reads view (byte_number_ahead self.old) result self.new }
     {
         let byte = self.byte()?;
@@ -90,7 +96,7 @@ impl<'a> Source<'a> {
     }
 
     #[tactic(auto, unfolding(crate::specs::Reading::integer_ahead))]
-    fn int16_number(&mut self) -> Result<TValue, ReadError>
+    fn int16_number<A: Allocator>(&mut self) -> Result<TValue<A>, ReadError>
         ensures { Reads view (integer_ahead 16 self.old) result self.new }
     {
         let number = self.int16()?;
@@ -98,7 +104,7 @@ impl<'a> Source<'a> {
     }
 
     #[tactic(auto, unfolding(crate::specs::Reading::integer_ahead))]
-    fn int32_number(&mut self) -> Result<TValue, ReadError>
+    fn int32_number<A: Allocator>(&mut self) -> Result<TValue<A>, ReadError>
         ensures { Reads view (integer_ahead 32 self.old) result self.new }
     {
         let number = self.int32()?;
@@ -106,7 +112,7 @@ impl<'a> Source<'a> {
     }
 
     #[tactic(auto, unfolding(crate::specs::Reading::integer_ahead))]
-    fn int64_number(&mut self) -> Result<TValue, ReadError>
+    fn int64_number<A: Allocator>(&mut self) -> Result<TValue<A>, ReadError>
         ensures { Reads view (integer_ahead 64 self.old) result self.new }
     {
         let number = self.int64()?;
@@ -115,7 +121,7 @@ impl<'a> Source<'a> {
 
     /// A double, of which nothing is kept.
     #[tactic(auto, unfolding(crate::specs::Reading::double_ahead))]
-    fn double(&mut self) -> Result<TValue, ReadError>
+    fn double<A: Allocator>(&mut self) -> Result<TValue<A>, ReadError>
         ensures { Reads view (double_ahead self.old) result self.new }
     {
         self.bytes(8)?;
@@ -123,7 +129,7 @@ impl<'a> Source<'a> {
     }
 
     #[tactic(auto, unfolding(crate::specs::Reading::binary_ahead))]
-    fn binary(&mut self, alloc: Global) -> Result<TValue, ReadError>
+    fn binary<A: Allocator + Copy>(&mut self, alloc: A) -> Result<TValue<A>, ReadError>
         ensures { Reads view (binary_ahead self.old) result self.new }
     {
         let size = self.varint()?;
@@ -133,7 +139,7 @@ impl<'a> Source<'a> {
 
     /// A boolean field, whose value is its type.
     #[tactic(auto, unfolding(crate::specs::Reading::flag_ahead))]
-    fn flag(&mut self, value: bool) -> Result<TValue, ReadError>
+    fn flag<A: Allocator>(&mut self, value: bool) -> Result<TValue<A>, ReadError>
         ensures { Reads view (flag_ahead value self.old) result self.new }
     {
         self.count()?;
@@ -143,12 +149,12 @@ impl<'a> Source<'a> {
     /// A value of a type, in which structs, lists and maps may nest so deep.
     #[cycle(read)]
     #[tactic(auto, unfolding(crate::specs::Reading::value_ahead, crate::specs::Reading::content_ahead))]
-    pub(crate) fn value(
+    pub(crate) fn value<A: Allocator + Copy>(
         &mut self,
-        alloc: Global,
+        alloc: A,
         depth: u32,
         wire: WireType,
-    ) -> Result<TValue, ReadError>
+    ) -> Result<TValue<A>, ReadError>
         ensures { Reads view (value_ahead depth wire self.old) result self.new }
     {
         self.count()?;
@@ -168,7 +174,7 @@ impl<'a> Source<'a> {
 
     #[cycle(read)]
     #[tactic(auto, unfolding(crate::specs::Reading::list_ahead))]
-    fn list(&mut self, alloc: Global, depth: u32) -> Result<TValue, ReadError>
+    fn list<A: Allocator + Copy>(&mut self, alloc: A, depth: u32) -> Result<TValue<A>, ReadError>
         ensures { Reads view (list_ahead (value_ahead depth) self.old) result self.new }
     {
         let (member, size) = self.list_header()?;
@@ -178,7 +184,7 @@ impl<'a> Source<'a> {
 
     #[cycle(read)]
     #[tactic(auto, unfolding(crate::specs::Reading::map_ahead))]
-    fn map(&mut self, alloc: Global, depth: u32) -> Result<TValue, ReadError>
+    fn map<A: Allocator + Copy>(&mut self, alloc: A, depth: u32) -> Result<TValue<A>, ReadError>
         ensures { Reads view (map_ahead (value_ahead depth) self.old) result self.new }
     {
         let (key, value, size) = self.map_header()?;
@@ -188,7 +194,11 @@ impl<'a> Source<'a> {
 
     #[cycle(read)]
     #[tactic(auto, unfolding(crate::specs::Reading::struct_ahead))]
-    fn structure(&mut self, alloc: Global, depth: u32) -> Result<TValue, ReadError>
+    fn structure<A: Allocator + Copy>(
+        &mut self,
+        alloc: A,
+        depth: u32,
+    ) -> Result<TValue<A>, ReadError>
         ensures { Reads view (struct_ahead (value_ahead depth) self.old) result self.new }
     {
         let fields = self.fields(alloc, depth)?;
@@ -197,13 +207,13 @@ impl<'a> Source<'a> {
 
     /// So many members of one type.
     #[cycle(read)]
-    fn members(
+    fn members<A: Allocator + Copy>(
         &mut self,
-        alloc: Global,
+        alloc: A,
         depth: u32,
         wire: WireType,
         size: u64,
-    ) -> Result<Vec<TValue>, ReadError>
+    ) -> Result<Vec<TValue<A>, A>, ReadError>
         ensures { Reads (λ v. views v.items) (repeated (value_ahead depth wire) size self.old) result self.new }
     {
         let mut members = Vec::new(alloc);
@@ -216,14 +226,14 @@ impl<'a> Source<'a> {
 
     /// So many keys and values.
     #[cycle(read)]
-    fn entries(
+    fn entries<A: Allocator + Copy>(
         &mut self,
-        alloc: Global,
+        alloc: A,
         depth: u32,
         key: WireType,
         value: WireType,
         size: u64,
-    ) -> Result<Vec<Entry>, ReadError>
+    ) -> Result<Vec<Entry<A>, A>, ReadError>
         ensures { Reads (λ v. entry_views v.items) (repeated (entry_ahead (value_ahead depth) key value) size self.old) result self.new }
     {
         let mut entries = Vec::new(alloc);
@@ -236,13 +246,13 @@ impl<'a> Source<'a> {
 
     #[cycle(read)]
     #[tactic(auto, unfolding(crate::specs::Reading::entry_ahead))]
-    fn entry(
+    fn entry<A: Allocator + Copy>(
         &mut self,
-        alloc: Global,
+        alloc: A,
         depth: u32,
         key: WireType,
         value: WireType,
-    ) -> Result<Entry, ReadError>
+    ) -> Result<Entry<A>, ReadError>
         ensures { Reads entry_view (entry_ahead (value_ahead depth) key value self.old) result self.new }
     {
         let key = self.value(alloc, depth, key)?;
@@ -252,7 +262,11 @@ impl<'a> Source<'a> {
 
     /// The fields up to the byte 0.
     #[cycle(read)]
-    fn fields(&mut self, alloc: Global, depth: u32) -> Result<Vec<Field>, ReadError>
+    fn fields<A: Allocator + Copy>(
+        &mut self,
+        alloc: A,
+        depth: u32,
+    ) -> Result<Vec<Field<A>, A>, ReadError>
         ensures { Reads (λ v. field_views v.items) (fields_ahead (value_ahead depth) (pos 0) (length self.old.cursor) self.old) result self.new }
     {
         let mut fields = Vec::new(alloc);
@@ -273,13 +287,13 @@ impl<'a> Source<'a> {
     /// A field behind the first byte of its header.
     #[cycle(read)]
     #[tactic(auto, unfolding(crate::specs::Reading::field_ahead))]
-    fn field(
+    fn field<A: Allocator + Copy>(
         &mut self,
-        alloc: Global,
+        alloc: A,
         depth: u32,
         last: i16,
         header: u8,
-    ) -> Result<(i16, TValue), ReadError>
+    ) -> Result<(i16, TValue<A>), ReadError>
         ensures { Reads (λ x. (x.0, view x.1)) (field_ahead (value_ahead depth) last header self.old) result self.new }
     {
         let number = header % 16;

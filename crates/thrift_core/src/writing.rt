@@ -14,7 +14,7 @@ ghost use Rattle.thrift_core.specs.declared.wire.WireType.TheVariants as wire;
 use crate::shape::{FieldShape, Shape};
 use crate::value::{Entry, Field, TValue};
 use lake_bytes::{write_varint, write_zigzag};
-use std::alloc::{AllocError, Global};
+use std::alloc::{AllocError, Allocator, Global};
 
 /// The bytes of a struct (Thrift compact protocol, "Struct encoding"), with the types that the shape names.
 ///
@@ -25,8 +25,14 @@ use std::alloc::{AllocError, Global};
 /// more; each value is of the type named for it; sizes are below 2 ^ 31; nothing is skipped. Of another tree
 /// some bytes are written, which may spell no tree.
 ///
+/// The tree may lie in any allocator's memory; the bytes lie in that of `alloc`.
+///
 /// The time is linear in the bytes that are written, and in the fields that the shape names for each field.
-pub fn write_struct(alloc: Global, tree: &TValue, shape: &Shape) -> Result<Vec<u8>, AllocError>
+pub fn write_struct<A: Allocator>(
+    alloc: Global,
+    tree: &TValue<A>,
+    shape: &Shape,
+) -> Result<Vec<u8>, AllocError>
     // The bytes spell the tree.
     ensures spells { HasForm (form shape.now) (view tree.now) → wire_of (form shape.now) ≡ wire.Struct
         → IfOk result (λ bytes. Spells wire.Struct bytes.items (view tree.now)) }
@@ -47,7 +53,11 @@ pub fn write_struct(alloc: Global, tree: &TValue, shape: &Shape) -> Result<Vec<u
 }
 
 /// The bytes of a struct, as its definition has them.
-fn struct_bytes(alloc: Global, tree: &TValue, shape: &Shape) -> Result<Vec<u8>, AllocError>
+fn struct_bytes<A: Allocator>(
+    alloc: Global,
+    tree: &TValue<A>,
+    shape: &Shape,
+) -> Result<Vec<u8>, AllocError>
     ensures { IfOk result (λ bytes. bytes.items ≡ written (form shape.now) (view tree.now)) }
 {
     let mut out = Vec::new(alloc);
@@ -109,7 +119,7 @@ fn write_field_header(out: &mut Vec<u8>, last: i16, id: i16, number: u8) -> Resu
 }
 
 /// The number of a field's type, which for a boolean is its value.
-fn number_in_field(shape: &Shape, value: &TValue) -> u8
+fn number_in_field<A: Allocator>(shape: &Shape, value: &TValue<A>) -> u8
     ensures number { result ≡ field_number (form shape.now) (view value.now) }
     ensures fits { result < 16 }
 {
@@ -141,7 +151,11 @@ fn is_field(field: &FieldShape, id: i16) -> bool
 /// A value, with its types. Where a value is of another type than the one named for it, nothing is written
 /// for a list, a map or a struct.
 #[cycle(write)]
-fn write_value(out: &mut Vec<u8>, value: &TValue, shape: &Shape) -> Result<(), AllocError>
+fn write_value<A: Allocator>(
+    out: &mut Vec<u8>,
+    value: &TValue<A>,
+    shape: &Shape,
+) -> Result<(), AllocError>
     ensures { OnOk result (out.new.items ≡ out.old.items ++ written (form shape.now) (view value.now)) }
 {
     match value {
@@ -177,7 +191,11 @@ fn write_binary(out: &mut Vec<u8>, text: &[u8]) -> Result<(), AllocError>
 }
 
 #[cycle(write)]
-fn write_members(out: &mut Vec<u8>, members: &[TValue], shape: &Shape) -> Result<(), AllocError>
+fn write_members<A: Allocator>(
+    out: &mut Vec<u8>,
+    members: &[TValue<A>],
+    shape: &Shape,
+) -> Result<(), AllocError>
     ensures { OnOk result (out.new.items ≡ out.old.items ++ (list_header_bytes (number_of (form shape.now)) (length members.now) ++ written_members (form shape.now) (trees_of (views members.now)))) }
 {
     write_list_header(out, shape.number(), members.len())?;
@@ -188,9 +206,9 @@ fn write_members(out: &mut Vec<u8>, members: &[TValue], shape: &Shape) -> Result
 }
 
 #[cycle(write)]
-fn write_entries(
+fn write_entries<A: Allocator>(
     out: &mut Vec<u8>,
-    entries: &[Entry],
+    entries: &[Entry<A>],
     key: &Shape,
     value: &Shape,
 ) -> Result<(), AllocError>
@@ -205,9 +223,9 @@ fn write_entries(
 }
 
 #[cycle(write)]
-fn write_fields(
+fn write_fields<A: Allocator>(
     out: &mut Vec<u8>,
-    fields: &[Field],
+    fields: &[Field<A>],
     shapes: &[FieldShape],
 ) -> Result<(), AllocError>
     ensures { OnOk result (out.new.items ≡ out.old.items ++ written_fields (field_forms shapes.now) (pos 0) (fields_of (field_views fields.now))) }
@@ -222,9 +240,9 @@ fn write_fields(
 }
 
 #[cycle(write)]
-fn write_field(
+fn write_field<A: Allocator>(
     out: &mut Vec<u8>,
-    field: &Field,
+    field: &Field<A>,
     shapes: &[FieldShape],
     last: i16,
 ) -> Result<(), AllocError>

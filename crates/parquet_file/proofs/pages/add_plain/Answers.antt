@@ -2,8 +2,8 @@ use Rattle.std.proofs.Common.{rules, ◌≡◌, ℕ, ℤ, List, w64, to_z, of_z,
 use Rattle.std.proofs.lemmas.Int.{to_z-of_z}
 use Rattle.lake_bytes.specs.declared.fault.ByteFault.{ByteFault}
 use Rattle.parquet_file.specs.Reading.{bytes_told_as}
-use Rattle.parquet_file.specs.declared.fault.FileFault.{FileFault}
-use Rattle.parquet_file.specs.declared.fault.FileFault.TheVariants.{BadPage}
+use Rattle.parquet_footer.specs.declared.fault.FileFault.{FileFault}
+use Rattle.parquet_footer.specs.declared.fault.FileFault.TheVariants.{BadPage}
 use Rattle.parquet_file.specs.Plain.{plain_at}
 use Rattle.lake_bytes.proofs.Callers.{with_front_beside}
 use Rattle.parquet_file.proofs.CodeLoops.{plain_goes_on, plain_fails, plain_done, added, not_added}

@@ -1,6 +1,6 @@
 use Rattle.std.proofs.Common.{◌≡◌, drop}
 use Rattle.parquet_file.specs.Reading.{rows_of_groups}
-use Rattle.parquet_file.specs.Views.{group_views}
+use Rattle.parquet_footer.specs.Views.{group_views}
 use Rattle.lake_bytes.proofs.Callers.{with_front}
 use Rattle.parquet_file.proofs.rows.add_groups.Given as goal
 

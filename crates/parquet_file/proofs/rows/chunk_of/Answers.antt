@@ -2,8 +2,8 @@ use Rattle.std.proofs.Common.{rules, tests, ap, ◌∙◌, option_map}
 use Rattle.std.proofs.lemmas.Iterator.{YieldsList-from_slice}
 use Rattle.std.proofs.lemmas.Iterator.Search.{find_from_yields_List}
 use Rattle.parquet_file.specs.Reading.{is_path}
-use Rattle.parquet_file.specs.Views.{chunk_view}
-use Rattle.parquet_file.proofs.CodeFields.{chunk_found, map_twice}
+use Rattle.parquet_footer.specs.Views.{chunk_view}
+use Rattle.parquet_file.proofs.CodeMembers.{chunk_found, map_twice}
 use Rattle.parquet_file.proofs.rows.chunk_of.Goals as goal
 
 pub returns : goal.returns

@@ -1,6 +1,6 @@
 use Rattle.std.proofs.Common.{◌≡◌, ◌+◌, drop}
 use Rattle.parquet_file.specs.Reading.{claimed_rows}
-use Rattle.parquet_file.specs.Views.{group_views}
+use Rattle.parquet_footer.specs.Views.{group_views}
 use Rattle.parquet_file.proofs.rows.claims_add_up.Given as goal
 
 -- what is left, and what the groups behind claim, differ as what was given and what all claim

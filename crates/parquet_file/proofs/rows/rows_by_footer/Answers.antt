@@ -1,7 +1,7 @@
 use Rattle.std.proofs.Common.{rules, ◌≡◌, ℤ, eqb, true, false, List, ◌++◌, Ok, Err, sym, refl, ap, ◌∙◌}
 use Rattle.parquet_file.specs.Reading.{claimed_rows, is_long_column, rows_of_groups, rows_of}
-use Rattle.parquet_file.specs.Views.{footer_view}
-use Rattle.parquet_file.specs.declared.fault.FileFault.TheVariants.{CountMismatch}
+use Rattle.parquet_footer.specs.Views.{footer_view}
+use Rattle.parquet_footer.specs.declared.fault.FileFault.TheVariants.{CountMismatch}
 use Rattle.parquet_file.proofs.FoundGroups.{rows_by_claims}
 use Rattle.parquet_file.proofs.rows.rows_by_footer.Goals as goal
 

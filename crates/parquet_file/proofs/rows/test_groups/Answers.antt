@@ -1,9 +1,9 @@
-use Rattle.std.proofs.Common.{◌≡◌, ◌∷◌, ◌+◌, drop, ap, sym, ◌∙◌, arith}
+use Rattle.std.proofs.Common.{◌≡◌, ◌∷◌, ◌+◌, drop, ap, sym, ◌∙◌, arith, Global}
 use Rattle.std.proofs.lemmas.List.{drop_more, drop_all}
 use Rattle.std.proofs.lemmas.Result.{err_from_is_err_and}
 use Rattle.parquet_file.specs.Reading.{rows_of_groups}
-use Rattle.parquet_file.specs.Views.{group_view, group_views}
-use Rattle.parquet_file.specs.declared.footer.RowGroup.{RowGroup}
+use Rattle.parquet_footer.specs.Views.{group_view, group_views}
+use Rattle.parquet_footer.specs.declared.footer.RowGroup.{RowGroup}
 use Rattle.parquet_file.proofs.CodeLoops.{unkept}
 use Rattle.parquet_file.proofs.CodePages.{test_goes_on, test_ends, test_done}
 use Rattle.parquet_file.proofs.rows.test_groups.Goals as goal
@@ -16,7 +16,7 @@ returns-in_err-add_group c =
     let read = rows_of_groups c.args.bytes.now c.args.column.now (group_views gs) in
     let e = c.in_err-add_group.field-0.0 in
     let p = err_from_is_err_and c.from_residual.result c.from_residual.ensures.1 in
-    let here : drop i gs ≡ g ∷ drop (i + 1) gs = drop_more gs i g (omega arith) ∙ ap (λ (y : RowGroup). y ∷ drop (i + 1) gs) (sym c.group-item.is) in
+    let here : drop i gs ≡ g ∷ drop (i + 1) gs = drop_more gs i g (omega arith) ∙ ap (λ (y : RowGroup Global). y ∷ drop (i + 1) gs) (sym c.group-item.is) in
     rw (p.1, p.2) (test_ends e c.args.bytes.now c.args.column.now (group_views (drop i gs)) (group_views (drop (i + 1) gs)) (group_view g) read (ap group_views here) c.in_err-add_group.ensures c.loop-group.invariant)
 
 pub loop-group-preserved : goal.loop-group-preserved
@@ -26,7 +26,7 @@ loop-group-preserved c =
     let g = c.group-item.result in
     let read = rows_of_groups c.args.bytes.now c.args.column.now (group_views gs) in
     let a = c.in_ok-add_group.ensures in
-    let here : drop i gs ≡ g ∷ drop (i + 1) gs = drop_more gs i g (omega arith) ∙ ap (λ (y : RowGroup). y ∷ drop (i + 1) gs) (sym c.group-item.is) in
+    let here : drop i gs ≡ g ∷ drop (i + 1) gs = drop_more gs i g (omega arith) ∙ ap (λ (y : RowGroup Global). y ∷ drop (i + 1) gs) (sym c.group-item.is) in
     test_goes_on c.args.bytes.now c.args.column.now (group_views (drop i gs)) (group_views (drop (i + 1) gs)) (group_view g) a.0 (unkept read) (ap group_views here) a.1 c.loop-group.invariant
 
 pub returns : goal.returns

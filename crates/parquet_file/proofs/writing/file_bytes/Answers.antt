@@ -1,5 +1,5 @@
 use Rattle.std.proofs.Common.{◌≡◌, ℕ, ◌+◌, ◌*◌, ◌<◌, ◌≤◌, ◌^◌, ◌++◌, List, length, ap, ◌∙◌, arith, Vec, Global, vec_len}
-use Rattle.parquet_file.specs.File.{magic}
+use Rattle.parquet_footer.specs.Frame.{magic}
 use Rattle.parquet_file.specs.Writing.{footer_bytes}
 use Rattle.parquet_file.proofs.WrittenSizes.{footer_short}
 use Rattle.parquet_file.proofs.WrittenPages.{file_joined}

@@ -7,16 +7,16 @@ use Rattle.thrift_core.proofs.writing.+write.Given as goal
 
 -- what is written, and what is left to write, is what is to be written
 abbrev pub invariant-write_members-loop-member : goal.invariant-write_members-loop-member
-invariant-write_members-loop-member l =
+invariant-write_members-loop-member g l =
     l.out.items ++ written_members (form l.shape) (trees_of (views (drop l.member-index l.members)))
     ≡ l.fn.out.items ++ (list_header_bytes (number_of (form l.shape)) (length l.members) ++ written_members (form l.shape) (trees_of (views l.members)))
 
 abbrev pub invariant-write_entries-loop-entry : goal.invariant-write_entries-loop-entry
-invariant-write_entries-loop-entry l =
+invariant-write_entries-loop-entry g l =
     l.out.items ++ written_entries (form l.key) (form l.value) (entries_of (entry_views (drop l.entry-index l.entries)))
     ≡ l.fn.out.items ++ (map_header_bytes (number_of (form l.key)) (number_of (form l.value)) (length l.entries) ++ written_entries (form l.key) (form l.value) (entries_of (entry_views l.entries)))
 
 abbrev pub invariant-write_fields-loop-field : goal.invariant-write_fields-loop-field
-invariant-write_fields-loop-field l =
+invariant-write_fields-loop-field g l =
     l.out.items ++ written_fields (field_forms l.shapes) l.last (fields_of (field_views (drop l.field-index l.fields)))
     ≡ l.fn.out.items ++ written_fields (field_forms l.shapes) (pos 0) (fields_of (field_views l.fields))

@@ -11,7 +11,7 @@ use Rattle.thrift_core.proofs.value.TValue.field.Goals as goal
 use Rattle.thrift_core.proofs.value.TValue.field.Goals.{then-has_id, else-has_id}
 
 pub loop-field-preserved : goal.loop-field-preserved
-loop-field-preserved c =
+loop-field-preserved g c =
     let fs = c.deref-field-items.result.now in
     let i = c.loop-field.field-index in
     let f = c.field-item.result in
@@ -30,7 +30,7 @@ loop-field-preserved c =
     ]
 
 pub returns : goal.returns
-returns c =
+returns g c =
     let fs = c.deref-field-items.result.now in
     let i = c.loop-field.field-index in
     let id : to_z w16 (of_z w16 c.args.id) ≡ c.args.id = to_z-of_z w16 c.args.id c.ranges.id in

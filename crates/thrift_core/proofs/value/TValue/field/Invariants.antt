@@ -5,5 +5,5 @@ use Rattle.thrift_core.proofs.value.TValue.field.Given as goal
 
 -- what the fields behind give, or else what was found, is what all give
 abbrev pub invariant-loop-field : goal.invariant-loop-field
-invariant-loop-field l =
+invariant-loop-field g l =
     later (last_of l.id (fields_of (field_views (drop l.field-index l.field-items)))) (option_map (λ v. view v.now) l.found) ≡ last_of l.id (fields_of (field_views l.field-items))

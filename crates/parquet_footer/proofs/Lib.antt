@@ -1,0 +1,9 @@
+pub mod FoundSteps
+pub mod Members
+pub mod FooterSays
+pub mod FoundFrame
+pub mod FoundFooter
+pub mod OnlyFrame
+pub mod OneFooter
+pub mod FrameTold
+pub mod Callers

@@ -1,0 +1,27 @@
+-- What a function returned, next to what reading gives: the same, unless memory ran out.
+use Rattle.std.specs.Prelude.{◌≡◌, Result, Ok, Err}
+use Rattle.lake_bytes.specs.Outcome as outcomes
+use Rattle.lake_bytes.specs.Outcome.{Said, refuses, says_nothing}
+use Rattle.parquet_footer.specs.declared.fault.FileFault.{FileFault}
+use Rattle.parquet_footer.specs.declared.fault.FileError.{FileError}
+use Rattle.parquet_footer.specs.declared.fault.FileError.TheVariants as errors
+
+-- what each fault of the code says
+abbrev pub says : FileError → Said FileFault
+says errors.Memory = says_nothing
+says (errors.Fault fault) = refuses fault
+
+-- the value, seen by view, or the fault
+abbrev pub Gives : {X A : Type 0} → (X → A) → Result X FileError → Result A FileFault → Type 0
+Gives view answered read = outcomes.Gives says view answered read
+
+-- This was read, seen by view, or memory ran out.
+abbrev pub Finds : {X A : Type 0} → (X → A) → A → Result X FileError → Type 0
+Finds view found (Ok x) = view x ≡ found
+Finds view found (Err errors.Memory) = Unit {0}
+Finds view found (Err (errors.Fault fault)) = ⊥
+
+-- Where a test that takes no memory finds this fault, it is the answer.
+abbrev pub Refuses : {X A : Type 0} → Result X FileError → Result A FileFault → Type 0
+Refuses result (Ok x) = Unit {0}
+Refuses result (Err fault) = result ≡ Err (errors.Fault fault)
