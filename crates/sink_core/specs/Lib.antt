@@ -1,3 +1,4 @@
 pub mod Appending
+pub mod Puts
 pub mod Refusals
 pub mod RowsIn

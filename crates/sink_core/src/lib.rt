@@ -3,6 +3,7 @@
 
 mod appending;
 mod committing;
+mod putting;
 mod refusal;
 mod rows_in;
 

@@ -70,7 +70,7 @@ pub enum AppendFault {
     Differs {
         name: String,
     },
-    /// Another commit has the version.
+    /// A commit has the version: another one, or the batch's own, where the store took its put twice.
     Contended {
         version: u64,
     },

@@ -3,3 +3,4 @@ pub mod Memory
 pub mod ObjectLaws
 pub mod Objects
 pub mod Texts
+pub mod Turns

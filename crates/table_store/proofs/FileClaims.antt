@@ -1,7 +1,8 @@
 -- A file within the limits has a footer that claims no more rows than a file may have.
 use Rattle.std.proofs.Common.{◌≡◌, ℕ, ◌+◌, ◌≤◌, ℤ, List, [], ◌∷◌, length, sym, ap, subst, arith, length-append}
-use Rattle.parquet_file.specs.File.{AreGroups, GroupsWithinLimit, ClaimsWithinLimit, HasFooter, IsFile, IsLongColumn, KeepsLimits}
-use Rattle.parquet_file.specs.Metadata.{Group, Metadata}
+use Rattle.parquet_file.specs.File.{AreGroups, IsFile, IsLongColumn, KeepsLimits}
+use Rattle.parquet_footer.specs.Footer.{GroupsWithinLimit, ClaimsWithinLimit, HasFooter}
+use Rattle.parquet_footer.specs.Metadata.{Group, Metadata}
 
 groups_claim : (bytes name : List ℕ) (groups : List Group) (rows : List ℤ) → AreGroups bytes name groups rows → length rows ≤ 4194304 → GroupsWithinLimit groups
 groups_claim bytes name [] rows stand few = tt

@@ -1,5 +1,6 @@
 pub mod FileClaims
 pub mod HeldLemmas
+pub mod HoldingGrown
 pub mod HoldingLogs
 pub mod HoldingNames
 pub mod HoldingOne

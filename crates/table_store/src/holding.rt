@@ -1,17 +1,20 @@
 //! Laws of stores and the tables that they hold, each a function with an empty body whose contract is the law.
 
-ghost use Rattle.std.specs.Prelude.{◌≡◌, ◌≢◌, ◌<◌, ◌^◌, ℕ, suc, List, [], ◌∷◌, ◌++◌, length, None, IsUtf8};
+ghost use Rattle.std.specs.Prelude.{◌≡◌, ◌≢◌, ◌<◌, ◌^◌, ℕ, suc, List, [], ◌∷◌, ◌++◌, length, true, None, IsUtf8};
 ghost use Rattle.store_core.specs.Objects.{Objects, object_at, with_object};
 ghost use Rattle.delta_actions.specs.Entry as actions;
 ghost use Rattle.delta_actions.specs.Names.{commit_name, data_file_name};
 ghost use Rattle.table_store.specs.Schema.{Schema};
 ghost use Rattle.table_store.specs.Commits.{IsCommitOf};
+ghost use Rattle.table_store.specs.Growth.{HasObjectsOf};
 ghost use Rattle.table_store.specs.Holds.{Holds, FileStands, IsLawfulStore};
 ghost use Rattle.table_model.specs.Lawful.{BeginsWithCreation, IsLawful};
 ghost use Rattle.table_store.specs.Logs.{IsLog, AreBatches, AreRows};
 ghost use Rattle.table_store.specs.LawfulLogs.{HasLawfulLog};
 ghost use Rattle.row_core.specs.Rows.{Row};
+ghost use Rattle.table_model.specs.Reads.{is_place, position};
 ghost use Rattle.table_model.specs.Table.{Batch, Entry, batch, batches, rows};
+ghost use Rattle.table_model.specs.declared.reading.Place.{Place};
 
 /// A store holds one table at most: one log of entries, and where the log begins with the creation, one schema. (A
 /// log of closes alone would tell no schema.)
@@ -24,6 +27,18 @@ pub fn one_table()
 /// Whatever table a lawful store holds is lawful: no batch stands twice, and each application's numbers rise.
 pub fn a_lawful_store_holds_lawful_tables()
     ensures { (objects : Objects) (schema : Schema) (entries : List Entry) → IsLawfulStore objects → Holds objects schema entries → IsLawful entries }
+{}
+
+/// Where a store holds a table, and another one has all its objects and maybe more and holds a table too, the first
+/// table is a front of the second: the same entries come first, and where the log begins with the creation, the schema
+/// is the same. Each offset that a read of the first can begin at is one of the second, at the same position.
+pub fn a_grown_store_holds_a_grown_table()
+    ensures front { (objects more : Objects) (schema other : Schema) (entries others : List Entry) → HasObjectsOf objects more → Holds objects schema entries → Holds more other others
+        → (later : List Entry) × (others ≡ entries ++ later) }
+    ensures schema { (objects more : Objects) (schema other : Schema) (first : Entry) (entries others : List Entry) → HasObjectsOf objects more → BeginsWithCreation (first ∷ entries)
+        → Holds objects schema (first ∷ entries) → Holds more other others → schema ≡ other }
+    ensures offsets { (objects more : Objects) (schema other : Schema) (entries others : List Entry) (place : Place) → HasObjectsOf objects more → Holds objects schema entries → Holds more other others
+        → is_place place entries ≡ true → (is_place place others ≡ true) × (position place others ≡ position place entries) }
 {}
 
 /// Where the commit of an entry is put at the next version, its file stands, and no commit stands at the version

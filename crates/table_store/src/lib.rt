@@ -10,7 +10,7 @@ mod schema;
 
 pub use held::{Held, held_by};
 pub use holding::{
-    a_commit_is_one_entry_more, a_data_file_changes_no_table, a_held_table_is_its_log,
-    a_lawful_store_has_a_lawful_log, a_lawful_store_has_each_batch_once,
+    a_commit_is_one_entry_more, a_data_file_changes_no_table, a_grown_store_holds_a_grown_table,
+    a_held_table_is_its_log, a_lawful_store_has_a_lawful_log, a_lawful_store_has_each_batch_once,
     a_lawful_store_holds_lawful_tables, names_stand_apart, one_table,
 };
