@@ -6,7 +6,6 @@ mod creating;
 mod fault;
 mod logs;
 mod naming;
-mod schema;
 mod versions;
 
 pub use creating::create;

@@ -7,9 +7,9 @@ ghost use Rattle.lake_command.specs.declared.words.Command.{Command};
 ghost use Rattle.lake_script.specs.Runs.{MayBeTold, Tells};
 ghost use Rattle.lake_command.specs.Status.{status_of, status_at, status_of_kind, IsStatusOf};
 ghost use Rattle.lake_script.specs.declared.inputs.TheConstants.{MOST_READS};
-ghost use Rattle.lake_script.specs.Streams.{held, unread};
+ghost use Rattle.lake_script.specs.Streams.{held, unread, read_failed, write_failed};
 ghost use Rattle.lake_script.specs.Tables.{told as told_by_table, AreOfTable};
-ghost use Rattle.lake_script.specs.Told.{told, first_bad};
+ghost use Rattle.lake_script.specs.Told.{IsTold, first_bad};
 ghost use Rattle.lake_command.specs.Words.{commands, Spells};
 
 use crate::words::{Command, read_words};
@@ -74,11 +74,11 @@ pub fn command<S: AsStr, R: Read, W: Write, E: Write>(
     output: &mut Output<W>,
     err: &mut E,
 ) -> Exit
-    // A script that isn't refused writes what it is told; the lines that met a refused growth are
-    // told so.
+    // A script that isn't refused writes what it is told, for some texts that the schemas of its lines
+    // are printed as; the lines that met a refused growth are told so.
     ensures told { (c : Command) → Spells (map S.text words.now) c → result.status ≢ REFUSED → result.is_short ≡ false
         → IfSome (unread R.remaining input.old) (λ text.
-        Appends (held W.contents output.old) (W.contents output.new.writer) (told [] text)) }
+        Tells (held W.contents output.old) (W.contents output.new.writer) (IsTold [] text)) }
     // Where no line shows an object, that is what the plain table tells.
     ensures tables { (c : Command) → Spells (map S.text words.now) c → result.status ≢ REFUSED → result.is_short ≡ false
         → IfSome (unread R.remaining input.old) (λ text. AreOfTable (lines_of text)
@@ -92,7 +92,7 @@ pub fn command<S: AsStr, R: Read, W: Write, E: Write>(
     // A script is refused where its input or its output fails, or a growth was refused, and nowhere
     // else; an input that passes its limits is one that fails.
     ensures refused { (c : Command) → Spells (map S.text words.now) c → result.status ≡ REFUSED
-        → (result.is_short ≡ true) ⊎ ((input.new.is_broken ≡ true) ⊎ ((output.new.is_broken ≡ true)
+        → (result.is_short ≡ true) ⊎ ((read_failed input.new ≡ true) ⊎ ((write_failed output.new ≡ true)
         ⊎ IfSome (unread R.remaining input.old) (λ text. MOST_READS ≤ length text))) }
 
     // Words that can't be read have the status of what is wrong with them, and run nothing.
@@ -105,7 +105,7 @@ pub fn command<S: AsStr, R: Read, W: Write, E: Write>(
             let outcome = run(alloc, input, output, &mut store, restore);
             Exit {
                 status: ended(outcome.end, err),
-                is_short: outcome.is_short,
+                is_short: outcome.short(),
             }
         }
         Err(error) => {

@@ -10,7 +10,7 @@ use Rattle.schema_tree.specs.Tree.{Tree}
 use Rattle.schema_tree.proofs.Callers.{long_is}
 use Rattle.store_core.specs.Objects.{Objects, object_at}
 use Rattle.store_core.specs.ObjectLaws.{object_at-with_object_other}
-use Rattle.parquet_file.specs.declared.fault.FileFault.{FileFault}
+use Rattle.parquet_footer.specs.declared.fault.FileFault.{FileFault}
 use Rattle.parquet_file.specs.Reading.{rows_at}
 use Rattle.parquet_file.specs.Writing.{written_file}
 use Rattle.table_model.specs.Appends.{appended, with_batch}
@@ -256,12 +256,13 @@ nothing_agrees application number at (Err why) = (refl, refl)
 nothing_agrees application number at (Ok passed) = (refl, refl)
 
 -- the reply to a line that appends a batch is the plain table's, and the store goes on to keep it
-pub append_told : (objects : Objects) (state : State) (application : List ℕ) (number at : ℕ) (items : Items) → Keeps objects state → length (tables.entries_of state) < 2 ^ 62 → IsSoundWish objects (task (append application number at items))
-    → (reply_to_wish objects (task (append application number at items)) ≡ tables.reply_to_wish state (task (append application number at items)))
-    × Keeps (left_by_wish objects (task (append application number at items))) (tables.left_by_wish state (task (append application number at items)))
-append_told objects nothing application number at items keeps few sound =
+pub append_told : (objects : Objects) (state : State) (application : List ℕ) (number at : ℕ) (items : Items) (printed : List ℕ) → Keeps objects state → length (tables.entries_of state) < 2 ^ 62
+    → IsSoundWish objects (task (append application number at items)) printed
+    → (reply_to_wish objects (task (append application number at items)) printed ≡ tables.reply_to_wish state (task (append application number at items)))
+    × Keeps (left_by_wish objects (task (append application number at items)) printed) (tables.left_by_wish state (task (append application number at items)))
+append_told objects nothing application number at items printed keeps few sound =
     rw (keeps, nothing_is application number at items) (nothing_agrees application number at (checked application number (count items)))
-append_told objects (table schema entries) application number at items keeps few sound =
+append_told objects (table schema entries) application number at items printed keeps few sound =
     let is = step_is objects schema entries application number at items keeps.0 few in
     let step_sound : IsSoundStep application number at (settled objects application number at items) = (sound.1, sound.2) in
     let told = table_agrees objects schema entries application number at items (checked application number (count items)) (row_column schema) keeps few sound.0 refl refl (rw is at step_sound) in

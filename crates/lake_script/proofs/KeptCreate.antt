@@ -12,13 +12,13 @@ use Rattle.table_model.specs.Table.{Entry, creation, close}
 use Rattle.table_model.specs.Lawful.{IsLawful}
 use Rattle.table_store.proofs.Callers.{commit_name-data_file_name}
 use Rattle.commit_core.specs.Commits.{commit_name, commit_text, creation as created}
-use Rattle.commit_core.specs.Creating.{Refusal, bad_schema, bad_id, too_large, id_of, kept_text, within, most_bytes, commit_from, unless_there, with_creation}
+use Rattle.commit_core.specs.Creating.{Refusal, bad_schema, bad_id, too_large, id_of, described, within, most_bytes, commit_from, unless_there, with_creation}
 use Rattle.lake_script.specs.Lines.{create}
 use Rattle.lake_bytes.specs.Results.{◌>>=◌, or_refusal, refused_as}
 use Rattle.commit_core.specs.Creating.{IsWellCreated, CreatesWell}
 use Rattle.lake_script.specs.Sound.{IsSoundWish}
 use Rattle.lake_script.specs.Tables as tables
-use Rattle.lake_script.specs.Tables.{State, nothing, table, described, creating, with_table}
+use Rattle.lake_script.specs.Tables.{State, nothing, table, creating, with_table}
 use Rattle.lake_script.specs.Told.{reply_to_wish, left_by_wish, created_reply}
 use Rattle.lake_script.proofs.Kept.{IsKept, Keeps, KeptFrom, of_commit}
 use Rattle.lake_script.proofs.KeptNames.{same_name}
@@ -30,30 +30,30 @@ data IsTold (text : List ℕ) (found : Result Tree Refusal) (put : Result (List 
   refuses : (why : Refusal) → found ≡ Err why → put ≡ Err why → IsTold text found put
   puts : (schema : Tree) (bytes : List ℕ) → found ≡ Ok schema → put ≡ Ok bytes → schema_of text ≡ Ok schema → IsTold text found put
 
-module _ (text : List ℕ) where
+module _ (text printed : List ℕ) where
   -- bytes that aren't too many are put
   told_bytes : (schema : Tree) (bytes : List ℕ) (small : Bool) → schema_of text ≡ Ok schema → cond small (Ok bytes) (Err too_large) ≢ Err too_large → IsTold text (Ok schema) (cond small (Ok bytes) (Err too_large))
   told_bytes schema bytes true is fits = puts schema bytes refl refl is
   told_bytes schema bytes false is fits = absurd (fits refl)
 
   -- of a text that is read as a schema, the schema is told
-  told_schema : (own : List ℕ) (at : ℕ) (read : Result Tree Fault) → schema_of text ≡ read → (refused_as bad_schema read >>= λ schema. within (commit_text (created own at (kept_text text schema)))) ≢ Err too_large
-      → IsTold text (refused_as bad_schema read) (refused_as bad_schema read >>= λ schema. within (commit_text (created own at (kept_text text schema))))
+  told_schema : (own : List ℕ) (at : ℕ) (read : Result Tree Fault) → schema_of text ≡ read → (refused_as bad_schema read >>= λ schema. within (commit_text (created own at printed))) ≢ Err too_large
+      → IsTold text (refused_as bad_schema read) (refused_as bad_schema read >>= λ schema. within (commit_text (created own at printed)))
   told_schema own at (Err fault) is fits = refuses (bad_schema fault) refl refl
   told_schema own at (Ok schema) is fits =
-      let bytes = commit_text (created own at (kept_text text schema)) in
+      let bytes = commit_text (created own at printed) in
       told_bytes schema bytes (nat_le (length bytes) most_bytes) is fits
 
   -- the id is looked at before that
   told_id : (own : Option (List ℕ)) (at : ℕ)
-      → (or_refusal own bad_id >>= λ id. refused_as bad_schema (schema_of text) >>= λ schema. within (commit_text (created id at (kept_text text schema)))) ≢ Err too_large
+      → (or_refusal own bad_id >>= λ id. refused_as bad_schema (schema_of text) >>= λ schema. within (commit_text (created id at printed))) ≢ Err too_large
       → IsTold text (or_refusal own bad_id >>= λ id. refused_as bad_schema (schema_of text))
-      (or_refusal own bad_id >>= λ id. refused_as bad_schema (schema_of text) >>= λ schema. within (commit_text (created id at (kept_text text schema))))
+      (or_refusal own bad_id >>= λ id. refused_as bad_schema (schema_of text) >>= λ schema. within (commit_text (created id at printed)))
   told_id None at fits = refuses bad_id refl refl
   told_id (Some own) at fits = told_schema own at (schema_of text) refl fits
 
   -- what is described and what is put agree
-  is_told : (id : List ℕ) (at : ℕ) → commit_from id at text ≢ Err too_large → IsTold text (described id text) (commit_from id at text)
+  is_told : (id : List ℕ) (at : ℕ) → commit_from id at text printed ≢ Err too_large → IsTold text (described id text) (commit_from id at text printed)
   unfolding commit_from
   is_told id at fits = told_id (id_of id) at fits
 
@@ -87,7 +87,7 @@ kept_creation name at text schema bytes first is well =
     let same : Ok well.read ≡ Ok schema = sym well.described ∙ is in
     let stands : object_at ((name, bytes) ∷ []) (names.commit_name 0) ≡ Some bytes = ap (object_at ((name, bytes) ∷ [])) (sym first) ∙ one_object name bytes in
     record {
-      kept = ((bytes, stands, record { made = created well.id at well.text; commit = well.commit; is = record { id = well.id; at = at; text = well.text; are = refl; readable = well.readable ∙ same } }), tt, tt);
+      kept = ((bytes, stands, record { made = created well.id at well.text; commit = well.commit; is = record { id = well.id; at = at; text = well.text; are = refl; readable = well.printed.readable ∙ same } }), tt, tt);
       rest = [];
       begins = refl;
       lawful = lawful_creation;
@@ -136,12 +136,13 @@ same_table old entries (Ok schema) = refl
 same_table old entries (Err why) = refl
 
 -- the reply to a line that creates a table is the plain table's, and the store goes on to keep it
-pub create_told : (objects : Objects) (state : State) (id : List ℕ) (at : ℕ) (text : List ℕ) → Keeps objects state → IsSoundWish objects (create id at text)
-    → (reply_to_wish objects (create id at text) ≡ tables.reply_to_wish state (create id at text)) × Keeps (left_by_wish objects (create id at text)) (tables.left_by_wish state (create id at text))
-create_told objects nothing id at text keeps sound =
-    rw keeps (told_nothing at text (described id text) (commit_from id at text) (is_told text id at sound.1) sound.0)
-create_told objects (table schema entries) id at text keeps sound =
+pub create_told : (objects : Objects) (state : State) (id : List ℕ) (at : ℕ) (text printed : List ℕ) → Keeps objects state → IsSoundWish objects (create id at text) printed
+    → (reply_to_wish objects (create id at text) printed ≡ tables.reply_to_wish state (create id at text))
+    × Keeps (left_by_wish objects (create id at text) printed) (tables.left_by_wish state (create id at text))
+create_told objects nothing id at text printed keeps sound =
+    rw keeps (told_nothing at text (described id text) (commit_from id at text printed) (is_told text printed id at sound.1) sound.0)
+create_told objects (table schema entries) id at text printed keeps sound =
     let stands = first_commit objects schema entries keeps.0 in (
-      told_table text schema entries (object_at objects (commit_name 0)) (described id text) (commit_from id at text) stands (is_told text id at sound.1),
-      rw (left_table objects (commit_from id at text) stands, same_table schema entries (described id text)) keeps,
+      told_table text schema entries (object_at objects (commit_name 0)) (described id text) (commit_from id at text printed) stands (is_told text printed id at sound.1),
+      rw (left_table objects (commit_from id at text printed) stands, same_table schema entries (described id text)) keeps,
     )

@@ -73,7 +73,7 @@ append_stays most objects application number at items new small utf8 (inr (well,
 -- what a line asks for
 put_stays : (most : ℕ) (old : Objects) (wish : Wish) (new : Objects) → most ≤ 2 ^ 31 → MayPut old wish new → Stays most old → Stays (suc most) new
 put_stays most old (create id at schema) new small (inl same) stays = rw same (still most old stays)
-put_stays most old (create id at schema) new small (inr put) stays = rw put.1 (created_stays most old at schema (commit_from id at schema) put.0 stays)
+put_stays most old (create id at schema) new small (inr (printed, put)) stays = rw put.1 (created_stays most old at schema (commit_from id at schema printed) put.0 stays)
 put_stays most old (task (append application number at items)) new small put stays = append_stays most old application number at items new small put.0 put.1 stays
 put_stays most old _ new small put stays = rw put (still most old stays)
 

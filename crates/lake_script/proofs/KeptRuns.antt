@@ -14,23 +14,24 @@ use Rattle.commit_core.specs.Histories.{history_of, bad_log}
 use Rattle.lake_script.specs.Lines.{Wish, create, task, history, show, hex, append, tail, Reading, skipped, bad, asks, reading_of}
 use Rattle.source_core.specs.Offsets.{offset_of}
 use Rattle.sink_core.specs.Refusals.{Refusal}
-use Rattle.lake_script.specs.Sound.{IsSoundWish, IsSound, UnlessBad, AreSound}
+use Rattle.lake_script.specs.Sound.{IsSoundWish, IsSound, AreSound}
 use Rattle.lake_script.specs.Tables as tables
 use Rattle.lake_script.specs.Tables.{State, nothing, table, entries_of, ShowsNoObject, IsOfTable, AreOfTable}
 use Rattle.source_core.specs.Tailing.{tailed}
 use Rattle.lake_script.specs.Told as told
-use Rattle.lake_script.specs.Told.{tailed_reply, is_bad}
+use Rattle.lake_script.specs.Told.{tailed_reply, is_bad, UnlessBad, ArePrinted}
 use Rattle.lake_script.proofs.Kept.{IsKept, Keeps}
 
 -- what is known of single lines
 pub record Given : Type 0 where
-  pub create_told : (objects : Objects) (state : State) (id : List ℕ) (at : ℕ) (schema : List ℕ) → Keeps objects state → length (entries_of state) < 2 ^ 62 → IsSoundWish objects (create id at schema)
-      → (told.reply_to_wish objects (create id at schema) ≡ tables.reply_to_wish state (create id at schema))
-      × Keeps (told.left_by_wish objects (create id at schema)) (tables.left_by_wish state (create id at schema))
-  pub append_told : (objects : Objects) (state : State) (application : List ℕ) (number at : ℕ) (items : Items) → Keeps objects state → length (entries_of state) < 2 ^ 62
-      → IsSoundWish objects (task (append application number at items))
-      → (told.reply_to_wish objects (task (append application number at items)) ≡ tables.reply_to_wish state (task (append application number at items)))
-      × Keeps (told.left_by_wish objects (task (append application number at items))) (tables.left_by_wish state (task (append application number at items)))
+  pub create_told : (objects : Objects) (state : State) (id : List ℕ) (at : ℕ) (schema printed : List ℕ) → Keeps objects state → length (entries_of state) < 2 ^ 62
+      → IsSoundWish objects (create id at schema) printed
+      → (told.reply_to_wish objects (create id at schema) printed ≡ tables.reply_to_wish state (create id at schema))
+      × Keeps (told.left_by_wish objects (create id at schema) printed) (tables.left_by_wish state (create id at schema))
+  pub append_told : (objects : Objects) (state : State) (application : List ℕ) (number at : ℕ) (items : Items) (printed : List ℕ) → Keeps objects state → length (entries_of state) < 2 ^ 62
+      → IsSoundWish objects (task (append application number at items)) printed
+      → (told.reply_to_wish objects (task (append application number at items)) printed ≡ tables.reply_to_wish state (task (append application number at items)))
+      × Keeps (told.left_by_wish objects (task (append application number at items)) printed) (tables.left_by_wish state (task (append application number at items)))
   pub tail_told : (objects : Objects) (schema : Tree) (entries : List Entry) → IsKept objects schema entries → length entries < 2 ^ 62 → (max : ℕ) (offset : List ℕ)
       → tailed_reply (tailed objects max offset) ≡ tables.tail_reply (table schema entries) max (offset_of offset)
   pub tail_of_nothing : (max : ℕ) (offset : List ℕ) → tailed_reply (tailed [] max offset) ≡ tables.tail_reply nothing max (offset_of offset)
@@ -60,7 +61,7 @@ appended_one (table schema entries) (Err refusal) = omega arith
 
 -- what a line asks for adds one entry at most
 wish_one : (state : State) (wish : Wish) → length (entries_of (tables.left_by_wish state wish)) ≤ suc (length (entries_of state))
-wish_one state (create id at schema) = created_one state (tables.creating state (tables.described id schema))
+wish_one state (create id at schema) = created_one state (tables.creating state (creations.described id schema))
 wish_one state (task (append application number at items)) = appended_one state (tables.batch_in state application number items)
 wish_one state _ = omega arith
 
@@ -91,16 +92,27 @@ unless_bad : (b : Bool) (Holds : Type 0) → UnlessBad b Holds → b ≡ false �
 unless_bad true Holds h is = absurd cc
 unless_bad false Holds h is = h
 
-module _ (objects : Objects) (line : List ℕ) (lines : List (List ℕ)) where
-  -- the first line is sound
-  first_sound : AreSound objects (line ∷ lines) → IsSound objects (reading_of line)
-  unfolding AreSound
-  first_sound sound = sound.0
+module _ (line printed : List ℕ) (lines texts : List (List ℕ)) where
+  -- the texts behind the first are those of the lines behind it, where it isn't bad
+  rest_printed : ArePrinted (line ∷ lines) (printed ∷ texts) → is_bad (reading_of line) ≡ false → ArePrinted lines texts
+  unfolding ArePrinted
+  rest_printed all on = unless_bad (is_bad (reading_of line)) (ArePrinted lines texts) all.1 on
 
-  -- those behind it are, where it isn't bad
-  rest_sound : AreSound objects (line ∷ lines) → is_bad (reading_of line) ≡ false → AreSound (told.left_by objects (reading_of line)) lines
-  unfolding AreSound
-  rest_sound sound on = unless_bad (is_bad (reading_of line)) (AreSound (told.left_by objects (reading_of line)) lines) sound.1 on
+  module _ (objects : Objects) where
+    -- the first line is sound
+    first_sound : AreSound objects (line ∷ lines) (printed ∷ texts) → IsSound objects (reading_of line) printed
+    unfolding AreSound
+    first_sound sound = sound.0
+
+    -- those behind it are, where it isn't bad
+    rest_sound : AreSound objects (line ∷ lines) (printed ∷ texts) → is_bad (reading_of line) ≡ false → AreSound (told.left_by objects (reading_of line) printed) lines texts
+    unfolding AreSound
+    rest_sound sound on = unless_bad (is_bad (reading_of line)) (AreSound (told.left_by objects (reading_of line) printed) lines texts) sound.1 on
+
+-- beside a line a text stands
+no_text : (line : List ℕ) (lines : List (List ℕ)) → ArePrinted (line ∷ lines) [] → ⊥
+unfolding ArePrinted
+no_text line lines none = none
 
 -- ---- one line
 
@@ -117,76 +129,81 @@ module _ (given : Given) where
   history_state objects (table schema entries) keeps small = given.history_told objects schema entries keeps.0 small
 
   -- what a line asks for is told as by the table
-  wish_told : (objects : Objects) (state : State) (wish : Wish) → Keeps objects state → length (entries_of state) < 2 ^ 62 → IsSoundWish objects wish → ShowsNoObject wish
-      → told.reply_to_wish objects wish ≡ tables.reply_to_wish state wish
-  wish_told objects state (create id at schema) keeps small sound only = (given.create_told objects state id at schema keeps small sound).0
-  wish_told objects state (task (append application number at items)) keeps small sound only = (given.append_told objects state application number at items keeps small sound).0
-  wish_told objects state (task (tail max offset)) keeps small sound only = tail_state objects state keeps small max offset
-  wish_told objects state history keeps small sound only = history_state objects state keeps small
-  wish_told objects state (show version) keeps small sound only = absurd only
-  wish_told objects state (hex name) keeps small sound only = absurd only
-  wish_told objects state _ keeps small sound only = refl
+  wish_told : (objects : Objects) (state : State) (wish : Wish) (printed : List ℕ) → Keeps objects state → length (entries_of state) < 2 ^ 62 → IsSoundWish objects wish printed → ShowsNoObject wish
+      → told.reply_to_wish objects wish printed ≡ tables.reply_to_wish state wish
+  wish_told objects state (create id at schema) printed keeps small sound only = (given.create_told objects state id at schema printed keeps small sound).0
+  wish_told objects state (task (append application number at items)) printed keeps small sound only = (given.append_told objects state application number at items printed keeps small sound).0
+  wish_told objects state (task (tail max offset)) printed keeps small sound only = tail_state objects state keeps small max offset
+  wish_told objects state history printed keeps small sound only = history_state objects state keeps small
+  wish_told objects state (show version) printed keeps small sound only = absurd only
+  wish_told objects state (hex name) printed keeps small sound only = absurd only
+  wish_told objects state _ printed keeps small sound only = refl
 
   -- behind it the store keeps the table behind it
-  wish_kept : (objects : Objects) (state : State) (wish : Wish) → Keeps objects state → length (entries_of state) < 2 ^ 62 → IsSoundWish objects wish
-      → Keeps (told.left_by_wish objects wish) (tables.left_by_wish state wish)
-  wish_kept objects state (create id at schema) keeps small sound = (given.create_told objects state id at schema keeps small sound).1
-  wish_kept objects state (task (append application number at items)) keeps small sound = (given.append_told objects state application number at items keeps small sound).1
-  wish_kept objects state _ keeps small sound = keeps
+  wish_kept : (objects : Objects) (state : State) (wish : Wish) (printed : List ℕ) → Keeps objects state → length (entries_of state) < 2 ^ 62 → IsSoundWish objects wish printed
+      → Keeps (told.left_by_wish objects wish printed) (tables.left_by_wish state wish)
+  wish_kept objects state (create id at schema) printed keeps small sound = (given.create_told objects state id at schema printed keeps small sound).1
+  wish_kept objects state (task (append application number at items)) printed keeps small sound = (given.append_told objects state application number at items printed keeps small sound).1
+  wish_kept objects state _ printed keeps small sound = keeps
 
   -- a line that shows no object is told what the table tells
-  pub line_told : (number : ℕ) (objects : Objects) (state : State) (r : Reading) → Keeps objects state → length (entries_of state) < 2 ^ 62 → IsSound objects r → IsOfTable r
-      → told.reply_to number objects r ≡ tables.reply_to number state r
-  line_told number objects state skipped keeps small sound only = refl
-  line_told number objects state bad keeps small sound only = refl
-  line_told number objects state (asks wish) keeps small sound only = wish_told objects state wish keeps small sound only
+  pub line_told : (number : ℕ) (objects : Objects) (state : State) (r : Reading) (printed : List ℕ) → Keeps objects state → length (entries_of state) < 2 ^ 62 → IsSound objects r printed → IsOfTable r
+      → told.reply_to number objects r printed ≡ tables.reply_to number state r
+  line_told number objects state skipped printed keeps small sound only = refl
+  line_told number objects state bad printed keeps small sound only = refl
+  line_told number objects state (asks wish) printed keeps small sound only = wish_told objects state wish printed keeps small sound only
 
   -- behind a line the store keeps the table behind it
-  pub line_kept : (objects : Objects) (state : State) (r : Reading) → Keeps objects state → length (entries_of state) < 2 ^ 62 → IsSound objects r → Keeps (told.left_by objects r) (tables.left_by state r)
-  line_kept objects state skipped keeps small sound = keeps
-  line_kept objects state bad keeps small sound = keeps
-  line_kept objects state (asks wish) keeps small sound = wish_kept objects state wish keeps small sound
+  pub line_kept : (objects : Objects) (state : State) (r : Reading) (printed : List ℕ) → Keeps objects state → length (entries_of state) < 2 ^ 62 → IsSound objects r printed
+      → Keeps (told.left_by objects r printed) (tables.left_by state r)
+  line_kept objects state skipped printed keeps small sound = keeps
+  line_kept objects state bad printed keeps small sound = keeps
+  line_kept objects state (asks wish) printed keeps small sound = wish_kept objects state wish printed keeps small sound
 
   -- ---- several lines
 
   -- what lines are told where the store keeps a table
-  pub told_on : (number : ℕ) (objects : Objects) (state : State) (lines : List (List ℕ)) → Keeps objects state → length (entries_of state) + length lines ≤ 2 ^ 32 → AreSound objects lines → AreOfTable lines
-      → told.told_from number objects lines ≡ tables.told_from number state lines
+  pub told_on : (number : ℕ) (objects : Objects) (state : State) (lines texts : List (List ℕ)) → Keeps objects state → length (entries_of state) + length lines ≤ 2 ^ 32
+      → ArePrinted lines texts → AreSound objects lines texts → AreOfTable lines → told.told_from number objects lines texts ≡ tables.told_from number state lines
   unfolding told.told_from tables.told_from
-  told_on number objects state [] keeps few sound only = refl
-  told_on number objects state (line ∷ lines) keeps few sound only =
+  told_on number objects state [] texts keeps few printed sound only = refl
+  told_on number objects state (line ∷ lines) [] keeps few printed sound only = absurd (no_text line lines printed)
+  told_on number objects state (line ∷ lines) (text ∷ texts) keeps few printed sound only =
       let r = reading_of line in
       let small : length (entries_of state) < 2 ^ 62 = omega arith in
-      let here = first_sound objects line lines sound in
-      let same = line_told number objects state r keeps small here only.0 in
-      let kept = line_kept objects state r keeps small here in
+      let here = first_sound line text lines texts objects sound in
+      let same = line_told number objects state r text keeps small here only.0 in
+      let kept = line_kept objects state r text keeps small here in
       let fewer : length (entries_of (tables.left_by state r)) + length lines ≤ 2 ^ 32 = omega (arith, left_by_one state r) in
       elim (cases_Bool (is_bad r)) [
         | inl ends ↦ rw (ends, same) refl
-        | inr on ↦ rw (on, same, told_on (number + 1) (told.left_by objects r) (tables.left_by state r) lines kept fewer (rest_sound objects line lines sound on) only.1) refl
+        | inr on ↦
+            let behind = told_on (number + 1) (told.left_by objects r text) (tables.left_by state r) lines texts kept fewer (rest_printed line text lines texts printed on) (rest_sound line text lines texts objects sound on) only.1 in
+            rw (on, same, behind) refl
       ]
 
   -- the store keeps the table that lines leave where it keeps one before them
-  pub left_on : (objects : Objects) (state : State) (lines : List (List ℕ)) → Keeps objects state → length (entries_of state) + length lines ≤ 2 ^ 32 → AreSound objects lines
-      → Keeps (told.left_from objects lines) (tables.left_from state lines)
+  pub left_on : (objects : Objects) (state : State) (lines texts : List (List ℕ)) → Keeps objects state → length (entries_of state) + length lines ≤ 2 ^ 32
+      → ArePrinted lines texts → AreSound objects lines texts → Keeps (told.left_from objects lines texts) (tables.left_from state lines)
   unfolding told.left_from tables.left_from
-  left_on objects state [] keeps few sound = keeps
-  left_on objects state (line ∷ lines) keeps few sound =
+  left_on objects state [] texts keeps few printed sound = keeps
+  left_on objects state (line ∷ lines) [] keeps few printed sound = absurd (no_text line lines printed)
+  left_on objects state (line ∷ lines) (text ∷ texts) keeps few printed sound =
       let r = reading_of line in
       let small : length (entries_of state) < 2 ^ 62 = omega arith in
-      let kept = line_kept objects state r keeps small (first_sound objects line lines sound) in
+      let kept = line_kept objects state r text keeps small (first_sound line text lines texts objects sound) in
       let fewer : length (entries_of (tables.left_by state r)) + length lines ≤ 2 ^ 32 = omega (arith, left_by_one state r) in
       elim (cases_Bool (is_bad r)) [
         | inl ends ↦ rw ends keeps
-        | inr on ↦ rw on (left_on (told.left_by objects r) (tables.left_by state r) lines kept fewer (rest_sound objects line lines sound on))
+        | inr on ↦ rw on (left_on (told.left_by objects r text) (tables.left_by state r) lines texts kept fewer (rest_printed line text lines texts printed on) (rest_sound line text lines texts objects sound on))
       ]
 
   -- ---- a whole script
 
   -- a script is told what the plain table tells
-  pub told_by_tables : (lines : List (List ℕ)) → length lines ≤ 2 ^ 31 → AreSound [] lines → AreOfTable lines → told.told_from 1 [] lines ≡ tables.told_from 1 nothing lines
-  told_by_tables lines few sound only = told_on 1 [] nothing lines refl (omega arith) sound only
+  pub told_by_tables : (lines texts : List (List ℕ)) → length lines ≤ 2 ^ 31 → ArePrinted lines texts → AreSound [] lines texts → AreOfTable lines → told.told_from 1 [] lines texts ≡ tables.told_from 1 nothing lines
+  told_by_tables lines texts few printed sound only = told_on 1 [] nothing lines texts refl (omega arith) printed sound only
 
   -- a script leaves a store that keeps the table that it leaves
-  pub left_is_kept : (lines : List (List ℕ)) → length lines ≤ 2 ^ 31 → AreSound [] lines → Keeps (told.left_from [] lines) (tables.left_from nothing lines)
-  left_is_kept lines few sound = left_on [] nothing lines refl (omega arith) sound
+  pub left_is_kept : (lines texts : List (List ℕ)) → length lines ≤ 2 ^ 31 → ArePrinted lines texts → AreSound [] lines texts → Keeps (told.left_from [] lines texts) (tables.left_from nothing lines)
+  left_is_kept lines texts few printed sound = left_on [] nothing lines texts refl (omega arith) printed sound

@@ -17,7 +17,7 @@ use Rattle.lake_script.proofs.KeptTails.{GivenReads, IsRead, hand_out_the_log, h
 
 pub lines_told : Given
 lines_told = record {
-  create_told = λ objects state id at schema keeps small sound. create_told objects state id at schema keeps sound;
+  create_told = λ objects state id at schema printed keeps small sound. create_told objects state id at schema printed keeps sound;
   append_told = append_told;
   tail_told = tail_told;
   tail_of_nothing = tail_of_nothing;

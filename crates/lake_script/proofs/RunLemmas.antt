@@ -1,46 +1,167 @@
 -- From one line's reply to what a whole script is told.
-use Rattle.std.proofs.Common.{◌≡◌, ℕ, ◌+◌, ◌<◌, ◌≤◌, ◌∷◌, [], ◌++◌, List, Option, None, Some, Bor, IfSome, option_map, length, true, false, refl, ap, subst, sym, ◌∙◌, arith, append_assoc, append-nil}
-use Rattle.std.specs.Io.KnownBytes.{Appends}
+use Rattle.std.proofs.Common.{◌≡◌, ℕ, ◌+◌, ◌<◌, ◌≤◌, Bool, ◌∷◌, [], ◌++◌, List, Option, None, Some, Bor, IfSome, option_map, length, true, false, refl, ap, subst, sym, ◌∙◌, arith, append_assoc, append-nil}
+use Rattle.std.specs.Io.KnownBytes.{Appends, append_known}
 use Rattle.std.proofs.lemmas.Bool.{cond-true, cond-false}
+use Rattle.delta_actions.specs.Commit.{lines_of}
 use Rattle.store_core.specs.Objects.{Objects}
-use Rattle.lake_script.specs.Lines.{Reading, skipped, bad, asks, reading_of}
-use Rattle.lake_script.specs.Sound.{IsSound, AreSound, UnlessBad}
-use Rattle.lake_script.specs.Told.{reply_to, left_by, is_bad, told_from, left_from, first_bad_from, lines_left}
-use Rattle.lake_script.proofs.StreamLemmas.{Appends-both, Towards}
+use Rattle.lake_script.specs.Lines.{Wish, Reading, skipped, bad, asks, reading_of}
+use Rattle.lake_script.specs.Sound.{IsGranted, IsAnswered, AreSound, IsRun, IsRunInPart}
+use Rattle.lake_script.specs.Streams.{StandsIn}
+use Rattle.lake_script.specs.Told.{reply_to, left_by, is_bad, UnlessBad, ArePrinted, ArePrintedInPart, told_from, left_from, first_bad_from, lines_left}
+use Rattle.lake_script.proofs.StreamLemmas.{Appends-none, Appends-both, nothing_known, stands_in_whole}
 
-module _ (old now new : Option (List ℕ)) (number : ℕ) (objects : Objects) (line : List ℕ) (lines : List (List ℕ)) (whole : List ℕ) where
-  -- a line that isn't bad leaves the rest to be told
-  pub towards_next : Towards old now (told_from number objects (line ∷ lines)) whole → Appends now new (reply_to number objects (reading_of line)) → is_bad (reading_of line) ≡ false → Towards old new (told_from (number + 1) (left_by objects (reading_of line)) lines) whole
-  unfolding told_from
-  towards_next t added goes_on =
-      record {
-        front = t.front ++ reply_to number objects (reading_of line);
-        added = Appends-both old now new t.front _ t.added added;
-        joins = append_assoc t.front _ _ ∙ ap (λ u. t.front ++ (reply_to number objects (reading_of line) ++ u)) (sym (cond-false _ _ _ goes_on)) ∙ t.joins;
-      }
+-- a line that has what it asks for is answered
+pub answered : (number : ℕ) (objects after : Objects) (wish : Wish) (reading : Reading) (reply : List ℕ) (old new : Option (List ℕ)) → asks wish ≡ reading → IsGranted objects wish reply after → Appends old new reply
+    → IsAnswered number objects reading old new after
+answered number objects after wish reading reply old new asked granted said =
+    subst (λ r. IsAnswered number objects r old new after) asked (record {
+      text = granted.text;
+      printed = granted.printed;
+      told = subst (λ u. Appends old new u) granted.told said;
+      left = granted.left;
+      sound = granted.sound;
+    })
 
-  -- behind a bad line nothing is told
-  pub towards_bad : Towards old now (told_from number objects (line ∷ lines)) whole → Appends now new (reply_to number objects (reading_of line)) → is_bad (reading_of line) ≡ true → Appends old new whole
-  unfolding told_from
-  towards_bad t added ends =
-      let last = ap (λ u. reply_to number objects (reading_of line) ++ u) (cond-true (is_bad (reading_of line)) [] (told_from (number + 1) (left_by objects (reading_of line)) lines) ends) ∙ append-nil _ in
-      subst (λ u. Appends old new u) (ap (λ u. t.front ++ u) (sym last) ∙ t.joins) (Appends-both old now new t.front _ t.added added)
+-- What is known of a script behind some lines: whatever texts stand beside the lines that are left, the whole script is
+-- told this with those behind the texts so far.
+pub record SoFar (start : Objects) (script : List ℕ) (old now : Option (List ℕ)) (number : ℕ) (objects : Objects) (lines : List (List ℕ)) : Type 0 where
+  pub front : List ℕ
+  pub texts : List (List ℕ) → List (List ℕ)
+  pub added : Appends old now front
+  pub printed : (rest : List (List ℕ)) → ArePrinted lines rest → ArePrinted (lines_of script) (texts rest)
+  pub in_part : (rest : List (List ℕ)) → ArePrintedInPart lines rest → ArePrintedInPart (lines_of script) (texts rest)
+  pub told : (rest : List (List ℕ)) → told_from 1 start (lines_of script) (texts rest) ≡ front ++ told_from number objects lines rest
+  pub left : (rest : List (List ℕ)) → left_from start (lines_of script) (texts rest) ≡ left_from objects lines rest
+  pub sound : (rest : List (List ℕ)) → AreSound objects lines rest → AreSound start (lines_of script) (texts rest)
 
--- the objects that stand behind lines, from one line on
-module _ (objects : Objects) (line : List ℕ) (lines : List (List ℕ)) where
-  pub left_next : is_bad (reading_of line) ≡ false → left_from objects (line ∷ lines) ≡ left_from (left_by objects (reading_of line)) lines
-  unfolding left_from
-  left_next goes_on = cond-false _ _ _ goes_on
+-- before the first line
+pub at_first : (start : Objects) (script : List ℕ) (old : Option (List ℕ)) → SoFar start script old old 1 start (lines_of script)
+at_first start script old = record {
+  front = [];
+  texts = λ rest. rest;
+  added = Appends-none old;
+  printed = λ rest all. all;
+  in_part = λ rest all. all;
+  told = λ rest. refl;
+  left = λ rest. refl;
+  sound = λ rest all. all;
+}
 
-  pub left_here : is_bad (reading_of line) ≡ true → left_from objects (line ∷ lines) ≡ objects
-  unfolding left_from
-  left_here ends = cond-true _ _ _ ends
+-- nothing is told where no text stands
+told_nothing : (number : ℕ) (objects : Objects) (lines : List (List ℕ)) → told_from number objects lines [] ≡ []
+unfolding told_from
+told_nothing number objects [] = refl
+told_nothing number objects (line ∷ lines) = refl
+
+none_printed : (lines : List (List ℕ)) → ArePrintedInPart lines []
+unfolding ArePrintedInPart
+none_printed [] = tt
+none_printed (line ∷ lines) = tt
 
 -- a bad line leaves the objects as they are
-pub left_by_bad : (objects : Objects) (r : Reading) → is_bad r ≡ true → left_by objects r ≡ objects
-left_by_bad objects skipped h = refl
-left_by_bad objects bad h = refl
-left_by_bad objects (asks wish) h = cc
+left_by_bad : (objects : Objects) (r : Reading) (printed : List ℕ) → is_bad r ≡ true → left_by objects r printed ≡ objects
+left_by_bad objects skipped printed h = refl
+left_by_bad objects bad printed h = refl
+left_by_bad objects (asks wish) printed h = cc
+
+module _ (start : Objects) (script : List ℕ) (old now new : Option (List ℕ)) (number : ℕ) (objects : Objects) (lines : List (List ℕ)) where
+  -- where a reply isn't given, what stands is a front of what was told so far
+  pub cut_off : SoFar start script old now number objects lines → StandsIn now new [] → IsRunInPart start script old new
+  cut_off so_far stands = record {
+    texts = so_far.texts [];
+    printed = so_far.in_part [] (none_printed lines);
+    stands = stands_in_whole old now new [] _ (record {
+      front = so_far.front;
+      added = so_far.added;
+      joins = ap (λ u. so_far.front ++ u) (sym (told_nothing number objects lines)) ∙ sym (so_far.told []);
+    }) stands;
+  }
+
+  module _ (line : List ℕ) (after : Objects) (so_far : SoFar start script old now number objects (line ∷ lines)) (here : IsAnswered number objects (reading_of line) now new after) where
+    said : Appends old new (so_far.front ++ reply_to number objects (reading_of line) here.text)
+    said = Appends-both old now new so_far.front _ so_far.added here.told
+
+    module _ (goes_on : is_bad (reading_of line) ≡ false) where
+      behind : SoFar start script old new (number + 1) (left_by objects (reading_of line) here.text) lines
+      unfolding ArePrinted ArePrintedInPart AreSound told_from left_from
+      behind = record {
+        front = so_far.front ++ reply_to number objects (reading_of line) here.text;
+        texts = λ rest. so_far.texts (here.text ∷ rest);
+        added = said;
+        printed = λ rest all. so_far.printed (here.text ∷ rest) (here.printed, subst (λ is. UnlessBad is (ArePrinted lines rest)) (sym goes_on) all);
+        in_part = λ rest all. so_far.in_part (here.text ∷ rest) (here.printed, subst (λ is. UnlessBad is (ArePrintedInPart lines rest)) (sym goes_on) all);
+        told = λ rest.
+            so_far.told (here.text ∷ rest) ∙ ap (λ u. so_far.front ++ (reply_to number objects (reading_of line) here.text ++ u)) (cond-false _ _ _ goes_on)
+            ∙ sym (append_assoc so_far.front _ _);
+        left = λ rest. so_far.left (here.text ∷ rest) ∙ cond-false _ _ _ goes_on;
+        sound = λ rest all. so_far.sound (here.text ∷ rest) (here.sound, subst (λ is. UnlessBad is (AreSound (left_by objects (reading_of line) here.text) lines rest)) (sym goes_on) all);
+      }
+
+      -- a line that isn't bad leaves the rest to be told
+      pub so_far_next : SoFar start script old new (number + 1) after lines
+      so_far_next = subst (λ o. SoFar start script old new (number + 1) o lines) (sym here.left) behind
+
+    -- behind a bad line nothing is told
+    module _ (ends : is_bad (reading_of line) ≡ true) where
+      pub so_far_stops : IsRun start script old new after
+      unfolding ArePrinted AreSound told_from left_from
+      so_far_stops = record {
+        texts = so_far.texts (here.text ∷ []);
+        printed = so_far.printed (here.text ∷ []) (here.printed, subst (λ is. UnlessBad is (ArePrinted lines [])) (sym ends) tt);
+        told =
+            let last = ap (λ u. reply_to number objects (reading_of line) here.text ++ u) (cond-true (is_bad (reading_of line)) [] (told_from (number + 1) (left_by objects (reading_of line) here.text) lines []) ends) ∙ append-nil _ in
+            subst (λ u. Appends old new u) (sym (so_far.told (here.text ∷ []) ∙ ap (λ u. so_far.front ++ u) last)) said;
+        left = here.left ∙ left_by_bad objects (reading_of line) here.text ends ∙ sym (so_far.left (here.text ∷ []) ∙ cond-true _ _ _ ends);
+        sound = so_far.sound (here.text ∷ []) (here.sound, subst (λ is. UnlessBad is (AreSound (left_by objects (reading_of line) here.text) lines [])) (sym ends) tt);
+      }
+
+-- all lines were told
+pub so_far_done : (start : Objects) (script : List ℕ) (old now : Option (List ℕ)) (number : ℕ) (objects : Objects) → SoFar start script old now number objects [] → IsRun start script old now objects
+unfolding ArePrinted AreSound told_from left_from
+so_far_done start script old now number objects so_far = record {
+  texts = so_far.texts [];
+  printed = so_far.printed [] tt;
+  told = subst (λ u. Appends old now u) (sym (so_far.told [] ∙ append-nil so_far.front)) so_far.added;
+  left = sym (so_far.left []);
+  sound = so_far.sound [] tt;
+}
+
+-- ---- what waits is written
+
+unless_too : (is : Bool) (P Q : Type 0) → (P → Q) → UnlessBad is P → UnlessBad is Q
+unless_too true P Q all holds = tt
+unless_too false P Q all holds = all holds
+
+-- texts that stand beside all lines stand beside the first of them
+printed_in_part : (lines texts : List (List ℕ)) → ArePrinted lines texts → ArePrintedInPart lines texts
+unfolding ArePrinted ArePrintedInPart
+printed_in_part [] texts all = tt
+printed_in_part (line ∷ lines) [] all = absurd all
+printed_in_part (line ∷ lines) (text ∷ texts) all =
+    (all.0, unless_too (is_bad (reading_of line)) (ArePrinted lines texts) (ArePrintedInPart lines texts) (λ rest. printed_in_part lines texts rest) all.1)
+
+module _ (start : Objects) (script : List ℕ) (old mid : Option (List ℕ)) (after : Objects) (run : IsRun start script old mid after) where
+  -- what is told is written once nothing waits
+  pub run_through : (contents : Option (List ℕ)) (pending : List ℕ) → Appends mid (append_known contents pending) [] → pending ≡ [] → IsRun start script old contents after
+  run_through contents pending flushed none =
+      let now = append_known contents pending in
+      let all = Appends-both old mid now _ [] run.told flushed in
+      let same : Appends old now (told_from 1 start (lines_of script) run.texts) = subst (λ u. Appends old now u) (append-nil _) all in
+      record {
+        texts = run.texts;
+        printed = run.printed;
+        told = subst (λ u. Appends old u (told_from 1 start (lines_of script) run.texts)) (ap (append_known contents) none ∙ nothing_known contents) same;
+        left = run.left;
+        sound = run.sound;
+      }
+
+  -- what stands where it isn't written whole is a front of it
+  pub run_cut_off : (new : Option (List ℕ)) → StandsIn mid new [] → IsRunInPart start script old new
+  run_cut_off new stands = record {
+    texts = run.texts;
+    printed = printed_in_part (lines_of script) run.texts run.printed;
+    stands = stands_in_whole old mid new [] _ (record { front = _; added = run.told; joins = append-nil _ }) stands;
+  }
 
 -- the number of the first bad line, from one line on
 module _ (number : ℕ) (line : List ℕ) (lines : List (List ℕ)) where
@@ -67,28 +188,6 @@ pub lines_left_none : (rest : Option (Bor (List ℕ))) → ((x : Bor (List ℕ))
 lines_left_none None h = refl
 lines_left_none (Some x) h = absurd (h x refl)
 
-pub told_from-none : (number : ℕ) (objects : Objects) → told_from number objects [] ≡ []
-unfolding told_from
-told_from-none number objects = refl
-
-pub left_from-none : (objects : Objects) → left_from objects [] ≡ objects
-unfolding left_from
-left_from-none objects = refl
-
 pub first_bad_from-none : (number : ℕ) → first_bad_from number [] ≡ None
 unfolding first_bad_from
 first_bad_from-none number = refl
-
--- what the lines put is well made, from one line on
-module _ (objects : Objects) (line : List ℕ) (lines : List (List ℕ)) (here : IsSound objects (reading_of line)) where
-  pub sound_next : is_bad (reading_of line) ≡ false → AreSound (left_by objects (reading_of line)) lines → AreSound objects (line ∷ lines)
-  unfolding AreSound
-  sound_next goes_on more = (here, subst (λ is. UnlessBad is (AreSound (left_by objects (reading_of line)) lines)) (sym goes_on) more)
-
-  pub sound_here : is_bad (reading_of line) ≡ true → AreSound objects (line ∷ lines)
-  unfolding AreSound
-  sound_here ends = (here, subst (λ is. UnlessBad is (AreSound (left_by objects (reading_of line)) lines)) (sym ends) tt)
-
-pub sound_none : (objects : Objects) → AreSound objects []
-unfolding AreSound
-sound_none objects = tt

@@ -1,18 +1,48 @@
 -- From one line's reply to what a whole script may be told.
-use Rattle.std.proofs.Common.{◌≡◌, ℕ, ◌+◌, ◌∷◌, [], ◌++◌, List, Option, None, Some, Result, Ok, Err, OnErr, true, false, inl, inr, refl, ap, subst, sym, ◌∙◌, append_assoc, append-nil}
+use Rattle.std.proofs.Common.{◌≡◌, ◌⊎◌, ℕ, ◌+◌, ◌∷◌, [], ◌++◌, List, Option, Result, Ok, Err, OnErr, true, false, inl, inr, refl, ap, subst, sym, ◌∙◌, append_assoc, append-nil}
 use Rattle.std.specs.Io.KnownBytes.{Appends, append_known}
 use Rattle.store_core.specs.Objects.{Objects}
-use Rattle.lake_script.specs.Lines.{reading_of}
-use Rattle.lake_script.specs.Runs.{IsCutOff, Replies, Runs, done, stops, goes_on, RunsInPart, waits, begins, follows, Tells, TellsFront}
+use Rattle.serde_json.specs.Data.{Items}
+use Rattle.commit_core.specs.declared.fault.CreateFault.{CreateFault}
+use Rattle.commit_core.specs.declared.fault.CreateFault.TheVariants as creating
+use Rattle.sink_core.specs.declared.refusal.AppendFault.{AppendFault}
+use Rattle.sink_core.specs.declared.refusal.AppendFault.TheVariants as appending
+use Rattle.lake_script.specs.declared.reply.Reply.TheVariants.{NotCreated, NotAppended}
+use Rattle.lake_script.specs.Lines.{append, Wish, create, task, reading_of}
+use Rattle.lake_script.specs.ReplyView.{reply_text, is_short}
+use Rattle.lake_script.specs.Runs.{IsShort, IsWantOfMemory, MayLeave, Grants, IsCutOff, Replies, Runs, done, stops, goes_on, RunsInPart, waits, begins, follows, FallsShort, here, later, Tells, TellsFront, TellsShort}
 use Rattle.lake_script.specs.Streams.{StandsIn}
-use Rattle.lake_script.specs.Told.{is_bad}
-use Rattle.lake_script.proofs.StreamLemmas.{Appends-both, Towards, stands_in_whole}
+use Rattle.lake_script.specs.Told.{is_bad, IsPrintedWish, reply_to_wish, left_by_wish}
+use Rattle.lake_script.proofs.StreamLemmas.{Appends-both, nothing_known, Towards, stands_in_whole}
+
+-- a line that creates no table has what it asks for with any text
+pub granted_without_text : (objects : Objects) (wish : Wish) (reply : List ℕ) (after : Objects) → IsPrintedWish wish []
+    → ((reply ≡ reply_to_wish objects wish []) × (after ≡ left_by_wish objects wish [])) ⊎ (IsWantOfMemory wish reply × MayLeave objects wish after) → Grants objects wish reply after
+granted_without_text objects wish reply after none (inl has) = inl ([], none, has.0, has.1)
+granted_without_text objects wish reply after none (inr wants) = inr wants
+
+-- which faults are short
+pub creation_short : (fault : CreateFault) (id : List ℕ) (at : ℕ) (schema : List ℕ) → is_short (NotCreated fault) ≡ true → IsShort (create id at schema) (reply_text (NotCreated fault))
+creation_short creating.Memory id at schema h = inl refl
+creation_short creating.TooLarge id at schema h = inr refl
+creation_short _ id at schema h = cc
+
+pub append_short : (fault : AppendFault) (application : List ℕ) (number at : ℕ) (items : Items) → is_short (NotAppended fault) ≡ true
+    → IsShort (task (append application number at items)) (reply_text (NotAppended fault))
+append_short appending.Memory application number at items h = inl refl
+append_short appending.FileTooLarge application number at items h = inr refl
+append_short _ application number at items h = cc
 
 -- whatever the lines that are left are told, all of them or some, the whole is told behind what was told so far
 abbrev pub Onward : Objects → List (List ℕ) → ℕ → Objects → List (List ℕ) → List ℕ → Type 0
 Onward start whole number objects lines front =
     ((rest : List ℕ) (final : Objects) → Runs number objects lines rest final → Runs 1 start whole (front ++ rest) final)
     × ((rest : List ℕ) (final : Objects) → RunsInPart number objects lines rest final → RunsInPart 1 start whole (front ++ rest) final)
+    × ((rest : List ℕ) → FallsShort number objects lines rest → FallsShort 1 start whole (front ++ rest))
+
+-- whatever follows what was told so far, a reply in it tells that something was short
+abbrev pub SaysShort : Objects → List (List ℕ) → List ℕ → Type 0
+SaysShort start whole front = (rest : List ℕ) → FallsShort 1 start whole (front ++ rest)
 
 module _ (start : Objects) (whole : List (List ℕ)) where
   module _ (old now new : Option (List ℕ)) (number : ℕ) (objects : Objects) (line : List ℕ) (lines : List (List ℕ)) (after : Objects) where
@@ -24,12 +54,22 @@ module _ (start : Objects) (whole : List (List ℕ)) where
       (
         λ rest final r. subst (λ u. Runs 1 start whole u final) (sym (append_assoc t.0 s.0 rest)) (t.2.0 (s.0 ++ rest) final (goes_on s.0 rest after more s.2 r)),
         λ rest final r. subst (λ u. RunsInPart 1 start whole u final) (sym (append_assoc t.0 s.0 rest)) (t.2.1 (s.0 ++ rest) final (follows s.0 rest after more s.2 r)),
+        λ rest r. subst (λ u. FallsShort 1 start whole u) (sym (append_assoc t.0 s.0 rest)) (t.2.2 (s.0 ++ rest) (later s.0 rest after more s.2 r)),
       ),
     )
 
     pub onward_stops : Tells old now (Onward start whole number objects (line ∷ lines)) → is_bad (reading_of line) ≡ true → Tells now new (λ reply. Replies number objects (reading_of line) reply after)
         → Tells old new (λ written. Runs 1 start whole written after)
     onward_stops t ends s = (t.0 ++ s.0, Appends-both old now new t.0 s.0 t.1 s.1, t.2.0 s.0 after (stops ends s.2))
+
+    -- a reply tells that something was short
+    pub onward_short : Tells old now (Onward start whole number objects (line ∷ lines))
+        → Tells now new (λ reply. Replies number objects (reading_of line) reply after × TellsShort (reading_of line) reply) → Tells old new (SaysShort start whole)
+    onward_short t s = (
+      t.0 ++ s.0,
+      Appends-both old now new t.0 s.0 t.1 s.1,
+      λ rest. subst (λ u. FallsShort 1 start whole u) (sym (append_assoc t.0 s.0 rest)) (t.2.2 (s.0 ++ rest) (here s.0 rest after s.2.0 s.2.1)),
+    )
 
     -- what stands in what was told so far stands in it with more behind it
     behind : (t : Tells old now (Onward start whole number objects (line ∷ lines))) (more : List ℕ) → StandsIn now new [] → StandsIn old new (t.0 ++ more)
@@ -45,9 +85,18 @@ module _ (start : Objects) (whole : List (List ℕ)) where
       → Tells old now (λ written. Runs 1 start whole written objects)
   onward_done old now number objects t = (t.0, t.1, subst (λ u. Runs 1 start whole u objects) (append-nil t.0) (t.2.0 [] objects done))
 
-nothing_known : (contents : Option (List ℕ)) → append_known contents [] ≡ contents
-nothing_known None = refl
-nothing_known (Some bytes) = ap Some (append-nil bytes)
+module _ (start : Objects) (whole : List (List ℕ)) where
+  -- a reply told so before, and more was told
+  pub short_next : (Holds : List ℕ → Type 0) (old now new : Option (List ℕ)) → Tells old now (SaysShort start whole) → Tells now new Holds → Tells old new (SaysShort start whole)
+  short_next Holds old now new t s = (
+    t.0 ++ s.0,
+    Appends-both old now new t.0 s.0 t.1 s.1,
+    λ rest. subst (λ u. FallsShort 1 start whole u) (sym (append_assoc t.0 s.0 rest)) (t.2 (s.0 ++ rest)),
+  )
+
+  -- one of the replies told so
+  pub short_done : (old now : Option (List ℕ)) → Tells old now (SaysShort start whole) → Tells old now (FallsShort 1 start whole)
+  short_done old now t = (t.0, t.1, subst (λ u. FallsShort 1 start whole u) (append-nil t.0) (t.2 []))
 
 -- what is told is written once nothing waits
 pub tells_through : (Holds : List ℕ → Type 0) (old mid contents : Option (List ℕ)) (pending : List ℕ) → Tells old mid Holds → Appends mid (append_known contents pending) [] → pending ≡ [] → Tells old contents Holds

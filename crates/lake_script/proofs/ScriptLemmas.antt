@@ -5,7 +5,7 @@ use Rattle.std.proofs.lemmas.List.Sums.{count_by-le-length}
 use Rattle.std.specs.Io.KnownBytes.{Appends}
 use Rattle.store_core.specs.Objects.{Objects}
 use Rattle.lake_script.specs.Scripts.{HoldsState, IsScript, ReadsOut}
-use Rattle.lake_script.specs.Sound.{AreSound}
+use Rattle.lake_script.specs.Sound.{AreSound, IsRun}
 use Rattle.lake_script.specs.Tables as tables
 use Rattle.delta_actions.specs.Commit.{lines_of}
 use Rattle.lake_script.specs.Told.{is_newline, told, left}
@@ -16,17 +16,18 @@ use Rattle.lake_script.proofs.KeptScripts.{lines_told, kept_held, kept_reads_out
 pub few_lines : (text : List ℕ) → length text ≤ 2 ^ 30 → length (lines_of text) ≤ 2 ^ 31
 few_lines text short = omega (length-slice_split is_newline text, count_by-le-length is_newline text, arith)
 
-pub script_told : (old new : Option (List ℕ)) (text : List ℕ) (before after : Objects) → length text ≤ 2 ^ 30 → before ≡ []
-    → Appends old new (told before text) → after ≡ left before text → AreSound before (lines_of text) → IsScript old new text after
-script_told old new text before after short empty said leaves sound =
+-- a run over an empty store, as the plain table tells it
+pub script_told : (old new : Option (List ℕ)) (text : List ℕ) (before after : Objects) → length text ≤ 2 ^ 30 → before ≡ [] → IsRun before text old new after → IsScript old new text after
+script_told old new text before after short empty run =
     let lines = lines_of text in
     let few = few_lines text short in
-    let whole = subst (λ objects. AreSound objects lines) empty sound in
-    let is = sym (leaves ∙ ap (λ objects. left objects text) empty) in
+    let whole = subst (λ objects. AreSound objects lines run.texts) empty run.sound in
+    let is = sym (run.left ∙ ap (λ objects. left objects text run.texts) empty) in
     let small = left_is_short lines few in
-    let keeps = left_is_kept lines_told lines few whole in
+    let keeps = left_is_kept lines_told lines run.texts few run.printed whole in
     record {
-      by_table = λ of_table. subst (Appends old new) (ap (λ objects. told objects text) empty ∙ told_by_tables lines_told lines few whole of_table) said;
+      by_table = λ of_table.
+          subst (Appends old new) (ap (λ objects. told objects text run.texts) empty ∙ told_by_tables lines_told lines run.texts few run.printed whole of_table) run.told;
       holds = subst (λ objects. HoldsState objects (tables.left text)) is (kept_held _ (tables.left text) keeps small);
       reads = subst (λ objects. ReadsOut objects (tables.left text)) is (kept_reads_out _ (tables.left text) keeps small);
     }

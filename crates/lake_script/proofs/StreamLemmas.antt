@@ -1,6 +1,6 @@
 -- What a reader gave and has left, and what a writer was given.
 use Rattle.std.proofs.Common.{◌≡◌, ℕ, ◌+◌, ◌-◌, ◌<◌, ◌≤◌, ◌++◌, [], List, Option, None, Some, length, IfSome, refl, ap, subst, sym, ◌∙◌, arith, length-append, length-drop, take, drop, append_assoc, append-nil}
-use Rattle.std.specs.Io.KnownBytes.{Consumes, Appends, Keeps}
+use Rattle.std.specs.Io.KnownBytes.{Consumes, Appends, Keeps, append_known}
 use Rattle.std.proofs.Math.Seq.{take-length}
 use Rattle.std.proofs.lemmas.List.{take-append-drop}
 use Rattle.lake_script.specs.Streams.{StandsIn}
@@ -26,6 +26,11 @@ Appends-both None mid new a b h e = tt
 Appends-both (Some xs) None new a b h e = absurd h
 Appends-both (Some xs) (Some ys) None a b h e = absurd e
 Appends-both (Some xs) (Some ys) (Some zs) a b h e = e ∙ ap (λ u. u ++ b) h ∙ append_assoc xs a b
+
+-- nothing behind what is known leaves it as it is
+pub nothing_known : (contents : Option (List ℕ)) → append_known contents [] ≡ contents
+nothing_known None = refl
+nothing_known (Some bytes) = ap Some (append-nil bytes)
 
 -- what was added so far, with what comes later, is the whole
 pub record Towards (old now : Option (List ℕ)) (later whole : List ℕ) : Type 0 where

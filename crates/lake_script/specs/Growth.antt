@@ -3,11 +3,11 @@ use Rattle.std.specs.Prelude.{◌≡◌}
 use Rattle.std.specs.Str.{IsUtf8}
 use Rattle.store_core.specs.Objects.{Objects}
 use Rattle.sink_core.specs.Appending.{settled, MayAppend}
-use Rattle.commit_core.specs.Creating.{commit_from, MayCreate}
+use Rattle.commit_core.specs.Creating.{MayCreate}
 use Rattle.lake_script.specs.Lines.{append, Wish, create, task}
 
 -- the objects that may stand behind what a line asks for; an application's id is text
 abbrev pub MayPut : Objects → Wish → Objects → Type 0
-MayPut old (create id at schema) new = MayCreate at schema (commit_from id at schema) old new
+MayPut old (create id at schema) new = MayCreate id at schema old new
 MayPut old (task (append application number at items)) new = IsUtf8 application × MayAppend application number at (settled old application number at items) old new
 MayPut old _ new = new ≡ old

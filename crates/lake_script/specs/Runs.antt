@@ -10,14 +10,14 @@ use Rattle.sink_core.specs.Appending.{settled, MayHoldFile}
 use Rattle.lake_script.specs.Growth.{MayPut}
 use Rattle.commit_core.specs.Histories.{unanswered}
 use Rattle.lake_script.specs.Lines.{append, tail, Wish, create, task, history, show, hex, Reading, skipped, bad, asks, reading_of}
-use Rattle.sink_core.specs.Refusals.{refusal_text, memory}
+use Rattle.sink_core.specs.Refusals.{refusal_text, memory, file_too_large}
 use Rattle.commit_core.specs.Texts.{create_fault_text, refused, line_of}
 use Rattle.lake_script.specs.Replies.{bad_line}
 use Rattle.lake_script.specs.Streams.{StandsIn}
 use Rattle.source_core.specs.TailFaults as tail_texts
 use Rattle.source_core.specs.Tailing as tails
 use Rattle.delta_actions.specs.Commit.{lines_of}
-use Rattle.lake_script.specs.Told.{is_bad, reply_to_wish, left_by_wish}
+use Rattle.lake_script.specs.Told.{is_bad, IsPrintedWish, reply_to_wish, left_by_wish}
 
 -- the replies to lines that create a table, append a batch, show an object, read rows and tell the history, where a
 -- growth was refused
@@ -46,21 +46,47 @@ IsWantOfMemory (show version) reply = reply ≡ no_room_to_show
 IsWantOfMemory (hex name) reply = reply ≡ no_room_to_show
 IsWantOfMemory _ reply = ⊥
 
+-- the replies to lines that create a table and append a batch, where an object would pass 64 MiB
+abbrev pub too_large_to_create : List ℕ
+too_large_to_create = line_of (refused (create_fault_text create_faults.TooLarge))
+
+abbrev pub too_large_to_append : List ℕ
+too_large_to_append = line_of (refused (refusal_text file_too_large))
+
+-- the reply to a line whose object would pass 64 MiB
+abbrev pub IsTooLarge : Wish → List ℕ → Type 0
+IsTooLarge (create id at schema) reply = reply ≡ too_large_to_create
+IsTooLarge (task (append application number at rows)) reply = reply ≡ too_large_to_append
+IsTooLarge _ reply = ⊥
+
+-- the reply to a line tells that a growth was refused, or that an object would pass 64 MiB
+abbrev pub IsShort : Wish → List ℕ → Type 0
+IsShort wish reply = IsWantOfMemory wish reply ⊎ IsTooLarge wish reply
+
 -- the objects behind a line whose growth was refused: as they were, or with the file of the batch that it appends
 abbrev pub MayLeave : Objects → Wish → Objects → Type 0
 MayLeave objects (task (append application number at rows)) after = MayHoldFile objects (settled objects application number at rows) after
 MayLeave objects _ after = after ≡ objects
 
+-- a line has what it asks for, its schema printed as some text
+abbrev pub Has : Objects → Wish → List ℕ → Objects → Type 0
+Has objects wish reply after = (printed : List ℕ) × IsPrintedWish wish printed × (reply ≡ reply_to_wish objects wish printed) × (after ≡ left_by_wish objects wish printed)
+
 -- a line has what it asks for, or is told of want of memory and leaves the objects as they were, but for a batch's file
 abbrev pub Grants : Objects → Wish → List ℕ → Objects → Type 0
-Grants objects wish reply after =
-    ((reply ≡ reply_to_wish objects wish) × (after ≡ left_by_wish objects wish)) ⊎ (IsWantOfMemory wish reply × MayLeave objects wish after)
+Grants objects wish reply after = Has objects wish reply after ⊎ (IsWantOfMemory wish reply × MayLeave objects wish after)
 
 -- the reply to a line of that number, and the objects behind it; what was put is well made
 abbrev pub Replies : ℕ → Objects → Reading → List ℕ → Objects → Type 0
 Replies number objects skipped reply after = (reply ≡ []) × (after ≡ objects)
 Replies number objects bad reply after = (reply ≡ bad_line number) × (after ≡ objects)
 Replies number objects (asks wish) reply after = Grants objects wish reply after × MayPut objects wish after
+
+-- the reply to a line tells so
+abbrev pub TellsShort : Reading → List ℕ → Type 0
+TellsShort skipped reply = ⊥
+TellsShort bad reply = ⊥
+TellsShort (asks wish) reply = IsShort wish reply
 
 -- the objects behind a line that was told nothing: it wasn't read, or its reply wasn't given
 abbrev pub IsCutOff : ℕ → Objects → Reading → Objects → Type 0
@@ -83,6 +109,15 @@ pub data RunsInPart : ℕ → Objects → List (List ℕ) → List ℕ → Objec
   follows : {number : ℕ} {objects final : Objects} {line : List ℕ} {lines : List (List ℕ)} (reply rest : List ℕ) (after : Objects)
       → is_bad (reading_of line) ≡ false → Replies number objects (reading_of line) reply after → RunsInPart (number + 1) after lines rest final
       → RunsInPart number objects (line ∷ lines) (reply ++ rest) final
+
+-- what may be told for some first of these lines, and what follows it, where the last of their replies tells that a growth
+-- was refused, or that an object would pass 64 MiB
+pub data FallsShort : ℕ → Objects → List (List ℕ) → List ℕ → Type 0 where
+  here : {number : ℕ} {objects : Objects} {line : List ℕ} {lines : List (List ℕ)} (reply rest : List ℕ) (after : Objects)
+      → Replies number objects (reading_of line) reply after → TellsShort (reading_of line) reply → FallsShort number objects (line ∷ lines) (reply ++ rest)
+  later : {number : ℕ} {objects : Objects} {line : List ℕ} {lines : List (List ℕ)} (reply rest : List ℕ) (after : Objects)
+      → is_bad (reading_of line) ≡ false → Replies number objects (reading_of line) reply after → FallsShort (number + 1) after lines rest
+      → FallsShort number objects (line ∷ lines) (reply ++ rest)
 
 -- this may be told for a script over these objects, its lines counted from 1
 abbrev pub MayBeTold : Objects → List ℕ → List ℕ → Type 0

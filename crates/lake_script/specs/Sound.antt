@@ -1,38 +1,64 @@
 -- What lines put is well made, and none of it passed 64 MiB: from this the laws on whole scripts go on.
-use Rattle.std.specs.Prelude.{◌≡◌, ◌≢◌, ℕ, List, [], ◌∷◌, Bool, true, false, Some, Result, Ok, Err}
+use Rattle.std.specs.Prelude.{◌≡◌, ◌≢◌, ℕ, List, [], ◌∷◌, Option, Err}
+use Rattle.std.specs.Io.KnownBytes.{Appends}
 use Rattle.std.specs.Str.{IsUtf8}
+use Rattle.delta_actions.specs.Commit.{lines_of}
 use Rattle.store_core.specs.Objects.{Objects}
 use Rattle.sink_core.specs.Appending.{settled, PutsWell}
 use Rattle.commit_core.specs.Creating.{too_large, commit_from, CreatesWell}
 use Rattle.lake_script.specs.Lines.{append, Wish, create, task, Reading, skipped, bad, asks, reading_of}
 use Rattle.sink_core.specs.Refusals.{file_too_large}
-use Rattle.lake_script.specs.Told.{is_bad, reply_to_wish, left_by_wish, left_by}
+use Rattle.lake_script.specs.Streams.{StandsIn}
+use Rattle.lake_script.specs.Told.{is_bad, UnlessBad, IsPrintedWish, IsPrintedLine, ArePrinted, ArePrintedInPart, reply_to_wish, left_by_wish, reply_to, left_by}
+use Rattle.lake_script.specs.Told as scripts
 
 -- what a line puts is well made, and didn't pass 64 MiB
-abbrev pub IsSoundWish : Objects → Wish → Type 0
-IsSoundWish objects (create id at schema) = CreatesWell at schema (commit_from id at schema) × (commit_from id at schema ≢ Err too_large)
-IsSoundWish objects (task (append application number at items)) = IsUtf8 application × PutsWell application number at (settled objects application number at items)
-    × (settled objects application number at items ≢ Err file_too_large)
-IsSoundWish objects _ = Unit {0}
+abbrev pub IsSoundWish : Objects → Wish → (printed : List ℕ) → Type 0
+IsSoundWish objects (create id at schema) printed = CreatesWell at schema (commit_from id at schema printed) × (commit_from id at schema printed ≢ Err too_large)
+IsSoundWish objects (task (append application number at items)) printed = IsUtf8 application
+    × PutsWell application number at (settled objects application number at items) × (settled objects application number at items ≢ Err file_too_large)
+IsSoundWish objects _ printed = Unit {0}
 
--- A line is told what it asks for, leaves what it is to leave, and what it puts is well made.
+-- A line is told what it asks for, leaves what it is to leave, and what it puts is well made, its schema printed as a text.
 pub record IsGranted (objects : Objects) (wish : Wish) (reply : List ℕ) (after : Objects) : Type 0 where
-  pub told : reply ≡ reply_to_wish objects wish
-  pub left : after ≡ left_by_wish objects wish
-  pub sound : IsSoundWish objects wish
+  pub text : List ℕ
+  pub printed : IsPrintedWish wish text
+  pub told : reply ≡ reply_to_wish objects wish text
+  pub left : after ≡ left_by_wish objects wish text
+  pub sound : IsSoundWish objects wish text
 
 -- the same of a line that is read
-abbrev pub IsSound : Objects → Reading → Type 0
-IsSound objects skipped = Unit {0}
-IsSound objects bad = Unit {0}
-IsSound objects (asks wish) = IsSoundWish objects wish
+abbrev pub IsSound : Objects → Reading → (printed : List ℕ) → Type 0
+IsSound objects skipped printed = Unit {0}
+IsSound objects bad printed = Unit {0}
+IsSound objects (asks wish) printed = IsSoundWish objects wish printed
 
--- what holds where a line isn't bad
-abbrev pub UnlessBad : Bool → Type 0 → Type 0
-UnlessBad true Holds = Unit {0}
-UnlessBad false Holds = Holds
+-- the same of a line of that number, behind whose reply the output holds `new`
+pub record IsAnswered (number : ℕ) (objects : Objects) (reading : Reading) (old new : Option (List ℕ)) (after : Objects) : Type 0 where
+  pub text : List ℕ
+  pub printed : IsPrintedLine reading text
+  pub told : Appends old new (reply_to number objects reading text)
+  pub left : after ≡ left_by objects reading text
+  pub sound : IsSound objects reading text
 
--- the same of each of these lines; a bad line ends them
-unfoldable pub AreSound : Objects → List (List ℕ) → Type 0
-AreSound objects [] = Unit {0}
-AreSound objects (line ∷ lines) = IsSound objects (reading_of line) × UnlessBad (is_bad (reading_of line)) (AreSound (left_by objects (reading_of line)) lines)
+-- what each of these lines puts is well made; a bad line ends them
+unfoldable pub AreSound : Objects → (lines texts : List (List ℕ)) → Type 0
+AreSound objects [] texts = Unit {0}
+AreSound objects (line ∷ lines) [] = Unit {0}
+AreSound objects (line ∷ lines) (printed ∷ texts) =
+    IsSound objects (reading_of line) printed × UnlessBad (is_bad (reading_of line)) (AreSound (left_by objects (reading_of line) printed) lines texts)
+
+-- A script is told what it asks for, and leaves what it is to leave; what it puts is well made. One text is meant for each
+-- line in all of it: what its schema was printed as.
+pub record IsRun (objects : Objects) (script : List ℕ) (old new : Option (List ℕ)) (after : Objects) : Type 0 where
+  pub texts : List (List ℕ)
+  pub printed : ArePrinted (lines_of script) texts
+  pub told : Appends old new (scripts.told objects script texts)
+  pub left : after ≡ scripts.left objects script texts
+  pub sound : AreSound objects (lines_of script) texts
+
+-- What is written is a front of what some first lines of a script are told.
+pub record IsRunInPart (objects : Objects) (script : List ℕ) (old new : Option (List ℕ)) : Type 0 where
+  pub texts : List (List ℕ)
+  pub printed : ArePrintedInPart (lines_of script) texts
+  pub stands : StandsIn old new (scripts.told objects script texts)

@@ -15,11 +15,10 @@ use Rattle.table_model.specs.declared.table.Appended.{Appended}
 use Rattle.table_model.specs.declared.table.Appended.TheVariants.{Committed, Already, Stale, Differs, StreamClosed}
 use Rattle.table_model.specs.declared.reading.Place.{Place}
 use Rattle.table_model.specs.Reads.{Answer, handed, beyond, bad_place, read}
-use Rattle.schema_tree.specs.Reading.{schema_of}
 use Rattle.schema_tree.specs.Tree.{Tree}
 use Rattle.sink_core.specs.Appending.{checked, count, row_column}
 use Rattle.commit_core.specs.Creating as creations
-use Rattle.commit_core.specs.Creating.{table_exists, bad_schema, bad_id, id_of}
+use Rattle.commit_core.specs.Creating.{table_exists, described}
 use Rattle.commit_core.specs.Histories.{number_told}
 use Rattle.commit_core.specs.Histories as histories
 use Rattle.lake_script.specs.Lines.{Wish, create, task, history, show, hex, append, tail, Reading, skipped, bad, asks, reading_of}
@@ -28,7 +27,7 @@ use Rattle.sink_core.specs.Refusals as appends
 use Rattle.commit_core.specs.Texts as texts
 use Rattle.commit_core.specs.Texts.{refused, line_of}
 use Rattle.lake_script.specs.Replies.{created, committed_at, already, bad_line}
-use Rattle.lake_bytes.specs.Results.{◌>>=◌, or_refusal, refused_as}
+use Rattle.lake_bytes.specs.Results.{◌>>=◌}
 use Rattle.sink_core.specs.RowsIn.{rows_from}
 use Rattle.source_core.specs.Tailing as tails
 use Rattle.source_core.specs.TailFaults as tail_texts
@@ -41,12 +40,6 @@ pub data State : Type 0 where
   table : (schema : Tree) → List Entry → State
 
 -- ---- create
-
--- the schema of the table that a line describes, or the first reason why it describes none
-abbrev pub described : (id schema : List ℕ) → Result Tree creations.Refusal
-described id schema = do
-  own ← or_refusal (id_of id) bad_id
-  refused_as bad_schema (schema_of schema)
 
 -- one table is created, and no second one
 abbrev pub creating : State → Result Tree creations.Refusal → Result Tree creations.Refusal

@@ -1,17 +1,19 @@
--- What a script is told.
-use Rattle.std.specs.Prelude.{◌==◌, ◌+◌, ◌++◌, ℕ, Bool, true, false, List, [], ◌∷◌, Option, Some, None, Result, Ok, Err, ⊤, if◌then◌else◌}
+-- What a script is told. Where a line creates a table, its schema is printed as some text, which stands beside the line: no
+-- other line looks at the text that stands beside it.
+use Rattle.std.specs.Prelude.{◌≡◌, ◌==◌, ◌+◌, ◌++◌, ℕ, Bool, true, false, List, [], ◌∷◌, Option, Some, None, Result, Ok, Err, ⊤, if◌then◌else◌}
 use Rattle.delta_actions.specs.Commit.{lines_of}
 use Rattle.hex.specs.Hex.{encode_lower}
 use Rattle.store_core.specs.Objects.{Objects, object_at}
 use Rattle.lake_script.specs.declared.engine.End.{End}
 use Rattle.lake_script.specs.declared.engine.End.TheVariants.{Done, BadLine, NotRead, NotWritten}
+use Rattle.lake_script.specs.declared.engine.Outcome.{Outcome}
 use Rattle.lake_script.specs.declared.faults.Fault.TheVariants.{NotYet, NoSuchName}
 use Rattle.sink_core.specs.Appending.{appended_by, settled, with_append}
 use Rattle.sink_core.specs.declared.appending.Appended.{Appended}
 use Rattle.sink_core.specs.declared.appending.Appended.TheVariants.{Committed, Already}
 use Rattle.commit_core.specs.Commits.{commit_name}
 use Rattle.commit_core.specs.Creating as creations
-use Rattle.commit_core.specs.Creating.{commit_from, created_by, with_creation}
+use Rattle.commit_core.specs.Creating.{commit_from, created_by, with_creation, IsPrintedFor}
 use Rattle.commit_core.specs.Histories.{history_of}
 use Rattle.lake_script.specs.Lines.{append, tail, Wish, create, task, history, show, hex, Reading, skipped, bad, asks, reading_of}
 use Rattle.sink_core.specs.Refusals.{Refusal, refusal_text}
@@ -62,33 +64,42 @@ in_hex (Some bytes) = line_of (encode_lower bytes)
 abbrev pub not_yet : List ℕ
 not_yet = line_of (refused (fault_text NotYet))
 
+-- the text is one that the schema of a line that creates a table is printed as
+abbrev pub IsPrintedWish : Wish → (printed : List ℕ) → Type 0
+IsPrintedWish (create id at schema) printed = IsPrintedFor id schema printed
+IsPrintedWish _ printed = Unit {0}
+
 -- the reply to what a line asks for, over the objects that stand
-abbrev pub reply_to_wish : Objects → Wish → List ℕ
-reply_to_wish objects (create id at schema) = created_reply (created_by objects id at schema)
-reply_to_wish objects (task (append application number at rows)) = appended_reply (appended_by objects application number at rows)
-reply_to_wish objects (task (tail max offset)) = tailed_reply (tailed objects max offset)
-reply_to_wish objects history = history_of objects
-reply_to_wish objects (show version) = shown (object_at objects (commit_name version))
-reply_to_wish objects (hex name) = in_hex (object_at objects name)
-reply_to_wish objects _ = not_yet
+abbrev pub reply_to_wish : Objects → Wish → (printed : List ℕ) → List ℕ
+reply_to_wish objects (create id at schema) printed = created_reply (created_by objects id at schema printed)
+reply_to_wish objects (task (append application number at rows)) printed = appended_reply (appended_by objects application number at rows)
+reply_to_wish objects (task (tail max offset)) printed = tailed_reply (tailed objects max offset)
+reply_to_wish objects history printed = history_of objects
+reply_to_wish objects (show version) printed = shown (object_at objects (commit_name version))
+reply_to_wish objects (hex name) printed = in_hex (object_at objects name)
+reply_to_wish objects _ printed = not_yet
 
 -- the objects that stand once a line has what it asks for
-abbrev pub left_by_wish : Objects → Wish → Objects
-left_by_wish objects (create id at schema) = with_creation objects (commit_from id at schema)
-left_by_wish objects (task (append application number at rows)) = with_append objects (settled objects application number at rows)
-left_by_wish objects _ = objects
+abbrev pub left_by_wish : Objects → Wish → (printed : List ℕ) → Objects
+left_by_wish objects (create id at schema) printed = with_creation objects (commit_from id at schema printed)
+left_by_wish objects (task (append application number at rows)) printed = with_append objects (settled objects application number at rows)
+left_by_wish objects _ printed = objects
 
--- the reply to a line of that number, over the objects that stand
-abbrev pub reply_to : ℕ → Objects → Reading → List ℕ
-reply_to number objects skipped = []
-reply_to number objects bad = bad_line number
-reply_to number objects (asks wish) = reply_to_wish objects wish
+-- the same three of a line as it is read, of that number
+abbrev pub IsPrintedLine : Reading → (printed : List ℕ) → Type 0
+IsPrintedLine skipped printed = Unit {0}
+IsPrintedLine bad printed = Unit {0}
+IsPrintedLine (asks wish) printed = IsPrintedWish wish printed
 
--- the objects that stand behind a line
-abbrev pub left_by : Objects → Reading → Objects
-left_by objects skipped = objects
-left_by objects bad = objects
-left_by objects (asks wish) = left_by_wish objects wish
+abbrev pub reply_to : ℕ → Objects → Reading → (printed : List ℕ) → List ℕ
+reply_to number objects skipped printed = []
+reply_to number objects bad printed = bad_line number
+reply_to number objects (asks wish) printed = reply_to_wish objects wish printed
+
+abbrev pub left_by : Objects → Reading → (printed : List ℕ) → Objects
+left_by objects skipped printed = objects
+left_by objects bad printed = objects
+left_by objects (asks wish) printed = left_by_wish objects wish printed
 
 -- a bad line ends a run
 abbrev pub is_bad : Reading → Bool
@@ -96,18 +107,38 @@ is_bad skipped = false
 is_bad bad = true
 is_bad (asks wish) = false
 
--- what is told for these lines, of which the first has that number; nothing is told behind a bad line
-unfoldable pub told_from : ℕ → Objects → List (List ℕ) → List ℕ
-told_from number objects [] = []
-told_from number objects (line ∷ lines) =
-    reply_to number objects (reading_of line)
-    ++ (if is_bad (reading_of line) then [] else told_from (number + 1) (left_by objects (reading_of line)) lines)
+-- what holds where a line isn't bad
+abbrev pub UnlessBad : Bool → Type 0 → Type 0
+UnlessBad true Holds = Unit {0}
+UnlessBad false Holds = Holds
 
--- the objects that stand behind these lines; a bad line ends them
-unfoldable pub left_from : Objects → List (List ℕ) → Objects
-left_from objects [] = objects
-left_from objects (line ∷ lines) =
-    if is_bad (reading_of line) then objects else left_from (left_by objects (reading_of line)) lines
+-- One text stands beside each of these lines, up to the first bad one, and is one that its schema is printed as.
+unfoldable pub ArePrinted : (lines texts : List (List ℕ)) → Type 0
+ArePrinted [] texts = Unit {0}
+ArePrinted (line ∷ lines) [] = ⊥
+ArePrinted (line ∷ lines) (printed ∷ texts) = IsPrintedLine (reading_of line) printed × UnlessBad (is_bad (reading_of line)) (ArePrinted lines texts)
+
+-- The same of some first lines, as many as there are texts.
+unfoldable pub ArePrintedInPart : (lines texts : List (List ℕ)) → Type 0
+ArePrintedInPart [] texts = Unit {0}
+ArePrintedInPart (line ∷ lines) [] = Unit {0}
+ArePrintedInPart (line ∷ lines) (printed ∷ texts) = IsPrintedLine (reading_of line) printed × UnlessBad (is_bad (reading_of line)) (ArePrintedInPart lines texts)
+
+-- What is told for these lines, of which the first has that number; nothing is told behind a bad line, nor for a line
+-- beside which no text stands.
+unfoldable pub told_from : ℕ → Objects → (lines texts : List (List ℕ)) → List ℕ
+told_from number objects [] texts = []
+told_from number objects (line ∷ lines) [] = []
+told_from number objects (line ∷ lines) (printed ∷ texts) =
+    reply_to number objects (reading_of line) printed
+    ++ (if is_bad (reading_of line) then [] else told_from (number + 1) (left_by objects (reading_of line) printed) lines texts)
+
+-- the objects that stand behind these lines
+unfoldable pub left_from : Objects → (lines texts : List (List ℕ)) → Objects
+left_from objects [] texts = objects
+left_from objects (line ∷ lines) [] = objects
+left_from objects (line ∷ lines) (printed ∷ texts) =
+    if is_bad (reading_of line) then objects else left_from (left_by objects (reading_of line) printed) lines texts
 
 -- the number of the first bad line among these, if there is one
 unfoldable pub first_bad_from : ℕ → List (List ℕ) → Option ℕ
@@ -116,12 +147,16 @@ first_bad_from number (line ∷ lines) =
     if is_bad (reading_of line) then Some number else first_bad_from (number + 1) lines
 
 -- what is told for a script over these objects, its lines counted from 1
-abbrev pub told : Objects → List ℕ → List ℕ
-told objects text = told_from 1 objects (lines_of text)
+abbrev pub told : Objects → (script : List ℕ) (texts : List (List ℕ)) → List ℕ
+told objects script texts = told_from 1 objects (lines_of script) texts
 
 -- the objects that stand behind a script
-abbrev pub left : Objects → List ℕ → Objects
-left objects text = left_from objects (lines_of text)
+abbrev pub left : Objects → (script : List ℕ) (texts : List (List ℕ)) → Objects
+left objects script texts = left_from objects (lines_of script) texts
+
+-- this is told for a script over these objects, its schemas printed as some texts
+abbrev pub IsTold : Objects → (script written : List ℕ) → Type 0
+IsTold objects script written = (texts : List (List ℕ)) × ArePrinted (lines_of script) texts × (written ≡ told objects script texts)
 
 -- the number of a script's first bad line, if it has one
 abbrev pub first_bad : List ℕ → Option ℕ
@@ -133,3 +168,7 @@ Finishes Done P = P None
 Finishes (BadLine number) P = P (Some number)
 Finishes NotRead P = ⊤
 Finishes NotWritten P = ⊤
+
+-- a growth was refused on the way of a run, or a commit or a file would have passed 64 MiB
+abbrev pub fell_short : Outcome → Bool
+fell_short outcome = outcome.is_short

@@ -3,15 +3,15 @@ ghost use Rattle.std.specs.Prelude.{◌≡◌, ◌≢◌, ◌+◌, ◌<◌, ◌�
 ghost use Rattle.std.specs.Io.KnownBytes.{Appends};
 ghost use Rattle.lake_script.specs.declared.inputs.TheConstants.{MOST_BYTES, MOST_READS};
 ghost use Rattle.lake_script.specs.Lines.{reading_of};
-ghost use Rattle.lake_script.specs.Runs.{IsCutOff, Replies, Runs, RunsInPart, Tells, TellsFront};
+ghost use Rattle.lake_script.specs.Runs.{FallsShort, IsCutOff, Replies, Runs, RunsInPart, Tells, TellsFront, TellsShort};
 ghost use Rattle.table_store.specs.Holds.{IsLawfulStore};
 ghost use Rattle.table_store.specs.LawfulLogs.{HasLawfulLog};
 ghost use Rattle.lake_script.specs.Scripts.{HoldsState, IsScript, ReadsOut};
-ghost use Rattle.lake_script.specs.Sound.{IsSound, AreSound};
-ghost use Rattle.lake_script.specs.Streams.{held, unread, StandsIn};
+ghost use Rattle.lake_script.specs.Sound.{IsAnswered, IsRun, IsRunInPart};
+ghost use Rattle.lake_script.specs.Streams.{held, waiting, write_failed, unread, read_failed, StandsIn};
 ghost use Rattle.lake_script.specs.Tables.{told as told_by_table, left as table_left, AreOfTable};
 ghost use Rattle.delta_actions.specs.Commit.{lines_of};
-ghost use Rattle.lake_script.specs.Told.{lines_left, is_newline, reply_to, left_by, is_bad, told, left, first_bad, Finishes};
+ghost use Rattle.lake_script.specs.Told.{lines_left, is_newline, is_bad, first_bad, Finishes, fell_short};
 
 use crate::inputs::{Input, InputError};
 use crate::outputs::{Output, OutputError};
@@ -39,15 +39,14 @@ pub enum End {
 #[derive(Clone, Copy, Debug, PartialEq, Eq)]
 pub struct Outcome {
     pub end: End,
-    /// Whether a growth was refused on the way, or a commit or a file would have passed 64 MiB. A
-    /// run that ends by itself may have met one: its lines that did are told so.
-    pub is_short: bool,
+    is_short: bool,
 }
 
 impl Outcome {
-    /// Whether a growth was refused, or a commit or a file would have passed 64 MiB.
+    /// Whether a growth was refused on the way, or a commit or a file would have passed 64 MiB. A
+    /// run that ends by itself may have met one: its lines that did are told so.
     pub fn short(&self) -> bool
-        ensures { result ≡ self.now.is_short }
+        ensures { result ≡ fell_short self.now }
     {
         self.is_short
     }
@@ -79,21 +78,20 @@ fn answer<S: Store, W: Write>(
     output: &mut Output<W>,
     is_short: &mut bool,
 ) -> Result<bool, OutputError>
-    ensures told { S.is_reliable store.old → is_short.new ≡ false → OnOk result (Appends (held W.contents output.old) (held W.contents output.new)
-        (reply_to number (S.objects store.old) (reading_of line.now))) }
-    ensures left { S.is_reliable store.old → is_short.new ≡ false
-        → OnOk result (S.objects store.new ≡ left_by (S.objects store.old) (reading_of line.now)) }
-    ensures sound { S.is_reliable store.old → is_short.new ≡ false → OnOk result (IsSound (S.objects store.old) (reading_of line.now)) }
+    ensures whole { S.is_reliable store.old → is_short.new ≡ false → OnOk result (IsAnswered number (S.objects store.old) (reading_of line.now)
+        (held W.contents output.old) (held W.contents output.new) (S.objects store.new)) }
     ensures tells { S.is_reliable store.old → OnOk result (Tells (held W.contents output.old) (held W.contents output.new)
         (λ reply. Replies number (S.objects store.old) (reading_of line.now) reply (S.objects store.new))) }
+    ensures short { S.is_reliable store.old → is_short.old ≡ false → is_short.new ≡ true → OnOk result (Tells (held W.contents output.old) (held W.contents output.new)
+        (λ reply. Replies number (S.objects store.old) (reading_of line.now) reply (S.objects store.new) × TellsShort (reading_of line.now) reply)) }
     ensures cut_off { S.is_reliable store.old → OnErr result (IsCutOff number (S.objects store.old) (reading_of line.now) (S.objects store.new)) }
     ensures reliable { S.is_reliable store.old → S.is_reliable store.new }
     ensures remembers { is_short.new ≡ false → is_short.old ≡ false }
     ensures goes_on { IfOk result (λ goes_on. goes_on ≡ not (is_bad (reading_of line.now))) }
     ensures stands { OnErr result (StandsIn (held W.contents output.old) (W.contents output.new.writer) []) }
-    ensures unbroken { OnOk result (output.new.is_broken ≡ output.old.is_broken) }
-    ensures broken { result ≡ Err OutputError.Broken → output.new.is_broken ≡ true }
-    ensures memory { result ≡ Err OutputError.Memory → output.new.is_broken ≡ output.old.is_broken }
+    ensures unbroken { OnOk result (write_failed output.new ≡ write_failed output.old) }
+    ensures broken { result ≡ Err OutputError.Broken → write_failed output.new ≡ true }
+    ensures memory { result ≡ Err OutputError.Memory → write_failed output.new ≡ write_failed output.old }
 {
     match reading_of(alloc, line)? {
         Reading::Skipped => Ok(true),
@@ -122,22 +120,21 @@ fn answer_all<S: Store, W: Write>(
     is_short: &mut bool,
 ) -> Result<Option<u64>, OutputError>
     requires { length text.now ≤ 2 ^ 30 }
-    ensures told { S.is_reliable store.old → is_short.new ≡ false
-        → OnOk result (Appends (held W.contents output.old) (held W.contents output.new) (told (S.objects store.old) text.now)) }
-    ensures left { S.is_reliable store.old → is_short.new ≡ false
-        → OnOk result (S.objects store.new ≡ left (S.objects store.old) text.now) }
-    ensures sound { S.is_reliable store.old → is_short.new ≡ false → OnOk result (AreSound (S.objects store.old) (lines_of text.now)) }
+    ensures whole { S.is_reliable store.old → is_short.new ≡ false → OnOk result (IsRun (S.objects store.old) text.now
+        (held W.contents output.old) (held W.contents output.new) (S.objects store.new)) }
     ensures tells { S.is_reliable store.old → OnOk result (Tells (held W.contents output.old) (held W.contents output.new)
         (λ written. Runs 1 (S.objects store.old) (lines_of text.now) written (S.objects store.new))) }
+    ensures short { S.is_reliable store.old → is_short.old ≡ false → is_short.new ≡ true → OnOk result (Tells (held W.contents output.old) (held W.contents output.new)
+        (FallsShort 1 (S.objects store.old) (lines_of text.now))) }
     ensures reliable { S.is_reliable store.old → S.is_reliable store.new }
     ensures bad { IfOk result (λ bad. bad ≡ first_bad text.now) }
     ensures stands { S.is_reliable store.old → is_short.new ≡ false
-        → OnErr result (StandsIn (held W.contents output.old) (W.contents output.new.writer) (told (S.objects store.old) text.now)) }
+        → OnErr result (IsRunInPart (S.objects store.old) text.now (held W.contents output.old) (W.contents output.new.writer)) }
     ensures front { S.is_reliable store.old → OnErr result (TellsFront (held W.contents output.old) (W.contents output.new.writer)
         (λ written. RunsInPart 1 (S.objects store.old) (lines_of text.now) written (S.objects store.new))) }
-    ensures unbroken { OnOk result (output.new.is_broken ≡ output.old.is_broken) }
-    ensures broken { result ≡ Err OutputError.Broken → output.new.is_broken ≡ true }
-    ensures memory { result ≡ Err OutputError.Memory → output.new.is_broken ≡ output.old.is_broken }
+    ensures unbroken { OnOk result (write_failed output.new ≡ write_failed output.old) }
+    ensures broken { result ≡ Err OutputError.Broken → write_failed output.new ≡ true }
+    ensures memory { result ≡ Err OutputError.Memory → write_failed output.new ≡ write_failed output.old }
 {
     let mut number = 1u64;
     let mut rest = Some(text);
@@ -161,22 +158,21 @@ fn answer_and_flush<S: Store, W: Write>(
     is_short: &mut bool,
 ) -> Result<Option<u64>, OutputError>
     requires { length text.now ≤ 2 ^ 30 }
-    ensures told { S.is_reliable store.old → is_short.new ≡ false
-        → OnOk result (Appends (held W.contents output.old) (W.contents output.new.writer) (told (S.objects store.old) text.now)) }
-    ensures left { S.is_reliable store.old → is_short.new ≡ false
-        → OnOk result (S.objects store.new ≡ left (S.objects store.old) text.now) }
-    ensures sound { S.is_reliable store.old → is_short.new ≡ false → OnOk result (AreSound (S.objects store.old) (lines_of text.now)) }
+    ensures whole { S.is_reliable store.old → is_short.new ≡ false → OnOk result (IsRun (S.objects store.old) text.now
+        (held W.contents output.old) (W.contents output.new.writer) (S.objects store.new)) }
     ensures tells { S.is_reliable store.old → OnOk result (Tells (held W.contents output.old) (W.contents output.new.writer)
         (λ written. Runs 1 (S.objects store.old) (lines_of text.now) written (S.objects store.new))) }
+    ensures short { S.is_reliable store.old → is_short.old ≡ false → is_short.new ≡ true → OnOk result (Tells (held W.contents output.old) (W.contents output.new.writer)
+        (FallsShort 1 (S.objects store.old) (lines_of text.now))) }
     ensures reliable { S.is_reliable store.old → S.is_reliable store.new }
-    ensures through { OnOk result (output.new.pending.items ≡ []) }
+    ensures through { OnOk result (waiting output.new ≡ []) }
     ensures bad { IfOk result (λ bad. bad ≡ first_bad text.now) }
     ensures stands { S.is_reliable store.old → is_short.new ≡ false
-        → OnErr result (StandsIn (held W.contents output.old) (W.contents output.new.writer) (told (S.objects store.old) text.now)) }
+        → OnErr result (IsRunInPart (S.objects store.old) text.now (held W.contents output.old) (W.contents output.new.writer)) }
     ensures front { S.is_reliable store.old → OnErr result (TellsFront (held W.contents output.old) (W.contents output.new.writer)
         (λ written. RunsInPart 1 (S.objects store.old) (lines_of text.now) written (S.objects store.new))) }
-    ensures unbroken { OnOk result (output.new.is_broken ≡ output.old.is_broken) }
-    ensures broken { result ≡ Err OutputError.Broken → output.new.is_broken ≡ true }
+    ensures unbroken { OnOk result (write_failed output.new ≡ write_failed output.old) }
+    ensures broken { result ≡ Err OutputError.Broken → write_failed output.new ≡ true }
 {
     let bad = answer_all(alloc, text, store, output, is_short)?;
     output.flush()?;
@@ -197,32 +193,37 @@ pub fn run_text<S: Store, W: Write>(
 ) -> Outcome
     requires { length text.now ≤ 2 ^ 30 }
     // Where the run finishes, no growth was refused, no object passed 64 MiB and the store loses no
-    // call, what is written is what is told for the text, and the objects are what it leaves.
-    ensures told { S.is_reliable store.old → result.is_short ≡ false → Finishes result.end
-        (λ _. Appends (held W.contents output.old) (W.contents output.new.writer) (told (S.objects store.old) text.now)
-        × (S.objects store.new ≡ left (S.objects store.old) text.now) × AreSound (S.objects store.old) (lines_of text.now)) }
+    // call, what is written is what is told for the text, and the objects are what it leaves, for some
+    // texts that the schemas of its lines are printed as. They are known to the last byte where no line
+    // creates a table with a number in its metadata that has a fraction or an exponent, is `-0` or is
+    // beyond 64 bits: then what is written is one text.
+    ensures told { S.is_reliable store.old → fell_short result ≡ false → Finishes result.end
+        (λ _. IsRun (S.objects store.old) text.now (held W.contents output.old) (W.contents output.new.writer) (S.objects store.new)) }
     // Where a growth was refused, each line has its reply and effect, or is told of want of memory
     // and leaves the objects as they were, but for a batch's file, which may stand.
     ensures tells { S.is_reliable store.old → Finishes result.end (λ _. Tells (held W.contents output.old) (W.contents output.new.writer)
         (λ written. Runs 1 (S.objects store.old) (lines_of text.now) written (S.objects store.new))) }
+    // A run that finishes is short only where a reply that is written tells so.
+    ensures short { S.is_reliable store.old → fell_short result ≡ true → Finishes result.end
+        (λ _. Tells (held W.contents output.old) (W.contents output.new.writer) (FallsShort 1 (S.objects store.old) (lines_of text.now))) }
     // Over an empty store this is what the plain table tells, where no line shows an object; the store
     // then holds the table that was told, and reads over it hand out its rows.
-    ensures script { S.is_reliable store.old → S.objects store.old ≡ [] → result.is_short ≡ false → Finishes result.end
+    ensures script { S.is_reliable store.old → S.objects store.old ≡ [] → fell_short result ≡ false → Finishes result.end
         (λ _. IsScript (held W.contents output.old) (W.contents output.new.writer) text.now (S.objects store.new)) }
     // Over an empty store that loses no call, the store that is left is lawful, and so is its log,
     // however the run ends and whatever growth is refused on the way.
     ensures lawful { S.is_reliable store.old → S.objects store.old ≡ [] → IsLawfulStore (S.objects store.new) × HasLawfulLog (S.objects store.new) }
     ensures reliable { S.is_reliable store.old → S.is_reliable store.new }
-    ensures nothing_waits { Finishes result.end (λ _. output.new.pending.items ≡ []) }
-    ensures finished { Finishes result.end (λ bad. (bad ≡ first_bad text.now) × (output.new.is_broken ≡ output.old.is_broken)) }
-    ensures stands { S.is_reliable store.old → result.is_short ≡ false → result.end ≡ End.NotWritten
-        → StandsIn (held W.contents output.old) (W.contents output.new.writer) (told (S.objects store.old) text.now) }
+    ensures nothing_waits { Finishes result.end (λ _. waiting output.new ≡ []) }
+    ensures finished { Finishes result.end (λ bad. (bad ≡ first_bad text.now) × (write_failed output.new ≡ write_failed output.old)) }
+    ensures stands { S.is_reliable store.old → fell_short result ≡ false → result.end ≡ End.NotWritten
+        → IsRunInPart (S.objects store.old) text.now (held W.contents output.old) (W.contents output.new.writer) }
     // Where a reply can't be given, this holds of some first lines, and what is written is a front
     // of their replies.
     ensures front { S.is_reliable store.old → result.end ≡ End.NotWritten
         → TellsFront (held W.contents output.old) (W.contents output.new.writer)
         (λ written. RunsInPart 1 (S.objects store.old) (lines_of text.now) written (S.objects store.new)) }
-    ensures not_written { result.end ≡ End.NotWritten → (output.new.is_broken ≡ true) ⊎ (result.is_short ≡ true) }
+    ensures not_written { result.end ≡ End.NotWritten → (write_failed output.new ≡ true) ⊎ (fell_short result ≡ true) }
     ensures read { result.end ≢ End.NotRead }
 {
     let mut is_short = false;
@@ -258,19 +259,20 @@ pub fn run<R: Read, W: Write, S: Store>(
 ) -> Outcome
     // Where the run finishes, no growth was refused, no object passed 64 MiB and the store loses no
     // call, what is written is what is told for the text that is read, and the objects are what the
-    // text leaves.
-    ensures told { S.is_reliable store.old → result.is_short ≡ false
+    // text leaves, for some texts that the schemas of its lines are printed as. They are known to the
+    // last byte where no line creates a table with a number in its metadata that has a fraction or an
+    // exponent, is `-0` or is beyond 64 bits: then what is written is one text.
+    ensures told { S.is_reliable store.old → fell_short result ≡ false
         → Finishes result.end (λ _. IfSome (unread R.remaining input.old) (λ text.
-        Appends (held W.contents output.old) (W.contents output.new.writer) (told (S.objects store.old) text)
-        × (S.objects store.new ≡ left (S.objects store.old) text))) }
+        IsRun (S.objects store.old) text (held W.contents output.old) (W.contents output.new.writer) (S.objects store.new))) }
 
     // Over an empty store this is what the plain table tells, where no line shows an object.
-    ensures tables { S.is_reliable store.old → S.objects store.old ≡ [] → result.is_short ≡ false
+    ensures tables { S.is_reliable store.old → S.objects store.old ≡ [] → fell_short result ≡ false
         → Finishes result.end (λ _. IfSome (unread R.remaining input.old) (λ text. AreOfTable (lines_of text)
         → Appends (held W.contents output.old) (W.contents output.new.writer) (told_by_table text))) }
 
     // The store then holds the table that was told.
-    ensures holds { S.is_reliable store.old → S.objects store.old ≡ [] → result.is_short ≡ false
+    ensures holds { S.is_reliable store.old → S.objects store.old ≡ [] → fell_short result ≡ false
         → Finishes result.end (λ _. IfSome (unread R.remaining input.old) (λ text. HoldsState (S.objects store.new) (table_left text))) }
 
     // Over an empty store that loses no call, the store that is left is lawful, and so is its log,
@@ -279,7 +281,7 @@ pub fn run<R: Read, W: Write, S: Store>(
 
     // Reads over that store, each from the place where the one before ended, are answered and hand out the table's
     // rows, whatever their limits.
-    ensures reads { S.is_reliable store.old → S.objects store.old ≡ [] → result.is_short ≡ false
+    ensures reads { S.is_reliable store.old → S.objects store.old ≡ [] → fell_short result ≡ false
         → Finishes result.end (λ _. IfSome (unread R.remaining input.old) (λ text. ReadsOut (S.objects store.new) (table_left text))) }
 
     // Where a growth was refused, each line has its reply and effect, or is told of want of memory
@@ -287,6 +289,9 @@ pub fn run<R: Read, W: Write, S: Store>(
     ensures tells { S.is_reliable store.old → Finishes result.end (λ _. IfSome (unread R.remaining input.old) (λ text.
         Tells (held W.contents output.old) (W.contents output.new.writer)
         (λ written. Runs 1 (S.objects store.old) (lines_of text) written (S.objects store.new)))) }
+    // A run that finishes is short only where a reply that is written tells so.
+    ensures short { S.is_reliable store.old → fell_short result ≡ true → Finishes result.end (λ _. IfSome (unread R.remaining input.old) (λ text.
+        Tells (held W.contents output.old) (W.contents output.new.writer) (FallsShort 1 (S.objects store.old) (lines_of text)))) }
     // Where a reply can't be given, this holds of some first lines, and what is written is a front
     // of their replies.
     ensures front { S.is_reliable store.old → result.end ≡ End.NotWritten → IfSome (unread R.remaining input.old) (λ text.
@@ -294,24 +299,24 @@ pub fn run<R: Read, W: Write, S: Store>(
         (λ written. RunsInPart 1 (S.objects store.old) (lines_of text) written (S.objects store.new))) }
 
     // Nothing waits in the output when it is done.
-    ensures nothing_waits { Finishes result.end (λ _. output.new.pending.items ≡ []) }
+    ensures nothing_waits { Finishes result.end (λ _. waiting output.new ≡ []) }
 
     // A store that loses no call goes on to lose none.
     ensures reliable { S.is_reliable store.old → S.is_reliable store.new }
 
     ensures bad { Finishes result.end (λ bad. IfSome (unread R.remaining input.old) (λ text. bad ≡ first_bad text)) }
-    ensures stands { S.is_reliable store.old → result.is_short ≡ false → result.end ≡ End.NotWritten
+    ensures stands { S.is_reliable store.old → fell_short result ≡ false → result.end ≡ End.NotWritten
         → IfSome (unread R.remaining input.old)
-        (λ text. StandsIn (held W.contents output.old) (W.contents output.new.writer) (told (S.objects store.old) text)) }
+        (λ text. IsRunInPart (S.objects store.old) text (held W.contents output.old) (W.contents output.new.writer)) }
     ensures nothing { result.end ≡ End.NotRead → (output.new ≡ output.old) × (store.new ≡ store.old) }
 
     // When a run does not finish.
-    ensures not_read { result.end ≡ End.NotRead → (input.new.is_broken ≡ true) ⊎ ((result.is_short ≡ true)
+    ensures not_read { result.end ≡ End.NotRead → (read_failed input.new ≡ true) ⊎ ((fell_short result ≡ true)
         ⊎ IfSome (unread R.remaining input.old) (λ text. MOST_READS ≤ length text)) }
-    ensures broken_input { input.new.is_broken ≡ true → result.end ≡ End.NotRead }
+    ensures broken_input { read_failed input.new ≡ true → result.end ≡ End.NotRead }
     ensures too_long { IfSome (unread R.remaining input.old) (λ text. MOST_BYTES < length text → result.end ≡ End.NotRead) }
-    ensures not_written { result.end ≡ End.NotWritten → (output.new.is_broken ≡ true) ⊎ (result.is_short ≡ true) }
-    ensures broken_output { Finishes result.end (λ _. output.new.is_broken ≡ output.old.is_broken) }
+    ensures not_written { result.end ≡ End.NotWritten → (write_failed output.new ≡ true) ⊎ (fell_short result ≡ true) }
+    ensures broken_output { Finishes result.end (λ _. write_failed output.new ≡ write_failed output.old) }
 {
     let _ = restore;
     match input.read_to_end(alloc) {

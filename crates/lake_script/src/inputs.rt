@@ -2,7 +2,7 @@
 ghost use Rattle.std.specs.Prelude.{◌≡◌, ◌≢◌, ◌+◌, ◌<◌, ◌≤◌, length, true, false, IfOk, OnOk, IfErr, IfSome, IsOk, Some};
 ghost use Rattle.std.specs.Io.{ReadsAtMost};
 ghost use Rattle.std.specs.Io.KnownBytes.{ReadConsumes, IsAtEnd};
-ghost use Rattle.lake_script.specs.Streams.{unread, Moves};
+ghost use Rattle.lake_script.specs.Streams.{unread, read_failed, Moves};
 
 use std::alloc::{AllocError, Global};
 use std::io::Read;
@@ -50,14 +50,14 @@ fn zeros(alloc: Global, count: usize) -> Result<Vec<u8>, AllocError>
 #[derive(Drop)]
 pub struct Input<R> {
     pub reader: R,
-    pub is_broken: bool,
+    is_broken: bool,
 }
 
 impl<R: Read> Input<R> {
     /// An input of which nothing was read.
     pub fn new(reader: R) -> Input<R>
         ensures reader { result.reader ≡ reader }
-        ensures unbroken { result.is_broken ≡ false }
+        ensures unbroken { read_failed result ≡ false }
     {
         Input {
             reader,
@@ -69,8 +69,8 @@ impl<R: Read> Input<R> {
     fn read(&mut self, buffer: &mut [u8]) -> Result<usize, InputError>
         ensures bound { ReadsAtMost result buffer.new }
         ensures bytes { ReadConsumes (unread R.remaining self.old) (unread R.remaining self.new) result buffer.new }
-        ensures broken { IfErr result (λ e. (e ≡ InputError.Broken) × (self.new.is_broken ≡ true)) }
-        ensures unbroken { OnOk result (self.new.is_broken ≡ false) }
+        ensures broken { IfErr result (λ e. (e ≡ InputError.Broken) × (read_failed self.new ≡ true)) }
+        ensures unbroken { OnOk result (read_failed self.new ≡ false) }
     {
         match self.reader.read(buffer) {
             Ok(count) => {
@@ -92,8 +92,8 @@ impl<R: Read> Input<R> {
         ensures more { result ≡ Ok true → length text.old.items < length text.new.items }
         ensures end { result ≡ Ok false → IsAtEnd (unread R.remaining self.new) }
         ensures bounded { OnOk result (length text.new.items ≤ MOST_BYTES) }
-        ensures broken { result ≡ Err InputError.Broken → self.new.is_broken ≡ true }
-        ensures unbroken { result ≢ Err InputError.Broken → self.new.is_broken ≡ false }
+        ensures broken { result ≡ Err InputError.Broken → read_failed self.new ≡ true }
+        ensures unbroken { result ≢ Err InputError.Broken → read_failed self.new ≡ false }
         ensures too_long { result ≡ Err InputError.TooLong
             → IfSome (unread R.remaining self.old) (λ known. MOST_BYTES < length text.old.items + length known) }
         ensures not_counted { result ≢ Err InputError.TooManyReads }
@@ -110,8 +110,8 @@ impl<R: Read> Input<R> {
     pub fn read_to_end(&mut self, alloc: Global) -> Result<Vec<u8>, InputError>
         ensures all { IfOk result (λ text. IfSome (unread R.remaining self.old) (λ known. text.items ≡ known)) }
         ensures bounded { IfOk result (λ text. length text.items ≤ MOST_BYTES) }
-        ensures broken { result ≡ Err InputError.Broken → self.new.is_broken ≡ true }
-        ensures unbroken { OnOk result (self.new.is_broken ≡ false) }
+        ensures broken { result ≡ Err InputError.Broken → read_failed self.new ≡ true }
+        ensures unbroken { OnOk result (read_failed self.new ≡ false) }
         ensures too_long { result ≡ Err InputError.TooLong
             → IfSome (unread R.remaining self.old) (λ known. MOST_BYTES < length known) }
         ensures too_many { result ≡ Err InputError.TooManyReads

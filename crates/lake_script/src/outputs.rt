@@ -2,7 +2,7 @@
 ghost use Rattle.std.specs.Prelude.{◌≡◌, [], OnOk, OnErr, IfErr, IfSome, true, false};
 ghost use Rattle.std.specs.Io.KnownBytes.{Appends};
 ghost use Rattle.commit_core.specs.Texts.{line_of};
-ghost use Rattle.lake_script.specs.Streams.{held, StandsIn};
+ghost use Rattle.lake_script.specs.Streams.{held, waiting, write_failed, StandsIn};
 
 use std::alloc::{AllocError, Global};
 use std::fmt::Display;
@@ -34,8 +34,8 @@ impl From<AllocError> for OutputError {
 #[derive(Drop)]
 pub struct Output<W> {
     pub writer: W,
-    pub pending: Vec<u8>,
-    pub is_broken: bool,
+    pending: Vec<u8>,
+    is_broken: bool,
 }
 
 // Writes all bytes, or as many as go before a write fails.
@@ -58,8 +58,8 @@ impl<W: Write> Output<W> {
     /// An output with nothing waiting.
     pub fn new(alloc: Global, writer: W) -> Output<W>
         ensures writer { result.writer ≡ writer }
-        ensures empty { result.pending.items ≡ [] }
-        ensures unbroken { result.is_broken ≡ false }
+        ensures empty { waiting result ≡ [] }
+        ensures unbroken { write_failed result ≡ false }
     {
         Output {
             writer,
@@ -71,10 +71,10 @@ impl<W: Write> Output<W> {
     /// Writes what waits.
     pub fn flush(&mut self) -> Result<(), OutputError>
         ensures held { OnOk result (Appends (held W.contents self.old) (held W.contents self.new) []) }
-        ensures through { OnOk result (self.new.pending.items ≡ []) }
+        ensures through { OnOk result (waiting self.new ≡ []) }
         ensures stands { OnErr result (StandsIn (held W.contents self.old) (W.contents self.new.writer) []) }
-        ensures unbroken { OnOk result (self.new.is_broken ≡ self.old.is_broken) }
-        ensures broken { IfErr result (λ e. (e ≡ OutputError.Broken) × (self.new.is_broken ≡ true)) }
+        ensures unbroken { OnOk result (write_failed self.new ≡ write_failed self.old) }
+        ensures broken { IfErr result (λ e. (e ≡ OutputError.Broken) × (write_failed self.new ≡ true)) }
     {
         if !write_through(&mut self.writer, self.pending.as_slice()) {
             self.is_broken = true;
@@ -89,9 +89,9 @@ impl<W: Write> Output<W> {
         ensures held { OnOk result (IfSome (D.output reply) (λ text.
             Appends (held W.contents self.old) (held W.contents self.new) (line_of text))) }
         ensures stands { OnErr result (StandsIn (held W.contents self.old) (W.contents self.new.writer) []) }
-        ensures unbroken { OnOk result (self.new.is_broken ≡ self.old.is_broken) }
-        ensures broken { result ≡ Err OutputError.Broken → self.new.is_broken ≡ true }
-        ensures memory { result ≡ Err OutputError.Memory → self.new.is_broken ≡ self.old.is_broken }
+        ensures unbroken { OnOk result (write_failed self.new ≡ write_failed self.old) }
+        ensures broken { result ≡ Err OutputError.Broken → write_failed self.new ≡ true }
+        ensures memory { result ≡ Err OutputError.Memory → write_failed self.new ≡ write_failed self.old }
     {
         if self.pending.len() >= FULL {
             self.flush()?;
@@ -108,9 +108,9 @@ impl<W: Write> Output<W> {
     pub fn show(&mut self, bytes: &[u8]) -> Result<(), OutputError>
         ensures held { OnOk result (Appends (held W.contents self.old) (held W.contents self.new) bytes.now) }
         ensures stands { OnErr result (StandsIn (held W.contents self.old) (W.contents self.new.writer) []) }
-        ensures unbroken { OnOk result (self.new.is_broken ≡ self.old.is_broken) }
-        ensures broken { result ≡ Err OutputError.Broken → self.new.is_broken ≡ true }
-        ensures memory { result ≡ Err OutputError.Memory → self.new.is_broken ≡ self.old.is_broken }
+        ensures unbroken { OnOk result (write_failed self.new ≡ write_failed self.old) }
+        ensures broken { result ≡ Err OutputError.Broken → write_failed self.new ≡ true }
+        ensures memory { result ≡ Err OutputError.Memory → write_failed self.new ≡ write_failed self.old }
     {
         if self.pending.len() >= FULL {
             self.flush()?;

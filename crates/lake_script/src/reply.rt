@@ -8,9 +8,9 @@ ghost use Rattle.lake_script.specs.Growth.{MayPut};
 ghost use Rattle.commit_core.specs.Histories.{history_of};
 ghost use Rattle.lake_script.specs.Lines.{append, create, task, wish_view, IsTimely};
 ghost use Rattle.lake_script.specs.ReplyView.{reply_text, is_short};
-ghost use Rattle.lake_script.specs.Runs.{Grants, no_room_to_read, no_room_to_show, no_room_to_tell};
+ghost use Rattle.lake_script.specs.Runs.{Grants, IsShort, no_room_to_read, no_room_to_show, no_room_to_tell};
 ghost use Rattle.lake_script.specs.Sound.{IsGranted};
-ghost use Rattle.lake_script.specs.Streams.{held, StandsIn};
+ghost use Rattle.lake_script.specs.Streams.{held, write_failed, StandsIn};
 ghost use Rattle.source_core.specs.Tailing.{tailed};
 ghost use Rattle.lake_script.specs.Told.{shown, in_hex, tailed_reply};
 
@@ -70,9 +70,9 @@ impl Reply {
     pub fn give<W: Write>(&self, output: &mut Output<W>) -> Result<(), OutputError>
         ensures held { OnOk result (Appends (held W.contents output.old) (held W.contents output.new) (reply_text self.now)) }
         ensures stands { OnErr result (StandsIn (held W.contents output.old) (W.contents output.new.writer) []) }
-        ensures unbroken { OnOk result (output.new.is_broken ≡ output.old.is_broken) }
-        ensures broken { result ≡ Err OutputError.Broken → output.new.is_broken ≡ true }
-        ensures memory { result ≡ Err OutputError.Memory → output.new.is_broken ≡ output.old.is_broken }
+        ensures unbroken { OnOk result (write_failed output.new ≡ write_failed output.old) }
+        ensures broken { result ≡ Err OutputError.Broken → write_failed output.new ≡ true }
+        ensures memory { result ≡ Err OutputError.Memory → write_failed output.new ≡ write_failed output.old }
     {
         match self {
             Reply::Created => output.say("Created 0"),
@@ -101,6 +101,7 @@ fn create_table<S: Store>(alloc: Global, store: &mut S, id: &str, at: u64, schem
     ensures told { S.is_reliable store.old → Grants (S.objects store.old) (create id.now at schema.now) (reply_text result) (S.objects store.new) }
     ensures whole { S.is_reliable store.old → is_short result ≡ false → IsGranted (S.objects store.old) (create id.now at schema.now) (reply_text result) (S.objects store.new) }
     ensures grows { S.is_reliable store.old → MayPut (S.objects store.old) (create id.now at schema.now) (S.objects store.new) }
+    ensures short { is_short result ≡ true → IsShort (create id.now at schema.now) (reply_text result) }
     ensures reliable { S.is_reliable store.old → S.is_reliable store.new }
 {
     match create(alloc, store, id, at, schema) {
@@ -122,6 +123,7 @@ fn append_batch<S: Store>(
     ensures told { S.is_reliable store.old → Grants (S.objects store.old) (task (append application.now number at (items_view rows.now))) (reply_text result) (S.objects store.new) }
     ensures whole { S.is_reliable store.old → is_short result ≡ false → IsGranted (S.objects store.old) (task (append application.now number at (items_view rows.now))) (reply_text result) (S.objects store.new) }
     ensures grows { S.is_reliable store.old → MayPut (S.objects store.old) (task (append application.now number at (items_view rows.now))) (S.objects store.new) }
+    ensures short { is_short result ≡ true → IsShort (task (append application.now number at (items_view rows.now))) (reply_text result) }
     ensures reliable { S.is_reliable store.old → S.is_reliable store.new }
 {
     match append(alloc, store, application, number, at, rows) {
@@ -198,6 +200,8 @@ pub fn grant<S: Store>(alloc: Global, line: Line<'_>, store: &mut S) -> Reply
     ensures told { S.is_reliable store.old → Grants (S.objects store.old) (wish_view line.entry) (reply_text result) (S.objects store.new) }
     // However it ends, what it puts is well made.
     ensures grows { S.is_reliable store.old → MayPut (S.objects store.old) (wish_view line.entry) (S.objects store.new) }
+    // A reply is short only where it tells so.
+    ensures short { is_short result ≡ true → IsShort (wish_view line.entry) (reply_text result) }
     ensures reliable { S.is_reliable store.old → S.is_reliable store.new }
 {
     match line {

@@ -1,13 +1,21 @@
-use Rattle.std.proofs.Common.{inr, ap, subst, sym, ◌∙◌}
+use Rattle.std.proofs.Common.{rules, ◌≡◌, true, false, inr, ap, subst, sym, ◌∙◌}
 use Rattle.lake_script.specs.Lines.{reading_view}
-use Rattle.lake_script.specs.ReplyView.{reply_text}
-use Rattle.lake_script.specs.Runs.{IsCutOff, Replies}
+use Rattle.lake_script.specs.ReplyView.{reply_text, is_short}
+use Rattle.lake_script.specs.Runs.{IsCutOff, Replies, TellsShort}
 use Rattle.lake_script.proofs.Moments.{reading_timely}
+use Rattle.lake_script.proofs.RunLemmas.{answered}
 use Rattle.lake_script.proofs.RunsLemmas.{on_err}
+use Rattle.lake_script.proofs.engine.answer.Goals.{then-is_short, else-is_short}
 use Rattle.lake_script.proofs.engine.answer.Goals as goal
 
 pub grant-reply-requires : goal.grant-reply-requires
 grant-reply-requires g c = reading_timely _ _ (ap reading_view (sym c.in-Asks.is) ∙ c.in_ok-reading_of.ensures)
+
+pub returns-in_ok-give-in-Asks-clause-whole : goal.returns-in_ok-give-in-Asks-clause-whole
+returns-in_ok-give-in-Asks-clause-whole g c = λ reliable whole.
+    let asked = ap reading_view (sym c.in-Asks.is) ∙ c.in_ok-reading_of.ensures in
+    let short : is_short c.grant-reply.result ≡ false = search rules in
+    answered _ _ _ _ _ _ _ _ asked (c.grant-reply.ensures.whole reliable short) c.in_ok-give-in-Asks.ensures.held
 
 pub returns-in_ok-give-in-Asks-clause-tells : goal.returns-in_ok-give-in-Asks-clause-tells
 returns-in_ok-give-in-Asks-clause-tells g c = λ reliable.
@@ -15,6 +23,15 @@ returns-in_ok-give-in-Asks-clause-tells g c = λ reliable.
     let granted = c.grant-reply.ensures in
     let reply = reply_text c.grant-reply.result in
     (reply, c.in_ok-give-in-Asks.ensures.held, subst (λ r. Replies c.args.number (g.S.Store.objects c.args.store.now) r reply (g.S.Store.objects c.grant-reply.new.store)) asked (granted.told reliable, granted.grows reliable))
+
+pub returns-in_ok-give-in-Asks-clause-short : goal.returns-in_ok-give-in-Asks-clause-short
+returns-in_ok-give-in-Asks-clause-short g c = λ reliable before short.
+    let asked = ap reading_view (sym c.in-Asks.is) ∙ c.in_ok-reading_of.ensures in
+    let granted = c.grant-reply.ensures in
+    let reply = reply_text c.grant-reply.result in
+    let is : is_short c.grant-reply.result ≡ true = elim c.if-is_short.branch [ then-is_short w ↦ search rules | else-is_short w ↦ let same = w.is_short-is in cc ] in
+    let told = subst (λ r. Replies c.args.number (g.S.Store.objects c.args.store.now) r reply (g.S.Store.objects c.grant-reply.new.store)) asked (granted.told reliable, granted.grows reliable) in
+    (reply, c.in_ok-give-in-Asks.ensures.held, (told, subst (λ r. TellsShort r reply) asked (granted.short is)))
 
 pub returns-in_err-give-in-Asks-clause-cut_off : goal.returns-in_err-give-in-Asks-clause-cut_off
 returns-in_err-give-in-Asks-clause-cut_off g c = λ reliable.
