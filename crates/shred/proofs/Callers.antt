@@ -1,8 +1,9 @@
 -- The lemmas that proofs of other crates may cite.
 pub use Rattle.shred.proofs.Assembled.{assembled_sound, assembled_complete, same_rows_given}
 pub use Rattle.shred.proofs.ConformsFits.{row_fits}
-pub use Rattle.shred.proofs.Matrix.{columns_found, matrix}
+pub use Rattle.shred.proofs.MadeComplete.{has_way}
+pub use Rattle.shred.proofs.Matrix.{columns_found, fronts, matrix}
 pub use Rattle.shred.proofs.Mismatched.{refused_at_mismatch}
 pub use Rattle.shred.proofs.Proper.{way_tells}
-pub use Rattle.shred.proofs.RowCells.{cells_found, cells_of}
+pub use Rattle.shred.proofs.RowCells.{cells_found, cells_length, cells_of, cells_of_fields}
 pub use Rattle.shred.proofs.RowsBefore.{refused_where_stops, stops}

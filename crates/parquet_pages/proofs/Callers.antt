@@ -1,0 +1,3 @@
+-- The lemmas that proofs of other crates may cite.
+pub use Rattle.parquet_pages.proofs.PagesFound.{chunk_found}
+pub use Rattle.parquet_pages.proofs.PagesOnly.{chunk_only}

@@ -1,0 +1,10 @@
+pub mod Types
+pub mod Plain
+pub mod Levels
+pub mod Headers
+pub mod Pages
+pub mod Reading
+pub mod Writing
+pub mod Views
+pub mod Outcome
+pub mod Internal

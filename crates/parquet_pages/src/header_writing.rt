@@ -1,0 +1,91 @@
+//! The header of a data page, written.
+
+ghost use Rattle.std.specs.Prelude.{◌≡◌, ◌<◌, ◌≤◌, ◌^◌, length, IfOk};
+ghost use Rattle.thrift_core.specs.Tree as tree;
+ghost use Rattle.thrift_core.specs.View.{view, field_view};
+ghost use Rattle.thrift_core.specs.Writing.{written};
+ghost use Rattle.parquet_pages.specs.Writing.{header_form, header_tree, number_field};
+
+use crate::enums::{DATA_PAGE, PLAIN, RLE};
+use std::alloc::{AllocError, Global};
+use thrift_core::{Field, FieldShape, Shape, TValue, write_struct};
+
+/// DataPageHeader.
+const DATA_PAGE_HEADER: Shape = Shape::Struct(&[
+    FieldShape {
+        id: 1,
+        shape: Shape::Int32,
+    },
+    FieldShape {
+        id: 2,
+        shape: Shape::Int32,
+    },
+    FieldShape {
+        id: 3,
+        shape: Shape::Int32,
+    },
+    FieldShape {
+        id: 4,
+        shape: Shape::Int32,
+    },
+]);
+
+/// PageHeader of a data page.
+const PAGE_HEADER: Shape = Shape::Struct(&[
+    FieldShape {
+        id: 1,
+        shape: Shape::Int32,
+    },
+    FieldShape {
+        id: 2,
+        shape: Shape::Int32,
+    },
+    FieldShape {
+        id: 3,
+        shape: Shape::Int32,
+    },
+    FieldShape {
+        id: 5,
+        shape: DATA_PAGE_HEADER,
+    },
+]);
+
+/// The header of a data page of so many values in PLAIN, of so many bytes (Apache Parquet, PageHeader).
+pub(crate) fn header_bytes(alloc: Global, num_values: u32, size: u32) -> Result<Vec<u8>, AllocError>
+    ensures { IfOk result (λ bytes. bytes.items ≡ written header_form (header_tree num_values size)) }
+{
+    let tree = header_tree(alloc, num_values, size)?;
+    write_struct(alloc, &tree, &PAGE_HEADER)
+}
+
+/// A field that is a whole number.
+fn integer(id: i16, number: i64) -> Field<Global>
+    ensures { field_view result ≡ (id, tree.integer number) }
+{
+    Field {
+        id,
+        value: TValue::Int(number),
+    }
+}
+
+fn header_tree(alloc: Global, num_values: u32, size: u32) -> Result<TValue<Global>, AllocError>
+    ensures { IfOk result (λ tree. view tree ≡ header_tree num_values size) }
+{
+    let size = i64::from(size);
+    let data = vec![in alloc;
+        integer(1, i64::from(num_values)),
+        integer(2, PLAIN),
+        integer(3, RLE),
+        integer(4, RLE),
+    ]?;
+    let fields = vec![in alloc;
+        integer(1, DATA_PAGE),
+        integer(2, size),
+        integer(3, size),
+        Field {
+            id: 5,
+            value: TValue::Struct(data)
+        },
+    ]?;
+    Ok(TValue::Struct(fields))
+}

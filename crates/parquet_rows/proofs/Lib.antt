@@ -1,0 +1,12 @@
+pub mod CellsSuit
+pub mod CodeColumns
+pub mod CodeGroups
+pub mod CodeLeaves
+pub mod CodeSteps
+pub mod ColumnsSuit
+pub mod FittedShapes
+pub mod GroupRows
+pub mod GroupSteps
+pub mod RowsFound
+pub mod RowsOnly
+pub mod RowsTold

@@ -1,0 +1,4 @@
+pub mod File
+pub mod Reading
+pub mod Outcome
+pub mod Internal
