@@ -2,8 +2,10 @@
 
 use crate::describing::describe;
 use crate::kind::{Kind, ROWS, kind_named};
-use crate::local_heap::heap_line;
+use crate::local_heap::{heap_line, heap_tree_line};
 use crate::notation::{Names, number, spelled};
+use crate::pages::{chunk_line, fit_lines, hybrid_line};
+use crate::parquet::file_lines;
 use crate::refusal::Refusal;
 use crate::rows::table_lines;
 use crate::spoiling::spoil;
@@ -15,8 +17,10 @@ use std::collections::BTreeMap;
 ///
 /// `KIND BYTES` tells what the bytes are, `rows COLUMN BYTES` the rows of a file; `write ..` what is written;
 /// `spoil KIND BYTES` what comes of spoiled bytes; `heap BYTES SCHEMA` what comes of a schema that is copied into a heap
-/// of so many bytes; `row SCHEMA ROW`, `columns SCHEMA ROWS` and `assemble SCHEMA COLUMNS` what comes of rows and columns
-/// of a schema, which is one word. `let NAME BYTES` and `let NAME write ..` name bytes.
+/// of so many bytes, `heap-tree BYTES STRUCT` what comes of a struct that is read into one; `row SCHEMA ROW`,
+/// `columns SCHEMA ROWS` and `assemble SCHEMA COLUMNS` what comes of rows and columns
+/// of a schema, which is one word; `hybrid WIDTH COUNT BYTES` and `chunk TYPE FLAGS OFFSET COUNT BYTES` what stands in
+/// levels and pages; `fit SCHEMA FILE` a file's columns against a table's, `file SCHEMA FILE` its rows. `let NAME BYTES` and `let NAME write ..` name bytes.
 pub fn cases(alloc: Global, text: &str) -> Result<String, AllocError> {
     let mut out = String::new(alloc);
     let mut names = BTreeMap::new(alloc);
@@ -58,6 +62,21 @@ fn answer(alloc: Global, names: &mut Names, line: &str) -> Result<String, Refusa
             let (size, rest) = rest.split_once(' ').ok_or(Refusal::BadSpelling)?;
             let bytes = spelled(alloc, names, rest)?;
             Ok(shortened(alloc, heap_line(alloc, number(size)?, &bytes)?)?)
+        }
+        "heap-tree" => {
+            let (size, rest) = rest.split_once(' ').ok_or(Refusal::BadSpelling)?;
+            let bytes = spelled(alloc, names, rest)?;
+            Ok(shortened(alloc, heap_tree_line(alloc, number(size)?, &bytes)?)?)
+        }
+        "hybrid" => Ok(shortened(alloc, hybrid_line(alloc, names, rest)?)?),
+        "chunk" => Ok(shortened(alloc, chunk_line(alloc, names, rest)?)?),
+        "fit" => {
+            let lines = fit_lines(alloc, names, rest)?;
+            Ok(shortened(alloc, joined(alloc, &lines)?)?)
+        }
+        "file" => {
+            let lines = file_lines(alloc, names, rest)?;
+            Ok(shortened(alloc, joined(alloc, &lines)?)?)
         }
         "row" | "columns" | "assemble" => {
             let lines = table_lines(alloc, names, word, rest)?;

@@ -1,12 +1,18 @@
-//! Schemas copied into a heap of a fixed size, and back.
+//! Schemas copied into a heap of a fixed size, and back, and Thrift structs read into one.
 
 use crate::refusal::Refusal;
 use crate::schema::schema_of;
+use crate::tree::push_value;
+use lake_bytes::Cursor;
 use linked_list_allocator::LocalHeap;
 use std::alloc::Global;
+use thrift_core::{ReadError, read_struct};
 
 /// The schema that is copied into a heap in which another one had no room.
 const ONE_COLUMN: &[u8] = br#"{"type":"struct","fields":[{"name":"x","type":"long"}]}"#;
+
+/// The struct that is read into a heap in which another one was read: its one field is the number 1.
+const ONE_NUMBER: &[u8] = &[0x15, 0x02, 0x00];
 
 /// Which tree is dropped first.
 #[derive(Clone, Copy)]
@@ -61,4 +67,29 @@ fn compared(
         }
     };
     Ok(if at_first && then { "same" } else { "differ" })
+}
+
+/// Reads a struct into a heap of so many bytes, and drops it. Tells the struct, or that the heap has no room for it, and
+/// how many bytes are left behind it; the same of a struct of one number in that heap; and how much of the heap is then
+/// in use.
+pub fn heap_tree_line(alloc: Global, size: usize, bytes: &[u8]) -> Result<String, Refusal> {
+    let heap = LocalHeap::new(alloc, size)?;
+    let first = struct_in(alloc, &heap, bytes)?;
+    let after = struct_in(alloc, &heap, ONE_NUMBER)?;
+    let used = heap.used();
+    Ok(format!(in alloc; "{first} | {after} | {used} in use")?)
+}
+
+/// The struct in front of the bytes, read into the heap, and how many bytes are left.
+fn struct_in(alloc: Global, heap: &LocalHeap, bytes: &[u8]) -> Result<String, Refusal> {
+    let mut cursor = Cursor::new(bytes);
+    let mut text = String::new(alloc);
+    match read_struct(heap, &mut cursor) {
+        Ok(tree) => push_value(&mut text, &tree)?,
+        Err(ReadError::Memory) => text.push_str("out of memory")?,
+        Err(error) => return Err(error.into()),
+    }
+    let left = cursor.left().len();
+    write!(text, ", {left} left")?;
+    Ok(text)
 }

@@ -7,6 +7,7 @@ mod describing;
 mod kind;
 mod local_heap;
 mod notation;
+mod pages;
 mod parquet;
 mod refusal;
 mod rows;

@@ -1,6 +1,9 @@
 //! Parquet files in lines: what a footer says, a page's header, and the rows.
 
+use crate::notation::{Names, spelled};
 use crate::refusal::Refusal;
+use crate::rows::printed;
+use crate::schema::schema_of;
 use crate::tree::{push_binary, push_value};
 use parquet_file::{ColumnChunk, Footer, SchemaElement, read_rows};
 use std::alloc::{AllocError, Global};
@@ -13,6 +16,19 @@ pub fn row_lines(alloc: Global, column: &str, bytes: &[u8]) -> Result<Vec<String
     let mut lines = vec![in alloc; format!(in alloc; "{count} rows")?]?;
     for row in &rows {
         lines.push(format!(in alloc; "{row}")?)?;
+    }
+    Ok(lines)
+}
+
+/// How many rows of a table a file has, and then the rows as JSON, for `SCHEMA BYTES`.
+pub fn file_lines(alloc: Global, names: &Names, rest: &str) -> Result<Vec<String>, Refusal> {
+    let (schema, rest) = rest.split_once(' ').ok_or(Refusal::BadSpelling)?;
+    let schema = schema_of(alloc, &spelled(alloc, names, schema)?)?;
+    let rows = parquet_rows::read_rows(alloc, &schema, &spelled(alloc, names, rest)?)?;
+    let count = rows.len();
+    let mut lines = vec![in alloc; format!(in alloc; "{count} rows")?]?;
+    for row in &rows {
+        lines.push(printed(alloc, &schema, row)?)?;
     }
     Ok(lines)
 }
@@ -72,7 +88,7 @@ const PAGE_KINDS: [(i16, &str); 2] = [(5, ", data page: "), (7, ", dictionary pa
 const CONTENT_FIELDS: [(i16, &str); 2] = [(1, "values "), (2, ", encoding ")];
 
 /// What a page's header says.
-pub fn page_line(alloc: Global, tree: &TValue) -> Result<String, Refusal> {
+pub fn page_line(alloc: Global, tree: &TValue<Global>) -> Result<String, Refusal> {
     let mut line = String::new(alloc);
     for (id, name) in PAGE_FIELDS {
         push_required(&mut line, tree, id, name)?;
@@ -88,7 +104,12 @@ pub fn page_line(alloc: Global, tree: &TValue) -> Result<String, Refusal> {
     Ok(line)
 }
 
-fn push_required(line: &mut String, tree: &TValue, id: i16, name: &str) -> Result<(), Refusal> {
+fn push_required(
+    line: &mut String,
+    tree: &TValue<Global>,
+    id: i16,
+    name: &str,
+) -> Result<(), Refusal> {
     let value = tree.required(id)?;
     line.push_str(name)?;
     push_value(line, value)?;

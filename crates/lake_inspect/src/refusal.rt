@@ -4,7 +4,7 @@ ghost use Rattle.std.specs.Prelude.{◌≡◌};
 ghost use Rattle.lake_inspect.specs.declared.refusal.Refusal.TheVariants.{Memory};
 
 use delta_actions::ActionFault;
-use lake_bytes::ByteFault;
+use lake_bytes::{ByteFault, HybridError};
 use parquet_file::{FileError, FileFault};
 use row_core::{RowError, RowFault};
 use schema_tree::SchemaFault;
@@ -66,6 +66,15 @@ impl From<ReadError> for Refusal {
         match error {
             ReadError::Memory => Refusal::Memory,
             ReadError::Fault(fault) => Refusal::Struct(fault),
+        }
+    }
+}
+
+impl From<HybridError> for Refusal {
+    fn from(error: HybridError) -> Refusal {
+        match error {
+            HybridError::Memory => Refusal::Memory,
+            HybridError::Fault(fault) => Refusal::Number(fault),
         }
     }
 }

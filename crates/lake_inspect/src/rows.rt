@@ -37,7 +37,7 @@ pub fn table_lines(
 }
 
 /// The JSON value that bytes are the text of.
-fn json_of(alloc: Global, bytes: &[u8]) -> Result<Json, Refusal> {
+pub fn json_of(alloc: Global, bytes: &[u8]) -> Result<Json, Refusal> {
     let Ok(text) = from_utf8(bytes) else {
         return Err(Refusal::BadSpelling);
     };
@@ -61,7 +61,7 @@ fn row_line(alloc: Global, schema: &Schema<Global>, value: &Json) -> Result<Stri
 }
 
 /// A row, or the value of a leaf, as JSON.
-fn printed(alloc: Global, schema: &Schema<Global>, row: &Value) -> Result<String, AllocError> {
+pub fn printed(alloc: Global, schema: &Schema<Global>, row: &Value) -> Result<String, AllocError> {
     row_to_json(alloc, schema, row)?.to_string(alloc)
 }
 
@@ -158,7 +158,7 @@ fn assembled_lines(
 }
 
 /// The column that an object of `levels` and `values` is.
-fn column_of(alloc: Global, value: &Json) -> Result<Column<Value>, Refusal> {
+pub fn column_of(alloc: Global, value: &Json) -> Result<Column<Value>, Refusal> {
     let mut levels = Vec::new(alloc);
     for level in value
         .get("levels")

@@ -1,13 +1,13 @@
 //! A Thrift tree as text.
 
-use std::alloc::AllocError;
+use std::alloc::{AllocError, Allocator};
 use std::str::from_utf8;
 use thrift_core::{Entry, Field, TValue};
 
 /// A value: a struct as `{1: .., 2: ..}`, a list as `[.., ..]`, a map as `<..: ..>`, a binary as text in
 /// quotes or as `x'..'`, a double as `double`.
 #[cycle(show)]
-pub fn push_value(out: &mut String, value: &TValue) -> Result<(), AllocError> {
+pub fn push_value<A: Allocator>(out: &mut String, value: &TValue<A>) -> Result<(), AllocError> {
     match value {
         TValue::Bool(truth) => write!(out, "{truth}"),
         TValue::Int(number) => write!(out, "{number}"),
@@ -20,7 +20,7 @@ pub fn push_value(out: &mut String, value: &TValue) -> Result<(), AllocError> {
 }
 
 #[cycle(show)]
-fn push_members(out: &mut String, members: &[TValue]) -> Result<(), AllocError> {
+fn push_members<A: Allocator>(out: &mut String, members: &[TValue<A>]) -> Result<(), AllocError> {
     let mut gap = "[";
     for member in members {
         out.push_str(gap)?;
@@ -31,7 +31,7 @@ fn push_members(out: &mut String, members: &[TValue]) -> Result<(), AllocError> 
 }
 
 #[cycle(show)]
-fn push_entries(out: &mut String, entries: &[Entry]) -> Result<(), AllocError> {
+fn push_entries<A: Allocator>(out: &mut String, entries: &[Entry<A>]) -> Result<(), AllocError> {
     let mut gap = "<";
     for entry in entries {
         out.push_str(gap)?;
@@ -44,7 +44,7 @@ fn push_entries(out: &mut String, entries: &[Entry]) -> Result<(), AllocError> {
 }
 
 #[cycle(show)]
-fn push_fields(out: &mut String, fields: &[Field]) -> Result<(), AllocError> {
+fn push_fields<A: Allocator>(out: &mut String, fields: &[Field<A>]) -> Result<(), AllocError> {
     let mut gap = "{";
     for field in fields {
         let id = field.id;

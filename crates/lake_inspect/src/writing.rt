@@ -2,6 +2,7 @@
 
 use crate::cases::column_named;
 use crate::notation::{Names, number, spelled};
+use crate::pages::{written_chunk, written_hybrid};
 use crate::refusal::Refusal;
 use delta_actions::{print_commit, read_commit};
 use lake_bytes::{Cursor, write_i32_le, write_i64_le, write_u32_le, write_varint, write_zigzag};
@@ -11,6 +12,7 @@ use thrift_core::{FieldShape, Shape, read_struct, write_struct};
 
 /// The bytes that are written: of a number for `varint N`, `zigzag N`, `u32 N`, `i32 N` and `i64 N`; for
 /// `rows COLUMN N ..` the file of these rows, where `N..M` stands for the rows from N up to M, which isn't one; for
+/// `hybrid WIDTH VALUE ..` runs of these values, `VALUE*N` for N of them; for `chunk TYPE HIGHEST COLUMN` the pages of a column; for
 /// `commit BYTES` the actions that the bytes are, printed again; for `thrift BYTES` the struct that they are, written
 /// again as a [`SAMPLE`].
 pub fn written(alloc: Global, names: &Names, text: &str) -> Result<Vec<u8>, Refusal> {
@@ -23,6 +25,8 @@ pub fn written(alloc: Global, names: &Names, text: &str) -> Result<Vec<u8>, Refu
         "i32" => write_i32_le(&mut out, number(rest)?)?,
         "i64" => write_i64_le(&mut out, number(rest)?)?,
         "rows" => return rows_file(alloc, rest),
+        "hybrid" => return written_hybrid(alloc, rest),
+        "chunk" => return written_chunk(alloc, names, rest),
         "commit" => {
             let actions = read_commit(alloc, &spelled(alloc, names, rest)?)?;
             return Ok(print_commit(alloc, &actions)?);
