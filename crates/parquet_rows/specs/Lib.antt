@@ -2,3 +2,4 @@ pub mod File
 pub mod Reading
 pub mod Outcome
 pub mod Internal
+pub mod Writing

@@ -1,5 +1,5 @@
 -- What a function answered, next to what reading gives: the same, unless memory ran out.
-use Rattle.std.specs.Prelude.{◌≡◌, List, ◌++◌, Result, Ok, Err}
+use Rattle.std.specs.Prelude.{◌≡◌, ℕ, List, ◌++◌, Result, Ok, Err}
 use Rattle.lake_bytes.specs.Outcome.{IsSaid}
 use Rattle.row_core.specs.Rows.{Row}
 use Rattle.parquet_footer.specs.Outcome.{says}
@@ -15,3 +15,8 @@ AddsRows read old (Err e) new = IsSaid (says e) read
 abbrev pub Tests : {A : Type 0} → Result A FileFault → Result (Unit {0}) FileError → Type 0
 Tests {A = A} read (Ok x) = (value : A) × (read ≡ Ok value)
 Tests read (Err e) = IsSaid (says e) read
+
+-- These bytes were written behind the others, and this is said of them; or the fault.
+abbrev pub Puts : {X A : Type 0} → (X → A) → Result (List ℕ × A) FileFault → List ℕ → Result X FileError → List ℕ → Type 0
+Puts view written old (Ok x) new = (bytes : List ℕ) × (written ≡ Ok (bytes, view x)) × (new ≡ old ++ bytes)
+Puts view written old (Err e) new = IsSaid (says e) written

@@ -1,10 +1,14 @@
-//! The rows of whole Parquet files, for tables of any schema. It knows nothing of logs, stores or batches.
+//! The rows of whole Parquet files, read and written, for tables of any schema. It knows nothing of logs, stores or batches.
 #![tactic(auto)]
 
 mod columns;
+mod forms;
 mod groups;
 mod laws;
 mod rows;
+mod trees;
+mod writing;
 
 pub use laws::one_list_of_rows;
 pub use rows::read_rows;
+pub use writing::write_file;

@@ -1,5 +1,4 @@
--- The schema of one required column of type long without metadata: until rows of every schema are written, the
--- tables of such a schema are those that take rows.
+-- The schema of one required column of type long without metadata.
 use Rattle.std.specs.Prelude.{ℕ, ◌&&◌, List, Bool, true, false, not, Option, Some, None, if◌then◌else◌}
 use Rattle.serde_json.specs.Data.{Data, object, no_members}
 use Rattle.schema_tree.specs.declared.primitive.Primitive.TheVariants.{Long}

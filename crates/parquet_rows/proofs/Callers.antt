@@ -1,0 +1,2 @@
+-- The lemmas that proofs of other crates may cite.
+pub use Rattle.parquet_rows.proofs.RowsOnly.{rows_one, rows_only}
