@@ -15,7 +15,7 @@ use Rattle.table_model.proofs.Callers.{stays}
 use Rattle.table_store.proofs.HoldingOne.{one_entry, one_list, one_object}
 use Rattle.table_store.proofs.HoldingSchema.{one_creation_of}
 
-module _ (objects more : Objects) (schema other : Schema) (grown : HasObjectsOf objects more) where
+module _ (objects more : Objects) (schema : Schema) (grown : HasObjectsOf objects more) where
   -- what stands still stands
   abbrev kept : (name : List ℕ) (P : List ℕ → Type 0) → Stands objects name P → Stands more name P
   kept name P stands = (stands.0, grown name stands.0 stands.1, stands.2)
@@ -25,35 +25,40 @@ module _ (objects more : Objects) (schema other : Schema) (grown : HasObjectsOf 
   kept_file (batch b) file = kept (data_file_name b.application b.number) _ file
   kept_file (close application) file = tt
 
-  -- from a version on, the entries come first
-  front_from : (version : ℕ) (entries others : List Entry) → HoldsFrom objects schema version entries → HoldsFrom more other version others → (later : List Entry) × (others ≡ entries ++ later)
+  -- from a version on, the entries of one table come first
+  front_from : (version : ℕ) (entries others : List Entry) → HoldsFrom objects schema version entries → HoldsFrom more schema version others → (later : List Entry) × (others ≡ entries ++ later)
   front_from version [] others p q = (others, refl)
   front_from version (entry ∷ entries) [] p q = let none : None ≡ Some p.0.0 = sym q ∙ grown (commit_name version) p.0.0 p.0.1 in absurd cc
   front_from version (entry ∷ entries) (found ∷ others) p q =
       let bytes : p.0.0 ≡ q.0.0 = one_object more (commit_name version) (commit_name version) _ _ (kept (commit_name version) _ p.0) q.0 refl in
-      let lists = one_list p.0.0 q.0.0 schema other entry found bytes p.0.2 q.0.2 in
+      let lists = one_list p.0.0 q.0.0 schema schema entry found bytes p.0.2 q.0.2 in
       let stand : StandFor schema entry (beside_info q.0.2.actions) = subst (λ (actions : List actions.Entry). StandFor schema entry (beside_info actions)) lists p.0.2.stand in
-      let first : entry ≡ found = one_entry more schema other entry found (beside_info q.0.2.actions) stand q.0.2.stand (kept_file entry p.1) q.1 in
+      let first : entry ≡ found = one_entry more schema entry found (beside_info q.0.2.actions) stand q.0.2.stand (kept_file entry p.1) q.1 in
       let behind = front_from (suc version) entries others p.2 q.2 in
       (behind.0, ap₂ (λ e es. e ∷ es) (sym first) behind.1)
 
+  -- the schema is the one that the creation tells
+  by_creation : (other : Schema) (entries others : List Entry) → Holds objects schema (creation ∷ entries) → Holds more other others → schema ≡ other
+  by_creation other entries [] p q = let none : None ≡ Some p.0.0 = sym q ∙ grown (commit_name 0) p.0.0 p.0.1 in absurd cc
+  by_creation other entries (found ∷ others) p q =
+      let bytes : p.0.0 ≡ q.0.0 = one_object more (commit_name 0) (commit_name 0) _ _ (kept (commit_name 0) _ p.0) q.0 refl in
+      one_creation_of p.0.0 q.0.0 schema other found bytes p.0.2 q.0.2
+
+  pub same_schema : (other : Schema) (first : Entry) (entries others : List Entry) → BeginsWithCreation (first ∷ entries) → Holds objects schema (first ∷ entries) → Holds more other others → schema ≡ other
+  same_schema other (batch b) entries others begins p q = absurd begins
+  same_schema other (close application) entries others begins p q = absurd begins
+  same_schema other creation entries others begins p q = by_creation other entries others p q
+
   -- the entries come first
-  pub front : (entries others : List Entry) → Holds objects schema entries → Holds more other others → (later : List Entry) × (others ≡ entries ++ later)
-  front entries others p q = front_from 0 entries others p q
+  pub front : (other : Schema) (entries others : List Entry) → BeginsWithCreation entries → Holds objects schema entries → Holds more other others → (later : List Entry) × (others ≡ entries ++ later)
+  front other [] others begins p q = (others, refl)
+  front other (first ∷ entries) others begins p q =
+      let same : schema ≡ other = same_schema other first entries others begins p q in
+      front_from 0 (first ∷ entries) others p (subst (λ (t : Schema). Holds more t others) (sym same) q)
 
   -- an offset keeps its position
-  pub offset_stays : (entries others : List Entry) (place : Place) → Holds objects schema entries → Holds more other others → is_place place entries ≡ true
+  pub offset_stays : (other : Schema) (entries others : List Entry) (place : Place) → BeginsWithCreation entries → Holds objects schema entries → Holds more other others → is_place place entries ≡ true
       → (is_place place others ≡ true) × (position place others ≡ position place entries)
-  offset_stays entries others place p q valid =
-      let grew = front entries others p q in
+  offset_stays other entries others place begins p q valid =
+      let grew = front other entries others begins p q in
       rw grew.1 (stays place entries grew.0 valid)
-
-  -- the schema is the one that the creation tells
-  pub same_schema : (first : Entry) (entries others : List Entry) → BeginsWithCreation (first ∷ entries) → Holds objects schema (first ∷ entries) → Holds more other others → schema ≡ other
-  same_schema (batch b) entries others begins p q = absurd begins
-  same_schema (close application) entries others begins p q = absurd begins
-  same_schema creation entries others begins p q =
-      let grew = front (creation ∷ entries) others p q in
-      let again : Holds more other (creation ∷ entries ++ grew.0) = subst (λ (es : List Entry). Holds more other es) grew.1 q in
-      let bytes : p.0.0 ≡ again.0.0 = one_object more (commit_name 0) (commit_name 0) _ _ (kept (commit_name 0) _ p.0) again.0 refl in
-      one_creation_of p.0.0 again.0.0 schema other bytes p.0.2 again.0.2

@@ -88,7 +88,7 @@ LogFrom-one objects version (made ∷ log) (found ∷ others) p q =
 
 -- what stands under one name is a file of one list of rows
 rows_of_name : (objects : Objects) (schema : Schema) (name : List ℕ) (rs others : List Row) → Stands objects name (λ bytes. IsFileOf schema bytes rs) → Stands objects name (λ bytes. IsFileOf schema bytes others) → rs ≡ others
-rows_of_name objects schema name rs others p q = one_file p.0 q.0 schema schema rs others (one_object objects name name _ _ p q refl) p.2 q.2
+rows_of_name objects schema name rs others p q = one_file p.0 q.0 schema rs others (one_object objects name name _ _ p q refl) p.2 q.2
 
 -- numbers tell of one list of batches
 AreBatchesOf-one : (objects : Objects) (schema : Schema) (ns : List (List ℕ × ℕ)) (bs cs : List Batch) → AreBatchesOf objects schema ns bs → AreBatchesOf objects schema ns cs → bs ≡ cs

@@ -1,12 +1,12 @@
--- A store that begins with a creation holds a table of one schema.
-use Rattle.std.proofs.Common.{◌≡◌, ℕ, List, [], ◌∷◌, refl, sym, ap, subst, ◌∙◌}
+-- A table that begins with its creation is the only one that its store holds.
+use Rattle.std.proofs.Common.{◌≡◌, ℕ, List, [], ◌∷◌, None, Some, codes, refl, sym, ap, subst, ◌∙◌}
 use Rattle.store_core.specs.Objects.{Objects}
 use Rattle.delta_actions.specs.Entry as actions
-use Rattle.delta_actions.specs.Entry.{protocol, meta_data, MetaDataEntry}
+use Rattle.delta_actions.specs.Entry.{protocol, meta_data, add, txn, other, MetaDataEntry}
 use Rattle.delta_actions.specs.Names.{commit_name}
 use Rattle.schema_tree.specs.Reading.{schema_of}
 use Rattle.table_store.specs.Schema.{Schema}
-use Rattle.table_store.specs.Commits.{table_protocol, beside_info, IsCommitOf, IsCreation}
+use Rattle.table_store.specs.Commits.{table_protocol, close_data, beside_info, IsCommitOf, IsCreation, StandFor}
 use Rattle.table_store.specs.Holds.{Holds}
 use Rattle.table_model.specs.Lawful.{BeginsWithCreation}
 use Rattle.table_model.specs.Table.{Entry, creation, batch, close}
@@ -20,16 +20,37 @@ one_creation schema second beside p q =
     let metadata : p.metadata ≡ q.metadata = cc in
     ok_is _ schema second p.schema_string (ap (λ (m : MetaDataEntry). schema_of m.schema_string) metadata ∙ q.schema_string)
 
--- bytes are the creation's commit of one schema
-pub one_creation_of : (bytes found : List ℕ) (schema second : Schema) → bytes ≡ found → IsCommitOf schema creation bytes → IsCommitOf second creation found → schema ≡ second
-one_creation_of bytes found schema second same p q =
-    let lists = one_list bytes found schema second creation creation same p q in
-    one_creation schema second (beside_info q.actions) (subst (λ (actions : List actions.Entry). IsCreation schema (beside_info actions)) lists p.stand) q.stand
+-- Where actions are a creation of one schema, what they stand for in a table of another schema is that creation too.
+creation_alone : (schema second : Schema) (found : Entry) (beside : List actions.Entry) → IsCreation schema beside → StandFor second found beside → schema ≡ second
+creation_alone schema second creation beside p q = one_creation schema second beside p q
+creation_alone schema second (batch b) beside p q =
+    let lists : protocol table_protocol ∷ meta_data p.metadata ∷ [] ≡ txn q.number ∷ add q.file ∷ [] = sym p.actions ∙ q.actions in absurd cc
+creation_alone schema second (close application) beside p q =
+    let lists : protocol table_protocol ∷ meta_data p.metadata ∷ [] ≡ other (codes "domainMetadata") (close_data application) ∷ [] = sym p.actions ∙ q.actions in absurd cc
 
+-- bytes that are a creation's commit are a commit under one schema
+pub one_creation_of : (bytes found : List ℕ) (schema second : Schema) (entry : Entry) → bytes ≡ found → IsCommitOf schema creation bytes → IsCommitOf second entry found → schema ≡ second
+one_creation_of bytes found schema second entry same p q =
+    let lists = one_list bytes found schema second creation entry same p q in
+    creation_alone schema second entry (beside_info q.actions) (subst (λ (actions : List actions.Entry). IsCreation schema (beside_info actions)) lists p.stand) q.stand
+
+-- what a creation's table of a store is, another table of that store is too
+by_creation : (objects : Objects) (schema second : Schema) (entries others : List Entry) → Holds objects schema (creation ∷ entries) → Holds objects second others → schema ≡ second
+by_creation objects schema second entries [] p q = let none : None ≡ Some p.0.0 = sym q ∙ p.0.1 in absurd cc
+by_creation objects schema second entries (found ∷ others) p q =
+    let bytes : p.0.0 ≡ q.0.0 = one_object objects (commit_name 0) (commit_name 0) _ _ p.0 q.0 refl in
+    one_creation_of p.0.0 q.0.0 schema second found bytes p.0.2 q.0.2
+
+-- a table that begins with its creation has the schema of each table that the store holds
 pub one_schema : (objects : Objects) (schema second : Schema) (first : Entry) (entries others : List Entry) → BeginsWithCreation (first ∷ entries) → Holds objects schema (first ∷ entries) → Holds objects second others → schema ≡ second
-one_schema objects schema second creation entries others begins p q =
-    let again : Holds objects second (creation ∷ entries) = subst (λ (es : List Entry). Holds objects second es) (sym (one_log objects schema second 0 (creation ∷ entries) others p q)) q in
-    let bytes : p.0.0 ≡ again.0.0 = one_object objects (commit_name 0) (commit_name 0) _ _ p.0 again.0 refl in
-    one_creation_of p.0.0 again.0.0 schema second bytes p.0.2 again.0.2
+one_schema objects schema second creation entries others begins p q = by_creation objects schema second entries others p q
 one_schema objects schema second (batch b) entries others begins p q = absurd begins
 one_schema objects schema second (close application) entries others begins p q = absurd begins
+
+-- a table that begins with its creation is the only one that the store holds
+pub only_table : (objects : Objects) (schema second : Schema) (entries others : List Entry) → BeginsWithCreation entries → Holds objects schema entries → Holds objects second others → entries ≡ others
+only_table objects schema second [] [] begins p q = refl
+only_table objects schema second [] (found ∷ others) begins p q = let none : None ≡ Some q.0.0 = sym p ∙ q.0.1 in absurd cc
+only_table objects schema second (entry ∷ entries) others begins p q =
+    let same : schema ≡ second = one_schema objects schema second entry entries others begins p q in
+    one_log objects schema 0 (entry ∷ entries) others p (subst (λ (t : Schema). Holds objects t others) (sym same) q)

@@ -165,7 +165,7 @@ module _ (objects : Objects) (schema : Schema) where
       → log ≡ before ++ made ∷ after → IsClose application (beside_info made) → numbers_of application (flat_map numbers (made ∷ after)) ≡ []
   closed_log entries log lawful p application before after made at is_close =
       let here = within entries before made after (subst (AreMadeFor entries) at p) in
-      let is : here.entry ≡ close application = one_entry objects schema schema here.entry (close application) (beside_info made) here.stand is_close here.file tt in
+      let is : here.entry ≡ close application = one_entry objects schema here.entry (close application) (beside_info made) here.stand is_close here.file tt in
       let cut : entries ≡ here.front ++ close application ∷ here.back = here.parts ∙ ap (λ (e : Entry). here.front ++ e ∷ here.back) is in
       numbers_by_log application (here.entry ∷ here.back) (made ∷ after) here.behind ∙ ap (λ (e : Entry). numbers_by application (e ∷ here.back)) is ∙ lawful.closed application here.front here.back cut
 

@@ -1,4 +1,3 @@
-pub mod FileClaims
 pub mod HeldLemmas
 pub mod HoldingGrown
 pub mod HoldingLogs

@@ -16,10 +16,10 @@ ghost use Rattle.table_model.specs.Reads.{is_place, position};
 ghost use Rattle.table_model.specs.Table.{Batch, Entry, batch, batches, rows};
 ghost use Rattle.table_model.specs.declared.reading.Place.{Place};
 
-/// A store holds one table at most: one log of entries, and where the log begins with the creation, one schema. (A
-/// log of closes alone would tell no schema.)
+/// A store holds one table at most that begins with its creation: one log of entries, and one schema. (Without a
+/// creation no entry tells the schema, and a file may be one of several tables, whose columns stand in another order.)
 pub fn one_table()
-    ensures log { (objects : Objects) (schema other : Schema) (entries others : List Entry) → Holds objects schema entries → Holds objects other others → entries ≡ others }
+    ensures log { (objects : Objects) (schema other : Schema) (entries others : List Entry) → BeginsWithCreation entries → Holds objects schema entries → Holds objects other others → entries ≡ others }
     ensures schema { (objects : Objects) (schema other : Schema) (first : Entry) (entries others : List Entry) → BeginsWithCreation (first ∷ entries) → Holds objects schema (first ∷ entries) → Holds objects other others
         → schema ≡ other }
 {}
@@ -30,14 +30,14 @@ pub fn a_lawful_store_holds_lawful_tables()
 {}
 
 /// Where a store holds a table, and another one has all its objects and maybe more and holds a table too, the first
-/// table is a front of the second: the same entries come first, and where the log begins with the creation, the schema
-/// is the same. Each offset that a read of the first can begin at is one of the second, at the same position.
+/// table is a front of the second, where it begins with its creation: the same entries come first, and the schema is
+/// the same. Each offset that a read of the first can begin at is one of the second, at the same position.
 pub fn a_grown_store_holds_a_grown_table()
-    ensures front { (objects more : Objects) (schema other : Schema) (entries others : List Entry) → HasObjectsOf objects more → Holds objects schema entries → Holds more other others
+    ensures front { (objects more : Objects) (schema other : Schema) (entries others : List Entry) → HasObjectsOf objects more → BeginsWithCreation entries → Holds objects schema entries → Holds more other others
         → (later : List Entry) × (others ≡ entries ++ later) }
     ensures schema { (objects more : Objects) (schema other : Schema) (first : Entry) (entries others : List Entry) → HasObjectsOf objects more → BeginsWithCreation (first ∷ entries)
         → Holds objects schema (first ∷ entries) → Holds more other others → schema ≡ other }
-    ensures offsets { (objects more : Objects) (schema other : Schema) (entries others : List Entry) (place : Place) → HasObjectsOf objects more → Holds objects schema entries → Holds more other others
+    ensures offsets { (objects more : Objects) (schema other : Schema) (entries others : List Entry) (place : Place) → HasObjectsOf objects more → BeginsWithCreation entries → Holds objects schema entries → Holds more other others
         → is_place place entries ≡ true → (is_place place others ≡ true) × (position place others ≡ position place entries) }
 {}
 
