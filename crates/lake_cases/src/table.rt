@@ -1,7 +1,8 @@
 //! What is told of the store that a script leaves: the slow program of the definitions looks at it.
 
 use crate::failure::Failure;
-use row_core::Value;
+use row_core::{Value, row_to_json};
+use schema_tree::Schema;
 use std::alloc::Global;
 use std::io::Write;
 use store_core::{MemoryStore, Store};
@@ -44,22 +45,30 @@ pub fn tell_entries(
     for entry in &held.entries {
         match entry {
             Entry::Creation => writeln!(out, "creation")?,
-            Entry::Batch(batch) => tell_batch(batch, out)?,
+            Entry::Batch(batch) => tell_batch(alloc, &held.schema, batch, out)?,
             Entry::Close(application) => writeln!(out, "close of {application}")?,
         }
     }
     Ok(())
 }
 
-// Adds a batch: its application, its number, and its rows.
-fn tell_batch(batch: &Batch, out: &mut Vec<u8>) -> Result<(), Failure> {
+// Adds a batch: its application, its number, and its rows, as numbers where each is one.
+fn tell_batch(
+    alloc: Global,
+    schema: &Schema<Global>,
+    batch: &Batch,
+    out: &mut Vec<u8>,
+) -> Result<(), Failure> {
     let application = &batch.application;
     let number = batch.number;
     write!(out, "batch {number} of {application}:")?;
     for row in &batch.rows {
         match number_of(row) {
             Some(number) => write!(out, " {number}")?,
-            None => write!(out, " ?")?,
+            None => {
+                let line = row_to_json(alloc, schema, row)?.to_string(alloc)?;
+                write!(out, " {line}")?;
+            }
         }
     }
     out.push(b'\n')?;

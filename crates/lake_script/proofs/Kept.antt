@@ -1,15 +1,14 @@
 -- What a store keeps of the table that a script made: the ground on which a whole script is told by the plain table.
-use Rattle.std.proofs.Common.{◌≡◌, ◌≤◌, ◌<◌, ℕ, suc, ℤ, List, [], ◌∷◌, map, length, IsSome, Ok, Contains}
+use Rattle.std.proofs.Common.{◌≡◌, ◌≤◌, ◌<◌, ℕ, suc, List, [], ◌∷◌, length, IsSome, Ok, Contains}
 use Rattle.std.specs.Str.{IsUtf8}
-use Rattle.schema_tree.specs.LongColumn.{one_long}
 use Rattle.schema_tree.specs.Reading.{schema_of}
 use Rattle.schema_tree.specs.Tree.{Tree}
 use Rattle.store_core.specs.Objects.{Objects, object_at, names_of}
 use Rattle.delta_actions.specs.Entry as actions
 use Rattle.delta_actions.specs.Commit.{IsCommit}
-use Rattle.parquet_file.specs.File.{IsFile, KeepsLimits}
+use Rattle.parquet_rows.specs.File.{KeepsLimits}
 use Rattle.delta_actions.specs.Names.{commit_name, data_file_name}
-use Rattle.table_store.specs.Schema.{row_of}
+use Rattle.table_store.specs.Schema as data_files
 use Rattle.table_model.specs.Table.{Batch, Entry, creation, batch, close, batches}
 use Rattle.table_model.specs.Lawful.{IsLawful}
 use Rattle.table_store.specs.Holds.{Stands}
@@ -19,12 +18,8 @@ use Rattle.lake_script.specs.Tables.{State, nothing, table}
 
 -- bytes are a file of the rows of a batch, within the limits of reading
 pub record IsFileOf (schema : Tree) (b : Batch) (bytes : List ℕ) : Type 0 where
-  pub column : List ℕ
-  pub only : schema ≡ one_long column
-  pub numbers : List ℤ
-  pub file : IsFile bytes column numbers
-  pub limits : KeepsLimits bytes numbers
-  pub are : b.rows ≡ map row_of numbers
+  pub file : data_files.IsFileOf schema bytes b.rows
+  pub limits : KeepsLimits bytes b.rows
 
 -- the file of a batch stands; scripts close no stream yet
 abbrev pub FileKept : Objects → (schema : Tree) → Entry → Type 0

@@ -1,43 +1,38 @@
 -- A line that appends a batch, over a store that keeps what a script made so far.
-use Rattle.std.proofs.Common.{◌≡◌, ◌≢◌, ℕ, ◌<◌, ◌≤◌, ◌^◌, ◌==◌, ◌||◌, ℤ, Bool, true, false, not, List, [], ◌∷◌, ◌++◌, map, length, Option, Some, None, Result, Ok, Err, eqb, ltb, eqb-true, refl, sym, ap, subst, ◌∙◌, arith}
+use Rattle.std.proofs.Common.{◌≡◌, ◌≢◌, ℕ, ◌<◌, ◌≤◌, ◌^◌, ◌==◌, ◌||◌, Bool, true, false, not, List, [], ◌∷◌, ◌++◌, length, Option, Some, None, Result, Ok, Err, eqb, ltb, eqb-true, refl, sym, ap, subst, ◌∙◌, arith}
 use Rattle.std.specs.Prelude.{cond, nat_lt, option_map}
 use Rattle.std.specs.Str.{IsUtf8}
 use Rattle.std.proofs.lemmas.Bool.{eqb-false, ltb-false}
 use Rattle.serde_json.specs.Data.{Items}
-use Rattle.schema_tree.specs.Fault.{Path}
-use Rattle.schema_tree.specs.LongColumn.{one_long, long_column}
 use Rattle.schema_tree.specs.Tree.{Tree}
-use Rattle.schema_tree.proofs.Callers.{long_is}
 use Rattle.store_core.specs.Objects.{Objects, object_at}
 use Rattle.store_core.specs.ObjectLaws.{object_at-with_object_other}
 use Rattle.parquet_footer.specs.declared.fault.FileFault.{FileFault}
-use Rattle.parquet_file.specs.Reading.{rows_at}
-use Rattle.parquet_file.specs.Writing.{written_file}
+use Rattle.parquet_rows.specs.Reading.{rows_at}
+use Rattle.parquet_rows.specs.Writing.{written_file}
 use Rattle.table_model.specs.Appends.{appended, with_batch}
 use Rattle.table_model.specs.declared.table.Appended.TheVariants.{Committed, Already, Differs}
 use Rattle.table_model.specs.Lawful.{IsLawful}
 use Rattle.delta_actions.specs.Names.{data_file_name}
 use Rattle.delta_actions.specs.Names as names
-use Rattle.row_core.specs.Rows.{same_rows}
-use Rattle.row_core.specs.Unsupported.{unsupported}
-use Rattle.table_store.specs.Schema.{row_of}
+use Rattle.row_core.specs.Rows.{Row, same_rows}
 use Rattle.table_model.specs.Table as model
 use Rattle.table_model.specs.Table.{Entry, creation, batch, close, last_batch, is_closed}
 use Rattle.table_store.proofs.Callers.{commit_name-data_file_name}
 use Rattle.table_model.proofs.Callers.{append_keeps}
-use Rattle.sink_core.specs.Appending.{Batch, Request, Step, puts, stands, checked, count, appending, file_name, is_repeat, row_column, unless_unsupported, request_of, request_behind, file_or_refusal, batch_of, fitting, new_step, repeated_step, step_of, settled, answered, with_append, IsWellMade, PutsWell}
+use Rattle.sink_core.specs.Appending.{Batch, Request, Step, puts, stands, checked, count, appending, file_name, is_repeat, request_of, request_behind, file_or_refusal, batch_of, fitting, new_step, repeated_step, step_of, settled, answered, with_append, IsWellMade, PutsWell}
 use Rattle.commit_core.specs.Commits.{commit_text}
 use Rattle.lake_script.specs.Lines.{append, task}
-use Rattle.sink_core.specs.Refusals.{Refusal, not_yet, bad_app, too_large, file_too_large, stale, differs, bad_log}
+use Rattle.sink_core.specs.Refusals.{Refusal, bad_app, too_large, file_too_large, stale, differs, bad_log}
 use Rattle.commit_core.specs.Texts.{line_of}
-use Rattle.lake_bytes.specs.Results.{◌>>=◌, or_refusal, refused_if}
-use Rattle.sink_core.specs.RowsIn.{rows_from}
+use Rattle.lake_bytes.specs.Results.{◌>>=◌, refused_if}
+use Rattle.sink_core.specs.RowsIn.{rows_from, takes_rows}
 use Rattle.lake_script.specs.Sound.{IsSoundWish}
 use Rattle.lake_script.specs.Tables as tables
 use Rattle.lake_script.specs.Tables.{State, nothing, table}
 use Rattle.lake_script.specs.Told.{reply_to_wish, left_by_wish, appended_reply}
 use Rattle.lake_script.proofs.Kept.{IsFileOf, FileKept, IsCommitMade, KeptFrom, IsKept, HasNoOther, Keeps}
-use Rattle.lake_script.proofs.KeptFile.{last_stands, last_own, same_numbers, file_read}
+use Rattle.lake_script.proofs.KeptFile.{last_stands, last_own, same_either_way, file_read}
 use Rattle.lake_script.proofs.KeptLog.{kept_log, made_length, made_number, log_of_nothing, none_behind}
 use Rattle.lake_script.proofs.KeptNames.{same_name, same_file_name, batch_stands, no_file}
 use Rattle.lake_script.proofs.KeptPuts.{kept_more, no_other_more}
@@ -56,13 +51,12 @@ IsSoundStep application number at step = PutsWell application number at step × 
 -- a number that was let through isn't too large
 pub small_number : (application : List ℕ) (number rows : ℕ) → checked application number rows ≡ Ok tt → number ≤ 999_999_999_999
 unfolding checked
-small_number application number rows fine = by_tests (nat_lt 4_096 rows) (length application == 0 || nat_lt 64 (length application)) (nat_lt 999_999_999_999 number) refl fine
+small_number application number rows fine = by_tests (length application == 0 || nat_lt 64 (length application)) (nat_lt 999_999_999_999 number) (nat_lt 65_536 rows) refl fine
   where
-    by_tests : (many bad big : Bool) → nat_lt 999_999_999_999 number ≡ big → (refused_if many not_yet >>= λ few. refused_if bad bad_app >>= λ named. refused_if big too_large) ≡ Ok tt → number ≤ 999_999_999_999
-    by_tests true bad big is fine = absurd cc
-    by_tests false true big is fine = absurd cc
-    by_tests false false true is fine = absurd cc
-    by_tests false false false is fine = ltb-false 999_999_999_999 number is
+    by_tests : (bad big many : Bool) → nat_lt 999_999_999_999 number ≡ big → (refused_if bad bad_app >>= λ named. refused_if (big || many) too_large) ≡ Ok tt → number ≤ 999_999_999_999
+    by_tests true big many is fine = absurd cc
+    by_tests false true many is fine = absurd cc
+    by_tests false false many is fine = ltb-false 999_999_999_999 number is
 
 -- no stream of a kept table is closed
 pub stays_open : (objects : Objects) (schema : Tree) (version : ℕ) (entries : List Entry) (application : List ℕ) → KeptFrom objects schema version entries → is_closed application entries ≡ false
@@ -77,14 +71,14 @@ lawful_after objects schema entries b kept =
     subst (λ (es : List Entry). IsLawful (with_batch (appended b es) b es)) (sym kept.begins) (append_keeps b creation kept.rest (subst IsLawful kept.begins kept.lawful))
 
 -- what is asked of a table
-abbrev pub asked : (version : ℕ) (column : List ℕ) (rows : List ℤ) (repeats : Bool) → Request
-asked version column rows repeats = record { version = version; column = column; rows = rows; repeats = repeats }
+abbrev pub asked : (version : ℕ) (schema : Tree) (rows : List Row) (repeats : Bool) → Request
+asked version schema rows repeats = record { version = version; schema = schema; rows = rows; repeats = repeats }
 
 -- the batch that is put with this file
-abbrev pub made_with : (version : ℕ) (column : List ℕ) (rows : List ℤ) (application : List ℕ) (number at : ℕ) (file : List ℕ) → Batch
-made_with version column rows application number at file = record {
+abbrev pub made_with : (version : ℕ) (schema : Tree) (rows : List Row) (application : List ℕ) (number at : ℕ) (file : List ℕ) → Batch
+made_with version schema rows application number at file = record {
   version = version;
-  column = column;
+  schema = schema;
   rows = rows;
   name = file_name application number;
   file = file;
@@ -92,36 +86,36 @@ made_with version column rows application number at file = record {
 }
 
 -- the batch that is handed in
-abbrev pub handed_in : (application : List ℕ) (number : ℕ) (rows : List ℤ) → model.Batch
-handed_in application number rows = record { application = application; number = number; rows = map row_of rows }
+abbrev pub handed_in : (application : List ℕ) (number : ℕ) (rows : List Row) → model.Batch
+handed_in application number rows = record { application = application; number = number; rows = rows }
 
-module _ (schema : Tree) (version : ℕ) (column : List ℕ) (rows : List ℤ) (application : List ℕ) (number at : ℕ) (file : List ℕ) where
+module _ (schema : Tree) (version : ℕ) (rows : List Row) (application : List ℕ) (number at : ℕ) (file : List ℕ) where
   -- the file of a batch that is well made is one of its rows
-  pub file_made : schema ≡ one_long column → IsWellMade application number at (made_with version column rows application number at file) → IsFileOf schema (handed_in application number rows) file
-  file_made only well = record { column = column; only = only; numbers = rows; file = well.file; limits = well.limits; are = refl }
+  pub file_made : IsWellMade application number at (made_with version schema rows application number at file) → IsFileOf schema (handed_in application number rows) file
+  file_made well = record { file = well.file; limits = well.limits }
 
   -- and its commit is one of the batch that is handed in
-  pub commit_made : IsUtf8 application → number ≤ 999_999_999_999 → IsWellMade application number at (made_with version column rows application number at file)
-      → IsCommitMade schema (batch (handed_in application number rows)) (made_with version column rows application number at file).commit
+  pub commit_made : IsUtf8 application → number ≤ 999_999_999_999 → IsWellMade application number at (made_with version schema rows application number at file)
+      → IsCommitMade schema (batch (handed_in application number rows)) (made_with version schema rows application number at file).commit
   commit_made utf8 fits well = record {
     made = appending application number at (file_name application number) (length file) (length rows);
     commit = well.commit;
     is = record { at = at; size = length file; rows = length rows; utf8 = utf8; small = fits; are = ap (λ (name : List ℕ). appending application number at name (length file) (length rows)) (same_file_name application number) };
   }
 
-module _ (objects : Objects) (schema : Tree) (entries : List Entry) (kept : IsKept objects schema entries) (own : HasNoOther objects entries) (few : length entries < 2 ^ 62) (column : List ℕ) (only : schema ≡ one_long column) (application : List ℕ) (number at : ℕ) (utf8 : IsUtf8 application)
-    (fits : number ≤ 999_999_999_999) (rows : List ℤ) where
+module _ (objects : Objects) (schema : Tree) (entries : List Entry) (kept : IsKept objects schema entries) (own : HasNoOther objects entries) (few : length entries < 2 ^ 62) (application : List ℕ) (number at : ℕ) (utf8 : IsUtf8 application)
+    (fits : number ≤ 999_999_999_999) (rows : List Row) where
   -- ---- a new number
 
   -- the file and the commit that are put are one entry more
   put_agrees : (file : List ℕ) → appended (handed_in application number rows) entries ≡ Committed (length entries) → object_at objects (data_file_name application number) ≡ None
-      → IsWellMade application number at (made_with (length entries) column rows application number at file) → Agrees objects schema entries number (Ok (puts (made_with (length entries) column rows application number at file))) (Ok (handed_in application number rows))
+      → IsWellMade application number at (made_with (length entries) schema rows application number at file) → Agrees objects schema entries number (Ok (puts (made_with (length entries) schema rows application number at file))) (Ok (handed_in application number rows))
   put_agrees file new free well =
-      let made = made_with (length entries) column rows application number at file in
+      let made = made_with (length entries) schema rows application number at file in
       let b = handed_in application number rows in
       let none = none_behind objects schema entries kept few in
-      let is_file = file_made schema (length entries) column rows application number at file only well in
-      let is_commit = commit_made schema (length entries) column rows application number at file utf8 fits well in
+      let is_file = file_made schema (length entries) rows application number at file well in
+      let is_commit = commit_made schema (length entries) rows application number at file utf8 fits well in
       let lawful : IsLawful (entries ++ batch b ∷ []) = rw new at (lawful_after objects schema entries b kept) in
       let more = kept_more objects schema entries b file made.commit kept lawful free none is_file is_commit in
       let apart = object_at-with_object_other objects (data_file_name application number) file (names.commit_name (length entries)) (commit_name-data_file_name (length entries) application number) ∙ none in
@@ -130,28 +124,28 @@ module _ (objects : Objects) (schema : Tree) (entries : List Entry) (kept : IsKe
 
   -- what is done for a new number
   new_agrees : appended (handed_in application number rows) entries ≡ Committed (length entries) → object_at objects (data_file_name application number) ≡ None
-      → IsSoundStep application number at (new_step objects (asked (length entries) column rows false) application number at)
-      → Agrees objects schema entries number (new_step objects (asked (length entries) column rows false) application number at) (Ok (handed_in application number rows))
+      → IsSoundStep application number at (new_step objects (asked (length entries) schema rows false) application number at)
+      → Agrees objects schema entries number (new_step objects (asked (length entries) schema rows false) application number at) (Ok (handed_in application number rows))
   unfolding batch_of
-  new_agrees new free sound = by_file (written_file column rows) sound
+  new_agrees new free sound = by_file (written_file schema rows) sound
     where
-      by_file : (written : Result (List ℕ) FileFault) → IsSoundStep application number at ((file_or_refusal written >>= λ file. Ok (made_with (length entries) column rows application number at file)) >>= fitting objects)
-          → Agrees objects schema entries number ((file_or_refusal written >>= λ file. Ok (made_with (length entries) column rows application number at file)) >>= fitting objects) (Ok (handed_in application number rows))
+      by_file : (written : Result (List ℕ) FileFault) → IsSoundStep application number at ((file_or_refusal written >>= λ file. Ok (made_with (length entries) schema rows application number at file)) >>= fitting objects)
+          → Agrees objects schema entries number ((file_or_refusal written >>= λ file. Ok (made_with (length entries) schema rows application number at file)) >>= fitting objects) (Ok (handed_in application number rows))
       by_file (Err fault) sound = absurd (sound.1 refl)
       by_file (Ok file) sound =
-          let made = made_with (length entries) column rows application number at file in
+          let made = made_with (length entries) schema rows application number at file in
           let absent : object_at objects made.name ≡ None = ap (object_at objects) (same_file_name application number) ∙ free in
           let fitted : fitting objects made ≡ Ok (puts made) = rw absent refl in
           rw fitted (put_agrees file new free (rw fitted at sound.0))
 
   -- ---- the last number again
 
-  -- where its file stands and is read, its numbers are compared
-  again_agrees : (before : model.Batch) (bytes : List ℕ) (found : List ℤ) → last_batch application entries ≡ Some before → ltb number before.number ≡ false → eqb number before.number ≡ true
-      → object_at objects (data_file_name application number) ≡ Some bytes → rows_at bytes column ≡ Ok found → before.rows ≡ map row_of found
-      → Agrees objects schema entries number (repeated_step objects (asked (length entries) column rows true) application number) (Ok (handed_in application number rows))
-  again_agrees before bytes found last over equal there reads are =
-      rw (same_file_name application number, there, reads, same_numbers rows found, last, over, equal, are) (by_same (same_rows (map row_of rows) (map row_of found)))
+  -- where its file stands and is read, its rows are compared
+  again_agrees : (before : model.Batch) (bytes : List ℕ) → last_batch application entries ≡ Some before → ltb number before.number ≡ false → eqb number before.number ≡ true
+      → object_at objects (data_file_name application number) ≡ Some bytes → rows_at bytes schema ≡ Ok before.rows
+      → Agrees objects schema entries number (repeated_step objects (asked (length entries) schema rows true) application number) (Ok (handed_in application number rows))
+  again_agrees before bytes last over equal there reads =
+      rw (same_file_name application number, there, reads, same_either_way before.rows rows, last, over, equal) (by_same (same_rows rows before.rows))
     where
       by_same : (same : Bool)
           → (appended_reply ((refused_if (not same) (differs (data_file_name application number)) >>= λ fits. Ok stands) >>= answered objects number)
@@ -162,16 +156,16 @@ module _ (objects : Objects) (schema : Tree) (entries : List Entry) (kept : IsKe
 
   -- what is done behind the application's last number
   abbrev behind_last : Option ℕ → Result Step Refusal
-  behind_last last = (is_repeat number last >>= λ repeats. Ok (asked (length entries) column rows repeats)) >>= step_of objects application number at
+  behind_last last = (is_repeat number last >>= λ repeats. Ok (asked (length entries) schema rows repeats)) >>= step_of objects application number at
 
   -- the file of the last batch does stand, and is read
   last_agrees : (before : model.Batch) → last_batch application entries ≡ Some before → ltb number before.number ≡ false → eqb number before.number ≡ true
-      → Agrees objects schema entries number (repeated_step objects (asked (length entries) column rows true) application number) (Ok (handed_in application number rows))
+      → Agrees objects schema entries number (repeated_step objects (asked (length entries) schema rows true) application number) (Ok (handed_in application number rows))
   last_agrees before last over equal =
       let file : FileKept objects schema (batch before) = (batch_stands objects schema 0 entries before kept.kept (last_stands application entries before last)).1 in
       let name : data_file_name application number ≡ data_file_name before.application before.number =
       ap (λ (a : List ℕ). data_file_name a number) (sym (last_own application entries before last)) ∙ ap (data_file_name before.application) (eqb-true number before.number equal) in
-      again_agrees before file.0 file.2.numbers last over equal (ap (object_at objects) name ∙ file.1) (file_read schema column before file.0 only file.2) file.2.are
+      again_agrees before file.0 last over equal (ap (object_at objects) name ∙ file.1) (file_read schema before file.0 file.2)
 
   -- what is done behind the last batch, if there is one
   behind_agrees : (last : Option model.Batch) → last_batch application entries ≡ last → IsSoundStep application number at (behind_last (option_map (λ (b : model.Batch). b.number) last))
@@ -182,8 +176,8 @@ module _ (objects : Objects) (schema : Tree) (entries : List Entry) (kept : IsKe
   behind_agrees (Some before) is sound = by_tests (ltb number before.number) (eqb number before.number) refl refl sound
     where
       by_tests : (below equal : Bool) → ltb number before.number ≡ below → eqb number before.number ≡ equal
-          → IsSoundStep application number at ((cond below (Err (stale before.number)) (Ok equal) >>= λ repeats. Ok (asked (length entries) column rows repeats)) >>= step_of objects application number at)
-          → Agrees objects schema entries number ((cond below (Err (stale before.number)) (Ok equal) >>= λ repeats. Ok (asked (length entries) column rows repeats)) >>= step_of objects application number at) (Ok (handed_in application number rows))
+          → IsSoundStep application number at ((cond below (Err (stale before.number)) (Ok equal) >>= λ repeats. Ok (asked (length entries) schema rows repeats)) >>= step_of objects application number at)
+          → Agrees objects schema entries number ((cond below (Err (stale before.number)) (Ok equal) >>= λ repeats. Ok (asked (length entries) schema rows repeats)) >>= step_of objects application number at) (Ok (handed_in application number rows))
       by_tests true equal under same sound = rw (is, under) (refl, (kept, own))
       by_tests false true over same sound = last_agrees before is over same
       by_tests false false over other sound =
@@ -195,50 +189,40 @@ module _ (objects : Objects) (schema : Tree) (entries : List Entry) (kept : IsKe
 
 -- ---- a line that appends
 
--- the column of a table that takes rows is its one column
-pub column_is : (schema : Tree) (column : List ℕ) → row_column schema ≡ Ok column → schema ≡ one_long column
-unfolding row_column
-column_is schema column is = long_is schema column (found (unsupported schema) (long_column schema) is)
-  where
-    found : (path : Option Path) (name : Option (List ℕ)) → (unless_unsupported path >>= λ supported. or_refusal name not_yet) ≡ Ok column → name ≡ Some column
-    found (Some path) name is = absurd cc
-    found None None is = absurd cc
-    found None (Some own) is = let same : own ≡ column = cc in ap Some same
-
 -- what is done with rows that were read
-abbrev pub step_with : (objects : Objects) (entries : List Entry) (application : List ℕ) (number at : ℕ) (column : List ℕ) → Result (List ℤ) Refusal → Result Step Refusal
-step_with objects entries application number at column read =
-    (read >>= λ rows. is_repeat number (option_map (λ (b : model.Batch). b.number) (last_batch application entries)) >>= λ repeats. Ok (asked (length entries) column rows repeats))
+abbrev pub step_with : (objects : Objects) (entries : List Entry) (application : List ℕ) (number at : ℕ) (schema : Tree) → Result (List Row) Refusal → Result Step Refusal
+step_with objects entries application number at schema read =
+    (read >>= λ rows. is_repeat number (option_map (λ (b : model.Batch). b.number) (last_batch application entries)) >>= λ repeats. Ok (asked (length entries) schema rows repeats))
     >>= step_of objects application number at
 
 -- what a line asks of a kept table
-abbrev pub step_behind : (objects : Objects) (entries : List Entry) (application : List ℕ) (number at : ℕ) (items : Items) → Result (Unit {0}) Refusal → Result (List ℕ) Refusal → Result Step Refusal
-step_behind objects entries application number at items fine column =
-    (fine >>= λ passed. column >>= λ column. rows_from 0 column items >>= λ rows. is_repeat number (option_map (λ (b : model.Batch). b.number) (last_batch application entries)) >>= λ repeats.
-    Ok (asked (length entries) column rows repeats)) >>= step_of objects application number at
+abbrev pub step_behind : (objects : Objects) (schema : Tree) (entries : List Entry) (application : List ℕ) (number at : ℕ) (items : Items) → Result (Unit {0}) Refusal → Result (Unit {0}) Refusal → Result Step Refusal
+step_behind objects schema entries application number at items fine takes =
+    (fine >>= λ passed. takes >>= λ supported. rows_from 0 schema items >>= λ rows. is_repeat number (option_map (λ (b : model.Batch). b.number) (last_batch application entries)) >>= λ repeats.
+    Ok (asked (length entries) schema rows repeats)) >>= step_of objects application number at
 
 -- that is what an append does over the objects
 pub step_is : (objects : Objects) (schema : Tree) (entries : List Entry) (application : List ℕ) (number at : ℕ) (items : Items) → IsKept objects schema entries → length entries < 2 ^ 62
-    → settled objects application number at items ≡ step_behind objects entries application number at items (checked application number (count items)) (row_column schema)
+    → settled objects application number at items ≡ step_behind objects schema entries application number at items (checked application number (count items)) (takes_rows schema)
 unfolding request_of request_behind
 step_is objects schema entries application number at items kept few =
     let log = kept_log objects schema entries kept few in
     rw (log.2, made_length schema entries log.0 log.1, made_number schema application entries log.0 log.1) refl
 
 -- where a table is kept, the answer is the plain table's
-table_agrees : (objects : Objects) (schema : Tree) (entries : List Entry) (application : List ℕ) (number at : ℕ) (items : Items) (fine : Result (Unit {0}) Refusal) (column : Result (List ℕ) Refusal)
-    → Keeps objects (table schema entries) → length entries < 2 ^ 62 → IsUtf8 application → checked application number (count items) ≡ fine → row_column schema ≡ column
-    → IsSoundStep application number at (step_behind objects entries application number at items fine column)
-    → Agrees objects schema entries number (step_behind objects entries application number at items fine column) (fine >>= λ passed. column >>= λ column. rows_from 0 column items >>= λ rows. Ok (handed_in application number rows))
-table_agrees objects schema entries application number at items (Err why) column kept few utf8 is takes sound = (refl, kept)
-table_agrees objects schema entries application number at items (Ok passed) (Err why) kept few utf8 is takes sound = (refl, kept)
-table_agrees objects schema entries application number at items (Ok passed) (Ok column) kept few utf8 is takes sound = by_read (rows_from 0 column items) sound
+table_agrees : (objects : Objects) (schema : Tree) (entries : List Entry) (application : List ℕ) (number at : ℕ) (items : Items) (fine takes : Result (Unit {0}) Refusal)
+    → Keeps objects (table schema entries) → length entries < 2 ^ 62 → IsUtf8 application → checked application number (count items) ≡ fine
+    → IsSoundStep application number at (step_behind objects schema entries application number at items fine takes)
+    → Agrees objects schema entries number (step_behind objects schema entries application number at items fine takes) (fine >>= λ passed. takes >>= λ supported. rows_from 0 schema items >>= λ rows. Ok (handed_in application number rows))
+table_agrees objects schema entries application number at items (Err why) takes kept few utf8 is sound = (refl, kept)
+table_agrees objects schema entries application number at items (Ok passed) (Err why) kept few utf8 is sound = (refl, kept)
+table_agrees objects schema entries application number at items (Ok passed) (Ok supported) kept few utf8 is sound = by_read (rows_from 0 schema items) sound
   where
-    by_read : (read : Result (List ℤ) Refusal) → IsSoundStep application number at (step_with objects entries application number at column read)
-        → Agrees objects schema entries number (step_with objects entries application number at column read) (read >>= λ rows. Ok (handed_in application number rows))
+    by_read : (read : Result (List Row) Refusal) → IsSoundStep application number at (step_with objects entries application number at schema read)
+        → Agrees objects schema entries number (step_with objects entries application number at schema read) (read >>= λ rows. Ok (handed_in application number rows))
     by_read (Err why) sound = (refl, kept)
-    by_read (Ok numbers) sound =
-        behind_agrees objects schema entries kept.0 kept.1 few column (column_is schema column takes) application number at utf8 (small_number application number (count items) is) numbers (last_batch application entries) refl sound
+    by_read (Ok rows) sound =
+        behind_agrees objects schema entries kept.0 kept.1 few application number at utf8 (small_number application number (count items) is) rows (last_batch application entries) refl sound
 
 -- what a line asks of a store of nothing
 abbrev pub step_of_nothing : (application : List ℕ) (number at : ℕ) → Result (Unit {0}) Refusal → Result Step Refusal
@@ -265,5 +249,5 @@ append_told objects nothing application number at items printed keeps few sound 
 append_told objects (table schema entries) application number at items printed keeps few sound =
     let is = step_is objects schema entries application number at items keeps.0 few in
     let step_sound : IsSoundStep application number at (settled objects application number at items) = (sound.1, sound.2) in
-    let told = table_agrees objects schema entries application number at items (checked application number (count items)) (row_column schema) keeps few sound.0 refl refl (rw is at step_sound) in
+    let told = table_agrees objects schema entries application number at items (checked application number (count items)) (takes_rows schema) keeps few sound.0 refl (rw is at step_sound) in
     rw is told

@@ -1,15 +1,10 @@
 -- The file of an application's last batch, where its number is handed in again, and how the file of a batch is read.
-use Rattle.std.proofs.Common.{◌≡◌, ℕ, ℤ, List, [], ◌∷◌, map, Some, Ok, Contains, refl, sym, ap, subst, ◌∙◌}
+use Rattle.std.proofs.Common.{◌≡◌, ℕ, List, Some, Ok, Contains, sym}
 use Rattle.std.specs.Bool.{one_answer}
-use Rattle.std.specs.Ordering.{int_eq}
-use Rattle.std.specs.Cmp.Lexicographic.{pointwise}
-use Rattle.std.specs.Cmp.Rules.{signed_items}
-use Rattle.parquet_file.specs.Reading.{rows_at}
-use Rattle.parquet_file.proofs.Callers.{rows-only}
-use Rattle.schema_tree.specs.LongColumn.{one_long, long_column}
+use Rattle.parquet_rows.specs.Reading.{rows_at}
+use Rattle.parquet_rows.proofs.Callers.{rows_only}
 use Rattle.schema_tree.specs.Tree.{Tree}
-use Rattle.row_core.specs.Rows.{same_rows}
-use Rattle.table_store.specs.Schema.{row_of}
+use Rattle.row_core.specs.Rows.{Row, same_rows}
 use Rattle.table_model.specs.Table.{Batch, Entry, batches, last_batch}
 use Rattle.row_core.proofs.Callers.{same_rows-is}
 use Rattle.table_model.proofs.Callers.{last_stands as last_is_there}
@@ -28,32 +23,14 @@ module _ (application : List ℕ) (entries : List Entry) (b : Batch) (is : last_
 
 -- ---- the same rows
 
--- rows of one column are the same just where their numbers are
-rows_once : (xs ys : List ℤ) → map row_of xs ≡ map row_of ys → ys ≡ xs
-rows_once [] [] same = refl
-rows_once [] (y ∷ ys) same = absurd cc
-rows_once (x ∷ xs) [] same = absurd cc
-rows_once (x ∷ xs) (y ∷ ys) same =
-    let first : row_of x ≡ row_of y = cc in
-    let number : x ≡ y = cc in
-    let others : map row_of xs ≡ map row_of ys = cc in
-    let rest : ys ≡ xs = rows_once xs ys others in
-    cc
-
--- the test of a file's numbers is that of the rows
-pub same_numbers : (rows found : List ℤ) → pointwise int_eq found rows ≡ same_rows (map row_of rows) (map row_of found)
-same_numbers rows found =
-    let alike = same_rows-is (map row_of rows) (map row_of found) in
-    one_answer {P = found ≡ rows} (pointwise int_eq found rows) (same_rows (map row_of rows) (map row_of found)) (signed_items found rows)
-    (λ e. rows_once rows found (alike.0 e), λ e. alike.1 (ap (map row_of) (sym e)))
+-- whether two lists of rows are equal doesn't depend on their order
+pub same_either_way : (xs ys : List Row) → same_rows xs ys ≡ same_rows ys xs
+same_either_way xs ys =
+    let back = same_rows-is ys xs in
+    one_answer {P = xs ≡ ys} (same_rows xs ys) (same_rows ys xs) (same_rows-is xs ys) (λ e. sym (back.0 e), λ e. back.1 (sym e))
 
 -- ---- a file that is read
 
--- a schema is of one long column at most
-one_column : (schema : Tree) (column other : List ℕ) → schema ≡ one_long column → schema ≡ one_long other → other ≡ column
-one_column schema column other is also = let same : Some column ≡ Some other = ap long_column (sym is ∙ also) in cc
-
--- a batch's file is read as the batch's numbers
-pub file_read : (schema : Tree) (column : List ℕ) (b : Batch) (bytes : List ℕ) → schema ≡ one_long column → (is : IsFileOf schema b bytes) → rows_at bytes column ≡ Ok is.numbers
-file_read schema column b bytes only is =
-    subst (λ (name : List ℕ). rows_at bytes name ≡ Ok is.numbers) (one_column schema column is.column only is.only) (rows-only bytes is.column is.numbers is.file is.limits)
+-- a batch's file is read as the batch's rows
+pub file_read : (schema : Tree) (b : Batch) (bytes : List ℕ) → IsFileOf schema b bytes → rows_at bytes schema ≡ Ok b.rows
+file_read schema b bytes is = rows_only bytes schema b.rows is.file.within is.file.file is.limits

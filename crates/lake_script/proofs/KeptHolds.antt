@@ -44,7 +44,7 @@ commit_stands schema entry bytes is = record { actions = is.made; commit = is.co
 -- the file that is kept for an entry stands
 file_stands : (objects : Objects) (schema : Tree) (entry : Entry) → FileKept objects schema entry → FileStands objects schema entry
 file_stands objects schema creation kept = tt
-file_stands objects schema (batch b) kept = (kept.0, kept.1, record { column = kept.2.column; only = kept.2.only; numbers = kept.2.numbers; file = kept.2.file; are = kept.2.are })
+file_stands objects schema (batch b) kept = (kept.0, kept.1, kept.2.file)
 file_stands objects schema (close application) kept = absurd kept
 
 -- what is kept from a version on is held from it on, where no commit stands behind it

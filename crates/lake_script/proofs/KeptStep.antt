@@ -1,32 +1,31 @@
 -- What an append leaves, however far it comes, of a store that keeps a table.
-use Rattle.std.proofs.Common.{◌≡◌, ℕ, suc, ◌<◌, ◌≤◌, ◌^◌, ◌⊎◌, inl, inr, ℤ, Bool, true, false, not, List, [], ◌∷◌, ◌++◌, map, length, Option, Some, None, Result, Ok, Err, eqb, ltb, refl, sym, ap, subst, ◌∙◌, arith, length-append}
+use Rattle.std.proofs.Common.{◌≡◌, ℕ, suc, ◌<◌, ◌≤◌, ◌^◌, ◌⊎◌, inl, inr, Bool, true, false, not, List, [], ◌∷◌, ◌++◌, length, Option, Some, None, Result, Ok, Err, eqb, ltb, refl, sym, ap, subst, ◌∙◌, arith, length-append}
 use Rattle.std.specs.Prelude.{bytes_eq, cond, option_map, unwrap_or}
 use Rattle.std.specs.Str.{IsUtf8}
-use Rattle.std.specs.Cmp.Rules.{signed_items}
 use Rattle.std.proofs.lemmas.Slice.Eq.{bytes_eq-Decides}
 use Rattle.serde_json.specs.Data.{Items}
-use Rattle.schema_tree.specs.LongColumn.{one_long}
 use Rattle.schema_tree.specs.Tree.{Tree}
 use Rattle.store_core.specs.Objects.{Objects, object_at, with_object}
 use Rattle.store_core.specs.ObjectLaws.{object_at-with_object_same, object_at-with_object_other}
 use Rattle.parquet_footer.specs.declared.fault.FileFault.{FileFault}
-use Rattle.parquet_file.specs.Reading.{rows_at}
-use Rattle.parquet_file.specs.Writing.{written_file}
+use Rattle.parquet_rows.specs.Reading.{rows_at}
+use Rattle.parquet_rows.specs.Writing.{written_file}
 use Rattle.table_model.specs.Appends.{appended}
 use Rattle.table_model.specs.declared.table.Appended.TheVariants.{Committed}
 use Rattle.table_model.specs.Lawful.{IsLawful}
 use Rattle.delta_actions.specs.Names.{data_file_name}
 use Rattle.delta_actions.specs.Names as names
-use Rattle.table_store.specs.Schema.{row_of}
+use Rattle.row_core.specs.Rows.{Row}
+use Rattle.row_core.proofs.Callers.{same_rows-is}
 use Rattle.table_model.specs.Table as model
 use Rattle.table_model.specs.Table.{Entry, batch, last_batch}
 use Rattle.table_store.proofs.Callers.{commit_name-data_file_name}
-use Rattle.sink_core.specs.Appending.{Batch, Step, puts, stands, checked, count, row_column, file_name, is_repeat, is_same, unless_other, where_same, file_or_refusal, batch_of, fitting, new_step, step_of, settled, with_append, with_file_alone, IsWellMade, PutsWell}
+use Rattle.sink_core.specs.Appending.{Batch, Step, puts, stands, checked, count, file_name, is_repeat, is_same, unless_other, where_same, file_or_refusal, batch_of, fitting, new_step, step_of, settled, with_append, with_file_alone, IsWellMade, PutsWell}
 use Rattle.sink_core.specs.Refusals.{Refusal, stale, differs}
 use Rattle.lake_bytes.specs.Results.{◌>>=◌, refused_if}
-use Rattle.sink_core.specs.RowsIn.{rows_from}
+use Rattle.sink_core.specs.RowsIn.{rows_from, takes_rows}
 use Rattle.lake_script.proofs.Kept.{IsFileOf, FileKept, IsKept}
-use Rattle.lake_script.proofs.KeptAppend.{small_number, stays_open, lawful_after, asked, made_with, handed_in, file_made, commit_made, column_is, step_with, step_behind, step_is}
+use Rattle.lake_script.proofs.KeptAppend.{small_number, stays_open, lawful_after, asked, made_with, handed_in, file_made, commit_made, step_with, step_behind, step_is}
 use Rattle.lake_script.proofs.KeptFile.{file_read}
 use Rattle.lake_script.proofs.KeptLog.{none_behind}
 use Rattle.lake_script.proofs.KeptNames.{same_name, same_file_name}
@@ -82,33 +81,33 @@ abbrev pub GoesOn : (most : ℕ) → Objects → Result Step Refusal → Type 0
 GoesOn most objects step = Stays most (with_file_alone objects step) × Stays most (with_append objects step)
 
 module _ (objects : Objects) (schema : Tree) (entries : List Entry) (kept : IsKept objects schema entries) (files : AreFiles objects schema) (few : length entries < 2 ^ 62) (most : ℕ) (up : length entries ≤ most)
-    (column : List ℕ) (only : schema ≡ one_long column) (application : List ℕ) (number at : ℕ) (utf8 : IsUtf8 application) (fits : number ≤ 999_999_999_999) (rows : List ℤ) where
+    (application : List ℕ) (number at : ℕ) (utf8 : IsUtf8 application) (fits : number ≤ 999_999_999_999) (rows : List Row) where
   -- the batch that is put with this file
   abbrev made : (file : List ℕ) → Batch
-  made file = made_with (length entries) column rows application number at file
+  made file = made_with (length entries) schema rows application number at file
 
   -- what is done where the number is the application's last one again, or not
   abbrev behind : Result Bool Refusal → Result Step Refusal
-  behind repeats = (repeats >>= λ repeats. Ok (asked (length entries) column rows repeats)) >>= step_of objects application number at
+  behind repeats = (repeats >>= λ repeats. Ok (asked (length entries) schema rows repeats)) >>= step_of objects application number at
 
   -- where nothing is put, the table is kept
   unchanged : Stays (suc most) objects
   unchanged = keeps schema entries kept files (omega (arith, up))
 
   -- a file that is read as these rows is one of them
-  same_file : (old : List ℕ) → object_at objects (data_file_name application number) ≡ Some old → is_same rows (rows_at old column) ≡ true → IsFileOf schema (handed_in application number rows) old
+  same_file : (old : List ℕ) → object_at objects (data_file_name application number) ≡ Some old → is_same rows (rows_at old schema) ≡ true → IsFileOf schema (handed_in application number rows) old
   same_file old there same =
       let known = files application number old there in
-      let read : rows_at old column ≡ Ok known.1.numbers = file_read schema column known.0 old only known.1 in
-      let alike : known.1.numbers ≡ rows = (signed_items known.1.numbers rows).0 (sym (ap (is_same rows) read) ∙ same) in
-      record { column = known.1.column; only = known.1.only; numbers = known.1.numbers; file = known.1.file; limits = known.1.limits; are = ap (map row_of) (sym alike) }
+      let read : rows_at old schema ≡ Ok known.0.rows = file_read schema known.0 old known.1 in
+      let alike : known.0.rows ≡ rows = (same_rows-is known.0.rows rows).0 (sym (ap (is_same rows) read) ∙ same) in
+      record { file = rw alike at known.1.file; limits = rw alike at known.1.limits }
 
   -- behind the put of a file of rows, one stands under the name
-  file_behind : (file : List ℕ) (found : Option (List ℕ)) → object_at objects (data_file_name application number) ≡ found → unless_other column rows (data_file_name application number) found ≡ Ok tt
+  file_behind : (file : List ℕ) (found : Option (List ℕ)) → object_at objects (data_file_name application number) ≡ found → unless_other schema rows (data_file_name application number) found ≡ Ok tt
       → IsFileOf schema (handed_in application number rows) file → FileKept (with_object objects (data_file_name application number) file) schema (batch (handed_in application number rows))
   file_behind file None there free is = (file, put_stands objects (data_file_name application number) file there, is)
   file_behind file (Some old) there free is =
-      Stands-put objects (data_file_name application number) file (data_file_name application number) (IsFileOf schema (handed_in application number rows)) (old, there, same_file old there (passes (is_same rows (rows_at old column)) free))
+      Stands-put objects (data_file_name application number) file (data_file_name application number) (IsFileOf schema (handed_in application number rows)) (old, there, same_file old there (passes (is_same rows (rows_at old schema)) free))
     where
       passes : (same : Bool) → refused_if (not same) (differs (data_file_name application number)) ≡ Ok tt → same ≡ true
       passes true free = refl
@@ -116,7 +115,7 @@ module _ (objects : Objects) (schema : Tree) (entries : List Entry) (kept : IsKe
 
   -- the file is put, and then the commit is one entry more
   put_goes_on : (file : List ℕ) → appended (handed_in application number rows) entries ≡ Committed (length entries)
-      → unless_other column rows (file_name application number) (object_at objects (file_name application number)) ≡ Ok tt
+      → unless_other schema rows (file_name application number) (object_at objects (file_name application number)) ≡ Ok tt
       → IsWellMade application number at (made file)
       → GoesOn (suc most) objects (Ok (puts (made file)))
   put_goes_on file new free well =
@@ -124,8 +123,8 @@ module _ (objects : Objects) (schema : Tree) (entries : List Entry) (kept : IsKe
       let name = data_file_name application number in
       let next = names.commit_name (length entries) in
       let filed : Objects = with_object objects name file in
-      let is_file = file_made schema (length entries) column rows application number at file only well in
-      let is_commit = commit_made schema (length entries) column rows application number at file utf8 fits well in
+      let is_file = file_made schema (length entries) rows application number at file well in
+      let is_commit = commit_made schema (length entries) rows application number at file utf8 fits well in
       let lawful : IsLawful (entries ++ batch b ∷ []) = rw new at (lawful_after objects schema entries b kept) in
       let filed_kept : IsKept filed schema entries = kept_file objects schema entries application number file kept in
       let filed_files : AreFiles filed schema = files_put objects schema name b file files is_file in
@@ -138,12 +137,12 @@ module _ (objects : Objects) (schema : Tree) (entries : List Entry) (kept : IsKe
       rw (same_file_name application number, same_name (length entries)) (alone, rw (same_file_name application number) at whole)
 
   -- what is done for a new number
-  new_goes_on : appended (handed_in application number rows) entries ≡ Committed (length entries) → PutsWell application number at (new_step objects (asked (length entries) column rows false) application number at)
-      → GoesOn (suc most) objects (new_step objects (asked (length entries) column rows false) application number at)
+  new_goes_on : appended (handed_in application number rows) entries ≡ Committed (length entries) → PutsWell application number at (new_step objects (asked (length entries) schema rows false) application number at)
+      → GoesOn (suc most) objects (new_step objects (asked (length entries) schema rows false) application number at)
   unfolding batch_of
-  new_goes_on new well = by_file (written_file column rows) well
+  new_goes_on new well = by_file (written_file schema rows) well
     where
-      by_fit : (file : List ℕ) (fit : Result (Unit {0}) Refusal) → unless_other column rows (file_name application number) (object_at objects (file_name application number)) ≡ fit
+      by_fit : (file : List ℕ) (fit : Result (Unit {0}) Refusal) → unless_other schema rows (file_name application number) (object_at objects (file_name application number)) ≡ fit
           → PutsWell application number at (fit >>= λ fits. Ok (puts (made file)))
           → GoesOn (suc most) objects (fit >>= λ fits. Ok (puts (made file)))
       by_fit file (Err why) is well = (unchanged, unchanged)
@@ -152,7 +151,7 @@ module _ (objects : Objects) (schema : Tree) (entries : List Entry) (kept : IsKe
       by_file : (written : Result (List ℕ) FileFault) → PutsWell application number at ((file_or_refusal written >>= λ file. Ok (made file)) >>= fitting objects)
           → GoesOn (suc most) objects ((file_or_refusal written >>= λ file. Ok (made file)) >>= fitting objects)
       by_file (Err fault) well = (unchanged, unchanged)
-      by_file (Ok file) well = by_fit file (unless_other column rows (file_name application number) (object_at objects (file_name application number))) refl well
+      by_file (Ok file) well = by_fit file (unless_other schema rows (file_name application number) (object_at objects (file_name application number))) refl well
 
   -- for the last number again nothing is put
   again_goes_on : (same : Result (Unit {0}) Refusal) → GoesOn (suc most) objects (same >>= λ same. Ok stands)
@@ -172,7 +171,7 @@ module _ (objects : Objects) (schema : Tree) (entries : List Entry) (kept : IsKe
           → PutsWell application number at (behind (cond below (Err (stale before.number)) (Ok equal)))
           → GoesOn (suc most) objects (behind (cond below (Err (stale before.number)) (Ok equal)))
       by_tests true equal under same well = (unchanged, unchanged)
-      by_tests false true over same well = again_goes_on (where_same column rows (file_name application number) (object_at objects (file_name application number)))
+      by_tests false true over same well = again_goes_on (where_same schema rows (file_name application number) (object_at objects (file_name application number)))
       by_tests false false over other well =
           let open_ = stays_open objects schema 0 entries application kept.kept in
           new_goes_on (rw (is, over, other, open_) refl) well
@@ -182,20 +181,20 @@ pub append_goes_on : (objects : Objects) (schema : Tree) (entries : List Entry) 
     → (application : List ℕ) (number at : ℕ) (items : Items) → IsUtf8 application → PutsWell application number at (settled objects application number at items) → GoesOn (suc most) objects (settled objects application number at items)
 append_goes_on objects schema entries kept files few most up application number at items utf8 well =
     let is = step_is objects schema entries application number at items kept few in
-    rw is (by_tests (checked application number (count items)) (row_column schema) refl refl (rw is at well))
+    rw is (by_tests (checked application number (count items)) (takes_rows schema) refl (rw is at well))
   where
     same : GoesOn (suc most) objects (Ok stands)
     same = let still = keeps schema entries kept files (omega (arith, up)) in (still, still)
 
-    by_read : (column : List ℕ) (read : Result (List ℤ) Refusal) → schema ≡ one_long column → number ≤ 999_999_999_999 → PutsWell application number at (step_with objects entries application number at column read)
-        → GoesOn (suc most) objects (step_with objects entries application number at column read)
-    by_read column (Err why) only small well = same
-    by_read column (Ok numbers) only small well =
-        behind_goes_on objects schema entries kept files few most up column only application number at utf8 small numbers (last_batch application entries) refl well
+    by_read : (read : Result (List Row) Refusal) → number ≤ 999_999_999_999 → PutsWell application number at (step_with objects entries application number at schema read)
+        → GoesOn (suc most) objects (step_with objects entries application number at schema read)
+    by_read (Err why) small well = same
+    by_read (Ok rows) small well =
+        behind_goes_on objects schema entries kept files few most up application number at utf8 small rows (last_batch application entries) refl well
 
-    by_tests : (fine : Result (Unit {0}) Refusal) (column : Result (List ℕ) Refusal) → checked application number (count items) ≡ fine → row_column schema ≡ column
-        → PutsWell application number at (step_behind objects entries application number at items fine column) → GoesOn (suc most) objects (step_behind objects entries application number at items fine column)
-    by_tests (Err why) column is takes well = same
-    by_tests (Ok passed) (Err why) is takes well = same
-    by_tests (Ok passed) (Ok column) is takes well =
-        by_read column (rows_from 0 column items) (column_is schema column takes) (small_number application number (count items) is) well
+    by_tests : (fine takes : Result (Unit {0}) Refusal) → checked application number (count items) ≡ fine
+        → PutsWell application number at (step_behind objects schema entries application number at items fine takes) → GoesOn (suc most) objects (step_behind objects schema entries application number at items fine takes)
+    by_tests (Err why) takes is well = same
+    by_tests (Ok passed) (Err why) is well = same
+    by_tests (Ok passed) (Ok supported) is well =
+        by_read (rows_from 0 schema items) (small_number application number (count items) is) well

@@ -1,18 +1,13 @@
 -- A read over a store that keeps a table is told what the plain table answers.
-use Rattle.std.proofs.Common.{◌≡◌, ℕ, suc, ◌+◌, ◌<◌, ◌^◌, ℤ, true, false, List, [], ◌∷◌, length, map, take, drop, Option, Some, None, Ok, Err, refl, sym, ap, ◌∙◌, arith, inl, inr, ◌⊎◌}
+use Rattle.std.proofs.Common.{◌≡◌, ℕ, suc, ◌+◌, ◌<◌, ◌^◌, true, false, List, [], ◌∷◌, length, map, take, drop, Option, Some, None, Ok, Err, refl, sym, ap, ◌∙◌, arith, inl, inr, ◌⊎◌}
 use Rattle.std.specs.Prelude.{Result, ◌==◌, if◌then◌else◌}
-use Rattle.std.specs.List.{flat_map}
 use Rattle.std.proofs.lemmas.Bool.{cases_Bool}
 use Rattle.std.proofs.lemmas.Bool.Decides.{nat_tests}
-use Rattle.std.proofs.lemmas.List.Folds.{flat_map-map}
-use Rattle.schema_tree.specs.LongColumn.{long_column}
 use Rattle.schema_tree.specs.Tree.{Tree}
 use Rattle.store_core.specs.Objects.{Objects}
 use Rattle.delta_actions.specs.Entry as actions
-use Rattle.parquet_file.proofs.Callers.{rows-only}
 use Rattle.delta_actions.specs.Names.{data_file_name}
 use Rattle.row_core.specs.Rows.{Row}
-use Rattle.table_store.specs.Schema.{row_of}
 use Rattle.table_model.specs.Table.{Entry, creation, batch, close, last}
 use Rattle.table_model.specs.Reads.{Answer, handed, beyond, bad_place, is_beyond, is_place, behind, part, next_place, end, read}
 use Rattle.table_model.specs.declared.reading.Place.{Place}
@@ -24,9 +19,10 @@ use Rattle.lake_bytes.specs.Results.{◌>>=◌}
 use Rattle.lake_script.specs.Tables as tables
 use Rattle.source_core.specs.Tailing as tails
 use Rattle.table_store.specs.Logs.{new_files}
-use Rattle.source_core.specs.Tailing.{Refusal, Handed, rows_of, rows_text, hand, handed_by, handed_text, tailed, files_at, end_of, column_name}
+use Rattle.source_core.specs.Tailing.{Refusal, Handed, rows_of, hand, handed_by, handed_text, tailed, files_at, end_of}
 use Rattle.lake_script.specs.Told.{tailed_reply}
 use Rattle.lake_script.proofs.Kept.{FileKept, IsMade, KeptFrom, IsKept}
+use Rattle.lake_script.proofs.KeptFile.{file_read}
 use Rattle.lake_script.proofs.KeptLog.{AreMade, kept_log, log_of_nothing}
 use Rattle.source_core.proofs.Callers.{file_of, rows_in, behind_all, behind_last, walked, row_missing}
 use Rattle.source_core.proofs.Callers.{IsEntryFound, AreEntriesFound, as_many_commits}
@@ -35,19 +31,18 @@ use Rattle.source_core.proofs.Callers.{Ahead, Spot, stands, no_file, no_row, spo
 -- ---- the commits of a table and their files
 
 -- the commit of an entry brings its file, which stands and reads as its rows
-entry_found : (objects : Objects) (schema : Tree) (entry : Entry) (made : List actions.Entry) → IsMade schema entry made → FileKept objects schema entry → IsEntryFound objects (long_column schema) entry made
+entry_found : (objects : Objects) (schema : Tree) (entry : Entry) (made : List actions.Entry) → IsMade schema entry made → FileKept objects schema entry → IsEntryFound objects schema entry made
 unfolding created appending rows_of
 entry_found objects schema creation made is kept = rw is.are refl
 entry_found objects schema (batch b) made is kept =
     let name = data_file_name b.application b.number in
-    let column : long_column schema ≡ Some kept.2.column = ap long_column kept.2.only in
-    let reads = rows-only kept.0 kept.2.column kept.2.numbers kept.2.file kept.2.limits in
-    (record { text = name; key = name }, kept.2.numbers, rw is.are refl, kept.2.are, λ version. rw (column, kept.1, reads) refl)
+    let reads = file_read schema b kept.0 kept.2 in
+    (record { text = name; key = name }, rw is.are refl, λ version. rw (kept.1, reads) refl)
 entry_found objects schema (close application) made is kept = absurd is
 
 -- so does each commit of a table
 entries_found : (objects : Objects) (schema : Tree) (version : ℕ) (entries : List Entry) (commits : List (List actions.Entry)) → KeptFrom objects schema version entries → AreMade schema entries commits
-    → AreEntriesFound objects (long_column schema) entries commits
+    → AreEntriesFound objects schema entries commits
 entries_found objects schema version [] [] kept made = tt
 entries_found objects schema version [] (commit ∷ commits) kept made = absurd made
 entries_found objects schema version (entry ∷ entries) [] kept made = absurd made
@@ -56,9 +51,9 @@ entries_found objects schema version (entry ∷ entries) (commit ∷ commits) ke
 
 -- ---- a read
 
--- What is handed out is what the plain table answers, its rows as numbers.
+-- What is handed out is what the plain table answers.
 abbrev pub IsTold : Answer → Result Handed Refusal → Type 0
-IsTold (handed rows next) said = (numbers : List ℤ) × (rows ≡ map row_of numbers) × (said ≡ Ok (record { rows = numbers; next = next }))
+IsTold (handed rows next) said = said ≡ Ok (record { rows = rows; next = next })
 IsTold (beyond next) said = said ≡ Err (tails.beyond_log next)
 IsTold (bad_place version) said = said ≡ Err (tails.bad_place version)
 
@@ -82,36 +77,37 @@ module _ (objects : Objects) (schema : Tree) (entries : List Entry) (commits : L
 
   -- what is handed out of the files from a place on
   handed_of : is_beyond place entries ≡ false → tails.unless_no_file place (length (new_files (tails.commit_at place.version commits))) ≡ Ok tt → (files : List tails.LogFile) → files_at place commits ≡ files
-      → handed_by objects log max place ≡ hand objects (long_column schema) (end_of commits) max place.row [] place files
+      → handed_by objects log max place ≡ hand objects schema (end_of commits) max place.row [] place files
   unfolding handed_by log
   handed_of near file files are = rw (near_commits near, file, are) refl
 
   -- the rows ahead of a place are handed out
-  rows_told : is_beyond place entries ≡ false → is_place place entries ≡ true → tails.unless_no_file place (length (new_files (tails.commit_at place.version commits))) ≡ Ok tt → Ahead objects (long_column schema) place 0 entries commits
+  rows_told : is_beyond place entries ≡ false → is_place place entries ≡ true → tails.unless_no_file place (length (new_files (tails.commit_at place.version commits))) ≡ Ok tt → Ahead objects schema place 0 entries commits
       → IsTold (read max place entries) (handed_by objects log max place)
   rows_told near is file ahead =
-      let goes = walked objects (long_column schema) (end_of commits) ahead.founds max place.row [] place ahead.found ahead.within in
+      let goes = walked objects schema (end_of commits) ahead.founds max place.row [] place ahead.found ahead.within in
       let out = take max (drop place.row (rows_in ahead.founds)) in
       let same : out ≡ part max place entries = ap (λ (ps : List (Place × Row)). take max ps) (sym ahead.rows) in
       let last_end : end_of commits ≡ end entries = ap (λ (n : ℕ). record { version = n; file = 0; row = 0 }) many in
-      let rows_are : map (λ p. p.1) (part max place entries) ≡ map row_of goes.handed.rows = ap (λ (ps : List (Place × Row)). map (λ p. p.1) ps) (sym same) ∙ sym goes.rows_are in
+      let rows_are : goes.handed.rows ≡ map (λ p. p.1) (part max place entries) = goes.rows_are ∙ ap (λ (ps : List (Place × Row)). map (λ p. p.1) ps) same in
       let onward : (if length out == max then behind_all place out else end_of commits) ≡ (if length out == max then behind place (last out) else end entries) = rw (last_end, behind_last place out) refl in
       let next_is : goes.handed.next ≡ next_place max place entries = goes.onward ∙ onward ∙ ap (λ (ps : List (Place × Row)). if length ps == max then behind place (last ps) else end entries) same in
-      let said : handed_by objects log max place ≡ Ok (record { rows = goes.handed.rows; next = next_place max place entries }) =
-      handed_of near file (map file_of ahead.founds) ahead.files ∙ goes.said_is ∙ ap (λ (next : Place). Ok (record { rows = goes.handed.rows; next = next })) next_is in
-      rw (near, is) (goes.handed.rows, rows_are, said)
+      let said : handed_by objects log max place ≡ Ok (record { rows = map (λ p. p.1) (part max place entries); next = next_place max place entries }) =
+      handed_of near file (map file_of ahead.founds) ahead.files ∙ goes.said_is ∙ ap (λ (next : Place). Ok (record { rows = goes.handed.rows; next = next })) next_is
+      ∙ ap (λ (rows : List Row). Ok (record { rows = rows; next = next_place max place entries })) rows_are in
+      rw (near, is) said
 
   -- a place without a file or a row is told as such
   bad_told : is_beyond place entries ≡ false → is_place place entries ≡ false → handed_by objects log max place ≡ Err (tails.bad_place place.version) → IsTold (read max place entries) (handed_by objects log max place)
   bad_told near no_place said = rw (near, no_place) said
 
   -- what is told of a place that isn't beyond the log
-  spot_told : is_beyond place entries ≡ false → Spot objects (long_column schema) place 0 place.version entries commits → IsTold (read max place entries) (handed_by objects log max place)
+  spot_told : is_beyond place entries ≡ false → Spot objects schema place 0 place.version entries commits → IsTold (read max place entries) (handed_by objects log max place)
   unfolding handed_by log
   spot_told near (stands is file ahead) = rows_told near is file ahead
   spot_told near (no_file is file) = bad_told near is (rw (near_commits near, file) refl)
   spot_told near (no_row is file short) =
-      let read_on = row_missing objects (long_column schema) (end_of commits) short.first short.founds max place.row place short.found short.past_it in
+      let read_on = row_missing objects schema (end_of commits) short.first short.founds max place.row place short.found short.past_it in
       bad_told near is (handed_of near file (map file_of (short.first ∷ short.founds)) short.files ∙ read_on ∙ ap (λ (version : ℕ). Err (tails.bad_place version)) short.at)
 
 -- A read of a log is what a read of the table answers.
@@ -120,21 +116,19 @@ pub handed_told : (objects : Objects) (schema : Tree) (entries : List Entry) (co
 unfolding log
 handed_told objects schema entries commits kept made max place =
     let found = entries_found objects schema 0 entries commits kept made in
-    let many = as_many_commits objects (long_column schema) entries commits found in
+    let many = as_many_commits objects schema entries commits found in
     elim (cases_Bool (is_beyond place entries)) [
       | inl far ↦ far_told objects schema entries commits many max place far
-      | inr near ↦ spot_told objects schema entries commits many max place near (spotted objects (long_column schema) place 0 place.version entries commits found (omega arith) (not_beyond place entries near))
+      | inr near ↦ spot_told objects schema entries commits many max place near (spotted objects schema place 0 place.version entries commits found (omega arith) (not_beyond place entries near))
     ]
 
 -- ---- its text
 
 -- what is told of an answer
-text_told : (column : List ℕ) (answer : Answer) (said : Result Handed Refusal) → IsTold answer said → tailed_reply (said >>= λ found. Ok (handed_text column found)) ≡ tables.read_text column answer
-text_told column (handed rows next) said told =
-    let lines : rows_text column told.0 ≡ flat_map (tables.row_line column) (map row_of told.0) = sym (flat_map-map (tables.row_line column) row_of told.0) in
-    rw (told.2, told.1, lines) refl
-text_told column (beyond next) said told = rw told refl
-text_told column (bad_place version) said told = rw told refl
+text_told : (schema : Tree) (answer : Answer) (said : Result Handed Refusal) → IsTold answer said → tailed_reply (said >>= λ found. Ok (handed_text schema found)) ≡ tables.read_text schema answer
+text_told schema (handed rows next) said told = rw told refl
+text_told schema (beyond next) said told = rw told refl
+text_told schema (bad_place version) said told = rw told refl
 
 module _ (objects : Objects) (max : ℕ) (offset : List ℕ) where
   -- a read from an offset on that can be read, by what is handed out
@@ -142,7 +136,7 @@ module _ (objects : Objects) (max : ℕ) (offset : List ℕ) where
       → ((at : Place) → IsTold (read max at entries) (handed_by objects (record { schema = schema; commits = commits }) max at)) → tailed_reply (tailed objects max offset) ≡ tables.tail_reply (tables.table schema entries) max place
   unfolding tailed
   tail_from schema entries commits None is log told = rw is refl
-  tail_from schema entries commits (Some place) is log told = rw (is, log) (text_told (column_name schema) (read max place entries) (handed_by objects (record { schema = schema; commits = commits }) max place) (told place))
+  tail_from schema entries commits (Some place) is log told = rw (is, log) (text_told schema (read max place entries) (handed_by objects (record { schema = schema; commits = commits }) max place) (told place))
 
   -- the same over no objects
   tail_of_none : (place : Option Place) → offset_of offset ≡ place → tailed_reply (tailed [] max offset) ≡ tables.tail_reply tables.nothing max place

@@ -1,10 +1,9 @@
 -- Where a store keeps a table, reads one after another hand out the table's rows.
-use Rattle.std.proofs.Common.{◌≡◌, ℕ, ◌<◌, ◌^◌, ℤ, true, List, [], ◌∷◌, ◌++◌, length, map, take, Result, Ok, Err, IsOk, refl, sym, ap, subst, ◌∙◌, arith}
-use Rattle.std.proofs.lemmas.List.{append-nil, map-append, length-map, take_all}
+use Rattle.std.proofs.Common.{◌≡◌, ℕ, ◌<◌, ◌^◌, true, List, [], ◌∷◌, ◌++◌, length, map, take, Result, Ok, Err, IsOk, refl, sym, ap, subst, ◌∙◌, arith}
+use Rattle.std.proofs.lemmas.List.{append-nil, map-append, take_all}
 use Rattle.schema_tree.specs.Tree.{Tree}
 use Rattle.store_core.specs.Objects.{Objects}
 use Rattle.row_core.specs.Rows.{Row}
-use Rattle.table_store.specs.Schema.{row_of}
 use Rattle.table_model.specs.Table.{Entry, rows}
 use Rattle.table_model.specs.Reads.{Answer, handed, beyond, bad_place, position, is_place, read}
 use Rattle.table_model.specs.Resumed as resumed
@@ -21,7 +20,7 @@ use Rattle.lake_script.proofs.Kept.{IsKept, Keeps}
 
 -- the store answers what the table answers
 abbrev pub IsRead : Result Handed Refusal → Answer → Type 0
-IsRead answered (handed out next) = (numbers : List ℤ) × (out ≡ map row_of numbers) × (answered ≡ Ok (record { rows = numbers; next = next }))
+IsRead answered (handed out next) = answered ≡ Ok (record { rows = out; next = next })
 IsRead answered (beyond next) = answered ≡ Err (beyond_log next)
 IsRead answered (bad_place version) = answered ≡ Err (bad_place_told version)
 
@@ -32,14 +31,14 @@ ReadsAs objects entries = (max : ℕ) (place : Place) → IsRead (read_by object
 -- ---- one read
 
 -- it hands out the rows that the table hands out
-rows_as : (answered : Result Handed Refusal) (answer : Answer) → IsRead answered answer → map row_of (rows_handed answered) ≡ resumed.rows_of answer
-rows_as answered (handed out next) is = rw is.2 (sym is.1)
+rows_as : (answered : Result Handed Refusal) (answer : Answer) → IsRead answered answer → rows_handed answered ≡ resumed.rows_of answer
+rows_as answered (handed out next) is = rw is refl
 rows_as answered (beyond next) is = rw is refl
 rows_as answered (bad_place version) is = rw is refl
 
 -- and its next read begins where the table's does
 next_as : (place : Place) (answered : Result Handed Refusal) (answer : Answer) → IsRead answered answer → place_after place answered ≡ resumed.next_after place answer
-next_as place answered (handed out next) is = rw is.2 refl
+next_as place answered (handed out next) is = rw is refl
 next_as place answered (beyond next) is = rw is refl
 next_as place answered (bad_place version) is = rw is refl
 
@@ -47,7 +46,7 @@ next_as place answered (bad_place version) is = rw is refl
 handed_is_answered : (answered : Result Handed Refusal) (answer : Answer) (out : List Row) (next : Place) → IsRead answered answer → answer ≡ handed out next → IsOk answered
 handed_is_answered answered answer out next is e =
     let there : IsRead answered (handed out next) = subst (λ (a : Answer). IsRead answered a) e is in
-    rw there.2 refl
+    rw there refl
 
 -- ---- several reads
 
@@ -72,12 +71,12 @@ reads_on_still max limits place entries =
 
 -- reads over objects hand out what reads of the table hand out
 record AreSame (all : Tails) (said : resumed.Handed) : Type 0 where
-  rows : map row_of all.rows ≡ said.out
+  rows : all.rows ≡ said.out
   next : all.next ≡ said.next
 
 -- the same rows in front leave them the same
-earlier_same : (numbers : List ℤ) (out : List Row) (all : Tails) (said : resumed.Handed) → map row_of numbers ≡ out → AreSame all said → AreSame (with_earlier numbers all) (resumed.with_earlier out said)
-earlier_same numbers out all said is same = record { rows = map-append row_of numbers all.rows ∙ rw (is, same.rows) refl; next = same.next }
+earlier_same : (rows out : List Row) (all : Tails) (said : resumed.Handed) → rows ≡ out → AreSame all said → AreSame (with_earlier rows all) (resumed.with_earlier out said)
+earlier_same rows out all said is same = record { rows = rw (is, same.rows) refl; next = same.next }
 
 module _ (objects : Objects) (entries : List Entry) (reads : ReadsAs objects entries) where
   -- reads over objects hand out what those of the table do
@@ -137,8 +136,8 @@ module _ (objects : Objects) (entries : List Entry) (reads : ReadsAs objects ent
       let table_then : said.final ++ [] ≡ entries = append-nil said.final ∙ final_still earlier beginning entries in
       let is : read max said.next (said.final ++ []) ≡ handed h.out h.next =
       ap (λ (es : List Entry). read max said.next es) table_then ∙ ap (λ (p : Place). read max p entries) (sym (all_same earlier beginning).next) ∙ h.is in
-      let rows_are : map row_of (rows_handed (read_by objects max place)) ≡ h.out = rows_as (read_by objects max place) (read max place entries) (reads max place) ∙ ap resumed.rows_of h.is in
-      let as_many : length h.out ≡ length (rows_handed (read_by objects max place)) = ap (λ (rs : List Row). length rs) (sym rows_are) ∙ length-map (rows_handed (read_by objects max place)) row_of in
+      let rows_are : rows_handed (read_by objects max place) ≡ h.out = rows_as (read_by objects max place) (read max place entries) (reads max place) ∙ ap resumed.rows_of h.is in
+      let as_many : length h.out ≡ length (rows_handed (read_by objects max place)) = ap (λ (rs : List Row). length rs) (sym rows_are) in
       let less : length h.out < max = omega (arith, short, as_many) in
       let final : whole.final ≡ entries = ap (λ (r : List (ℕ × List Entry)). (reads_on r beginning entries).final) (sym joined) ∙ final_still (earlier ++ max ∷ []) beginning entries in
       (all_same (earlier ++ max ∷ []) beginning).rows ∙ ap (λ (r : List (ℕ × List Entry)). (reads_on r beginning entries).out) joined
@@ -174,21 +173,17 @@ module _ (given : GivenReads) where
   nothing_handed [] place = refl
   nothing_handed (max ∷ limits) place = rw (nothing_read max place) (nothing_handed limits place)
 
-  -- nor do they as rows of a table
-  nothing_hands : (limits : List ℕ) (place : Place) → map row_of (tails [] limits place).rows ≡ []
-  nothing_hands limits place = ap (λ (numbers : List ℤ). map row_of numbers) (nothing_handed limits place)
-
   -- reads hand out the rows of the table in order
   pub hand_out_the_log : (objects : Objects) (state : State) → Keeps objects state → length (entries_of state) < 2 ^ 62 → HandOutTheLog objects (entries_of state)
   hand_out_the_log objects nothing keeps small =
-      let none : HandOutTheLog [] [] = λ limits. nothing_hands limits beginning ∙ sym (take_all (position (tails [] limits beginning).next []) [] (omega arith)) in
+      let none : HandOutTheLog [] [] = λ limits. nothing_handed limits beginning ∙ sym (take_all (position (tails [] limits beginning).next []) [] (omega arith)) in
       subst (λ (o : Objects). HandOutTheLog o []) (sym keeps) none
   hand_out_the_log objects (table schema entries) keeps small = reads_log objects entries (kept_reads objects schema entries keeps.0 small)
 
   -- and all of them, where the last read handed out fewer than its limit
   pub hand_out_all : (objects : Objects) (state : State) → Keeps objects state → length (entries_of state) < 2 ^ 62 → HandOutAll objects (entries_of state)
   hand_out_all objects nothing keeps small =
-      let none : HandOutAll [] [] = λ earlier max short. nothing_hands (earlier ++ max ∷ []) beginning in
+      let none : HandOutAll [] [] = λ earlier max short. nothing_handed (earlier ++ max ∷ []) beginning in
       subst (λ (o : Objects). HandOutAll o []) (sym keeps) none
   hand_out_all objects (table schema entries) keeps small = reads_all objects entries (kept_reads objects schema entries keeps.0 small)
 

@@ -1,13 +1,10 @@
 -- What a script is told, by a plain table: a schema and a list of entries, one a version. No store, file or commit is
 -- spoken of; a data file's name stands in one reply. Lines that show an object are none of a table's, so nothing is said
 -- of them here (`AreOfTable`).
-use Rattle.std.specs.Prelude.{ℕ, suc, ◌+◌, List, [], ◌∷◌, ◌++◌, map, Option, None, Some, Result, Ok, Err, codes, if◌then◌else◌}
+use Rattle.std.specs.Prelude.{ℕ, suc, ◌+◌, List, [], ◌∷◌, ◌++◌, Option, None, Some, Result, Ok, Err, codes, if◌then◌else◌}
 use Rattle.std.specs.Fmt.{decimal}
-use Rattle.std.specs.List.{flat_map}
 use Rattle.serde_json.specs.Data.{string, Items}
 use Rattle.serde_json.specs.Written.{compact_text}
-use Rattle.row_core.specs.Rows.{Row, whole, structure, no_values, value}
-use Rattle.table_store.specs.Schema.{row_of}
 use Rattle.table_model.specs.Table.{Batch, Entry, creation, batch, close}
 use Rattle.delta_actions.specs.Names.{data_file_name}
 use Rattle.table_model.specs.Appends.{appended, with_batch}
@@ -16,7 +13,7 @@ use Rattle.table_model.specs.declared.table.Appended.TheVariants.{Committed, Alr
 use Rattle.table_model.specs.declared.reading.Place.{Place}
 use Rattle.table_model.specs.Reads.{Answer, handed, beyond, bad_place, read}
 use Rattle.schema_tree.specs.Tree.{Tree}
-use Rattle.sink_core.specs.Appending.{checked, count, row_column}
+use Rattle.sink_core.specs.Appending.{checked, count}
 use Rattle.commit_core.specs.Creating as creations
 use Rattle.commit_core.specs.Creating.{table_exists, described}
 use Rattle.commit_core.specs.Histories.{number_told}
@@ -28,7 +25,7 @@ use Rattle.commit_core.specs.Texts as texts
 use Rattle.commit_core.specs.Texts.{refused, line_of}
 use Rattle.lake_script.specs.Replies.{created, committed_at, already, bad_line}
 use Rattle.lake_bytes.specs.Results.{◌>>=◌}
-use Rattle.sink_core.specs.RowsIn.{rows_from}
+use Rattle.sink_core.specs.RowsIn.{rows_from, takes_rows}
 use Rattle.source_core.specs.Tailing as tails
 use Rattle.source_core.specs.TailFaults as tail_texts
 use Rattle.delta_actions.specs.Commit.{lines_of}
@@ -62,9 +59,9 @@ abbrev pub batch_in : State → (application : List ℕ) (number : ℕ) → Item
 batch_in nothing application number items = checked application number (count items) >>= λ fine. Err (appends.bad_log 0)
 batch_in (table schema entries) application number items = do
   fine ← checked application number (count items)
-  column ← row_column schema
-  rows ← rows_from 0 column items
-  Ok (record { application = application; number = number; rows = map row_of rows })
+  supported ← takes_rows schema
+  rows ← rows_from 0 schema items
+  Ok (record { application = application; number = number; rows = rows })
 
 -- what the table answers
 abbrev pub answer_text : Batch → Appended → List ℕ
@@ -89,20 +86,16 @@ with_append (table schema entries) (Err refusal) = table schema entries
 
 -- ---- tail
 
--- a row of a table of one column, a line
-abbrev pub row_line : (column : List ℕ) → Row → List ℕ
-row_line column (structure (value (whole z) no_values)) = tails.row_line column z
-row_line column _ = []
-
-abbrev pub read_text : (column : List ℕ) → Answer → List ℕ
-read_text column (handed rows next) = flat_map (row_line column) rows ++ tails.next_line next
-read_text column (beyond next) = line_of (refused (tail_texts.refusal_text (tails.beyond_log next)))
-read_text column (bad_place version) = line_of (refused (tail_texts.refusal_text (tails.bad_place version)))
+-- a row a line, and where the next read begins
+abbrev pub read_text : (schema : Tree) → Answer → List ℕ
+read_text schema (handed rows next) = tails.rows_text schema rows ++ tails.next_line next
+read_text schema (beyond next) = line_of (refused (tail_texts.refusal_text (tails.beyond_log next)))
+read_text schema (bad_place version) = line_of (refused (tail_texts.refusal_text (tails.bad_place version)))
 
 -- a read from a place on
 abbrev pub read_from : State → (max : ℕ) → Place → List ℕ
 read_from nothing max place = line_of (refused (tail_texts.refusal_text (tails.bad_log 0)))
-read_from (table schema entries) max place = read_text (tails.column_name schema) (read max place entries)
+read_from (table schema entries) max place = read_text schema (read max place entries)
 
 -- a read from an offset on, where its text can be read
 abbrev pub tail_reply : State → (max : ℕ) → Option Place → List ℕ

@@ -8,4 +8,4 @@ mod refusal;
 mod rows_in;
 
 pub use appending::{Appended, MOST_ID_BYTES, MOST_NUMBER, MOST_ROWS, append};
-pub use refusal::{AppendFault, RowFault};
+pub use refusal::AppendFault;

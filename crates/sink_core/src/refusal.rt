@@ -1,83 +1,38 @@
 // Why a batch of rows isn't appended.
 ghost use Rattle.std.specs.Prelude.{Some};
-ghost use Rattle.sink_core.specs.Refusals.{refusal_text, refusal_view, row_fault_text};
+ghost use Rattle.sink_core.specs.Refusals.{refusal_text, refusal_view};
 
 use commit_core::LogFault;
+use row_core::RowFault;
 use std::alloc::{AllocError, AllocFailed};
 use std::fmt;
 use std::fmt::{Display, Formatter};
 use store_core::StoreFault;
 use thiserror::Error;
 
-/// What is wrong with a row of a batch.
-#[derive(Clone, Copy, Debug, PartialEq, Eq, Error)]
-pub enum RowFault {
-    /// The row, or the cell of a required column, is absent or null.
-    Missing,
-    /// The row is no object, or the cell is no whole number.
-    WrongKind,
-    /// A whole number outside -2^63 .. 2^63 - 1.
-    OutOfRange,
-    /// The table has a column whose type has no rows.
-    Unsupported,
-    /// A key that is no column.
-    Unknown,
-}
-
-impl Display for RowFault {
-    ghost output = { λ fault. Some (row_fault_text fault) };
-
-    fn fmt<W: fmt::Write>(&self, f: &mut Formatter<W>) -> fmt::Result {
-        f.write_str(match self {
-            RowFault::Missing => "V1 Missing",
-            RowFault::WrongKind => "V2 WrongKind",
-            RowFault::OutOfRange => "V3 OutOfRange",
-            RowFault::Unsupported => "V4 Unsupported",
-            RowFault::Unknown => "V5 Unknown",
-        })
-    }
-}
-
 /// Why a batch of rows isn't appended. Its texts are written by hand, so that contracts know them.
 #[derive(Debug, Drop, Error)]
 pub enum AppendFault {
-    /// More rows than a file has today, or a table that isn't of one required long column, or whose schema can't be
-    /// read.
+    /// A table whose log tells no schema that can be read.
     NotYet,
     /// The application's id has no bytes, or over 64.
     BadApp,
-    /// The number passes 999,999,999,999.
+    /// The number passes 999,999,999,999, or there are more than 65,536 rows.
     TooLarge,
     /// The file passes 64 MiB.
     FileTooLarge,
     /// The commit of that version can't be read, or no commit has a schema.
-    BadLog {
-        version: u64,
-    },
-    /// The first row that is wrong, by its index from 0. The path is the column or key that is
-    /// wrong, and empty where the row is; of a column without rows it is the names of the fields that
-    /// lead there, joined by `.`, and the index is 0.
-    BadRow {
-        index: u64,
-        fault: RowFault,
-        path: String,
-    },
+    BadLog { version: u64 },
+    /// The first row that is wrong, by its index from 0. Of a column whose type has no rows the index is 0.
+    BadRow { index: u64, fault: RowFault },
     /// The number is below the application's last one, which is this.
-    Stale {
-        last: u64,
-    },
+    Stale { last: u64 },
     /// Under the file's name stand other rows, or no file.
-    Differs {
-        name: String,
-    },
+    Differs { name: String },
     /// A commit has the version: another one, or the batch's own, where the store took its put twice.
-    Contended {
-        version: u64,
-    },
+    Contended { version: u64 },
     /// A call of the store was lost: the put of the commit of that version, or another call.
-    Lost {
-        version: Option<u64>,
-    },
+    Lost { version: Option<u64> },
     /// A growth was refused.
     Memory,
 }
@@ -91,10 +46,7 @@ impl Display for AppendFault {
             AppendFault::BadApp => f.write_str("S11 BadApp"),
             AppendFault::TooLarge | AppendFault::FileTooLarge => f.write_str("S8 TooLarge"),
             AppendFault::BadLog { version } => write!(f, "S9 BadLog {version}"),
-            AppendFault::BadRow { index, fault, path } => write!(
-                f,
-                "S7 BadRow {index} {fault} {path}"
-            ),
+            AppendFault::BadRow { index, fault } => write!(f, "S7 BadRow {index} {fault}"),
             AppendFault::Stale { last } => write!(f, "S1 Stale {last}"),
             AppendFault::Differs { name } => write!(f, "S3 Differs {name}"),
             AppendFault::Contended { version } => write!(f, "S4 Contended {version}"),

@@ -1,6 +1,6 @@
 -- Where a place stands among the files of a log and among the rows of its table.
-use Rattle.std.proofs.Common.{◌≡◌, ℕ, suc, ◌-◌, ◌<◌, ℤ, Bool, true, false, min, ltb, List, [], ◌∷◌, length, map, Ok, refl, ap, ◌∙◌, arith, inl, inr}
-use Rattle.std.specs.Prelude.{Option, filter, not}
+use Rattle.std.proofs.Common.{◌≡◌, ℕ, suc, ◌-◌, ◌<◌, Bool, true, false, min, ltb, List, [], ◌∷◌, length, map, Ok, refl, ap, ◌∙◌, arith, inl, inr}
+use Rattle.std.specs.Prelude.{filter, not}
 use Rattle.std.proofs.lemmas.Bool.{cases_Bool}
 use Rattle.std.proofs.lemmas.Bool.Decides.{nat_tests}
 use Rattle.std.proofs.lemmas.List.Elements.{filter-append}
@@ -8,7 +8,7 @@ use Rattle.store_core.specs.Objects.{Objects}
 use Rattle.delta_actions.specs.Kinds.{Path}
 use Rattle.delta_actions.specs.Entry as actions
 use Rattle.row_core.specs.Rows.{Row}
-use Rattle.table_store.specs.Schema.{row_of}
+use Rattle.schema_tree.specs.Tree.{Tree}
 use Rattle.table_model.specs.Table.{Entry, creation, batch, close}
 use Rattle.table_model.specs.Reads.{placed_rows, placed_from, is_before}
 use Rattle.table_model.specs.declared.reading.Place.{Place}
@@ -21,51 +21,51 @@ use Rattle.source_core.proofs.KeptTailWalk.{Found, file_of, rows_in, AreFound}
 -- ---- the files of a log and the rows of its table
 
 -- a commit brings the file of its entry, which reads as the entry's rows
-abbrev pub IsEntryFound : Objects → (column : Option (List ℕ)) → Entry → List actions.Entry → Type 0
-IsEntryFound objects column creation made = new_files made ≡ []
-IsEntryFound objects column (batch b) made = (path : Path) × (numbers : List ℤ) × (new_files made ≡ path ∷ []) × (b.rows ≡ map row_of numbers)
-    × ((version : ℕ) → rows_of objects column (record { version = version; file = 0; path = path }) ≡ Ok numbers)
-IsEntryFound objects column (close application) made = ⊥
+abbrev pub IsEntryFound : Objects → (schema : Tree) → Entry → List actions.Entry → Type 0
+IsEntryFound objects schema creation made = new_files made ≡ []
+IsEntryFound objects schema (batch b) made = (path : Path) × (new_files made ≡ path ∷ [])
+    × ((version : ℕ) → rows_of objects schema (record { version = version; file = 0; path = path }) ≡ Ok b.rows)
+IsEntryFound objects schema (close application) made = ⊥
 
 -- the same of a table's entries and the commits of its log, one behind the other
-abbrev pub AreEntriesFound : Objects → (column : Option (List ℕ)) → List Entry → List (List actions.Entry) → Type 0
-AreEntriesFound objects column [] [] = Unit {0}
-AreEntriesFound objects column [] (made ∷ commits) = ⊥
-AreEntriesFound objects column (entry ∷ entries) [] = ⊥
-AreEntriesFound objects column (entry ∷ entries) (made ∷ commits) = IsEntryFound objects column entry made × AreEntriesFound objects column entries commits
+abbrev pub AreEntriesFound : Objects → (schema : Tree) → List Entry → List (List actions.Entry) → Type 0
+AreEntriesFound objects schema [] [] = Unit {0}
+AreEntriesFound objects schema [] (made ∷ commits) = ⊥
+AreEntriesFound objects schema (entry ∷ entries) [] = ⊥
+AreEntriesFound objects schema (entry ∷ entries) (made ∷ commits) = IsEntryFound objects schema entry made × AreEntriesFound objects schema entries commits
 
 -- there is a commit for each entry
-pub as_many_commits : (objects : Objects) (column : Option (List ℕ)) (entries : List Entry) (commits : List (List actions.Entry)) → AreEntriesFound objects column entries commits → length commits ≡ length entries
-as_many_commits objects column [] [] found = refl
-as_many_commits objects column [] (made ∷ commits) found = absurd found
-as_many_commits objects column (entry ∷ entries) [] found = absurd found
-as_many_commits objects column (entry ∷ entries) (made ∷ commits) found = ap suc (as_many_commits objects column entries commits found.1)
+pub as_many_commits : (objects : Objects) (schema : Tree) (entries : List Entry) (commits : List (List actions.Entry)) → AreEntriesFound objects schema entries commits → length commits ≡ length entries
+as_many_commits objects schema [] [] found = refl
+as_many_commits objects schema [] (made ∷ commits) found = absurd found
+as_many_commits objects schema (entry ∷ entries) [] found = absurd found
+as_many_commits objects schema (entry ∷ entries) (made ∷ commits) found = ap suc (as_many_commits objects schema entries commits found.1)
 
 -- The files of commits from a version on, and the rows of their entries.
-pub record InLog (objects : Objects) (column : Option (List ℕ)) (version : ℕ) (entries : List Entry) (commits : List (List actions.Entry)) : Type 0 where
+pub record InLog (objects : Objects) (schema : Tree) (version : ℕ) (entries : List Entry) (commits : List (List actions.Entry)) : Type 0 where
   pub founds : List Found
   pub files : files_from version commits ≡ map file_of founds
-  pub found : AreFound objects column founds
+  pub found : AreFound objects schema founds
   pub rows : placed_from version entries ≡ rows_in founds
 
 -- each log of found entries has its files and its rows
-pub in_log : (objects : Objects) (column : Option (List ℕ)) (version : ℕ) (entries : List Entry) (commits : List (List actions.Entry)) → AreEntriesFound objects column entries commits → InLog objects column version entries commits
-in_log objects column version [] [] found = record { founds = []; files = refl; found = tt; rows = refl }
-in_log objects column version [] (made ∷ commits) found = absurd found
-in_log objects column version (entry ∷ entries) [] found = absurd found
-in_log objects column version (creation ∷ entries) (made ∷ commits) found =
-    let later = in_log objects column (suc version) entries commits found.1 in
+pub in_log : (objects : Objects) (schema : Tree) (version : ℕ) (entries : List Entry) (commits : List (List actions.Entry)) → AreEntriesFound objects schema entries commits → InLog objects schema version entries commits
+in_log objects schema version [] [] found = record { founds = []; files = refl; found = tt; rows = refl }
+in_log objects schema version [] (made ∷ commits) found = absurd found
+in_log objects schema version (entry ∷ entries) [] found = absurd found
+in_log objects schema version (creation ∷ entries) (made ∷ commits) found =
+    let later = in_log objects schema (suc version) entries commits found.1 in
     record { founds = later.founds; files = rw found.0 later.files; found = later.found; rows = later.rows }
-in_log objects column version (batch b ∷ entries) (made ∷ commits) found =
-    let later = in_log objects column (suc version) entries commits found.1 in
-    let first : Found = record { version = version; path = found.0.0; numbers = found.0.1 } in
+in_log objects schema version (batch b ∷ entries) (made ∷ commits) found =
+    let later = in_log objects schema (suc version) entries commits found.1 in
+    let first : Found = record { version = version; path = found.0.0; rows = b.rows } in
     record {
       founds = first ∷ later.founds;
-      files = rw (found.0.2, later.files) refl;
-      found = (found.0.4 version, later.found);
-      rows = rw (found.0.3, later.rows) refl;
+      files = rw (found.0.1, later.files) refl;
+      found = (found.0.2 version, later.found);
+      rows = rw later.rows refl;
     }
-in_log objects column version (close application ∷ entries) (made ∷ commits) found = absurd found.0
+in_log objects schema version (close application ∷ entries) (made ∷ commits) found = absurd found.0
 
 -- ---- before a place and behind it
 

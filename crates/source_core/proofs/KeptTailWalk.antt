@@ -1,14 +1,14 @@
 -- What is handed out of files that can be read: rows in order, from a place on.
-use Rattle.std.proofs.Common.{◌≡◌, ℕ, zero, suc, ◌+◌, ◌-◌, ◌≤◌, ◌<◌, ℤ, true, false, eqb, List, [], ◌∷◌, ◌++◌, length, map, take, drop, Ok, Err, refl, sym, ap, ◌∙◌, append_assoc, arith, inl, inr, length-append}
-use Rattle.std.specs.Prelude.{Option, Result, ◌==◌, if◌then◌else◌}
+use Rattle.std.proofs.Common.{◌≡◌, ℕ, zero, suc, ◌+◌, ◌-◌, ◌≤◌, ◌<◌, true, false, eqb, List, [], ◌∷◌, ◌++◌, length, map, take, drop, Ok, Err, refl, sym, ap, ◌∙◌, append_assoc, arith, inl, inr, length-append}
+use Rattle.std.specs.Prelude.{Result, ◌==◌, if◌then◌else◌}
 use Rattle.std.proofs.Math.Bool.{and-false}
 use Rattle.std.proofs.lemmas.Bool.{cases_Bool, le-ltb, lt-ltb, ne_eqb, eqb-true, and_parts}
 use Rattle.std.proofs.lemmas.Bool.Decides.{nat_tests}
-use Rattle.std.proofs.lemmas.List.{append-nil, map-append, length-map, length-take, drop-map, take-map, drop-append-le}
+use Rattle.std.proofs.lemmas.List.{append-nil, map-append, length-take, drop-append-le}
 use Rattle.store_core.specs.Objects.{Objects}
 use Rattle.delta_actions.specs.Kinds.{Path}
 use Rattle.row_core.specs.Rows.{Row}
-use Rattle.table_store.specs.Schema.{row_of}
+use Rattle.schema_tree.specs.Tree.{Tree}
 use Rattle.table_model.specs.Reads.{placed_rows}
 use Rattle.table_model.specs.Reads as reads
 use Rattle.table_model.specs.Table.{last}
@@ -75,11 +75,11 @@ behind_from version row (r ∷ rs) =
 
 -- ---- files that can be read
 
--- a version's only file, and the numbers that are read from it
+-- a version's only file, and the rows that are read from it
 pub record Found : Type 0 where
   pub version : ℕ
   pub path : Path
-  pub numbers : List ℤ
+  pub rows : List Row
 
 -- as a file of the log
 abbrev pub file_of : Found → LogFile
@@ -88,50 +88,50 @@ file_of f = record { version = f.version; file = 0; path = f.path }
 -- the rows of files, each with its place
 abbrev pub rows_in : List Found → List (Place × Row)
 rows_in [] = []
-rows_in (f ∷ fs) = placed_rows f.version 0 (map row_of f.numbers) ++ rows_in fs
+rows_in (f ∷ fs) = placed_rows f.version 0 f.rows ++ rows_in fs
 
--- each file reads as its numbers
-abbrev pub AreFound : Objects → (column : Option (List ℕ)) → List Found → Type 0
-AreFound objects column [] = Unit {0}
-AreFound objects column (f ∷ fs) = (rows_of objects column (file_of f) ≡ Ok f.numbers) × AreFound objects column fs
+-- each file reads as its rows
+abbrev pub AreFound : Objects → (schema : Tree) → List Found → Type 0
+AreFound objects schema [] = Unit {0}
+AreFound objects schema (f ∷ fs) = (rows_of objects schema (file_of f) ≡ Ok f.rows) × AreFound objects schema fs
 
 -- so many rows are in the first file
 abbrev pub AreWithin : ℕ → List Found → Type 0
 AreWithin skip [] = skip ≡ 0
-AreWithin skip (f ∷ fs) = skip ≤ length f.numbers
+AreWithin skip (f ∷ fs) = skip ≤ length f.rows
 
 -- behind a part of a file
-behind_part : (f : Found) (skip : ℕ) (part : List ℤ) (next : Place) → behind (file_of f) skip part next ≡ behind_all next (placed_rows f.version skip (map row_of part))
+behind_part : (f : Found) (skip : ℕ) (part : List Row) (next : Place) → behind (file_of f) skip part next ≡ behind_all next (placed_rows f.version skip part)
 behind_part f skip [] next = refl
 behind_part f skip (z ∷ part) next =
-    let on : suc skip + length (map row_of part) ≡ skip + suc (length part) = omega (arith, length-map part row_of) in
-    sym (behind_from f.version (suc skip) (map row_of part) ∙ ap (λ (n : ℕ). record { version = f.version; file = 0; row = n }) on)
+    let on : suc skip + length part ≡ skip + suc (length part) = omega arith in
+    sym (behind_from f.version (suc skip) part ∙ ap (λ (n : ℕ). record { version = f.version; file = 0; row = n }) on)
 
 -- What is said is rows behind `rows`, at most so many of those ahead, and where the next read begins.
-pub record Goes (end : Place) (most : ℕ) (rows : List ℤ) (next : Place) (ahead : List (Place × Row)) (said : Result Handed Refusal) : Type 0 where
+pub record Goes (end : Place) (most : ℕ) (rows : List Row) (next : Place) (ahead : List (Place × Row)) (said : Result Handed Refusal) : Type 0 where
   pub handed : Handed
   pub said_is : said ≡ Ok handed
-  pub rows_are : map row_of handed.rows ≡ map row_of rows ++ map (λ p. p.1) (take most ahead)
+  pub rows_are : handed.rows ≡ rows ++ map (λ p. p.1) (take most ahead)
   pub onward : handed.next ≡ (if length (take most ahead) == most then behind_all next (take most ahead) else end)
 
 -- nothing more is to be handed out
-done_here : (end : Place) (most skip : ℕ) (rows : List ℤ) (next : Place) (ahead : List (Place × Row)) (said : Result Handed Refusal) → is_done most skip ≡ true → said ≡ Ok (record { rows = rows; next = next })
+done_here : (end : Place) (most skip : ℕ) (rows : List Row) (next : Place) (ahead : List (Place × Row)) (said : Result Handed Refusal) → is_done most skip ≡ true → said ≡ Ok (record { rows = rows; next = next })
     → Goes end most rows next ahead said
 done_here end most skip rows next ahead said done is =
     let none : most ≡ 0 = eqb-true most 0 (and_parts (eqb most 0) (eqb skip 0) done).0 in
     record {
       handed = record { rows = rows; next = next };
       said_is = is;
-      rows_are = rw none (sym (append-nil (map row_of rows)));
+      rows_are = rw none (sym (append-nil rows));
       onward = rw none refl;
     }
 
 -- no file is left
-at_end : (end : Place) (most : ℕ) (rows : List ℤ) (next : Place) (said : Result Handed Refusal) → said ≡ Ok (record { rows = rows; next = if is_done most 0 then next else end }) → Goes end most rows next [] said
+at_end : (end : Place) (most : ℕ) (rows : List Row) (next : Place) (said : Result Handed Refusal) → said ≡ Ok (record { rows = rows; next = if is_done most 0 then next else end }) → Goes end most rows next [] said
 at_end end zero rows next said is = record {
   handed = record { rows = rows; next = next };
   said_is = is;
-  rows_are = sym (append-nil (map row_of rows));
+  rows_are = sym (append-nil rows);
   onward = refl;
 }
 at_end end (suc most) rows next said is =
@@ -140,7 +140,7 @@ at_end end (suc most) rows next said is =
     record {
       handed = record { rows = rows; next = end };
       said_is = rw more at is;
-      rows_are = sym (append-nil (map row_of rows));
+      rows_are = sym (append-nil rows);
       onward = rw short refl;
     }
 
@@ -149,32 +149,32 @@ same_test : (a b c d : ℕ) → (a ≡ b → c ≡ d) → (c ≡ d → a ≡ b) 
 same_test a b c d onward back = grind (arith, nat_tests, onward, back)
 
 -- the rows ahead, of which the first stand in the first file
-ahead_in : (f : Found) (fs : List Found) (most skip : ℕ) → skip ≤ length f.numbers
-    → take most (drop skip (rows_in (f ∷ fs))) ≡ placed_rows f.version skip (map row_of (take most (drop skip f.numbers))) ++ take (most - length (take most (drop skip f.numbers))) (rows_in fs)
+ahead_in : (f : Found) (fs : List Found) (most skip : ℕ) → skip ≤ length f.rows
+    → take most (drop skip (rows_in (f ∷ fs))) ≡ placed_rows f.version skip (take most (drop skip f.rows)) ++ take (most - length (take most (drop skip f.rows))) (rows_in fs)
 ahead_in f fs most skip within =
-    let left = drop skip f.numbers in
-    let here = placed_rows f.version skip (map row_of left) in
-    let fits : skip ≤ length (placed_rows f.version 0 (map row_of f.numbers)) = omega (arith, length-placed f.version 0 (map row_of f.numbers), length-map f.numbers row_of) in
-    let placed_left : drop skip (placed_rows f.version 0 (map row_of f.numbers)) ≡ here =
-    drop-placed f.version 0 skip (map row_of f.numbers) ∙ (let at : 0 + skip ≡ skip = omega arith in rw at (ap (λ (rs : List Row). placed_rows f.version skip rs) (drop-map row_of skip f.numbers))) in
-    let first : take most here ≡ placed_rows f.version skip (map row_of (take most left)) = take-placed f.version skip most (map row_of left) ∙ ap (λ (rs : List Row). placed_rows f.version skip rs) (take-map row_of most left) in
-    let count : most - length here ≡ most - length (take most left) = omega (arith, length-placed f.version skip (map row_of left), length-map left row_of, length-take most left) in
-    ap (λ (ps : List (Place × Row)). take most ps) (drop-append-le skip (placed_rows f.version 0 (map row_of f.numbers)) (rows_in fs) fits ∙ ap (λ (ps : List (Place × Row)). ps ++ rows_in fs) placed_left)
+    let left = drop skip f.rows in
+    let here = placed_rows f.version skip left in
+    let fits : skip ≤ length (placed_rows f.version 0 f.rows) = omega (arith, length-placed f.version 0 f.rows) in
+    let placed_left : drop skip (placed_rows f.version 0 f.rows) ≡ here =
+    drop-placed f.version 0 skip f.rows ∙ (let at : 0 + skip ≡ skip = omega arith in rw at refl) in
+    let first : take most here ≡ placed_rows f.version skip (take most left) = take-placed f.version skip most left in
+    let count : most - length here ≡ most - length (take most left) = omega (arith, length-placed f.version skip left, length-take most left) in
+    ap (λ (ps : List (Place × Row)). take most ps) (drop-append-le skip (placed_rows f.version 0 f.rows) (rows_in fs) fits ∙ ap (λ (ps : List (Place × Row)). ps ++ rows_in fs) placed_left)
     ∙ take-append most here (rows_in fs) ∙ rw (first, count) refl
 
 -- what goes on behind a part of the first file
-goes_on : (end : Place) (f : Found) (fs : List Found) (most skip : ℕ) (rows : List ℤ) (next : Place) (said : Result Handed Refusal) → skip ≤ length f.numbers
-    → Goes end (most - length (take most (drop skip f.numbers))) (rows ++ take most (drop skip f.numbers)) (behind (file_of f) skip (take most (drop skip f.numbers)) next) (rows_in fs) said
+goes_on : (end : Place) (f : Found) (fs : List Found) (most skip : ℕ) (rows : List Row) (next : Place) (said : Result Handed Refusal) → skip ≤ length f.rows
+    → Goes end (most - length (take most (drop skip f.rows))) (rows ++ take most (drop skip f.rows)) (behind (file_of f) skip (take most (drop skip f.rows)) next) (rows_in fs) said
     → Goes end most rows next (drop skip (rows_in (f ∷ fs))) said
 goes_on end f fs most skip rows next said within later =
-    let part = take most (drop skip f.numbers) in
-    let first = placed_rows f.version skip (map row_of part) in
+    let part = take most (drop skip f.rows) in
+    let first = placed_rows f.version skip part in
     let more = take (most - length part) (rows_in fs) in
     let cut : take most (drop skip (rows_in (f ∷ fs))) ≡ first ++ more = ahead_in f fs most skip within in
-    let all_rows : map row_of later.handed.rows ≡ map row_of rows ++ map (λ p. p.1) (first ++ more) =
-    later.rows_are ∙ rw (map-append row_of rows part, map-append (λ (p : Place × Row). p.1) first more, rows-placed f.version skip (map row_of part)) (append_assoc (map row_of rows) (map row_of part) (map (λ p. p.1) more)) in
-    let many : length (first ++ more) ≡ length part + length more = length-append first more ∙ rw (length-placed f.version skip (map row_of part), length-map part row_of) refl in
-    let few : length part ≤ most = omega (arith, length-take most (drop skip f.numbers)) in
+    let all_rows : later.handed.rows ≡ rows ++ map (λ p. p.1) (first ++ more) =
+    later.rows_are ∙ rw (map-append (λ (p : Place × Row). p.1) first more, rows-placed f.version skip part) (append_assoc rows part (map (λ p. p.1) more)) in
+    let many : length (first ++ more) ≡ length part + length more = length-append first more ∙ rw (length-placed f.version skip part) refl in
+    let few : length part ≤ most = omega (arith, length-take most (drop skip f.rows)) in
     let test : eqb (length more) (most - length part) ≡ eqb (length (first ++ more)) most = same_test (length more) (most - length part) (length (first ++ more)) most (λ e. omega arith) (λ e. omega arith) in
     let to : behind_all (behind (file_of f) skip part next) more ≡ behind_all next (first ++ more) = rw (behind_part f skip part next) (sym (behind_both next first more)) in
     record {
@@ -189,27 +189,27 @@ pub within_none : (fs : List Found) → AreWithin 0 fs
 within_none [] = refl
 within_none (f ∷ fs) = omega arith
 
-module _ (objects : Objects) (column : Option (List ℕ)) (end : Place) where
+module _ (objects : Objects) (schema : Tree) (end : Place) where
   -- what is handed out of files that can be read
-  pub walked : (fs : List Found) (most skip : ℕ) (rows : List ℤ) (next : Place) → AreFound objects column fs → AreWithin skip fs
-      → Goes end most rows next (drop skip (rows_in fs)) (hand objects column end most skip rows next (map file_of fs))
+  pub walked : (fs : List Found) (most skip : ℕ) (rows : List Row) (next : Place) → AreFound objects schema fs → AreWithin skip fs
+      → Goes end most rows next (drop skip (rows_in fs)) (hand objects schema end most skip rows next (map file_of fs))
   unfolding hand
   walked [] most skip rows next found within = rw within (at_end end most rows next _ refl)
   walked (f ∷ fs) most skip rows next found within =
       elim (cases_Bool (is_done most skip)) [
         | inl done ↦ done_here end most skip rows next (drop skip (rows_in (f ∷ fs))) _ done (rw done refl)
         | inr on ↦
-            let part = take most (drop skip f.numbers) in
-            let enough = le-ltb (length f.numbers) skip within in
-            let step : hand objects column end most skip rows next (file_of f ∷ map file_of fs) ≡ hand objects column end (most - length part) 0 (rows ++ part) (behind (file_of f) skip part next) (map file_of fs) =
+            let part = take most (drop skip f.rows) in
+            let enough = le-ltb (length f.rows) skip within in
+            let step : hand objects schema end most skip rows next (file_of f ∷ map file_of fs) ≡ hand objects schema end (most - length part) 0 (rows ++ part) (behind (file_of f) skip part next) (map file_of fs) =
             rw (on, found.0, enough) refl in
             rw step (goes_on end f fs most skip rows next _ within (walked fs (most - length part) 0 (rows ++ part) (behind (file_of f) skip part next) found.1 (within_none fs)))
       ]
 
   -- a first file that has fewer rows than are to be passed over is the answer
-  pub row_missing : (f : Found) (fs : List Found) (most skip : ℕ) (next : Place) → AreFound objects column (f ∷ fs) → length f.numbers < skip → hand objects column end most skip [] next (map file_of (f ∷ fs)) ≡ Err (bad_place f.version)
+  pub row_missing : (f : Found) (fs : List Found) (most skip : ℕ) (next : Place) → AreFound objects schema (f ∷ fs) → length f.rows < skip → hand objects schema end most skip [] next (map file_of (f ∷ fs)) ≡ Err (bad_place f.version)
   unfolding hand
   row_missing f fs most skip next found past_it =
       let none : eqb skip 0 ≡ false = ne_eqb skip 0 (λ e. omega arith) in
       let on : is_done most skip ≡ false = rw none (and-false (eqb most 0)) in
-      rw (on, found.0, lt-ltb (length f.numbers) skip past_it) refl
+      rw (on, found.0, lt-ltb (length f.rows) skip past_it) refl

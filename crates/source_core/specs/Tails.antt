@@ -1,10 +1,10 @@
 -- What reads hand out that follow one another over objects that stay as they are: each begins where the one before
 -- ended.
-use Rattle.std.specs.Prelude.{◌≡◌, ℕ, ◌<◌, ℤ, List, [], ◌∷◌, ◌++◌, length, map, take, Result, Ok, Err, IsOk}
+use Rattle.std.specs.Prelude.{◌≡◌, ℕ, ◌<◌, List, [], ◌∷◌, ◌++◌, length, take, Result, Ok, Err, IsOk}
 use Rattle.store_core.specs.Objects.{Objects}
 use Rattle.table_model.specs.Reads.{position}
 use Rattle.table_model.specs.Resumed.{beginning}
-use Rattle.table_store.specs.Schema.{row_of}
+use Rattle.row_core.specs.Rows.{Row}
 use Rattle.table_model.specs.Table.{Entry, rows}
 use Rattle.table_model.specs.declared.reading.Place.{Place}
 use Rattle.commit_core.specs.Log.{log_of}
@@ -16,7 +16,7 @@ abbrev pub read_by : Objects → (max : ℕ) → Place → Result Handed Refusal
 read_by objects max place = refused_as unreadable (log_of objects) >>= λ log. handed_by objects log max place
 
 -- the rows of an answer: a read that is refused hands out none
-abbrev pub rows_handed : Result Handed Refusal → List ℤ
+abbrev pub rows_handed : Result Handed Refusal → List Row
 rows_handed (Ok handed) = handed.rows
 rows_handed (Err refusal) = []
 
@@ -27,11 +27,11 @@ place_after place (Err refusal) = place
 
 -- what several reads handed out together, and the place where the next one begins
 pub record Tails : Type 0 where
-  pub rows : List ℤ
+  pub rows : List Row
   pub next : Place
 
 -- the same with the rows of an earlier read in front
-abbrev pub with_earlier : List ℤ → Tails → Tails
+abbrev pub with_earlier : List Row → Tails → Tails
 with_earlier before later = record { rows = before ++ later.rows; next = later.next }
 
 -- Reads over the same objects, each with its own limit: the first begins at a place, and each next one where the one
@@ -47,13 +47,13 @@ tails objects (max ∷ limits) place = with_earlier (rows_handed (read_by object
 abbrev pub HandOutTheLog : Objects → List Entry → Type 0
 HandOutTheLog objects entries = (limits : List ℕ) →
     let all = tails objects limits beginning in
-    map row_of all.rows ≡ take (position all.next entries) (rows entries)
+    all.rows ≡ take (position all.next entries) (rows entries)
 
 -- Where the last read handed out fewer rows than its limit, they hand out all rows.
 abbrev pub HandOutAll : Objects → List Entry → Type 0
 HandOutAll objects entries = (earlier : List ℕ) (max : ℕ) →
     length (rows_handed (read_by objects max (tails objects earlier beginning).next)) < max →
-    map row_of (tails objects (earlier ++ max ∷ []) beginning).rows ≡ rows entries
+    (tails objects (earlier ++ max ∷ []) beginning).rows ≡ rows entries
 
 -- None of them is refused.
 abbrev pub AreAnswered : Objects → Type 0

@@ -3,7 +3,7 @@ ghost use Rattle.std.specs.Prelude.{Some};
 ghost use Rattle.source_core.specs.TailFaults.{refusal_text, refusal_view};
 
 use commit_core::LogFault;
-use parquet_file::FileFault;
+use parquet_footer::FileFault;
 use std::alloc::{AllocError, AllocFailed};
 use std::fmt;
 use std::fmt::{Display, Formatter};
@@ -14,7 +14,7 @@ use thiserror::Error;
 /// know them.
 #[derive(Debug, Drop, Error)]
 pub enum TailFault {
-    /// A table whose schema can't be read, or a file of a table that isn't of one required long column.
+    /// A table whose log tells no schema that can be read.
     NotYet,
     /// The offset's text is no offset.
     BadOffsetText,

@@ -1,4 +1,5 @@
 use Rattle.std.proofs.Common.{rules, ◌≡◌, true, false, inr, ap, subst, sym, ◌∙◌}
+use Rattle.std.proofs.lemmas.Bool.{false≢true}
 use Rattle.lake_script.specs.Lines.{reading_view}
 use Rattle.lake_script.specs.ReplyView.{reply_text, is_short}
 use Rattle.lake_script.specs.Runs.{IsCutOff, Replies, TellsShort}
@@ -14,7 +15,7 @@ grant-reply-requires g c = reading_timely _ _ (ap reading_view (sym c.in-Asks.is
 pub returns-in_ok-give-in-Asks-clause-whole : goal.returns-in_ok-give-in-Asks-clause-whole
 returns-in_ok-give-in-Asks-clause-whole g c = λ reliable whole.
     let asked = ap reading_view (sym c.in-Asks.is) ∙ c.in_ok-reading_of.ensures in
-    let short : is_short c.grant-reply.result ≡ false = search rules in
+    let short : is_short c.grant-reply.result ≡ false = elim c.if-is_short.branch [ then-is_short w ↦ absurd (false≢true (sym whole ∙ w.is_short-is)) | else-is_short w ↦ search rules ] in
     answered _ _ _ _ _ _ _ _ asked (c.grant-reply.ensures.whole reliable short) c.in_ok-give-in-Asks.ensures.held
 
 pub returns-in_ok-give-in-Asks-clause-tells : goal.returns-in_ok-give-in-Asks-clause-tells
