@@ -5,7 +5,7 @@ use crate::kind::{Kind, ROWS, kind_named};
 use crate::local_heap::{heap_line, heap_tree_line};
 use crate::notation::{Names, number, spelled};
 use crate::pages::{chunk_line, fit_lines, hybrid_line};
-use crate::parquet::file_lines;
+use crate::parquet::{file_lines, spoiled_file};
 use crate::refusal::Refusal;
 use crate::rows::table_lines;
 use crate::spoiling::spoil;
@@ -16,11 +16,12 @@ use std::collections::BTreeMap;
 /// Answers the lines of a text. A blank line and one that begins with `#` are printed as they are.
 ///
 /// `KIND BYTES` tells what the bytes are, `rows COLUMN BYTES` the rows of a file; `write ..` what is written;
-/// `spoil KIND BYTES` what comes of spoiled bytes; `heap BYTES SCHEMA` what comes of a schema that is copied into a heap
-/// of so many bytes, `heap-tree BYTES STRUCT` what comes of a struct that is read into one; `row SCHEMA ROW`,
-/// `columns SCHEMA ROWS` and `assemble SCHEMA COLUMNS` what comes of rows and columns
-/// of a schema, which is one word; `hybrid WIDTH COUNT BYTES` and `chunk TYPE FLAGS OFFSET COUNT BYTES` what stands in
-/// levels and pages; `fit SCHEMA FILE` a file's columns against a table's, `file SCHEMA FILE` its rows. `let NAME BYTES` and `let NAME write ..` name bytes.
+/// `spoil KIND BYTES` and `spoil file SCHEMA FILE` what comes of spoiled bytes; `heap BYTES SCHEMA` what comes of a
+/// schema that is copied into a heap of so many bytes, `heap-tree BYTES STRUCT` what comes of a struct that is read into
+/// one; `row SCHEMA ROW`, `columns SCHEMA ROWS` and `assemble SCHEMA COLUMNS` what comes of rows and columns of a
+/// schema, which is one word; `hybrid WIDTH COUNT BYTES` and `chunk TYPE FLAGS OFFSET COUNT BYTES` what stands in levels
+/// and pages; `fit SCHEMA FILE` a file's columns against a table's, `file SCHEMA FILE` its rows. `let NAME BYTES` and
+/// `let NAME write ..` name bytes.
 pub fn cases(alloc: Global, text: &str) -> Result<String, AllocError> {
     let mut out = String::new(alloc);
     let mut names = BTreeMap::new(alloc);
@@ -55,6 +56,9 @@ fn answer(alloc: Global, names: &mut Names, line: &str) -> Result<String, Refusa
             Ok(shortened(alloc, hex::encode(alloc, &bytes)?)?)
         }
         "spoil" => {
+            if let Some(rest) = rest.strip_prefix("file ") {
+                return spoiled_file(alloc, names, rest);
+            }
             let (kind, rest) = kind_in_front(rest).ok_or(Refusal::BadSpelling)?;
             spoil(alloc, kind, &spelled(alloc, names, rest)?)
         }

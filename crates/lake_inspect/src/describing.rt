@@ -2,7 +2,7 @@
 
 use crate::commit::commit_lines;
 use crate::kind::Kind;
-use crate::parquet::{footer_lines, page_line, row_lines};
+use crate::parquet::{footer_lines, page_line, row_lines, table_lines};
 use crate::refusal::Refusal;
 use crate::schema::schema_lines;
 use crate::tree::push_value;
@@ -16,6 +16,7 @@ pub fn describe(alloc: Global, kind: Kind<'_>, bytes: &[u8]) -> Result<Vec<Strin
     match kind {
         Kind::Footer => footer_lines(alloc, bytes),
         Kind::Rows(column) => row_lines(alloc, column, bytes),
+        Kind::Table(schema) => table_lines(alloc, schema, bytes),
         Kind::Schema => schema_lines(alloc, bytes),
         Kind::Commit => commit_lines(alloc, bytes),
         _ => {

@@ -1,5 +1,8 @@
 //! What bytes can be read as.
 
+use schema_tree::Schema;
+use std::alloc::Global;
+
 /// What bytes are read as.
 #[derive(Clone, Copy)]
 pub enum Kind<'a> {
@@ -21,6 +24,8 @@ pub enum Kind<'a> {
     Page,
     /// A Parquet file of one required long column of this name, of which the rows are told.
     Rows(&'a str),
+    /// A Parquet file of a table of this schema, of which the rows are told.
+    Table(&'a Schema<Global>),
     /// The JSON text of a table's schema.
     Schema,
     /// The lines of a Delta commit.

@@ -4,6 +4,7 @@
 mod cases;
 mod commit;
 mod describing;
+mod files;
 mod kind;
 mod local_heap;
 mod notation;

@@ -8,7 +8,7 @@ use crate::refusal::Refusal;
 use crate::rows::{column_of, json_of};
 use crate::schema::schema_of;
 use lake_bytes::{Cursor, hybrid_read, hybrid_write};
-use parquet_file::Footer;
+use parquet_footer::Footer;
 use parquet_pages::{Leaf, LeafType, read_chunk, test_chunk, write_chunk};
 use parquet_schema::{FileLeaf, fit};
 use row_core::Value;
@@ -16,7 +16,8 @@ use schema_tree::Primitive;
 use shred::Column;
 use std::alloc::{AllocError, Global};
 
-/// The values in front of a hybrid, for `WIDTH COUNT BYTES`: each with how often it stands there, and how many bytes are left.
+/// The values in front of a hybrid, for `WIDTH COUNT BYTES`: each with how often it stands there, and how many bytes are
+/// left.
 pub fn hybrid_line(alloc: Global, names: &Names, rest: &str) -> Result<String, Refusal> {
     let (width, rest) = rest.split_once(' ').ok_or(Refusal::BadSpelling)?;
     let (count, rest) = rest.split_once(' ').unwrap_or((rest, ""));
@@ -62,9 +63,9 @@ fn width_of(word: &str) -> Result<u32, Refusal>
     Ok(width)
 }
 
-/// What the pages of a chunk hold, for `TYPE FLAGS OFFSET COUNT BYTES`: the levels and the values. FLAGS is `-`, or has for
-/// each node that may be null in the file `n` where the table lets it be null, and `r` where it doesn't. A test that keeps
-/// nothing has to come to the same.
+/// What the pages of a chunk hold, for `TYPE FLAGS OFFSET COUNT BYTES`: the levels and the values. FLAGS is `-`, or has
+/// for each node that may be null in the file `n` where the table lets it be null, and `r` where it doesn't. A test that
+/// keeps nothing has to come to the same.
 pub fn chunk_line(alloc: Global, names: &Names, rest: &str) -> Result<String, Refusal> {
     let (word, rest) = rest.split_once(' ').ok_or(Refusal::BadSpelling)?;
     let (flags, rest) = rest.split_once(' ').ok_or(Refusal::BadSpelling)?;
@@ -103,8 +104,8 @@ pub fn written_chunk(alloc: Global, names: &Names, rest: &str) -> Result<Vec<u8>
     Ok(bytes)
 }
 
-/// What a table's rows are in a file, for `SCHEMA BYTES`: for each leaf the way to it, and for each node on it that may be null in
-/// the file whether the table lets it be null.
+/// What a table's rows are in a file, for `SCHEMA BYTES`: for each leaf the way to it, and for each node on it that may
+/// be null in the file whether the table lets it be null.
 pub fn fit_lines(alloc: Global, names: &Names, rest: &str) -> Result<Vec<String>, Refusal> {
     let (schema, rest) = rest.split_once(' ').ok_or(Refusal::BadSpelling)?;
     let schema = schema_of(alloc, &spelled(alloc, names, schema)?)?;

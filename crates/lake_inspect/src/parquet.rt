@@ -1,36 +1,73 @@
 //! Parquet files in lines: what a footer says, a page's header, and the rows.
 
+use crate::kind::Kind;
 use crate::notation::{Names, spelled};
 use crate::refusal::Refusal;
 use crate::rows::printed;
 use crate::schema::schema_of;
+use crate::spoiling::spoil;
 use crate::tree::{push_binary, push_value};
-use parquet_file::{ColumnChunk, Footer, SchemaElement, read_rows};
+use parquet_footer::{ColumnChunk, Footer, SchemaElement};
+use parquet_rows::read_rows;
+use row_core::Value;
+use schema_tree::Schema;
 use std::alloc::{AllocError, Global};
 use thrift_core::TValue;
 
 /// How many rows a file has, and then the rows.
 pub fn row_lines(alloc: Global, column: &str, bytes: &[u8]) -> Result<Vec<String>, Refusal> {
-    let rows = read_rows(alloc, column, bytes)?;
+    let schema = Schema::one_long(alloc, column)?;
+    let rows = read_rows(alloc, &schema, bytes)?;
     let count = rows.len();
     let mut lines = vec![in alloc; format!(in alloc; "{count} rows")?]?;
     for row in &rows {
-        lines.push(format!(in alloc; "{row}")?)?;
+        lines.push(number_line(alloc, row)?)?;
     }
     Ok(lines)
 }
 
-/// How many rows of a table a file has, and then the rows as JSON, for `SCHEMA BYTES`.
-pub fn file_lines(alloc: Global, names: &Names, rest: &str) -> Result<Vec<String>, Refusal> {
-    let (schema, rest) = rest.split_once(' ').ok_or(Refusal::BadSpelling)?;
-    let schema = schema_of(alloc, &spelled(alloc, names, schema)?)?;
-    let rows = parquet_rows::read_rows(alloc, &schema, &spelled(alloc, names, rest)?)?;
+/// The number in a row of one column.
+fn number_line(alloc: Global, row: &Value) -> Result<String, Refusal> {
+    match row {
+        Value::Struct(values) => match values.as_slice() {
+            [Value::Int(number)] => Ok(format!(in alloc; "{number}")?),
+            _ => Err(Refusal::BadSpelling),
+        },
+        _ => Err(Refusal::BadSpelling),
+    }
+}
+
+/// How many rows of a table a file has, and then the rows as JSON.
+pub fn table_lines(
+    alloc: Global,
+    schema: &Schema<Global>,
+    bytes: &[u8],
+) -> Result<Vec<String>, Refusal> {
+    let rows = read_rows(alloc, schema, bytes)?;
     let count = rows.len();
     let mut lines = vec![in alloc; format!(in alloc; "{count} rows")?]?;
     for row in &rows {
-        lines.push(printed(alloc, &schema, row)?)?;
+        lines.push(printed(alloc, schema, row)?)?;
     }
     Ok(lines)
+}
+
+/// The rows of a file of a table, for `SCHEMA BYTES`.
+pub fn file_lines(alloc: Global, names: &Names, rest: &str) -> Result<Vec<String>, Refusal> {
+    let (schema, rest) = rest.split_once(' ').ok_or(Refusal::BadSpelling)?;
+    let schema = schema_of(alloc, &spelled(alloc, names, schema)?)?;
+    table_lines(alloc, &schema, &spelled(alloc, names, rest)?)
+}
+
+/// What comes of a spoiled file of a table, for `SCHEMA BYTES`.
+pub fn spoiled_file(alloc: Global, names: &Names, rest: &str) -> Result<String, Refusal> {
+    let (schema, rest) = rest.split_once(' ').ok_or(Refusal::BadSpelling)?;
+    let schema = schema_of(alloc, &spelled(alloc, names, schema)?)?;
+    spoil(
+        alloc,
+        Kind::Table(&schema),
+        &spelled(alloc, names, rest)?,
+    )
 }
 
 /// What a footer says: how many rows the file has, the nodes of the schema, and each row group with its chunks.

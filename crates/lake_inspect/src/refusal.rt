@@ -5,7 +5,7 @@ ghost use Rattle.lake_inspect.specs.declared.refusal.Refusal.TheVariants.{Memory
 
 use delta_actions::ActionFault;
 use lake_bytes::{ByteFault, HybridError};
-use parquet_file::{FileError, FileFault};
+use parquet_footer::{FileError, FileFault};
 use row_core::{RowError, RowFault};
 use schema_tree::SchemaFault;
 use shred::ShredError;

@@ -66,7 +66,7 @@ pub fn printed(alloc: Global, schema: &Schema<Global>, row: &Value) -> Result<St
 }
 
 /// The rows that a JSON array is.
-fn rows_of(alloc: Global, schema: &Schema<Global>, value: &Json) -> Result<Vec<Value>, Refusal>
+pub fn rows_of(alloc: Global, schema: &Schema<Global>, value: &Json) -> Result<Vec<Value>, Refusal>
     ensures { IfOk result (λ rows. All (Conforms (tree_of schema.now)) (row_views rows.items)) }
 {
     let mut rows = Vec::new(alloc);

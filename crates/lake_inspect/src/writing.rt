@@ -1,20 +1,19 @@
 //! What is written, by the words of a line of cases.
 
-use crate::cases::column_named;
+use crate::files::{rows_file, table_file};
 use crate::notation::{Names, number, spelled};
 use crate::pages::{written_chunk, written_hybrid};
 use crate::refusal::Refusal;
 use delta_actions::{print_commit, read_commit};
 use lake_bytes::{Cursor, write_i32_le, write_i64_le, write_u32_le, write_varint, write_zigzag};
-use parquet_file::write_file;
 use std::alloc::Global;
 use thrift_core::{FieldShape, Shape, read_struct, write_struct};
 
 /// The bytes that are written: of a number for `varint N`, `zigzag N`, `u32 N`, `i32 N` and `i64 N`; for
-/// `rows COLUMN N ..` the file of these rows, where `N..M` stands for the rows from N up to M, which isn't one; for
-/// `hybrid WIDTH VALUE ..` runs of these values, `VALUE*N` for N of them; for `chunk TYPE HIGHEST COLUMN` the pages of a column; for
-/// `commit BYTES` the actions that the bytes are, printed again; for `thrift BYTES` the struct that they are, written
-/// again as a [`SAMPLE`].
+/// `rows COLUMN N ..` the file of these rows, where `N..M` stands for the rows from N up to M, which isn't one, and for
+/// `file SCHEMA ROWS` that of the rows of a table, a JSON array; for `hybrid WIDTH VALUE ..` runs of these values,
+/// `VALUE*N` for N of them; for `chunk TYPE HIGHEST COLUMN` the pages of a column; for `commit BYTES` the actions that the
+/// bytes are, printed again; for `thrift BYTES` the struct that they are, written again as a [`SAMPLE`].
 pub fn written(alloc: Global, names: &Names, text: &str) -> Result<Vec<u8>, Refusal> {
     let (what, rest) = text.split_once(' ').unwrap_or((text, ""));
     let mut out = Vec::new(alloc);
@@ -25,6 +24,7 @@ pub fn written(alloc: Global, names: &Names, text: &str) -> Result<Vec<u8>, Refu
         "i32" => write_i32_le(&mut out, number(rest)?)?,
         "i64" => write_i64_le(&mut out, number(rest)?)?,
         "rows" => return rows_file(alloc, rest),
+        "file" => return table_file(alloc, names, rest),
         "hybrid" => return written_hybrid(alloc, rest),
         "chunk" => return written_chunk(alloc, names, rest),
         "commit" => {
@@ -39,23 +39,6 @@ pub fn written(alloc: Global, names: &Names, text: &str) -> Result<Vec<u8>, Refu
         _ => return Err(Refusal::BadSpelling),
     }
     Ok(out)
-}
-
-/// The file of the rows that the words spell behind the column's name.
-fn rows_file(alloc: Global, text: &str) -> Result<Vec<u8>, Refusal> {
-    let (column, words) = text.split_once(' ').unwrap_or((text, ""));
-    let mut rows = Vec::new(alloc);
-    for word in words.split_whitespace() {
-        match word.split_once("..") {
-            Some((first, end)) => {
-                for row in number::<i64>(first)?..number::<i64>(end)? {
-                    rows.push(row)?;
-                }
-            }
-            None => rows.push(number::<i64>(word)?)?,
-        }
-    }
-    Ok(write_file(alloc, column_named(column), &rows)?)
 }
 
 /// A struct with a field of each type that is written.
