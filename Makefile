@@ -1,4 +1,4 @@
-.PHONY: demo inspect lake test times
+.PHONY: bench demo inspect lake test times
 
 # Runs the stored script of the program without a proof, and shows each line before its replies.
 demo:
@@ -13,6 +13,10 @@ lake:
 inspect:
 	@cd crates/lake_inspect && rt run -- $$(cat args) < stdin > /dev/null
 	@echo "built: crates/lake_inspect/out/lake_inspect"
+
+# Times the built program on a few scripts; run `make lake` before it.
+bench:
+	@scripts/bench.sh
 
 # The gate: proves everything from nothing, tries the must-fail edits, and runs every program and test.
 test:

@@ -1,0 +1,67 @@
+#!/usr/bin/env bash
+# Runs a few scripts on the built program (`make lake`) and prints what each takes: the seconds of the processor, least of
+# three runs, and rows a second. Start of the program and reading of the script are in it.
+set -euo pipefail
+cd "$(dirname "$0")/.."
+lake=$PWD/crates/lake/out/lake
+if [ ! -x "$lake" ]; then
+    echo "there is no $lake: run 'make lake' first" >&2
+    exit 1
+fi
+work=$(mktemp -d)
+trap 'rm -rf "$work"' EXIT
+id=00000000-0000-4000-8000-000000000001
+beginning='{"file":0,"row":0,"version":0}'
+
+# create FIELD ..
+create() {
+    local IFS=,
+    echo "create $id 0 {\"type\":\"struct\",\"fields\":[$*]}"
+}
+
+# An append of N rows of application `a` under a number: long columns, or a long and a text.
+append() {
+    awk -v number="$1" -v rows="$2" -v text="$3" 'BEGIN {
+        srand(1)
+        printf "append a %d 0 [", number
+        for (i = 0; i < rows; i++) {
+            printf "%s{\"x\":%d", (i ? "," : ""), int(rand() * 2000000000000) - 1000000000000
+            if (text) printf ",\"s\":\"row %d of some text\"", i
+            printf "}"
+        }
+        print "]"
+    }'
+}
+
+long='{"name":"x","type":"long","nullable":false}'
+string='{"name":"s","type":"string"}'
+
+# One append and one read of all, of a long column, and of a long and a nullable text.
+{ create "$long"; append 0 65536 0; echo "tail 65536 $beginning"; } >"$work/long-65536"
+{ create "$long" "$string"; append 0 65536 1; echo "tail 65536 $beginning"; } >"$work/text-65536"
+
+# Many appends of one row, each of which replays the log; and a batch that is handed in again and again.
+{ create "$long"; for n in $(seq 0 799); do append "$n" 1 0; done; echo "tail 65536 $beginning"; } >"$work/appends-800"
+{ create "$long"; append 0 4096 0 >"$work/one"; for _ in $(seq 51); do cat "$work/one"; done; } >"$work/repeats-50"
+rm "$work/one"
+
+# Reads of ten rows, each from where the one before ended.
+{
+    create "$long"
+    append 0 4096 0
+    for row in $(seq 0 10 4095); do echo "tail 10 {\"file\":0,\"row\":$row,\"version\":1}"; done
+} >"$work/reads-4096"
+
+# The processor's seconds of one run, user and system.
+seconds() {
+    local TIMEFORMAT='%U %S'
+    { time "$lake" script <"$1" >"$work/out"; } 2>&1 | awk '{ print $1 + $2 }'
+}
+
+printf '%-12s %8s %8s %12s\n' script rows seconds 'rows/second'
+for script in long-65536:65536 text-65536:65536 appends-800:800 repeats-50:208896 reads-4096:4096; do
+    name=${script%:*}
+    rows=${script#*:}
+    for _ in 1 2 3; do seconds "$work/$name"; done | sort -n | head -1 |
+        awk -v name="$name" -v rows="$rows" '{ printf "%-12s %8d %8.3f %12d\n", name, rows, $1, rows / ($1 > 0 ? $1 : 0.001) }'
+done
