@@ -156,8 +156,8 @@ fn push_run(runs: &mut Vec<Run>, value: u64, count: u64) -> Result<(), AllocErro
 }
 
 /// So many packed values of `width` bits, 0 to 32, each from the low bit of the bytes on, as runs of equal ones (Apache
-/// Parquet, "Bit-packed"; truth values in PLAIN are packed so, in one bit each). Behind the last byte there are zeros. The
-/// time is linear in the values, and constant at a width of 0.
+/// Parquet, "Bit-packed"; truth values in PLAIN are packed so, in one bit each). Behind the last byte there are zeros.
+/// The time is linear in the values, and constant at a width of 0.
 pub fn unpack(alloc: Global, bytes: &[u8], width: u32, count: u64) -> Result<Vec<Run>, AllocError>
     requires { width ≤ 32 }
     ensures { IfOk result (λ runs. values_of runs.items ≡ unpacked width count (low_first bytes.now)) }

@@ -12,8 +12,8 @@ use thrift_core::{FieldShape, Shape, read_struct, write_struct};
 /// The bytes that are written: of a number for `varint N`, `zigzag N`, `u32 N`, `i32 N` and `i64 N`; for
 /// `rows COLUMN N ..` the file of these rows, where `N..M` stands for the rows from N up to M, which isn't one, and for
 /// `file SCHEMA ROWS` that of the rows of a table, a JSON array; for `hybrid WIDTH VALUE ..` runs of these values,
-/// `VALUE*N` for N of them; for `chunk TYPE HIGHEST COLUMN` the pages of a column; for `commit BYTES` the actions that the
-/// bytes are, printed again; for `thrift BYTES` the struct that they are, written again as a [`SAMPLE`].
+/// `VALUE*N` for N of them; for `chunk TYPE HIGHEST COLUMN` the pages of a column; for `commit BYTES` the actions that
+/// the bytes are, printed again; for `thrift BYTES` the struct that they are, written again as a [`SAMPLE`].
 pub fn written(alloc: Global, names: &Names, text: &str) -> Result<Vec<u8>, Refusal> {
     let (what, rest) = text.split_once(' ').unwrap_or((text, ""));
     let mut out = Vec::new(alloc);

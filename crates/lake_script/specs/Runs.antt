@@ -53,7 +53,8 @@ too_large_to_create = line_of (refused (create_fault_text create_faults.TooLarge
 abbrev pub too_large_to_append : List ℕ
 too_large_to_append = line_of (refused (refusal_text file_too_large))
 
--- the reply to a line whose object would pass 64 MiB
+-- the reply reads as that to a line whose object would pass 64 MiB; an append is told the same text where its number or
+-- its count of rows is above the limit
 abbrev pub IsTooLarge : Wish → List ℕ → Type 0
 IsTooLarge (create id at schema) reply = reply ≡ too_large_to_create
 IsTooLarge (task (append application number at rows)) reply = reply ≡ too_large_to_append

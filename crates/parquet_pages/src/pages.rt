@@ -55,11 +55,11 @@ impl Page<'_> {
 /// The data page of a leaf's column that begins at a place; `bytes` are the file's before its footer, and `left` values
 /// are missing of the column (Apache Parquet, "Data Pages").
 ///
-/// P6 where the place isn't before the end; P11 for the header as [`read_header`] has it; P5 for a page of another kind;
-/// P6 where it doesn't end in the bytes; P7 where its two sizes differ; P4 where its values aren't in PLAIN, and then where
-/// its levels aren't in RLE; P11 for its levels, which may not be above the highest (B3), and values; P9 for a text or bytes
-/// of over 1 MiB; P7 for bytes behind its values or more values than are left; P10 for a text that isn't UTF-8; P8 for a
-/// null where the table has none and a number out of its type's range.
+/// P6 where the place isn't before the end; P11 for the header as [`read_header`] has it; P5 for a page of another
+/// kind; P6 where it doesn't end in the bytes; P7 where its two sizes differ; P4 where its values aren't in PLAIN, and
+/// then where its levels aren't in RLE; P11 for its levels, which may not be above the highest (B3), and values; P9 for
+/// a text or bytes of over 1 MiB; P7 for bytes behind its values or more values than are left; P10 for a text that
+/// isn't UTF-8; P8 for a null where the table has none and a number out of its type's range.
 ///
 /// The time is linear in its bytes, however many values its levels claim, the memory in the runs of its levels.
 pub fn read_page<'a>(

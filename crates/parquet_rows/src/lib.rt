@@ -1,4 +1,5 @@
-//! The rows of whole Parquet files, read and written, for tables of any schema. It knows nothing of logs, stores or batches.
+//! The rows of whole Parquet files, read and written, for tables of any schema. It knows nothing of logs, stores or
+//! batches.
 #![tactic(auto)]
 
 mod columns;

@@ -33,11 +33,11 @@ use thrift_core::{TValue, write_struct};
 /// The file of these rows, for a table of this schema whose columns all have values (Apache Parquet, File Format).
 ///
 /// All rows stand in one row group, the chunks of its leaves one behind the other in the table's order, in pages of
-/// `parquet_pages::MAX_PAGE_ROWS` rows; without rows there is no row group. P9 for more than 4,194,304 rows, and where the
-/// file would have over 64 MiB.
+/// `parquet_pages::MAX_PAGE_ROWS` rows; without rows there is no row group. P9 for more than 4,194,304 rows, for a name
+/// of over 64 MiB, and where a page's body, the chunks so far or the file would have over 64 MiB.
 ///
-/// The time is linear in rows times leaves and in the bytes that are written. Beside the file the memory holds its columns,
-/// which borrow the rows' values.
+/// The time is linear in rows times leaves and in the bytes that are written. Beside the file the memory holds its
+/// columns, which borrow the rows' values.
 pub fn write_file<A: Allocator>(
     alloc: Global,
     schema: &Schema<A>,

@@ -44,8 +44,8 @@ pub(crate) fn leaves_of<A: Allocator>(
     Ok(leaves)
 }
 
-/// The leaves of a table's rows whose shape in a file this is, in the table's order, depth first. The time is linear in the leaves
-/// and the lengths of the ways to them.
+/// The leaves of a table's rows whose shape in a file this is, in the table's order, depth first. The time is linear in
+/// the leaves and the lengths of the ways to them.
 pub fn leaves_of_schema<A: Allocator>(
     alloc: Global,
     schema: &Schema<A>,

@@ -84,9 +84,9 @@ pub fn a_lawful_store_has_each_batch_once()
         → Holds objects schema (before ++ batch b ∷ between ++ batch c ∷ after) → b.application ≡ c.application → b.number < c.number }
 {}
 
-/// A lawful store's log is lawful in terms of commits and their actions: it is empty or begins with its creation, each later
-/// commit is a group of batches of different applications or the close of one stream, the file of each batch stands, no
-/// batch stands twice, each application's numbers rise, and none stands behind a close of its stream.
+/// A lawful store's log is lawful in terms of commits and their actions: it is empty or begins with its creation, each
+/// later commit is a group of batches of different applications or the close of one stream, the file of each batch
+/// stands, no batch stands twice, each application's numbers rise, and none stands behind a close of its stream.
 pub fn a_lawful_store_has_a_lawful_log()
     ensures { (objects : Objects) → IsLawfulStore objects → HasLawfulLog objects }
 {}
