@@ -56,7 +56,11 @@ fn number_rows(
 pub fn table_file(alloc: Global, names: &Names, rest: &str) -> Result<Vec<u8>, Refusal> {
     let (schema, rest) = rest.split_once(' ').ok_or(Refusal::BadSpelling)?;
     let schema = schema_of(alloc, &spelled(alloc, names, schema)?)?;
-    let rows = rows_of(alloc, &schema, &json_of(alloc, &spelled(alloc, names, rest)?)?)?;
+    let rows = rows_of(
+        alloc,
+        &schema,
+        &json_of(alloc, &spelled(alloc, names, rest)?)?,
+    )?;
     file_of(alloc, &schema, &rows)
 }
 

@@ -63,11 +63,7 @@ pub fn file_lines(alloc: Global, names: &Names, rest: &str) -> Result<Vec<String
 pub fn spoiled_file(alloc: Global, names: &Names, rest: &str) -> Result<String, Refusal> {
     let (schema, rest) = rest.split_once(' ').ok_or(Refusal::BadSpelling)?;
     let schema = schema_of(alloc, &spelled(alloc, names, schema)?)?;
-    spoil(
-        alloc,
-        Kind::Table(&schema),
-        &spelled(alloc, names, rest)?,
-    )
+    spoil(alloc, Kind::Table(&schema), &spelled(alloc, names, rest)?)
 }
 
 /// What a footer says: how many rows the file has, the nodes of the schema, and each row group with its chunks.
