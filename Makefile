@@ -1,4 +1,4 @@
-.PHONY: bench demo inspect lake test times
+.PHONY: bench demo inspect lake model test times
 
 # Runs the stored script of the program without a proof, and shows each line before its replies.
 demo:
@@ -17,6 +17,10 @@ inspect:
 # Times the built program on a few scripts; run `make lake` before it.
 bench:
 	@scripts/bench.sh
+
+# Compares the stored answers of cases with those of an independent model, in Python 3.11 without a package.
+model:
+	@python3 scripts/model/check_cases.py
 
 # The gate: proves everything from nothing, tries the must-fail edits, and runs every program and test.
 test:

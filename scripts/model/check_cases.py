@@ -1,0 +1,464 @@
+"""Compares stored answers of cases with those of the model in this folder.
+
+The model was written from the public standards (Apache Parquet, the Thrift compact protocol, and
+Delta's PROTOCOL.md) and from what `docs/FORMATS.md` and `docs/REFUSALS.md` lay down beside them. It
+shares no code with the crates. Cases with anything that it doesn't know are skipped.
+
+`python3 scripts/model/check_cases.py` ends with status 1 where an answer differs.
+"""
+
+from collections.abc import Callable, Iterator
+from functools import partial
+from pathlib import Path
+from typing import Any, NamedTuple
+import hashlib
+import re
+import sys
+
+from parquet_reader import ReadFault, read_file
+from parquet_writer import write_file
+from table import NotModelled, RowFault, Table
+from table import compact, json_value, row_of, schema_of, unsupported_column
+
+CRATES = Path(__file__).resolve().parents[2] / "crates"
+
+# The longest line that is told whole, and how many bytes of a longer one are told at each end.
+LONGEST_LINE = 1_000
+LINE_END = 300
+
+# The numbers of a type.
+U32, U64, I64 = range(1 << 32), range(1 << 64), range(-(1 << 63), 1 << 63)
+
+# What a backslash and a letter stand for in the directives of scripts.
+ESCAPES = {"n": b"\n", "r": b"\r", "t": b"\t"}
+ESCAPE = re.compile(r"\\([nrt])|\\x\{([0-9a-fA-F]*)\}|\$\{([^}]*)\}")
+
+
+class Misspelled(Exception):
+    """A line whose bytes or numbers aren't spelled as the notation wants it."""
+
+
+def lines_of(crate: str, name: str) -> list[str]:
+    """The lines of a crate's stored input or output."""
+    return (CRATES / crate / name).read_bytes().decode().removesuffix("\n").split("\n")
+
+
+class Tally:
+    """How many cases agree, differ and are skipped."""
+
+    def __init__(self) -> None:
+        self.agree = 0
+        self.differ = 0
+        self.skipped = 0
+
+    def __str__(self) -> str:
+        return f"{self.agree} agree, {self.differ} differ, {self.skipped} skipped"
+
+    def add(self, other: "Tally") -> None:
+        """Adds the counts of another tally."""
+        self.agree += other.agree
+        self.differ += other.differ
+        self.skipped += other.skipped
+
+    def compare(self, name: str, answer: Callable[[], list[str]], stored: list[str]) -> None:
+        """Compares the model's answer with the stored one, and prints where they differ."""
+        try:
+            told = answer()
+        except NotModelled:
+            self.skipped += 1
+            return
+        if told == stored:
+            self.agree += 1
+            return
+        self.differ += 1
+        print(f"{name} differs:")
+        for place in range(max(len(told), len(stored))):
+            mine = told[place : place + 1]
+            theirs = stored[place : place + 1]
+            if mine != theirs:
+                print("  stored", *map(shortened, theirs))
+                print("  model ", *map(shortened, mine))
+
+
+class ScriptCase(NamedTuple):
+    """A case of scripts: its directives but for texts, and its script."""
+
+    name: str
+    directives: list[str]
+    script: bytearray
+
+
+def script_text(names: dict[str, bytes], text: str) -> bytes:
+    """The bytes that a text of a directive spells: escapes, and names of earlier texts."""
+    content = b""
+    place = 0
+    for mark in ESCAPE.finditer(text):
+        letter, digits, name = mark.groups()
+        content += text[place : mark.start()].encode()
+        if letter is not None:
+            content += ESCAPES[letter]
+        elif digits is not None:
+            content += bytes.fromhex(digits)
+        else:
+            content += names[name]
+        place = mark.end()
+    return content + text[place:].encode()
+
+
+def repeated(parts: list[bytes], times: int) -> bytes:
+    """Parts of a text, joined so many times by the count from 0 on."""
+    if len(parts) == 1:
+        return parts[0] * times
+    return b"".join(str(count).encode().join(parts) for count in range(times))
+
+
+def script_cases(lines: list[str]) -> Iterator[ScriptCase]:
+    """The cases of an input of scripts."""
+    names: dict[str, bytes] = {}
+    case = None
+    for line in lines:
+        if line.startswith("== "):
+            if case is not None:
+                yield case
+            case = ScriptCase(line[3:], [], bytearray())
+        elif line.startswith(">> let "):
+            name, _, rest = line.removeprefix(">> let ").partition(" ")
+            names[name] = script_text(names, rest)
+        elif case is not None and line.startswith(">> text "):
+            case.script.extend(script_text(names, line.removeprefix(">> text ")))
+        elif case is not None and line.startswith(">> repeat "):
+            times, _, rest = line.removeprefix(">> repeat ").partition(" ")
+            parts = [script_text(names, part) for part in rest.split("#")]
+            case.script.extend(repeated(parts, int(times)))
+        elif case is not None and line.startswith(">> "):
+            case.directives.append(line.removeprefix(">> "))
+        elif case is not None:
+            case.script.extend(line.encode() + b"\n")
+    if case is not None:
+        yield case
+
+
+def last_lines(lines: list[str], count: int) -> list[str]:
+    """The last lines, behind the count and the SHA-256 of those before them."""
+    hidden = lines[: max(len(lines) - count, 0)]
+    if not hidden:
+        return lines
+    digest = hashlib.sha256("".join(line + "\n" for line in hidden).encode()).hexdigest()
+    return [f"{len(hidden)} lines {digest}", *lines[len(hidden) :]]
+
+
+def script_answer(case: ScriptCase) -> list[str]:
+    """What is told of a case: the replies, how it ended, and the table that is left."""
+    words = [directive.partition(" ")[0] for directive in case.directives]
+    for word in words:
+        if word not in ("entries", "objects", "last"):
+            raise NotModelled(f"the directive {word}")
+    table = Table()
+    told: list[str] = []
+    try:
+        script = case.script.decode()
+    except UnicodeDecodeError as error:
+        raise NotModelled("a script that is no text") from error
+    for line in script.split("\n"):
+        if line.strip(" \t\r") and not line.startswith("#"):
+            told += table.answer(line)
+    if "last" in words:
+        last = case.directives[words.index("last")]
+        told = last_lines(told, int(last.removeprefix("last ")))
+    told.append("end Done short" if table.is_short else "end Done")
+    told.append(table.summary())
+    if "entries" in words:
+        told += table.entry_lines()
+    if "objects" in words:
+        told += table.object_lines()
+    return told
+
+
+def stored_scripts(lines: list[str]) -> dict[str, list[str]]:
+    """The stored answers of scripts by the names of the cases."""
+    stored: dict[str, list[str]] = {}
+    for line in lines:
+        if line.startswith("== "):
+            answer = stored[line[3:]] = []
+        elif stored:
+            answer.append(line)
+        else:
+            raise SystemExit("lake_cases: a stored line stands before the first answer")
+    return stored
+
+
+def check_scripts() -> Tally:
+    """Compares the cases of `crates/lake_cases`."""
+    tally = Tally()
+    stored = stored_scripts(lines_of("lake_cases", "stdout"))
+    for case in script_cases(lines_of("lake_cases", "stdin")):
+        name = f"lake_cases: {case.name}"
+        tally.compare(name, partial(script_answer, case), stored.pop(case.name, []))
+    if stored:
+        raise SystemExit("lake_cases: a stored answer is left over")
+    return tally
+
+
+def number_of(word: str, numbers: range) -> int:
+    """The number that a word spells, one of these; without negative ones there is no minus."""
+    sign = "[+-]?" if numbers.start < 0 else "[+]?"
+    if not re.fullmatch(sign + "[0-9]+", word) or int(word) not in numbers:
+        raise Misspelled(word)
+    return int(word)
+
+
+def split_once(text: str) -> tuple[str, str]:
+    """A text's first word, and what stands behind it."""
+    word, space, rest = text.partition(" ")
+    if not space:
+        raise Misspelled(text)
+    return word, rest
+
+
+class Spelling:
+    """The bytes that a line spells: digits, quoted texts, names, lengths, repeats and changes."""
+
+    def __init__(self, names: dict[str, bytes | None]) -> None:
+        self.names = names
+        self.content = bytearray()
+        self.last = b""
+        self.start = 0
+
+    def read(self, text: str) -> bytes:
+        """The bytes of a text."""
+        parts = text.split("'")
+        if len(parts) % 2 == 0:
+            raise Misspelled("a quote that isn't closed")
+        for place, part in enumerate(parts):
+            if place % 2 == 1:
+                self.last = part.encode()
+                self.content += self.last
+                continue
+            for word in part.split():
+                self.word(word)
+        return bytes(self.content)
+
+    def word(self, word: str) -> None:
+        """Adds what a word stands for, or changes what stands before it."""
+        item, star, times = word.partition("*")
+        if word == "<":
+            self.start = len(self.content)
+        elif word == ">":
+            self.content += (len(self.content) - self.start).to_bytes(4, "little")
+        elif word.startswith("@"):
+            self.change(word.removeprefix("@"))
+        elif star and not item:
+            self.content += self.last * max(number_of(times, U32) - 1, 0)
+        else:
+            self.last = self.item(item)
+            self.content += self.last * (number_of(times, U32) if star else 1)
+
+    def item(self, item: str) -> bytes:
+        """The bytes of a name or of hexadecimal digits."""
+        if not item.startswith("$"):
+            return digits_of(item)
+        if item[1:] not in self.names:
+            raise Misspelled(item)
+        content = self.names[item[1:]]
+        if content is None:
+            raise NotModelled(f"bytes named {item}")
+        return content
+
+    def change(self, change: str) -> None:
+        """Changes the bytes from a place on."""
+        place_word, equals, digits = change.partition("=")
+        if not equals:
+            raise Misspelled(change)
+        place = number_of(place_word, U64)
+        content = digits_of(digits)
+        if place + len(content) > len(self.content):
+            raise Misspelled(change)
+        self.content[place : place + len(content)] = content
+
+
+def digits_of(digits: str) -> bytes:
+    """The bytes of hexadecimal digits."""
+    try:
+        return bytes.fromhex(digits)
+    except ValueError as error:
+        raise Misspelled(digits) from error
+
+
+def one_long(column: str) -> dict[str, Any]:
+    """The schema of one required long column; a word of two quotes is the name of no letters."""
+    name = "" if column == '""' else column
+    field = {"name": name, "type": "long", "nullable": False, "metadata": {}}
+    return {"type": "struct", "fields": [field]}
+
+
+def shortened(line: str) -> str:
+    """A line, of which the middle is left out where it is long."""
+    content = line.encode()
+    if len(content) <= LONGEST_LINE:
+        return line
+    front = content[:LINE_END].decode(errors="replace")
+    back = content[-LINE_END:].decode(errors="replace")
+    return f"{front} .. {back} ({len(content)} bytes)"
+
+
+def row_lines(schema: dict[str, Any], content: bytes, are_numbers: bool) -> list[str]:
+    """What a file's rows are, in lines: their count, and each, a number or an object."""
+    rows = read_file(schema, content)
+    told = [compact(next(iter(row.values())) if are_numbers else row) for row in rows]
+    return [f"{len(rows)} rows", *told]
+
+
+def spoiled_lines(tell: Callable[[bytes], list[str]], content: bytes) -> list[str]:
+    """How often each outcome comes of a file that is cut, lacks a byte, or has another one."""
+    whole = tell(content)
+    tallies: dict[str, list[int]] = {}
+    for place in range(len(content)):
+        front, behind = content[:place], content[place + 1 :]
+        ways = [front, front + behind, front + b"\x00" + behind, front + b"\xff" + behind]
+        for way, spoiled in enumerate(ways):
+            try:
+                outcome = "same" if tell(spoiled) == whole else "other"
+            except ReadFault as fault:
+                outcome = f"refused {fault}"
+            tallies.setdefault(outcome, [0] * len(ways))[way] += 1
+    told = [f"  {' '.join(map(str, tallies[outcome]))} {outcome}" for outcome in sorted(tallies)]
+    return ["cut, without, 00, FF", *told]
+
+
+class Inspector:
+    """Answers the lines of `crates/lake_inspect` that are of files and rows."""
+
+    def __init__(self) -> None:
+        self.names: dict[str, bytes | None] = {}
+
+    def answer(self, line: str, number: int) -> list[str]:
+        """The lines that are told of a line of this number."""
+        word, _, rest = line.partition(" ")
+        try:
+            if word == "let":
+                return [f"{len(self.let(rest))} bytes"]
+            if word == "write":
+                return [shortened(self.written(rest).hex())]
+            if word in ("rows", "file"):
+                schema, content = self.file(line)
+                return [shortened(" | ".join(row_lines(schema, content, word == "rows")))]
+            if word == "spoil" and rest.partition(" ")[0] in ("rows", "file"):
+                schema, content = self.file(rest)
+                are_numbers = rest.startswith("rows ")
+                return spoiled_lines(lambda told: row_lines(schema, told, are_numbers), content)
+        except Misspelled:
+            return [f"bad line {number}"]
+        except (ReadFault, RowFault) as fault:
+            return [f"refused {fault}"]
+        raise NotModelled(f"the line {word}")
+
+    def spelled(self, text: str) -> bytes:
+        """The bytes that a text spells."""
+        return Spelling(self.names).read(text)
+
+    def schema(self, text: str) -> dict[str, Any]:
+        """The schema that a text spells."""
+        try:
+            return schema_of(self.spelled(text).decode())
+        except UnicodeDecodeError as error:
+            raise NotModelled("a schema that is no text") from error
+
+    def let(self, rest: str) -> bytes:
+        """Names bytes. Those that the model doesn't know have a name all the same."""
+        name, text = split_once(rest)
+        is_written = text.startswith("write ")
+        try:
+            content = self.written(text[6:]) if is_written else self.spelled(text)
+        except NotModelled:
+            self.names[name] = None
+            raise
+        self.names[name] = content
+        return content
+
+    def file(self, text: str) -> tuple[dict[str, Any], bytes]:
+        """The schema and the bytes of `rows COLUMN BYTES` or `file SCHEMA BYTES`."""
+        word, rest = split_once(text)
+        if word == "file":
+            schema_word, rest = split_once(rest)
+            return self.schema(schema_word), self.spelled(rest)
+        column, _, rest = rest.partition(" ")
+        if not column:
+            raise Misspelled(text)
+        return one_long(column), self.spelled(rest)
+
+    def written(self, text: str) -> bytes:
+        """The file that is written for `rows COLUMN N ..` or `file SCHEMA ROWS`."""
+        word, _, rest = text.partition(" ")
+        if word == "rows":
+            column, _, numbers = rest.partition(" ")
+            schema = one_long(column)
+            name = schema["fields"][0]["name"]
+            return write_file(schema, [{name: number} for number in numbers_of(numbers)])
+        if word != "file":
+            raise NotModelled(f"write {word}")
+        schema_word, rows_text = split_once(rest)
+        schema = self.schema(schema_word)
+        try:
+            values = json_value(self.spelled(rows_text).decode())
+        except ValueError as error:
+            raise Misspelled(rows_text) from error
+        if not isinstance(values, list):
+            raise Misspelled(rows_text)
+        column = unsupported_column(schema["fields"])
+        if column is not None:
+            raise RowFault(f"V4 Unsupported {column}")
+        return write_file(schema, [row_of(schema["fields"], value) for value in values])
+
+
+def numbers_of(text: str) -> Iterator[int]:
+    """The numbers that words spell: `N`, or `N..M` for those from N up to M, which isn't one."""
+    for word in text.split():
+        first, dots, end = word.partition("..")
+        if dots:
+            yield from range(number_of(first, I64), number_of(end, I64))
+        else:
+            yield number_of(word, I64)
+
+
+def stored_answers(lines: list[str]) -> Iterator[list[str]]:
+    """The stored answers of lines: one line each, and the ones behind it that are set in."""
+    answer: list[str] = []
+    for line in lines:
+        if answer and not line.startswith("  "):
+            yield answer
+            answer = []
+        answer.append(line)
+    if answer:
+        yield answer
+
+
+def check_lines() -> Tally:
+    """Compares the lines of `crates/lake_inspect`; comments and blank lines are no cases."""
+    tally = Tally()
+    inspector = Inspector()
+    stored = stored_answers(lines_of("lake_inspect", "stdout"))
+    for number, line in enumerate(lines_of("lake_inspect", "stdin"), 1):
+        told = next(stored, [])
+        if line and not line.startswith("#"):
+            name = f"lake_inspect: line {number}, {shortened(line)}"
+            tally.compare(name, partial(inspector.answer, line, number), told)
+        elif told != [line]:
+            raise SystemExit(f"lake_inspect: line {number} has no stored answer")
+    if next(stored, None) is not None:
+        raise SystemExit("lake_inspect: a stored answer is left over")
+    return tally
+
+
+def main() -> int:
+    """Compares all cases, and prints how many agree."""
+    total = Tally()
+    for crate, check in (("lake_cases", check_scripts), ("lake_inspect", check_lines)):
+        tally = check()
+        print(f"{crate}: {tally}")
+        total.add(tally)
+    print(total)
+    return 1 if total.differ else 0
+
+
+if __name__ == "__main__":
+    sys.exit(main())
