@@ -106,11 +106,11 @@ all_known all (field n t nullable metadata fs) (value v vs) ms within known =
 -- ---- structs
 
 -- the values of a struct's fields as a plain list
-abbrev list_of : Values → List Value
+abbrev pub list_of : Values → List Value
 list_of no_values = []
 list_of (value v vs) = v ∷ list_of vs
 
-list_again : (vs : Values) → values_of (list_of vs) ≡ vs
+pub list_again : (vs : Values) → values_of (list_of vs) ≡ vs
 list_again no_values = refl
 list_again (value v vs) = ap (value v) (list_again vs)
 
@@ -118,7 +118,7 @@ no_null_leaf : (p : Primitive) → is_leaf_value p null ≡ true → ⊥
 no_null_leaf Boolean e = false≢true e
 no_null_leaf p e = false≢true e
 
-no_struct_leaf : (p : Primitive) (vs : Values) → is_leaf_value p (structure vs) ≡ true → ⊥
+pub no_struct_leaf : (p : Primitive) (vs : Values) → is_leaf_value p (structure vs) ≡ true → ⊥
 no_struct_leaf Boolean vs e = false≢true e
 no_struct_leaf p vs e = false≢true e
 

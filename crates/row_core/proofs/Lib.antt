@@ -5,6 +5,8 @@ pub mod KnownNames
 pub mod ConformsReads
 pub mod ReadConforms
 pub mod PrintedFields
+pub mod OrderedMembers
+pub mod PrintedMembers
 pub mod ReadFields
 pub mod Values
 pub mod ByteLists

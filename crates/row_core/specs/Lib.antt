@@ -7,3 +7,4 @@ pub mod FaultTexts
 pub mod ToldOutside
 pub mod Reading
 pub mod Printing
+pub mod Printer

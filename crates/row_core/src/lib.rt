@@ -4,6 +4,7 @@
 mod conforming;
 mod fault;
 mod laws;
+mod printer;
 mod printing;
 mod ranges;
 mod reading;
@@ -16,6 +17,7 @@ pub use laws::{
     equal_rows_are_the_same, rows_are_what_conforms, what_conforms_reads_again,
     what_is_read_conforms,
 };
+pub use printer::RowPrinter;
 pub use printing::row_to_json;
 pub use ranges::MAX_BYTES;
 pub use reading::row_from_json;
