@@ -32,10 +32,27 @@ column_fits l left count body c h =
     let p = tested_passes l left cells.0.0 cells.0.1 c cells.2 in
     rw (sym p.same) (record { few = p.few; proper = p.proper })
 
-pub page_fits : (l : Leaf) (given : List ℕ) (place left : ℕ) (c : Column) (next : ℕ)
-    → page_at l given place left ≡ Ok (c, next) → Fits left c
+-- a column, and the place behind it
+abbrev ended : (behind : ℕ) → Result Column FileFault → Result (Column × ℕ) FileFault
+ended behind read = read >>= λ column. Ok (column, behind)
+
+column_told : (l : Leaf) (left count : ℕ) (body : List ℕ) (c : Column) (behind next : ℕ)
+    → ended behind (column_in l left count body) ≡ Ok (c, next)
+    → column_in l left count body ≡ Ok c
+column_told l left count body c behind next h = by_read (column_in l left count body) h
+  where
+    by_read : (read : Result Column FileFault) → ended behind read ≡ Ok (c, next) → read ≡ Ok c
+    by_read (Ok column) h =
+        let parts : ◌≡◌ {A = Column × ℕ} (column, behind) (c, next) = cc in
+        ap (λ (p : Column × ℕ). Ok p.0) parts
+    by_read (Err e) h = absurd cc
+
+-- the body that a page was read from
+pub page_body : (l : Leaf) (given : List ℕ) (place left : ℕ) (c : Column) (next : ℕ)
+    → page_at l given place left ≡ Ok (c, next)
+    → (body : ℕ × List ℕ) × (column_in l left body.0 body.1 ≡ Ok c)
 unfolding page_at
-page_fits l given place left c next h =
+page_body l given place left c next h =
     let begins = kept_step (not (nat_lt place (length given))) BadOffset _ (c, next) h in
     let header = ok_step (header_at (has_levels l) (drop place given))
     (λ header. body_at header.0 header.1 >>= λ body. column_in l left body.0 body.1
@@ -43,15 +60,14 @@ page_fits l given place left c next h =
     let body = ok_step (body_at header.0.0 header.0.1)
     (λ body. column_in l left body.0 body.1
     >>= λ column. Ok (column, length given - length header.0.1 + length body.1)) (c, next) header.2 in
-    let column = ok_step (column_in l left body.0.0 body.0.1)
-    (λ column. Ok (column, length given - length header.0.1 + length body.0.1)) (c, next) body.2 in
-    rw (sym (column_same column.0 c (length given - length header.0.1 + length body.0.1) next column.2))
-    (column_fits l left body.0.0 body.0.1 column.0 column.1)
-  where
-    column_same : (a b : Column) (m n : ℕ) → ◌≡◌ {A = Result (Column × ℕ) FileFault} (Ok (a, m)) (Ok (b, n)) → a ≡ b
-    column_same a b m n e =
-        let parts : ◌≡◌ {A = Column × ℕ} (a, m) (b, n) = cc in
-        ap (λ (p : Column × ℕ). p.0) parts
+    let ends = length given - length header.0.1 + length body.0.1 in
+    (body.0, column_told l left body.0.0 body.0.1 c ends next body.2)
+
+pub page_fits : (l : Leaf) (given : List ℕ) (place left : ℕ) (c : Column) (next : ℕ)
+    → page_at l given place left ≡ Ok (c, next) → Fits left c
+page_fits l given place left c next h =
+    let body = page_body l given place left c next h in
+    column_fits l left body.0.0 body.0.1 c body.1
 
 -- ---- pages whose cells are kept
 
@@ -59,7 +75,7 @@ page_fits l given place left c next h =
 abbrev pub with_column : Column → Result Column FileFault → Result Column FileFault
 with_column old read = read >>= λ c. Ok (joined old c)
 
-joined_twice : (a b c : Column) → joined a (joined b c) ≡ joined (joined a b) c
+pub joined_twice : (a b c : Column) → joined a (joined b c) ≡ joined (joined a b) c
 joined_twice a b c = rw (append_assoc a.levels b.levels c.levels, append_assoc a.values b.values c.values) refl
 
 with_twice : (a b : Column) (read : Result Column FileFault)
@@ -67,11 +83,11 @@ with_twice : (a b : Column) (read : Result Column FileFault)
 with_twice a b (Ok c) = ap (λ (all : Column). Ok all) (joined_twice a b c)
 with_twice a b (Err e) = refl
 
-with_none : (a : Column) → joined a no_cells ≡ a
+pub with_none : (a : Column) → joined a no_cells ≡ a
 with_none a = rw (append-nil a.levels, append-nil a.values) refl
 
 -- the pages from a page on
-next_page : (l : Leaf) (given : List ℕ) (most i place left next : ℕ) (c : Column) → i < most → 0 < left
+pub next_page : (l : Leaf) (given : List ℕ) (most i place left next : ℕ) (c : Column) → i < most → 0 < left
     → page_at l given place left ≡ Ok (c, next)
     → pages_at (most - i) l given place left ≡ with_column c
     (pages_at (most - (i + 1)) l given next (left - length c.levels))
@@ -81,12 +97,12 @@ next_page l given most i place (suc left) next c lt some h =
     let k : most - i ≡ suc (most - (i + 1)) = omega arith in
     rw (k, h) refl
 
-no_page_left : (l : Leaf) (given : List ℕ) (most place left : ℕ) → left ≡ 0
+pub no_page_left : (l : Leaf) (given : List ℕ) (most place left : ℕ) → left ≡ 0
     → pages_at most l given place left ≡ Ok no_cells
 unfolding pages_at
 no_page_left l given most place left none = rw none refl
 
-page_fails : (l : Leaf) (given : List ℕ) (most i place left : ℕ) (fault : FileFault) → i < most → 0 < left
+pub page_fails : (l : Leaf) (given : List ℕ) (most i place left : ℕ) (fault : FileFault) → i < most → 0 < left
     → page_at l given place left ≡ Err fault → pages_at (most - i) l given place left ≡ Err fault
 unfolding pages_at
 page_fails l given most i place zero fault lt some h = absurd (omega arith)
@@ -94,7 +110,7 @@ page_fails l given most i place (suc left) fault lt some h =
     let k : most - i ≡ suc (most - (i + 1)) = omega arith in
     rw (k, h) refl
 
-pages_run_out : (l : Leaf) (given : List ℕ) (most i place left : ℕ) → most ≤ i → 0 < left
+pub pages_run_out : (l : Leaf) (given : List ℕ) (most i place left : ℕ) → most ≤ i → 0 < left
     → pages_at (most - i) l given place left ≡ Err BadOffset
 unfolding pages_at
 pages_run_out l given most i place zero le some = absurd (omega arith)

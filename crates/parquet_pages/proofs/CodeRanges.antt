@@ -20,13 +20,13 @@ use Rattle.parquet_pages.proofs.CodeValues.{done, done_parts}
 
 -- ---- steps
 
-abbrev One : Type 0
+abbrev pub One : Type 0
 One = Result (Value × List ℕ) ByteFault
 
-abbrev one : Value → List ℕ → One
+abbrev pub one : Value → List ℕ → One
 one v rest = Ok (v, rest)
 
-one_parts : (v w : Value) (rest more : List ℕ) → one v rest ≡ one w more → (v ≡ w) × (rest ≡ more)
+pub one_parts : (v w : Value) (rest more : List ℕ) → one v rest ≡ one w more → (v ≡ w) × (rest ≡ more)
 one_parts v w rest more e =
     let parts : ◌≡◌ {A = Value × List ℕ} (v, rest) (w, more) = cc in
     (ap (λ (p : Value × List ℕ). p.0) parts, ap (λ (p : Value × List ℕ). p.1) parts)

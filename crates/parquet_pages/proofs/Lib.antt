@@ -2,6 +2,7 @@ pub mod CodeChunks
 pub mod CodeFixed
 pub mod CodeLeaves
 pub mod CodePages
+pub mod CodeParts
 pub mod CodeRanges
 pub mod CodeRuns
 pub mod CodeSteps
@@ -12,10 +13,13 @@ pub mod HeaderFound
 pub mod LevelsFound
 pub mod LevelsOnly
 pub mod Lists
+pub mod PartsJoined
 pub mod PagesFound
 pub mod PagesOnly
 pub mod PlainFound
 pub mod PlainOnly
+pub mod PlainParts
+pub mod TruthParts
 pub mod WrittenBits
 pub mod WrittenChunk
 pub mod WrittenHeader

@@ -87,7 +87,7 @@ pub fn test_chunk(
 
 /// The place of a chunk's first page, which isn't before byte 4.
 #[tactic(auto, unfolding(crate::specs::Reading::first_place))]
-fn first_place(stated: i64) -> Result<usize, FileFault>
+pub(crate) fn first_place(stated: i64) -> Result<usize, FileFault>
     ensures { IsReading (λ place. place) result (first_place stated) }
 {
     if stated < 4 {

@@ -44,6 +44,20 @@ impl Page<'_> {
         self.num_values
     }
 
+    /// Its levels, as runs.
+    pub(crate) fn levels(&self) -> &[Run]
+        ensures { result.now ≡ self.now.levels.items }
+    {
+        &self.levels
+    }
+
+    /// The bytes of its values.
+    pub(crate) fn values(&self) -> &[u8]
+        ensures { result.now ≡ self.now.values.now }
+    {
+        self.values
+    }
+
     /// The place behind the page.
     pub fn next(&self) -> usize
         ensures { result ≡ self.now.next }
@@ -251,7 +265,7 @@ pub(crate) fn add_cells(
 }
 
 /// Adds the levels of runs.
-fn add_levels(runs: &[Run], levels: &mut Vec<u64>) -> Result<(), AllocError>
+pub(crate) fn add_levels(runs: &[Run], levels: &mut Vec<u64>) -> Result<(), AllocError>
     ensures { OnOk result (levels.new.items ≡ levels.old.items ++ values_of runs.now) }
 {
     for run in runs {

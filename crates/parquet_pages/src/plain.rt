@@ -124,7 +124,7 @@ fn add_truths(
 }
 
 /// Adds a truth value so often.
-fn add_truth(value: bool, count: u64, out: &mut Vec<Value>) -> Result<(), AllocError>
+pub(crate) fn add_truth(value: bool, count: u64, out: &mut Vec<Value>) -> Result<(), AllocError>
     ensures { OnOk result (row_views out.new.items ≡ row_views out.old.items ++ replicate count (rows.truth value)) }
 {
     for _value in 0..count {

@@ -1,10 +1,20 @@
--- What the tests of each member tell of a list: whether two paths are one, and the chunk of a path.
-use Rattle.std.proofs.Common.{◌≡◌, ℕ, Bool, true, false, ◌&&◌, cond, List, [], ◌∷◌, length, map, Some, option_map, string_bytes, String, Vec, Global, bytes_eq, refl, ap, arith}
+-- What the tests of each member tell of a list: whether two paths are one, the chunk of a path, and its column.
+use Rattle.std.proofs.Common.{◌≡◌, ℕ, pos, not, Result, Ok, Err, Bool, true, false, ◌&&◌, cond, List, [], ◌∷◌, length, map, Some, option_map, string_bytes, String, Vec, Global, bytes_eq, refl, ap, arith}
 use Rattle.std.specs.List.{list_all, find, zip}
+use Rattle.std.specs.Ordering.{int_eq}
+use Rattle.lake_bytes.specs.Results.{◌>>=◌, or_refusal, refused_if}
 use Rattle.thrift_core.specs.View.{texts_view}
+use Rattle.parquet_footer.specs.Metadata.{Chunk}
+use Rattle.parquet_footer.specs.declared.fault.FileFault.{FileFault}
+use Rattle.parquet_footer.specs.declared.fault.FileFault.TheVariants.{Codec, SchemaMismatch}
+use Rattle.parquet_footer.proofs.Callers.{ok_is}
+use Rattle.parquet_pages.specs.Reading.{chunk_at}
+use Rattle.parquet_schema.specs.Leaves.{LeafIn}
+use Rattle.parquet_rows.specs.File.{leaf_of}
+use Rattle.parquet_rows.specs.Internal.{plain_chunk_named}
 use Rattle.parquet_footer.specs.Views.{chunk_view, chunk_views}
 use Rattle.parquet_footer.specs.declared.footer.ColumnChunk.{ColumnChunk}
-use Rattle.parquet_rows.specs.Reading.{chunk_named, same_path}
+use Rattle.parquet_rows.specs.Reading.{chunk_named, column_at, same_path}
 
 -- ---- paths
 
@@ -32,3 +42,23 @@ found_named {A} path (c ∷ cs) = elim (same_path (chunk_view c).path_in_schema 
   | true ↦ refl
   | false ↦ found_named path cs
 ]
+
+tested : {Y : Type 0} (test : Result (Unit {0}) FileFault) (f : Chunk → Result Y FileFault) (given chunk : Chunk)
+    → (test >>= λ plain. Ok given) ≡ Ok chunk → (test >>= λ plain. f given) ≡ f chunk
+tested (Ok plain) f given chunk e = ap f (ok_is {E = FileFault} given chunk e)
+tested (Err fault) f given chunk e = absurd cc
+
+found_tested : {Y : Type 0} (found : Result Chunk FileFault) (test : Chunk → Result (Unit {0}) FileFault)
+    (f : Chunk → Result Y FileFault) (chunk : Chunk) → (found >>= λ given. test given >>= λ plain. Ok given) ≡ Ok chunk
+    → (found >>= λ given. test given >>= λ plain. f given) ≡ f chunk
+found_tested (Ok given) test f chunk e = tested (test given) f given chunk e
+found_tested (Err fault) test f chunk e = absurd cc
+
+-- the column of a leaf whose chunk isn't compressed
+pub column_by_chunk : (given : List ℕ) (chunks : List Chunk) (l : LeafIn) (chunk : Chunk) → plain_chunk_named l.names chunks ≡ Ok chunk
+    → column_at given chunks l ≡ chunk_at (leaf_of l) given chunk.data_page_offset chunk.num_values
+unfolding column_at
+column_by_chunk given chunks l chunk e =
+    found_tested (or_refusal (chunk_named l.names chunks) SchemaMismatch)
+    (λ c. refused_if (not (int_eq c.codec (pos 0))) (Codec c.codec))
+    (λ c. chunk_at (leaf_of l) given c.data_page_offset c.num_values) chunk e

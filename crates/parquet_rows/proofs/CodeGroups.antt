@@ -104,7 +104,7 @@ assembled_many shape cs rows e =
     made_many shape (row_count cs) b.0 rows b.2
 
 -- columns that all have so many rows, where there is one
-first_counts : (given : List ℕ) (group : Group) (ls : List LeafIn) (cs : List Column) → 0 < length ls → columns_at given group.columns ls ≡ Ok cs
+pub first_counts : (given : List ℕ) (group : Group) (ls : List LeafIn) (cs : List Column) → 0 < length ls → columns_at given group.columns ls ≡ Ok cs
     → list_all (has_rows group.num_rows) cs ≡ true → row_count cs ≡ group.num_rows
 first_counts given group [] cs some e all = absurd (omega (arith, some))
 first_counts given group (l ∷ ls) [] some e all =
@@ -123,7 +123,7 @@ assembled_ok fault shape cs rows e = kept (assembled shape cs) e
     kept (Ok given) e = cc
     kept (Err f) e = absurd cc
 
-group_many : (given : List ℕ) (t : Tree) (shape : Shape) (group : Group) (rows : List Row) → 0 < length (leaves_in t shape) → rows_of_group given t shape group ≡ Ok rows → length rows ≡ group.num_rows
+pub group_many : (given : List ℕ) (t : Tree) (shape : Shape) (group : Group) (rows : List Row) → 0 < length (leaves_in t shape) → rows_of_group given t shape group ≡ Ok rows → length rows ≡ group.num_rows
 unfolding rows_of_group
 group_many given t shape group rows some e =
     let rest = λ (cs : List Column). refused_as (λ fault. SchemaMismatch) (assembled shape cs) in
@@ -136,7 +136,7 @@ group_many given t shape group rows some e =
     counted true e = refl
     counted false e = absurd cc
 
-groups_many : (given : List ℕ) (t : Tree) (shape : Shape) (groups : List Group) (rows : List Row) → 0 < length (leaves_in t shape) → rows_of_groups given t shape groups ≡ Ok rows → length rows ≡ claimed_rows groups
+pub groups_many : (given : List ℕ) (t : Tree) (shape : Shape) (groups : List Group) (rows : List Row) → 0 < length (leaves_in t shape) → rows_of_groups given t shape groups ≡ Ok rows → length rows ≡ claimed_rows groups
 unfolding rows_of_groups
 groups_many given t shape [] rows some e =
     let none : [] ≡ rows = ok_is [] rows e in
@@ -157,3 +157,9 @@ pub rows_by_claims : (given : List ℕ) (t : Tree) (metadata : Metadata) (shape 
     → rows_of_groups given t shape metadata.row_groups ≡ Ok rows → rows_of given t metadata ≡ cond (eqb (claimed_rows metadata.row_groups) metadata.num_rows) (Ok rows) (Err CountMismatch)
 unfolding rows_of
 rows_by_claims given t metadata shape rows fit some read = rw (fit, read, groups_many given t shape metadata.row_groups rows some read) refl
+
+-- where the groups' rows aren't read, nor are the file's
+pub rows_fail : (given : List ℕ) (t : Tree) (metadata : Metadata) (shape : Shape) (fault : FileFault) → fitted_list t metadata.schema ≡ Some shape
+    → rows_of_groups given t shape metadata.row_groups ≡ Err fault → rows_of given t metadata ≡ Err fault
+unfolding rows_of
+rows_fail given t metadata shape fault fit e = rw (fit, e) refl

@@ -13,8 +13,10 @@ use Rattle.parquet_pages.specs.Types.{leaf_type, physical_type, type_number}
 use Rattle.parquet_pages.specs.declared.types.LeafType.{LeafType}
 use Rattle.parquet_schema.specs.FileTree.{FileNode, leaf, group, fields_of}
 use Rattle.parquet_schema.specs.Fitting.{field_named, fitted, fitted_fields, fitted_list, is_number, may_fit, physical_number}
-use Rattle.parquet_schema.specs.Leaves.{bare_leaf, leaf_inside, leaves_in, leaves_of_fields}
+use Rattle.parquet_schema.specs.Leaves.{LeafIn, bare_leaf, leaf_inside, leaves_in, leaves_of_fields}
 use Rattle.parquet_schema.specs.Reading.{file_fields}
+use Rattle.parquet_schema.proofs.Callers.{leaf_levels}
+use Rattle.parquet_rows.specs.Internal.{AreLeavesOf}
 
 -- ---- what a step found
 
@@ -65,3 +67,13 @@ pub list_leaf_there : (t : Tree) (es : List Element) (s : Shape) → is_sound t 
 list_leaf_there t es s sound e =
     let read = some_is (file_fields es) (λ fs. fitted t (group (fields_of fs))) s e in
     leaf_there t (group (fields_of read.0)) s sound read.2
+
+-- the leaves of a table whose columns a file has
+pub list_leaves : (t : Tree) (es : List Element) (s : Shape) (ls : List LeafIn) → is_sound t ≡ true → fitted_list t es ≡ Some s → ls ≡ leaves_in t s → AreLeavesOf t s ls
+list_leaves t es s ls sound e are =
+    let read = some_is (file_fields es) (λ fs. fitted t (group (fields_of fs))) s e in
+    record {
+      are = are;
+      levels = rw are (leaf_levels t (group (fields_of read.0)) s read.2);
+      some = rw are (list_leaf_there t es s sound e);
+    }

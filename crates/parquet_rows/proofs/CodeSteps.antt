@@ -1,32 +1,10 @@
--- One step after another, as a loop does: what was read and what is still read are what is read from the start.
-use Rattle.std.proofs.Common.{◌≡◌, ℕ, ◌+◌, ◌<◌, length, drop, get_or, map, List, [], ◌∷◌, ◌++◌, Option, Some, None, option_map, Result, Ok, Err, refl, sym, ap, ◌∙◌}
-use Rattle.std.proofs.lemmas.List.{append-nil, at_drop_more}
+-- One step after another, as a loop does: what is still read tells what is read from the start.
+use Rattle.std.proofs.Common.{◌≡◌, ℕ, ◌+◌, ◌<◌, length, drop, take, get_or, map, List, [], ◌∷◌, ◌++◌, Option, Some, None, option_map, Result, Ok, Err, refl, sym, ap, ◌∙◌}
+use Rattle.std.proofs.lemmas.List.{at_drop_more, map_more}
 use Rattle.lake_bytes.specs.Outcome.{Said, IsSaid}
 use Rattle.lake_bytes.specs.Results.{◌>>=◌}
-use Rattle.lake_bytes.proofs.Callers.{with_front, regroup, said_too}
+use Rattle.lake_bytes.proofs.Callers.{with_front, said_too}
 use Rattle.thrift_core.specs.Fields.{each}
-
--- ---- what is read is kept
-
-pub step_on : {A E : Type 0} (front first new : List A) (whole rest total : Result (List A) E) → whole ≡ with_front first rest → new ≡ front ++ first → with_front front whole ≡ total → with_front new rest ≡ total
-step_on front first new whole rest total is put so_far =
-    let one : with_front front whole ≡ with_front (front ++ first) rest = rw is (regroup front first rest) in
-    rw put (sym one ∙ so_far)
-
-pub steps_done : {A E : Type 0} (front : List A) (rest total : Result (List A) E) → rest ≡ Ok [] → with_front front rest ≡ total → total ≡ Ok front
-steps_done {A} front rest total none so_far = sym so_far ∙ rw none (ap (λ (xs : List A). Ok xs) (append-nil front))
-
--- what was added to what stood there, and why nothing was
-pub rows_added : {A E : Type 0} (old new : List A) (read : Result (List A) E) → with_front old read ≡ Ok new → (values : List A) × (read ≡ Ok values) × (new ≡ old ++ values)
-rows_added old new (Ok values) h = (values, refl, cc)
-rows_added old new (Err e) h = absurd cc
-
-pub not_added : {A E : Type 0} (old : List A) (e : E) (read : Result (List A) E) → with_front old read ≡ Err e → read ≡ Err e
-not_added old e (Ok values) h = absurd cc
-not_added old e (Err f) h = h
-
-pub adding_fails : {A B E : Type 0} (said : Said E) (part : Result B E) (front old : List A) (whole read : Result (List A) E) → ((e : E) → part ≡ Err e → whole ≡ Err e) → IsSaid said part → with_front front whole ≡ with_front old read → IsSaid said read
-adding_fails said part front old whole read goes h so_far = said_too said part read (λ e is. not_added old e read (sym so_far ∙ rw (goes e is) refl)) h
 
 -- ---- nothing of it is kept
 
@@ -78,3 +56,9 @@ map_twice f g (Some x) = refl
 -- what is left of a list begins with its next member
 pub member_here : {X Y : Type 0} (v : X → Y) (xs : List X) (i : ℕ) (x : X) → i < length xs → x ≡ get_or xs i x → map v (drop i xs) ≡ v x ∷ map v (drop (i + 1) xs)
 member_here {X} v xs i x lt is = at_drop_more (λ (ys : List X). map v ys) xs i x lt ∙ ap (λ (y : X). v y ∷ map v (drop (i + 1) xs)) (sym is)
+
+-- the members that were passed, and the next one
+pub members_passed : {X Y : Type 0} (v : X → Y) (xs : List X) (i : ℕ) (x : X) → i < length xs → x ≡ get_or xs i x
+    → map v (take (i + 1) xs) ≡ map v (take i xs) ++ (v x ∷ [])
+members_passed {X} v xs i x lt is =
+    map_more v xs i x lt ∙ ap (λ (y : X). map v (take i xs) ++ (v y ∷ [])) (sym is)

@@ -1,12 +1,20 @@
 -- What private contracts speak of.
-use Rattle.std.specs.Prelude.{ℕ, pos, List, ◌==◌, not, Bool, true, false, Option, Some, None, Result, Ok, Err}
+use Rattle.std.specs.Prelude.{◌≡◌, ℕ, ◌<◌, pos, List, [], ◌∷◌, length, map, ◌==◌, not, Bool, false, Option, Some, None, Result, Ok}
 use Rattle.std.specs.List.{list_all}
 use Rattle.std.specs.Ordering.{int_eq}
 use Rattle.lake_bytes.specs.Results.{◌>>=◌, or_refusal, refused_if}
 use Rattle.parquet_footer.specs.Metadata.{Chunk, Group}
 use Rattle.parquet_footer.specs.declared.fault.FileFault.{FileFault}
 use Rattle.parquet_footer.specs.declared.fault.FileFault.TheVariants.{Codec, SchemaMismatch}
-use Rattle.parquet_schema.specs.Leaves.{LeafIn}
+use Rattle.parquet_schema.specs.Leaves.{LeafIn, leaves_in}
+use Rattle.row_core.specs.declared.value.Value.{Value}
+use Rattle.schema_tree.specs.Tree.{Tree}
+use Rattle.shred.specs.Columns.{Column}
+use Rattle.shred.specs.Shape.{Shape}
+use Rattle.shred.specs.Ways.{highest, ways}
+use Rattle.shred.specs.declared.columns.ColumnPart.{ColumnPart}
+use Rattle.parquet_pages.specs.Parts.{IsPartOf}
+use Rattle.parquet_rows.specs.File.{leaf_of}
 use Rattle.parquet_rows.specs.Reading.{chunk_named}
 
 -- the first chunk with this path, which isn't compressed
@@ -23,3 +31,16 @@ is_counted group l = counts group.num_rows (chunk_named l.names group.columns)
 
 abbrev pub are_counted : Group → List LeafIn → Bool
 are_counted group leaves = list_all (is_counted group) leaves
+
+-- This is kept of the leaves' columns, one for each leaf.
+abbrev pub ArePartsOf : (first most : ℕ) → List LeafIn → List (ColumnPart Value) → List Column → Type 0
+ArePartsOf first most [] [] [] = Unit {0}
+ArePartsOf first most (l ∷ ls) (p ∷ ps) (c ∷ cs) = IsPartOf (leaf_of l) first most p c × ArePartsOf first most ls ps cs
+ArePartsOf first most _ _ _ = ⊥
+
+-- The leaves of a table in a file where its rows have this shape: one for each way, of the way's highest level, and at
+-- least one.
+pub record AreLeavesOf (t : Tree) (shape : Shape) (leaves : List LeafIn) : Type 0 where
+  pub are : leaves ≡ leaves_in t shape
+  pub levels : map (λ l. length l.nullable) leaves ≡ map highest (ways shape)
+  pub some : 0 < length leaves

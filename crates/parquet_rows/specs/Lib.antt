@@ -3,3 +3,4 @@ pub mod Reading
 pub mod Outcome
 pub mod Internal
 pub mod Writing
+pub mod Views

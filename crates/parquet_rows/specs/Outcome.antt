@@ -2,14 +2,15 @@
 use Rattle.std.specs.Prelude.{◌≡◌, ℕ, List, ◌++◌, Result, Ok, Err}
 use Rattle.lake_bytes.specs.Outcome.{IsSaid}
 use Rattle.row_core.specs.Rows.{Row}
+use Rattle.shred.specs.Parts.{part_of}
 use Rattle.parquet_footer.specs.Outcome.{says}
 use Rattle.parquet_footer.specs.declared.fault.FileFault.{FileFault}
 use Rattle.parquet_footer.specs.declared.fault.FileError.{FileError}
 
--- The rows that reading gives were added to the rows; or the fault.
-abbrev pub AddsRows : Result (List Row) FileFault → List Row → Result (Unit {0}) FileError → List Row → Type 0
-AddsRows read old (Ok x) new = (rows : List Row) × (read ≡ Ok rows) × (new ≡ old ++ rows)
-AddsRows read old (Err e) new = IsSaid (says e) read
+-- At most so many of the rows that reading gives, from a place on, were added to the rows; or the fault.
+abbrev pub AddsPart : (first most : ℕ) → Result (List Row) FileFault → List Row → Result (Unit {0}) FileError → List Row → Type 0
+AddsPart first most read old (Ok x) new = (rows : List Row) × (read ≡ Ok rows) × (new ≡ old ++ part_of first most rows)
+AddsPart first most read old (Err e) new = IsSaid (says e) read
 
 -- The reading was done, and nothing of it was kept; or the fault.
 abbrev pub Tests : {A : Type 0} → Result A FileFault → Result (Unit {0}) FileError → Type 0

@@ -8,6 +8,7 @@ use Rattle.row_core.specs.Rows.{Row}
 use Rattle.schema_tree.specs.Tree.{Tree}
 use Rattle.shred.specs.Assembly.{assembled}
 use Rattle.shred.specs.Columns.{Column}
+use Rattle.shred.specs.Parts.{part_of}
 use Rattle.shred.specs.Shape.{Shape}
 use Rattle.parquet_footer.specs.Frame.{frame_of}
 use Rattle.parquet_footer.specs.Metadata.{Chunk, Group, Metadata}
@@ -76,3 +77,20 @@ rows_at bytes t = do
   parts ← frame_of bytes
   metadata ← metadata_at parts.1
   rows_of parts.0 t metadata
+
+-- ---- a part of the rows
+
+-- at most so many rows, from a place on, and how many there are
+pub record RowsPart : Type 0 where
+  pub rows : List Row
+  pub total : ℕ
+
+abbrev pub part_among : (first most : ℕ) → List Row → RowsPart
+part_among first most rows = record { rows = part_of first most rows; total = length rows }
+
+-- a part of the rows that reading gives, or why there are none
+abbrev pub part_read : {E : Type 0} → (first most : ℕ) → Result (List Row) E → Result RowsPart E
+part_read first most read = read >>= λ rows. Ok (part_among first most rows)
+
+abbrev pub part_at : List ℕ → Tree → (first most : ℕ) → Result RowsPart FileFault
+part_at bytes t first most = part_read first most (rows_at bytes t)

@@ -2,61 +2,70 @@
 
 ghost use Rattle.std.specs.Prelude.{◌≡◌, map, option_map, string_bytes};
 ghost use Rattle.lake_bytes.specs.Reading.{IsReading};
-ghost use Rattle.shred.specs.Views.{column_view, column_views};
-ghost use Rattle.parquet_footer.specs.Outcome.{Gives};
+ghost use Rattle.parquet_pages.specs.Outcome.{GivesWhere};
+ghost use Rattle.parquet_pages.specs.Parts.{IsPartOf};
 ghost use Rattle.parquet_footer.specs.Views.{chunk_view, chunk_views, group_view};
 ghost use Rattle.thrift_core.specs.View.{texts_view};
 ghost use Rattle.parquet_schema.specs.Views.{leaf_view, leaf_views};
-ghost use Rattle.parquet_rows.specs.Internal.{are_counted, is_counted, plain_chunk_named};
+ghost use Rattle.parquet_rows.specs.Internal.{are_counted, is_counted, plain_chunk_named, ArePartsOf};
 ghost use Rattle.parquet_rows.specs.Outcome.{Tests};
 ghost use Rattle.parquet_rows.specs.Reading.{chunk_named, column_at, columns_at, same_path};
 ghost use Rattle.parquet_pages.specs.Views.{leaf_view as pages_view};
 ghost use Rattle.parquet_rows.specs.File.{leaf_of};
 
 use parquet_footer::{ColumnChunk, FileError, FileFault, RowGroup};
-use parquet_pages::{Leaf, read_chunk, test_chunk};
+use parquet_pages::{Leaf, read_chunk_part, test_chunk};
 use parquet_schema::FileLeaf;
 use row_core::Value;
-use shred::Column;
+use shred::ColumnPart;
 use std::alloc::{Allocator, Global};
 
 /// CompressionCodec UNCOMPRESSED.
 const UNCOMPRESSED: i64 = 0;
 
-/// The columns of the leaves, in order. The time is linear in the bytes of their pages and their values.
+/// What is kept of the columns of the leaves, in order: the values of at most `most` rows from the one of the number
+/// `first` on.
 pub(crate) fn read_columns<A: Allocator>(
     alloc: Global,
     bytes: &[u8],
     chunks: &[ColumnChunk<A>],
     leaves: &[FileLeaf],
-) -> Result<Vec<Column<Value>>, FileError>
-    ensures { Gives (λ columns. column_views columns.items) result
+    first: u64,
+    most: u64,
+) -> Result<Vec<ColumnPart<Value>>, FileError>
+    ensures { GivesWhere (λ parts columns. ArePartsOf first most (leaf_views leaves.now) parts.items columns) result
         (columns_at bytes.now (chunk_views chunks.now) (leaf_views leaves.now)) }
 {
-    let mut columns = Vec::with_capacity(alloc, leaves.len())?;
+    let mut parts = Vec::with_capacity(alloc, leaves.len())?;
     for leaf in leaves {
-        columns.push(read_column(alloc, bytes, chunks, leaf)?)?;
+        parts.push(read_column(alloc, bytes, chunks, leaf, first, most)?)?;
     }
-    Ok(columns)
+    Ok(parts)
 }
 
-/// The column of a leaf. P8 where there is no chunk of it, P3 for its codec, and then as its pages have it.
+/// What is kept of the column of a leaf. P8 where there is no chunk of it, P3 for its codec, and then as its pages have
+/// it.
 #[tactic(auto, unfolding(crate::specs::Reading::column_at))]
 fn read_column<A: Allocator>(
     alloc: Global,
     bytes: &[u8],
     chunks: &[ColumnChunk<A>],
     leaf: &FileLeaf,
-) -> Result<Column<Value>, FileError>
-    ensures { Gives column_view result (column_at bytes.now (chunk_views chunks.now) (leaf_view leaf.now)) }
+    first: u64,
+    most: u64,
+) -> Result<ColumnPart<Value>, FileError>
+    ensures { GivesWhere (IsPartOf (leaf_of (leaf_view leaf.now)) first most) result
+        (column_at bytes.now (chunk_views chunks.now) (leaf_view leaf.now)) }
 {
     let chunk = plain_chunk(chunks, leaf)?;
-    read_chunk(
+    read_chunk_part(
         alloc,
         &pages_of(leaf),
         bytes,
         chunk.data_page_offset,
         chunk.num_values,
+        first,
+        most,
     )
 }
 

@@ -11,5 +11,5 @@ mod trees;
 mod writing;
 
 pub use laws::one_list_of_rows;
-pub use rows::read_rows;
+pub use rows::{FilePart, read_part, read_rows};
 pub use writing::write_file;

@@ -8,7 +8,8 @@ ghost use Rattle.parquet_footer.specs.Frame.{frame_of};
 ghost use Rattle.parquet_footer.specs.Outcome.{Finds, Gives, Refuses};
 ghost use Rattle.parquet_footer.specs.Views.{footer_view};
 ghost use Rattle.parquet_rows.specs.File.{IsFile, KeepsLimits};
-ghost use Rattle.parquet_rows.specs.Reading.{rows_at, rows_of};
+ghost use Rattle.parquet_rows.specs.Reading.{part_among, part_at, part_read, rows_at, rows_of};
+ghost use Rattle.parquet_rows.specs.Views.{file_part_view};
 
 use crate::groups::{add_groups, claims_add_up, test_groups};
 use parquet_footer::{FileError, FileFault, Footer, split_file};
@@ -16,6 +17,14 @@ use parquet_schema::fit;
 use row_core::Value;
 use schema_tree::Schema;
 use std::alloc::{Allocator, Global};
+
+/// A part of the rows of a file.
+#[derive(Debug, Drop)]
+pub struct FilePart {
+    pub rows: Vec<Value>,
+    /// How many rows the whole file has.
+    pub total: u64,
+}
 
 /// Reads the rows of a file, for a table of this schema (Apache Parquet, File Format). The file's columns may stand in
 /// any order and may be optional or required whatever the table says.
@@ -28,7 +37,7 @@ use std::alloc::{Allocator, Global};
 ///
 /// The time is linear in the footer's bytes, those of the pages of each group, and rows times leaves; pages that
 /// several groups state are read once for each, and paths are compared leaf by chunk. Beside the footer the memory
-/// holds at most the rows that the file claims, and the columns and rows of one row group.
+/// holds at most the rows that the file claims, and the columns of one row group with the runs of its levels.
 pub fn read_rows<A: Allocator>(
     alloc: Global,
     schema: &Schema<A>,
@@ -45,34 +54,65 @@ pub fn read_rows<A: Allocator>(
     // Which fault it is: the first one in the order of the tests.
     ensures exact { Gives (λ rows. row_views rows.items) result (rows_at bytes.now (tree_of schema.now)) }
 {
-    rows_in(alloc, schema, bytes)
+    Ok(part_in(alloc, schema, bytes, 0, u64::MAX)?.rows)
 }
 
-/// The rows of a file, in the order of the tests.
-#[tactic(auto, unfolding(crate::specs::Reading::rows_at))]
-fn rows_in<A: Allocator>(
+/// Reads at most `most` rows of a file, from the one of the number `first` on, and how many there are (Apache Parquet,
+/// File Format). The whole file is tested, with the faults of [`read_rows`] in the same order.
+///
+/// The time is linear in the footer's bytes, the headers and levels of the pages of each group, their runs of levels
+/// times the leaves, the bytes of columns of texts, bytes, and numbers of one or two bytes, and the rows that are given
+/// times the leaves; other values of a fixed size cost nothing. Beside the footer the memory holds the rows that are
+/// given and their levels, and the levels of one group as runs.
+pub fn read_part<A: Allocator>(
     alloc: Global,
     schema: &Schema<A>,
     bytes: &[u8],
-) -> Result<Vec<Value>, FileError>
-    ensures exact { Gives (λ rows. row_views rows.items) result (rows_at bytes.now (tree_of schema.now)) }
+    first: u64,
+    most: u64,
+) -> Result<FilePart, FileError>
+    // The bytes are a file of rows, within the limits, of which these are a part.
+    ensures found { IfOk result (λ part. (rows : List Row) × IsFile bytes.now (tree_of schema.now) rows × KeepsLimits bytes.now rows
+        × (file_part_view part ≡ part_among first most rows)) }
+    // Where the bytes are a file of rows, within the limits, their part is read, unless memory runs out.
+    ensures only { (rows : List Row) → IsFile bytes.now (tree_of schema.now) rows → KeepsLimits bytes.now rows
+        → Finds file_part_view (part_among first most rows) result }
+    // A fault of the frame is answered whatever the memory.
+    ensures early { Refuses result (frame_of bytes.now) }
+    // Which fault it is: the first one in the order of the tests.
+    ensures exact { Gives file_part_view result (part_at bytes.now (tree_of schema.now) first most) }
+{
+    part_in(alloc, schema, bytes, first, most)
+}
+
+/// A part of the rows of a file, in the order of the tests.
+#[tactic(auto, unfolding(crate::specs::Reading::rows_at))]
+fn part_in<A: Allocator>(
+    alloc: Global,
+    schema: &Schema<A>,
+    bytes: &[u8],
+    first: u64,
+    most: u64,
+) -> Result<FilePart, FileError>
+    ensures exact { Gives file_part_view result (part_at bytes.now (tree_of schema.now) first most) }
     ensures early { Refuses result (frame_of bytes.now) }
 {
     let (front, footer) = split_file(bytes)?;
     let footer = Footer::of_bytes(alloc, footer)?;
-    rows_by_footer(alloc, schema, front, &footer)
+    part_by_footer(alloc, schema, front, &footer, first, most)
 }
 
-/// The rows that a footer says stand in the bytes before it.
+/// A part of the rows that a footer says stand in the bytes before it.
 #[tactic(auto, unfolding(crate::specs::Reading::rows_of))]
-fn rows_by_footer<A: Allocator, B: Allocator>(
+fn part_by_footer<A: Allocator, B: Allocator>(
     alloc: Global,
     schema: &Schema<A>,
     bytes: &[u8],
     footer: &Footer<B>,
-) -> Result<Vec<Value>, FileError>
-    ensures { Gives (λ rows. row_views rows.items) result
-        (rows_of bytes.now (tree_of schema.now) (footer_view footer.now)) }
+    first: u64,
+    most: u64,
+) -> Result<FilePart, FileError>
+    ensures { Gives file_part_view result (part_read first most (rows_of bytes.now (tree_of schema.now) (footer_view footer.now))) }
 {
     let file = fit(alloc, schema, &footer.schema)?;
     if !claims_add_up(&footer.row_groups, footer.num_rows) {
@@ -80,6 +120,17 @@ fn rows_by_footer<A: Allocator, B: Allocator>(
         return Err(FileFault::CountMismatch.into());
     }
     let mut rows = Vec::new(alloc);
-    add_groups(alloc, bytes, &file, &footer.row_groups, &mut rows)?;
-    Ok(rows)
+    add_groups(
+        alloc,
+        bytes,
+        &file,
+        &footer.row_groups,
+        first,
+        most,
+        &mut rows,
+    )?;
+    Ok(FilePart {
+        rows,
+        total: footer.num_rows,
+    })
 }

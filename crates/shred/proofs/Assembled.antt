@@ -16,7 +16,8 @@ use Rattle.shred.proofs.Matrix.{fronts, matrix, first_fits, others_fit, all_fit,
 use Rattle.shred.proofs.Rests.{bind_ok, ok_same}
 use Rattle.shred.proofs.MadeSound.{made_sound}
 use Rattle.shred.proofs.MadeComplete.{made_complete, has_way}
-use Rattle.shred.proofs.Even.{AreLong, AreProper, columns_sound, columns_complete}
+use Rattle.shred.specs.Levels.{AreLong}
+use Rattle.shred.proofs.Even.{AreProper, columns_sound, columns_complete}
 use Rattle.shred.proofs.Proper.{some_same, matrix_proper}
 
 -- ---- first cells and those behind them

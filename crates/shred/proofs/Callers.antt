@@ -1,6 +1,7 @@
 -- The lemmas that proofs of other crates may cite.
 pub use Rattle.shred.proofs.Assembled.{assembled_sound, assembled_complete, same_rows_given}
 pub use Rattle.shred.proofs.ConformsFits.{row_fits}
+pub use Rattle.shred.proofs.CutOut.{cut_out_whole, so_many}
 pub use Rattle.shred.proofs.MadeComplete.{has_way}
 pub use Rattle.shred.proofs.Matrix.{columns_found, fronts, matrix}
 pub use Rattle.shred.proofs.Mismatched.{refused_at_mismatch}

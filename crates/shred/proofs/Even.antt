@@ -10,6 +10,7 @@ use Rattle.row_core.specs.Rows.{Value}
 use Rattle.shred.specs.Columns.{Cell, Column, column_of, absent_cell, present_cell}
 use Rattle.shred.specs.Faults.{uneven_columns}
 use Rattle.shred.specs.Assembly.{is_even, cells_in, cells_of_column, cells_of_columns}
+use Rattle.shred.specs.Levels.{AreLong}
 use Rattle.shred.proofs.Rests.{bind_ok, ok_same, or_ok, level_same, level_is}
 
 abbrev pub levels_of : List Cell → List ℕ
@@ -73,11 +74,6 @@ even_from false rows top c cells is h =
     let go : cells_of_column rows top c ≡ None = rw is refl in
     absurd (none-some cells (sym go ∙ h))
 
--- each list is so long
-abbrev pub AreLong : ℕ → List (List Cell) → Type 0
-AreLong rows [] = Unit {0}
-AreLong rows (cells ∷ css) = (length cells ≡ rows) × AreLong rows css
-
 abbrev Opened : ℕ → List ℕ → List Column → List (List Cell) → Type 0
 Opened rows tops cs css = (cs ≡ map column_of css) × (length css ≡ length tops) × AreLong rows css
 
@@ -99,7 +95,7 @@ abbrev pub IsProper : ℕ → List Cell → Type 0
 IsProper top [] = Unit {0}
 IsProper top (c ∷ cells) = (is_some c.value ≡ (c.level == top)) × IsProper top cells
 
-absent_on : (top l : ℕ) (ls : List ℕ) (vs : List Value) → false ≡ (l == top) → cells_in top (l ∷ ls) vs ≡ absent_cell l ∷ cells_in top ls vs
+pub absent_on : (top l : ℕ) (ls : List ℕ) (vs : List Value) → false ≡ (l == top) → cells_in top (l ∷ ls) vs ≡ absent_cell l ∷ cells_in top ls vs
 absent_on top l ls [] h = refl
 absent_on top l ls (v ∷ vs) h = rw (← h) refl
 

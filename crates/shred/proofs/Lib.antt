@@ -22,3 +22,8 @@ pub mod FailsAt
 pub mod RowFails
 pub mod Mismatched
 pub mod RowsBefore
+pub mod Masked
+pub mod CutOut
+pub mod RowParts
+pub mod LevelLoops
+pub mod KeptRows

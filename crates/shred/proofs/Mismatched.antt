@@ -16,7 +16,8 @@ use Rattle.shred.specs.Mismatch.{leaf_paths, cells_of_ways, cells_at, BeginsRow,
 use Rattle.shred.proofs.RowCells.{cells_of, cells_found, cells_length}
 use Rattle.shred.proofs.Rests.{bind_ok}
 use Rattle.shred.proofs.MadeSound.{made_sound}
-use Rattle.shred.proofs.Even.{AreLong, columns_sound}
+use Rattle.shred.specs.Levels.{AreLong}
+use Rattle.shred.proofs.Even.{columns_sound}
 use Rattle.shred.proofs.Proper.{some_same, bind_some, map_some}
 use Rattle.shred.proofs.Assembled.{heads_long, tails_long}
 use Rattle.shred.proofs.FailsAt.{FailsAt}

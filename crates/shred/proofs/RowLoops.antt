@@ -44,7 +44,7 @@ rows_done shape n front css total none so_far =
 
 -- ---- columns
 
-nothing_left : {A : Type 0} (xs : List A) → xs ≡ drop 1 xs → xs ≡ []
+pub nothing_left : {A : Type 0} (xs : List A) → xs ≡ drop 1 xs → xs ≡ []
 nothing_left [] e = refl
 nothing_left (x ∷ xs) e = let n : suc (length xs) ≡ length xs = ap length e in absurd (omega arith)
 
@@ -77,11 +77,17 @@ cons_front : {B : Type 0} (o : Option B) (ys zs : List B) → cons_option o (ys 
 cons_front None ys zs = refl
 cons_front (Some y) ys zs = refl
 
-cells_put : (before : List (Cell Value)) (r : Option (Cell Value)) → cells_view (before ++ option_to_list r) ≡ cells_view before ++ option_to_list (option_map cell_view r)
+pub one_cell : (before now : List (Cell Value)) (r : Option (Cell Value)) (x : Cell Value) → r ≡ Some x → now ≡ before ++ x ∷ [] → now ≡ before ++ option_to_list r
+one_cell before now r x is put = rw is put
+
+pub no_cell : (before now : List (Cell Value)) (r : Option (Cell Value)) → r ≡ None → now ≡ before → now ≡ before ++ option_to_list r
+no_cell before now r is same = rw (is, same) (sym (append-nil before))
+
+pub cells_put : (before : List (Cell Value)) (r : Option (Cell Value)) → cells_view (before ++ option_to_list r) ≡ cells_view before ++ option_to_list (option_map cell_view r)
 cells_put before None = ap cells_view (append-nil before) ∙ sym (append-nil (cells_view before))
 cells_put before (Some c) = map_push cell_view before c
 
-filter_push : {A B : Type 0} (f : A → Option B) (xs : List A) (x : A) → filter_map f (xs ++ x ∷ []) ≡ filter_map f xs ++ option_to_list (f x)
+pub filter_push : {A B : Type 0} (f : A → Option B) (xs : List A) (x : A) → filter_map f (xs ++ x ∷ []) ≡ filter_map f xs ++ option_to_list (f x)
 filter_push f [] x = cons_nil (f x)
 filter_push f (y ∷ xs) x = ap (cons_option (f y)) (filter_push f xs x) ∙ cons_front (f y) (filter_map f xs) (option_to_list (f x))
 

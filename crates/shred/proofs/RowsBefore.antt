@@ -15,7 +15,8 @@ use Rattle.shred.specs.Mismatch.{cells_of_ways, cells_at, MakesRow, FailsFirst, 
 use Rattle.shred.proofs.RowCells.{cells_of, cells_length}
 use Rattle.shred.proofs.Matrix.{matrix, columns_found}
 use Rattle.shred.proofs.MadeComplete.{made_complete}
-use Rattle.shred.proofs.Even.{AreLong, columns_sound, levels_of, found_in, tops_in, levels_again}
+use Rattle.shred.specs.Levels.{AreLong}
+use Rattle.shred.proofs.Even.{columns_sound, levels_of, found_in, tops_in, levels_again}
 use Rattle.shred.proofs.Assembled.{heads_long, tails_long, rows_sound}
 use Rattle.shred.proofs.Mismatched.{begun, begins_fewer, behind, drop_none, tails_behind, rows_found, even_rows, mismatch_sound}
 use Rattle.shred.proofs.Uneven.{rows_fair, even_opens}
@@ -23,7 +24,7 @@ use Rattle.shred.proofs.Uneven.{rows_fair, even_opens}
 -- ---- cells that are cut
 
 -- one more level is counted, or not
-tops_more : (b : Bool) (top l : ℕ) (ls : List ℕ) → (l == top) ≡ b → tops_in top (l ∷ ls) ≡ cond b 1 0 + tops_in top ls
+pub tops_more : (b : Bool) (top l : ℕ) (ls : List ℕ) → (l == top) ≡ b → tops_in top (l ∷ ls) ≡ cond b 1 0 + tops_in top ls
 tops_more b top l ls is = sum_by-cons (λ level. cond (level == top) 1 0) l ls ∙ ap (λ m. cond m 1 0 + tops_in top ls) is
 
 none_cut : (top n : ℕ) (ls : List ℕ) → found_in (take n (cells_in top ls [])) ≡ []
@@ -65,12 +66,12 @@ columns_cut n (w ∷ ws) (c ∷ cs) = ap (λ d. d ∷ map column_of (map (take n
 
 -- ---- rows of cells that are cut
 
-heads_cut : (i : ℕ) (css : List (List Cell)) → heads (map (take (suc i)) css) ≡ heads css
+pub heads_cut : (i : ℕ) (css : List (List Cell)) → heads (map (take (suc i)) css) ≡ heads css
 heads_cut i [] = refl
 heads_cut i ([] ∷ css) = heads_cut i css
 heads_cut i ((c ∷ cs) ∷ css) = ap (λ xs. c ∷ xs) (heads_cut i css)
 
-tails_cut : (i : ℕ) (css : List (List Cell)) → map (drop 1) (map (take (suc i)) css) ≡ map (take i) (map (drop 1) css)
+pub tails_cut : (i : ℕ) (css : List (List Cell)) → map (drop 1) (map (take (suc i)) css) ≡ map (take i) (map (drop 1) css)
 tails_cut i [] = refl
 tails_cut i ([] ∷ css) = ap (λ cs. cs ∷ map (drop 1) (map (take (suc i)) css)) (sym (take-nil i)) ∙ ap (λ xs. take i [] ∷ xs) (tails_cut i css)
 tails_cut i ((c ∷ cs) ∷ css) = ap (λ xs. take i cs ∷ xs) (tails_cut i css)

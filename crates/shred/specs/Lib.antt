@@ -6,3 +6,5 @@ pub mod Faults
 pub mod Assembly
 pub mod Mismatch
 pub mod Views
+pub mod Parts
+pub mod Levels

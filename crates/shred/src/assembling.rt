@@ -12,13 +12,14 @@ ghost use Rattle.shred.specs.Ways.{ways, highest};
 ghost use Rattle.shred.specs.Views.{shape_view, column_views, reader_views, way_view};
 
 use crate::cells::{Reader, next_cells, readers_of};
-use crate::columns::Column;
+use crate::columns::{Cell, Column};
 use crate::fault::ShredError;
 use crate::rows::value;
 use crate::shapes::Shape;
 use crate::ways::{Step, ways_of};
 use row_core::Value;
 use std::alloc::{AllocError, Global};
+use std::collections::VecDeque;
 
 /// The rows whose columns these are, one column for each leaf of the shape, depth first. The values are moved. The
 /// time is linear in rows times leaves.
@@ -59,7 +60,7 @@ fn rows_of(
 }
 
 /// So many rows of the cells that are left.
-fn read_rows(
+pub(crate) fn read_rows(
     alloc: Global,
     shape: &Shape,
     count: usize,
@@ -68,24 +69,30 @@ fn read_rows(
     ensures { Gives says (λ v. row_views v.items) result (rows_made (shape_view shape.now) count (reader_views readers.old)) }
 {
     let mut rows = Vec::with_capacity(alloc, count)?;
+    let mut cells = VecDeque::with_capacity(alloc, readers.len())?;
     for _row in 0..count {
-        let row = next_row(alloc, shape, readers)?;
+        let row = next_row(alloc, shape, readers, &mut cells)?;
         rows.push(row)?;
     }
     Ok(rows)
 }
 
-/// The row of the first cells that are left.
-fn next_row(alloc: Global, shape: &Shape, readers: &mut [Reader]) -> Result<Value, ShredError>
+/// The row of the first cells that are left, which are put in place of those that were there.
+fn next_row(
+    alloc: Global,
+    shape: &Shape,
+    readers: &mut [Reader],
+    cells: &mut VecDeque<Cell<Value>>,
+) -> Result<Value, ShredError>
     ensures row { Gives says value_view result (row_made (shape_view shape.now) (heads (reader_views readers.old))) }
     ensures left { OnOk result (reader_views readers.new ≡ map (drop 1) (reader_views readers.old)) }
 {
-    let mut cells = next_cells(alloc, readers)?;
-    value(alloc, shape, 0, &mut cells)
+    next_cells(readers, cells)?;
+    value(alloc, shape, 0, cells)
 }
 
 /// The number of levels of the first column.
-fn row_count(columns: &[Column<Value>]) -> usize
+pub(crate) fn row_count(columns: &[Column<Value>]) -> usize
     ensures { result ≡ row_count (column_views columns.now) }
 {
     match columns.first() {
@@ -95,7 +102,7 @@ fn row_count(columns: &[Column<Value>]) -> usize
 }
 
 /// The highest level of each leaf.
-fn highest_levels(alloc: Global, shape: &Shape) -> Result<Vec<u64>, AllocError>
+pub(crate) fn highest_levels(alloc: Global, shape: &Shape) -> Result<Vec<u64>, AllocError>
     ensures { IfOk result (λ v. v.items ≡ map highest (ways (shape_view shape.now))) }
 {
     let ways = ways_of(alloc, shape)?;

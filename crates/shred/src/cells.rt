@@ -85,19 +85,19 @@ pub(crate) fn readers_of(
     }
 }
 
-/// The next cell of each reader.
+/// Puts the next cell of each reader in place of those that were there.
 pub(crate) fn next_cells(
-    alloc: Global,
     readers: &mut [Reader],
-) -> Result<VecDeque<Cell<Value>>, AllocError>
-    ensures cells { IfOk result (λ q. cells_view q.items ≡ heads (reader_views readers.old)) }
+    cells: &mut VecDeque<Cell<Value>>,
+) -> Result<(), AllocError>
+    ensures cells { OnOk result (cells_view cells.new.items ≡ heads (reader_views readers.old)) }
     ensures left { OnOk result (reader_views readers.new ≡ map (drop 1) (reader_views readers.old)) }
 {
-    let mut cells = VecDeque::with_capacity(alloc, readers.len())?;
+    cells.clear();
     for reader in readers.iter_mut() {
         if let Some(cell) = reader.next_cell() {
             cells.push_back(cell)?;
         }
     }
-    Ok(cells)
+    Ok(())
 }

@@ -7,13 +7,14 @@ mod cells;
 mod columns;
 mod fault;
 mod laws;
+mod parts;
 mod rows;
 mod shapes;
 mod shredding;
 mod ways;
 
 pub use assembling::assemble;
-pub use columns::Column;
+pub use columns::{Column, ColumnPart};
 pub use fault::ShredError;
 pub use laws::{
     columns_are_shredded_again, columns_have_one_list_of_rows,
@@ -21,5 +22,6 @@ pub use laws::{
     rows_are_assembled_again, rows_that_conform_fit, rows_that_fit_have_columns,
     uneven_columns_are_told_apart,
 };
+pub use parts::assemble_part;
 pub use shapes::{Shape, ShapeField};
 pub use shredding::shred;

@@ -1,18 +1,9 @@
-use Rattle.std.proofs.Common.{◌≡◌, ◌<◌, ◌++◌, ◌∷◌, [], List, Option, Some, None, option_to_list, length, drop, ap, sym, ◌∙◌, arith}
-use Rattle.std.proofs.lemmas.List.{append-nil}
-use Rattle.row_core.specs.declared.value.Value.{Value}
-use Rattle.shred.specs.declared.columns.Cell.{Cell}
+use Rattle.std.proofs.Common.{◌≡◌, ◌<◌, ◌++◌, option_to_list, length, drop, ap, sym, ◌∙◌, arith}
 use Rattle.shred.specs.Assembly.{first_cell}
 use Rattle.shred.specs.Views.{reader_view}
-use Rattle.shred.proofs.RowLoops.{item_on, cells_on, left_on, others_on}
+use Rattle.shred.proofs.RowLoops.{item_on, one_cell, no_cell, cells_on, left_on, others_on}
 use Rattle.shred.proofs.cells.next_cells.Goals as goal
 use Rattle.shred.proofs.cells.next_cells.Goals.{in-Some+in_ok-push_back, in_default}
-
-one_cell : (before now : List (Cell Value)) (r : Option (Cell Value)) (x : Cell Value) → r ≡ Some x → now ≡ before ++ x ∷ [] → now ≡ before ++ option_to_list r
-one_cell before now r x is put = rw is put
-
-no_cell : (before now : List (Cell Value)) (r : Option (Cell Value)) → r ≡ None → now ≡ before → now ≡ before ++ option_to_list r
-no_cell before now r is same = rw (is, same) (sym (append-nil before))
 
 pub loop-reader-preserved : goal.loop-reader-preserved
 loop-reader-preserved c =
