@@ -7,6 +7,8 @@ use Rattle.commit_core.specs.declared.fault.CreateFault.{CreateFault}
 use Rattle.commit_core.specs.declared.fault.CreateFault.TheVariants as creating
 use Rattle.sink_core.specs.declared.refusal.AppendFault.{AppendFault}
 use Rattle.sink_core.specs.declared.refusal.AppendFault.TheVariants as appending
+use Rattle.sink_core.specs.Appending.{settled}
+use Rattle.sink_core.specs.Puts.{IsSaidBy}
 use Rattle.lake_script.specs.declared.reply.Reply.TheVariants.{NotCreated, NotAppended}
 use Rattle.lake_script.specs.Lines.{append, Wish, create, task, reading_of}
 use Rattle.lake_script.specs.ReplyView.{reply_text, is_short}
@@ -22,16 +24,17 @@ granted_without_text objects wish reply after none (inl has) = inl ([], none, ha
 granted_without_text objects wish reply after none (inr wants) = inr wants
 
 -- which faults are short
-pub creation_short : (fault : CreateFault) (id : List ℕ) (at : ℕ) (schema : List ℕ) → is_short (NotCreated fault) ≡ true → IsShort (create id at schema) (reply_text (NotCreated fault))
-creation_short creating.Memory id at schema h = inl refl
-creation_short creating.TooLarge id at schema h = inr refl
-creation_short _ id at schema h = cc
+pub creation_short : (fault : CreateFault) (objects : Objects) (id : List ℕ) (at : ℕ) (schema : List ℕ) → is_short (NotCreated fault) ≡ true
+    → IsShort objects (create id at schema) (reply_text (NotCreated fault))
+creation_short creating.Memory objects id at schema h = inl refl
+creation_short creating.TooLarge objects id at schema h = inr refl
+creation_short _ objects id at schema h = cc
 
-pub append_short : (fault : AppendFault) (application : List ℕ) (number at : ℕ) (items : Items) → is_short (NotAppended fault) ≡ true
-    → IsShort (task (append application number at items)) (reply_text (NotAppended fault))
-append_short appending.Memory application number at items h = inl refl
-append_short appending.FileTooLarge application number at items h = inr refl
-append_short _ application number at items h = cc
+pub append_short : (fault : AppendFault) (objects : Objects) (application : List ℕ) (number at : ℕ) (items : Items) → is_short (NotAppended fault) ≡ true
+    → IsSaidBy (settled objects application number at items) fault → IsShort objects (task (append application number at items)) (reply_text (NotAppended fault))
+append_short appending.Memory objects application number at items h said = inl refl
+append_short appending.FileTooLarge objects application number at items h said = inr (refl, said)
+append_short _ objects application number at items h said = cc
 
 -- whatever the lines that are left are told, all of them or some, the whole is told behind what was told so far
 abbrev pub Onward : Objects → List (List ℕ) → ℕ → Objects → List (List ℕ) → List ℕ → Type 0
@@ -64,7 +67,7 @@ module _ (start : Objects) (whole : List (List ℕ)) where
 
     -- a reply tells that something was short
     pub onward_short : Tells old now (Onward start whole number objects (line ∷ lines))
-        → Tells now new (λ reply. Replies number objects (reading_of line) reply after × TellsShort (reading_of line) reply) → Tells old new (SaysShort start whole)
+        → Tells now new (λ reply. Replies number objects (reading_of line) reply after × TellsShort objects (reading_of line) reply) → Tells old new (SaysShort start whole)
     onward_short t s = (
       t.0 ++ s.0,
       Appends-both old now new t.0 s.0 t.1 s.1,

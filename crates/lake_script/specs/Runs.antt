@@ -1,6 +1,6 @@
 -- What a script may be told where growths are refused, or replies can't be written: a line that wants memory is told just
 -- that, and leaves the objects as they were, but for a batch's file, which may stand.
-use Rattle.std.specs.Prelude.{◌≡◌, ◌⊎◌, ◌+◌, ◌++◌, ℕ, true, false, List, [], ◌∷◌, Option}
+use Rattle.std.specs.Prelude.{◌≡◌, ◌⊎◌, ◌+◌, ◌++◌, ℕ, true, false, List, [], ◌∷◌, Option, Err}
 use Rattle.std.specs.Io.KnownBytes.{Appends}
 use Rattle.store_core.specs.Objects.{Objects}
 use Rattle.store_core.specs.Texts as stores
@@ -53,16 +53,16 @@ too_large_to_create = line_of (refused (create_fault_text create_faults.TooLarge
 abbrev pub too_large_to_append : List ℕ
 too_large_to_append = line_of (refused (refusal_text file_too_large))
 
--- the reply reads as that to a line whose object would pass 64 MiB; an append is told the same text where its number or
--- its count of rows is above the limit
-abbrev pub IsTooLarge : Wish → List ℕ → Type 0
-IsTooLarge (create id at schema) reply = reply ≡ too_large_to_create
-IsTooLarge (task (append application number at rows)) reply = reply ≡ too_large_to_append
-IsTooLarge _ reply = ⊥
+-- the reply to a line over these objects whose object would pass 64 MiB: the text to a creation, which is told so for
+-- nothing else; the text to an append, and the file of its batch would pass them
+abbrev pub IsTooLarge : Objects → Wish → List ℕ → Type 0
+IsTooLarge objects (create id at schema) reply = reply ≡ too_large_to_create
+IsTooLarge objects (task (append application number at rows)) reply = (reply ≡ too_large_to_append) × (settled objects application number at rows ≡ Err file_too_large)
+IsTooLarge objects _ reply = ⊥
 
--- the reply to a line tells that a growth was refused, or that an object would pass 64 MiB
-abbrev pub IsShort : Wish → List ℕ → Type 0
-IsShort wish reply = IsWantOfMemory wish reply ⊎ IsTooLarge wish reply
+-- the reply to a line over these objects tells that a growth was refused, or that an object would pass 64 MiB
+abbrev pub IsShort : Objects → Wish → List ℕ → Type 0
+IsShort objects wish reply = IsWantOfMemory wish reply ⊎ IsTooLarge objects wish reply
 
 -- the objects behind a line whose growth was refused: as they were, or with the file of the batch that it appends
 abbrev pub MayLeave : Objects → Wish → Objects → Type 0
@@ -84,10 +84,10 @@ Replies number objects bad reply after = (reply ≡ bad_line number) × (after �
 Replies number objects (asks wish) reply after = Grants objects wish reply after × MayPut objects wish after
 
 -- the reply to a line tells so
-abbrev pub TellsShort : Reading → List ℕ → Type 0
-TellsShort skipped reply = ⊥
-TellsShort bad reply = ⊥
-TellsShort (asks wish) reply = IsShort wish reply
+abbrev pub TellsShort : Objects → Reading → List ℕ → Type 0
+TellsShort objects skipped reply = ⊥
+TellsShort objects bad reply = ⊥
+TellsShort objects (asks wish) reply = IsShort objects wish reply
 
 -- the objects behind a line that was told nothing: it wasn't read, or its reply wasn't given
 abbrev pub IsCutOff : ℕ → Objects → Reading → Objects → Type 0
@@ -115,7 +115,7 @@ pub data RunsInPart : ℕ → Objects → List (List ℕ) → List ℕ → Objec
 -- was refused, or that an object would pass 64 MiB
 pub data FallsShort : ℕ → Objects → List (List ℕ) → List ℕ → Type 0 where
   here : {number : ℕ} {objects : Objects} {line : List ℕ} {lines : List (List ℕ)} (reply rest : List ℕ) (after : Objects)
-      → Replies number objects (reading_of line) reply after → TellsShort (reading_of line) reply → FallsShort number objects (line ∷ lines) (reply ++ rest)
+      → Replies number objects (reading_of line) reply after → TellsShort objects (reading_of line) reply → FallsShort number objects (line ∷ lines) (reply ++ rest)
   later : {number : ℕ} {objects : Objects} {line : List ℕ} {lines : List (List ℕ)} (reply rest : List ℕ) (after : Objects)
       → is_bad (reading_of line) ≡ false → Replies number objects (reading_of line) reply after → FallsShort (number + 1) after lines rest
       → FallsShort number objects (line ∷ lines) (reply ++ rest)

@@ -83,7 +83,7 @@ fn answer<S: Store, W: Write>(
     ensures tells { S.is_reliable store.old → OnOk result (Tells (held W.contents output.old) (held W.contents output.new)
         (λ reply. Replies number (S.objects store.old) (reading_of line.now) reply (S.objects store.new))) }
     ensures short { S.is_reliable store.old → is_short.old ≡ false → is_short.new ≡ true → OnOk result (Tells (held W.contents output.old) (held W.contents output.new)
-        (λ reply. Replies number (S.objects store.old) (reading_of line.now) reply (S.objects store.new) × TellsShort (reading_of line.now) reply)) }
+        (λ reply. Replies number (S.objects store.old) (reading_of line.now) reply (S.objects store.new) × TellsShort (S.objects store.old) (reading_of line.now) reply)) }
     ensures cut_off { S.is_reliable store.old → OnErr result (IsCutOff number (S.objects store.old) (reading_of line.now) (S.objects store.new)) }
     ensures reliable { S.is_reliable store.old → S.is_reliable store.new }
     ensures remembers { is_short.new ≡ false → is_short.old ≡ false }

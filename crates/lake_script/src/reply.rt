@@ -101,7 +101,7 @@ fn create_table<S: Store>(alloc: Global, store: &mut S, id: &str, at: u64, schem
     ensures told { S.is_reliable store.old → Grants (S.objects store.old) (create id.now at schema.now) (reply_text result) (S.objects store.new) }
     ensures whole { S.is_reliable store.old → is_short result ≡ false → IsGranted (S.objects store.old) (create id.now at schema.now) (reply_text result) (S.objects store.new) }
     ensures grows { S.is_reliable store.old → MayPut (S.objects store.old) (create id.now at schema.now) (S.objects store.new) }
-    ensures short { is_short result ≡ true → IsShort (create id.now at schema.now) (reply_text result) }
+    ensures short { is_short result ≡ true → IsShort (S.objects store.old) (create id.now at schema.now) (reply_text result) }
     ensures reliable { S.is_reliable store.old → S.is_reliable store.new }
 {
     match create(alloc, store, id, at, schema) {
@@ -123,7 +123,7 @@ fn append_batch<S: Store>(
     ensures told { S.is_reliable store.old → Grants (S.objects store.old) (task (append application.now number at (items_view rows.now))) (reply_text result) (S.objects store.new) }
     ensures whole { S.is_reliable store.old → is_short result ≡ false → IsGranted (S.objects store.old) (task (append application.now number at (items_view rows.now))) (reply_text result) (S.objects store.new) }
     ensures grows { S.is_reliable store.old → MayPut (S.objects store.old) (task (append application.now number at (items_view rows.now))) (S.objects store.new) }
-    ensures short { is_short result ≡ true → IsShort (task (append application.now number at (items_view rows.now))) (reply_text result) }
+    ensures short { is_short result ≡ true → IsShort (S.objects store.old) (task (append application.now number at (items_view rows.now))) (reply_text result) }
     ensures reliable { S.is_reliable store.old → S.is_reliable store.new }
 {
     match append(alloc, store, application, number, at, rows) {
@@ -201,7 +201,7 @@ pub fn grant<S: Store>(alloc: Global, line: Line<'_>, store: &mut S) -> Reply
     // However it ends, what it puts is well made.
     ensures grows { S.is_reliable store.old → MayPut (S.objects store.old) (wish_view line.entry) (S.objects store.new) }
     // A reply is short only where it tells so.
-    ensures short { is_short result ≡ true → IsShort (wish_view line.entry) (reply_text result) }
+    ensures short { is_short result ≡ true → IsShort (S.objects store.old) (wish_view line.entry) (reply_text result) }
     ensures reliable { S.is_reliable store.old → S.is_reliable store.new }
 {
     match line {

@@ -32,7 +32,7 @@ returns-in_ok-give-in-Asks-clause-short g c = λ reliable before short.
     let reply = reply_text c.grant-reply.result in
     let is : is_short c.grant-reply.result ≡ true = elim c.if-is_short.branch [ then-is_short w ↦ search rules | else-is_short w ↦ let same = w.is_short-is in cc ] in
     let told = subst (λ r. Replies c.args.number (g.S.Store.objects c.args.store.now) r reply (g.S.Store.objects c.grant-reply.new.store)) asked (granted.told reliable, granted.grows reliable) in
-    (reply, c.in_ok-give-in-Asks.ensures.held, (told, subst (λ r. TellsShort r reply) asked (granted.short is)))
+    (reply, c.in_ok-give-in-Asks.ensures.held, (told, subst (λ r. TellsShort (g.S.Store.objects c.args.store.now) r reply) asked (granted.short is)))
 
 pub returns-in_err-give-in-Asks-clause-cut_off : goal.returns-in_err-give-in-Asks-clause-cut_off
 returns-in_err-give-in-Asks-clause-cut_off g c = λ reliable.

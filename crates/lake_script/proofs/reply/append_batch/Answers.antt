@@ -18,4 +18,5 @@ returns-in-Err-clause-told g c = λ reliable.
     granted_without_text objects wish reply after tt is
 
 pub returns-in-Err-clause-short : goal.returns-in-Err-clause-short
-returns-in-Err-clause-short g c = λ short. append_short c.in-Err.fault c.args.application.now c.args.number c.args.at (items_view c.args.rows.now) short
+returns-in-Err-clause-short g c = λ short.
+    append_short c.in-Err.fault (g.S.Store.objects c.args.store.now) c.args.application.now c.args.number c.args.at (items_view c.args.rows.now) short c.in-Err.ensures.refusals
