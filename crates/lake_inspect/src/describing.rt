@@ -4,7 +4,7 @@ use crate::commit::commit_lines;
 use crate::kind::Kind;
 use crate::parquet::{footer_lines, page_line, row_lines, table_lines};
 use crate::refusal::Refusal;
-use crate::schema::schema_lines;
+use crate::schema::{schema_lines, schema_of};
 use crate::tree::push_value;
 use lake_bytes::Cursor;
 use std::alloc::{AllocError, Global};
@@ -17,6 +17,10 @@ pub fn describe(alloc: Global, kind: Kind<'_>, bytes: &[u8]) -> Result<Vec<Strin
         Kind::Footer => footer_lines(alloc, bytes),
         Kind::Rows(column) => row_lines(alloc, column, bytes),
         Kind::Table(schema) => table_lines(alloc, schema, bytes),
+        Kind::RowsBy(text) => {
+            let schema = schema_of(alloc, text.as_bytes())?;
+            table_lines(alloc, &schema, bytes)
+        }
         Kind::Schema => schema_lines(alloc, bytes),
         Kind::Commit => commit_lines(alloc, bytes),
         _ => {

@@ -26,13 +26,15 @@ pub enum Kind<'a> {
     Rows(&'a str),
     /// A Parquet file of a table of this schema, of which the rows are told.
     Table(&'a Schema<Global>),
+    /// The same, with the JSON text of the schema.
+    RowsBy(&'a str),
     /// The JSON text of a table's schema.
     Schema,
     /// The lines of a Delta commit.
     Commit,
 }
 
-/// The word of rows, which a column's name goes with.
+/// The word of rows: behind it stands a schema on a command line, and a column's name in a case.
 pub const ROWS: &str = "rows";
 
 /// The other kinds: their words, and what is printed of them.

@@ -24,7 +24,7 @@ const FILE: &str = "file";
 
 const HEX: &str = "hex";
 
-const COLUMN: &str = "column";
+const SCHEMA: &str = "schema";
 
 /// The subcommand of a kind.
 fn subcommand<'a>(alloc: Global, name: &'a str, about: &'a str) -> Result<Command<'a>, AllocError> {
@@ -47,28 +47,28 @@ fn parser<'a>(alloc: Global) -> Result<Command<'a>, AllocError> {
     for (name, _, about) in KINDS {
         parser = parser.subcommand(subcommand(alloc, name, about)?)?;
     }
-    let column = Arg::new(alloc, COLUMN)
-        .long(COLUMN)
-        .value_name("NAME")
+    let schema = Arg::new(alloc, SCHEMA)
+        .long(SCHEMA)
+        .value_name("TEXT")
         .required(true)
-        .help("The column's name");
+        .help("The table's schema, the JSON text of a struct");
     let rows = subcommand(
         alloc,
         ROWS,
-        "The rows of a Parquet file of one required long column",
+        "The rows of a Parquet file of a table, as JSON",
     )?;
     let cases = Command::new(alloc, CASES).about(
         "An answer to each line on standard input, which says what is read or written",
     );
-    parser.subcommand(rows.arg(column)?)?.subcommand(cases)
+    parser.subcommand(rows.arg(schema)?)?.subcommand(cases)
 }
 
 fn request_in<'a>(matches: &ArgMatches<'a>) -> Request<'a> {
     let Some((word, given)) = matches.subcommand() else {
         return Request::Cases;
     };
-    let kind = match given_column(word, given) {
-        Some(column) => Some(Kind::Rows(column)),
+    let kind = match given_schema(word, given) {
+        Some(text) => Some(Kind::RowsBy(text)),
         None => kind_named(word),
     };
     match kind {
@@ -81,9 +81,9 @@ fn request_in<'a>(matches: &ArgMatches<'a>) -> Request<'a> {
     }
 }
 
-fn given_column<'a>(word: &str, given: &ArgMatches<'a>) -> Option<&'a str> {
+fn given_schema<'a>(word: &str, given: &ArgMatches<'a>) -> Option<&'a str> {
     if word == ROWS {
-        given.get_str(COLUMN)
+        given.get_str(SCHEMA)
     } else {
         None
     }
