@@ -3,6 +3,5 @@ pub mod KeptTailPlace
 pub mod KeptTailSpot
 pub mod KeptTailWalk
 pub mod OffsetLemmas
-pub mod RowTexts
 pub mod TailLemmas
 pub mod Callers
