@@ -1,5 +1,6 @@
 -- From one line's reply to what a whole script may be told.
 use Rattle.std.proofs.Common.{◌≡◌, ◌⊎◌, ℕ, ◌+◌, ◌∷◌, [], ◌++◌, List, Option, Result, Ok, Err, OnErr, true, false, inl, inr, refl, ap, subst, sym, ◌∙◌, append_assoc, append-nil}
+use Rattle.std.specs.Prelude.{⊤}
 use Rattle.std.specs.Io.KnownBytes.{Appends, append_known}
 use Rattle.store_core.specs.Objects.{Objects}
 use Rattle.serde_json.specs.Data.{Items}
@@ -100,6 +101,10 @@ module _ (start : Objects) (whole : List (List ℕ)) where
   -- one of the replies told so
   pub short_done : (old now : Option (List ℕ)) → Tells old now (SaysShort start whole) → Tells old now (FallsShort 1 start whole)
   short_done old now t = (t.0, t.1, subst (λ u. FallsShort 1 start whole u) (append-nil t.0) (t.2 []))
+
+-- what is told behind what was told
+pub tells_on : (old mid new : Option (List ℕ)) → Tells old mid (λ written. ⊤) → Tells mid new (λ written. ⊤) → Tells old new (λ written. ⊤)
+tells_on old mid new t s = (t.0 ++ s.0, Appends-both old mid new t.0 s.0 t.1 s.1, tt)
 
 -- what is told is written once nothing waits
 pub tells_through : (Holds : List ℕ → Type 0) (old mid contents : Option (List ℕ)) (pending : List ℕ) → Tells old mid Holds → Appends mid (append_known contents pending) [] → pending ≡ [] → Tells old contents Holds

@@ -1,5 +1,5 @@
 // The engine of `script`: it reads its input to the end, then answers line by line.
-ghost use Rattle.std.specs.Prelude.{◌≡◌, ◌≢◌, ◌+◌, ◌<◌, ◌≤◌, ◌^◌, [], ◌∷◌, ◌⊎◌, true, false, not, length, position, option_map, OnOk, OnErr, IfOk, IfErr, IfSome};
+ghost use Rattle.std.specs.Prelude.{◌≡◌, ◌≢◌, ◌+◌, ◌<◌, ◌≤◌, ◌^◌, [], ◌∷◌, ◌⊎◌, true, false, not, length, position, option_map, ⊤, OnOk, OnErr, IfOk, IfErr, IfSome};
 ghost use Rattle.std.specs.Io.KnownBytes.{Appends};
 ghost use Rattle.lake_script.specs.declared.inputs.TheConstants.{MOST_BYTES, MOST_READS};
 ghost use Rattle.lake_script.specs.Lines.{reading_of};
@@ -89,6 +89,7 @@ fn answer<S: Store, W: Write>(
     ensures remembers { is_short.new ≡ false → is_short.old ≡ false }
     ensures goes_on { IfOk result (λ goes_on. goes_on ≡ not (is_bad (reading_of line.now))) }
     ensures stands { OnErr result (StandsIn (held W.contents output.old) (W.contents output.new.writer) []) }
+    ensures behind { OnOk result (Tells (held W.contents output.old) (held W.contents output.new) (λ reply. ⊤)) }
     ensures unbroken { OnOk result (write_failed output.new ≡ write_failed output.old) }
     ensures broken { result ≡ Err OutputError.Broken → write_failed output.new ≡ true }
     ensures memory { result ≡ Err OutputError.Memory → write_failed output.new ≡ write_failed output.old }
@@ -132,6 +133,7 @@ fn answer_all<S: Store, W: Write>(
         → OnErr result (IsRunInPart (S.objects store.old) text.now (held W.contents output.old) (W.contents output.new.writer)) }
     ensures front { S.is_reliable store.old → OnErr result (TellsFront (held W.contents output.old) (W.contents output.new.writer)
         (λ written. RunsInPart 1 (S.objects store.old) (lines_of text.now) written (S.objects store.new))) }
+    ensures behind { OnOk result (Tells (held W.contents output.old) (held W.contents output.new) (λ written. ⊤)) }
     ensures unbroken { OnOk result (write_failed output.new ≡ write_failed output.old) }
     ensures broken { result ≡ Err OutputError.Broken → write_failed output.new ≡ true }
     ensures memory { result ≡ Err OutputError.Memory → write_failed output.new ≡ write_failed output.old }
@@ -171,6 +173,7 @@ fn answer_and_flush<S: Store, W: Write>(
         → OnErr result (IsRunInPart (S.objects store.old) text.now (held W.contents output.old) (W.contents output.new.writer)) }
     ensures front { S.is_reliable store.old → OnErr result (TellsFront (held W.contents output.old) (W.contents output.new.writer)
         (λ written. RunsInPart 1 (S.objects store.old) (lines_of text.now) written (S.objects store.new))) }
+    ensures behind { OnOk result (Tells (held W.contents output.old) (W.contents output.new.writer) (λ written. ⊤)) }
     ensures unbroken { OnOk result (write_failed output.new ≡ write_failed output.old) }
     ensures broken { result ≡ Err OutputError.Broken → write_failed output.new ≡ true }
 {
@@ -215,6 +218,8 @@ pub fn run_text<S: Store, W: Write>(
     ensures lawful { S.is_reliable store.old → S.objects store.old ≡ [] → IsLawfulStore (S.objects store.new) × HasLawfulLog (S.objects store.new) }
     ensures reliable { S.is_reliable store.old → S.is_reliable store.new }
     ensures nothing_waits { Finishes result.end (λ _. waiting output.new ≡ []) }
+    // Over any store, one that loses calls too, what is written stands behind what was held.
+    ensures behind { Finishes result.end (λ _. Tells (held W.contents output.old) (W.contents output.new.writer) (λ written. ⊤)) }
     ensures finished { Finishes result.end (λ bad. (bad ≡ first_bad text.now) × (write_failed output.new ≡ write_failed output.old)) }
     ensures stands { S.is_reliable store.old → fell_short result ≡ false → result.end ≡ End.NotWritten
         → IsRunInPart (S.objects store.old) text.now (held W.contents output.old) (W.contents output.new.writer) }
@@ -300,6 +305,9 @@ pub fn run<R: Read, W: Write, S: Store>(
 
     // Nothing waits in the output when it is done.
     ensures nothing_waits { Finishes result.end (λ _. waiting output.new ≡ []) }
+
+    // Over any store, one that loses calls too, what is written stands behind what was held.
+    ensures behind { Finishes result.end (λ _. Tells (held W.contents output.old) (W.contents output.new.writer) (λ written. ⊤)) }
 
     // A store that loses no call goes on to lose none.
     ensures reliable { S.is_reliable store.old → S.is_reliable store.new }

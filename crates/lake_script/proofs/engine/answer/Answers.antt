@@ -39,3 +39,6 @@ returns-in_err-give-in-Asks-clause-cut_off g c = λ reliable.
     let asked = ap reading_view (sym c.in-Asks.is) ∙ c.in_ok-reading_of.ensures in
     let granted = c.grant-reply.ensures in
     on_err _ _ (subst (λ r. IsCutOff c.args.number (g.S.Store.objects c.args.store.now) r (g.S.Store.objects c.grant-reply.new.store)) asked (inr (reply_text c.grant-reply.result, (granted.told reliable, granted.grows reliable))))
+
+pub returns-in_ok-give-in-Asks-clause-behind : goal.returns-in_ok-give-in-Asks-clause-behind
+returns-in_ok-give-in-Asks-clause-behind g c = (reply_text c.grant-reply.result, c.in_ok-give-in-Asks.ensures.held, tt)

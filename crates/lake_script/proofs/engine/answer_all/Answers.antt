@@ -5,7 +5,7 @@ use Rattle.lake_script.specs.Runs.{Tells}
 use Rattle.delta_actions.specs.Commit.{lines_of}
 use Rattle.lake_script.specs.Told.{lines_left, first_bad_from}
 use Rattle.lake_script.proofs.RunLemmas.{SoFar, at_first, cut_off, so_far_next, so_far_stops, so_far_done, lines_at_most-after, first_bad_next, first_bad_here, lines_left_none, first_bad_from-none}
-use Rattle.lake_script.proofs.RunsLemmas.{Onward, onward_next, onward_stops, onward_short, onward_done, onward_front, short_next, short_done, on_err}
+use Rattle.lake_script.proofs.RunsLemmas.{Onward, onward_next, onward_stops, onward_short, onward_done, onward_front, short_next, short_done, on_err, tells_on}
 use Rattle.lake_script.proofs.StreamLemmas.{Appends-none}
 use Rattle.lake_script.proofs.engine.answer_all.Goals as goal
 
@@ -18,6 +18,7 @@ loop-rest-init g c = record {
   whole = λ reliable whole. at_first _ _ _;
   so_far = λ reliable. ([], Appends-none _, (λ rest final runs. runs, λ rest final runs. runs, λ rest short. short));
   short = λ reliable before short. let wrong : false ≡ true = sym before ∙ short in cc;
+  behind = ([], Appends-none _, tt);
   reliable = λ reliable. reliable;
   found = refl;
   unbroken = refl;
@@ -82,6 +83,7 @@ loop-rest-preserved g c =
             | inl was ↦ short_next _ _ _ _ _ _ (c.loop-rest.invariant.short reliable before was) (c.in_ok-answer.ensures.tells stays)
             | inr wasnt ↦ onward_short _ _ _ _ _ _ _ _ _ _ so_far (c.in_ok-answer.ensures.short stays wasnt short)
           ];
+      behind = tells_on _ _ _ c.loop-rest.invariant.behind c.in_ok-answer.ensures.behind;
       reliable = λ reliable. c.in_ok-answer.ensures.reliable (c.loop-rest.invariant.reliable reliable);
       found = sym (first_bad_next _ _ _ goes_on) ∙ (ap (first_bad_from c.loop-rest.number) (sym here) ∙ c.loop-rest.invariant.found);
       unbroken = c.in_ok-answer.ensures.unbroken ∙ c.loop-rest.invariant.unbroken;
@@ -119,3 +121,6 @@ returns-in_err-answer-clause-front g c = λ reliable.
     let here = split c.loop-rest.rest c.in-Some.text c.first_line.result.0 c.first_line.result.1 c.in-Some.is c.first_line.ensures.lines in
     let so_far = subst (λ ls. Tells (held contents c.args.output.now) (held contents c.loop-rest.output) (Onward (objects c.args.store.now) (lines_of c.args.text.now) c.loop-rest.number (objects c.loop-rest.store) ls)) here (c.loop-rest.invariant.so_far reliable) in
     on_err _ _ (onward_front _ _ _ _ _ _ _ _ _ _ so_far c.in_err-answer.ensures.stands (c.in_err-answer.ensures.cut_off (c.loop-rest.invariant.reliable reliable)))
+
+pub returns-then-not-branch-clause-behind : goal.returns-then-not-branch-clause-behind
+returns-then-not-branch-clause-behind g c = tells_on _ _ _ c.loop-rest.invariant.behind c.in_ok-answer.ensures.behind

@@ -1,4 +1,5 @@
 use Rattle.std.proofs.Common.{◌≡◌, ◌+◌, ◌≤◌, ◌^◌, true, false, option_map}
+use Rattle.std.specs.Prelude.{⊤}
 use Rattle.lake_script.specs.Streams.{held, write_failed}
 use Rattle.lake_script.specs.Runs.{Tells}
 use Rattle.delta_actions.specs.Commit.{lines_of}
@@ -17,6 +18,7 @@ invariant-loop-rest g l =
       so_far : g.S.Store.is_reliable l.fn.store → Tells (held g.W.Write.contents l.fn.output) (held g.W.Write.contents l.output) (Onward (objects l.fn.store) (lines_of l.fn.text) l.number (objects l.store) (lines_left lines));
       short : g.S.Store.is_reliable l.fn.store → l.fn.is_short ≡ false → l.is_short ≡ true
           → Tells (held g.W.Write.contents l.fn.output) (held g.W.Write.contents l.output) (SaysShort (objects l.fn.store) (lines_of l.fn.text));
+      behind : Tells (held g.W.Write.contents l.fn.output) (held g.W.Write.contents l.output) (λ written. ⊤);
       reliable : g.S.Store.is_reliable l.fn.store → g.S.Store.is_reliable l.store;
       found : first_bad_from l.number (lines_left lines) ≡ first_bad l.fn.text;
       unbroken : write_failed l.output ≡ write_failed l.fn.output;

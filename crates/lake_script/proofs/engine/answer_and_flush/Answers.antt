@@ -19,3 +19,6 @@ returns-in_err-flush-clause-front g c = λ reliable. on_err _ _ (whole_front _ _
 pub returns-clause-short : goal.returns-clause-short
 returns-clause-short g c = λ reliable before short.
     tells_through _ _ _ _ _ (c.in_ok-bad.ensures.short reliable before short) c.in_ok-flush.ensures.held c.in_ok-flush.ensures.through
+
+pub returns-clause-behind : goal.returns-clause-behind
+returns-clause-behind g c = tells_through _ _ _ _ _ c.in_ok-bad.ensures.behind c.in_ok-flush.ensures.held c.in_ok-flush.ensures.through
