@@ -306,9 +306,6 @@ pub fn run<R: Read, W: Write, S: Store>(
     // Nothing waits in the output when it is done.
     ensures nothing_waits { Finishes result.end (λ _. waiting output.new ≡ []) }
 
-    // Over any store, one that loses calls too, what is written stands behind what was held.
-    ensures behind { Finishes result.end (λ _. Tells (held W.contents output.old) (W.contents output.new.writer) (λ written. ⊤)) }
-
     // A store that loses no call goes on to lose none.
     ensures reliable { S.is_reliable store.old → S.is_reliable store.new }
 
