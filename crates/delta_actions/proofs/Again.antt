@@ -1,6 +1,7 @@
 -- What an action is printed as stands for that action.
-use Rattle.std.proofs.Common.{◌≡◌, ℕ, ◌≤◌, Bool, true, false, bytes_eq, List, [], Option, Some, None, option_map, Result, Ok, refl, ap, ◌∙◌, arith}
+use Rattle.std.proofs.Common.{◌≡◌, ℕ, ◌≤◌, Bool, true, false, bytes_eq, List, [], ◌∷◌, Option, Some, None, option_map, Result, Ok, refl, ap, ◌∙◌, arith}
 use Rattle.std.specs.Prelude.{IfSome, codes, ◌||◌}
+use Rattle.std.specs.List.{list_any}
 use Rattle.serde_json.specs.Data.{Data, boolean, string, depth}
 use Rattle.serde_json.specs.Find.{as_bool, as_str}
 use Rattle.lake_bytes.specs.Results.{◌>>=◌, refused_as}
@@ -11,9 +12,12 @@ use Rattle.json_fields.proofs.Callers.{over_none, needed_again, optional_again, 
 use Rattle.delta_actions.specs.Wrong.{bad_field}
 use Rattle.delta_actions.specs.Kinds.{Format, file_path, format, parquet}
 use Rattle.delta_actions.specs.KindLaws.{path_stands, format_stands}
-use Rattle.delta_actions.specs.Entry.{Entry, commit_info, protocol, meta_data, add, txn, other, ProtocolEntry, MetaDataEntry, AddEntry, TxnEntry}
-use Rattle.delta_actions.specs.Actions.{protocol_of, meta_data_of, add_of, txn_of, action_of, stands_for}
-use Rattle.delta_actions.specs.Printing.{protocol_fields, meta_data_fields, add_fields, txn_fields, format_fields, path_data, format_data, protocol_data, meta_data_data, add_data, txn_data, data_of, IsProtocol, IsMetaData, IsAdd, IsTxn, is_known, IsPrintable}
+use Rattle.delta_actions.specs.Entry.{Entry, commit_info, protocol, meta_data, add, txn, remove, domain_metadata, checkpoint_metadata, sidecar, other}
+use Rattle.delta_actions.specs.Entry.{ProtocolEntry, MetaDataEntry, AddEntry, TxnEntry, RemoveEntry, DomainMetadataEntry, CheckpointMetadataEntry}
+use Rattle.delta_actions.specs.Actions.{protocol_of, meta_data_of, add_of, txn_of, remove_of, domain_metadata_of, checkpoint_metadata_of, Known, known_actions, action_among, action_of, stands_for}
+use Rattle.delta_actions.specs.Printing.{protocol_fields, meta_data_fields, add_fields, txn_fields, remove_fields, domain_metadata_fields, checkpoint_metadata_fields, format_fields, path_data, format_data}
+use Rattle.delta_actions.specs.Printing.{protocol_data, meta_data_data, add_data, txn_data, remove_data, domain_metadata_data, checkpoint_metadata_data, data_of}
+use Rattle.delta_actions.specs.Printing.{IsProtocol, IsMetaData, IsAdd, IsTxn, IsRemove, is_known, IsPrintable}
 
 -- ---- kinds
 
@@ -77,18 +81,46 @@ protocol_again p h =
       unless_empty_again (codes "writerFeatures") fs p.writer_features (over_none (unless_empty p.writer_features)),
     ) refl
 
+remove_again : (r : RemoveEntry) → IsRemove r → remove_of (remove_data r) ≡ Ok r
+unfolding remove_of
+remove_again r h =
+    let fs = remove_fields r in
+    rw (
+      needed_again file_path (codes "path") fs (path_data r.path) r.path refl (path_stands r.path h.path),
+      needed_again as_bool (codes "dataChange") fs (boolean r.data_change) r.data_change refl (truth_stands r.data_change),
+      optional_of_kind count count_data IsCount count_stands (codes "deletionTimestamp") fs r.deletion_timestamp h.deletion_timestamp (over_none (option_map count_data r.deletion_timestamp)),
+    ) refl
+
+domain_metadata_again : (m : DomainMetadataEntry) → domain_metadata_of (domain_metadata_data m) ≡ Ok m
+unfolding domain_metadata_of
+domain_metadata_again m =
+    let fs = domain_metadata_fields m in
+    rw (
+      needed_again as_str (codes "domain") fs (string m.domain) m.domain refl (text_stands m.domain),
+      defaulted_again as_str (codes "configuration") [] fs (string m.configuration) m.configuration refl (text_stands m.configuration),
+      defaulted_again as_bool (codes "removed") false fs (boolean m.removed) m.removed refl (truth_stands m.removed),
+    ) refl
+
+checkpoint_metadata_again : (m : CheckpointMetadataEntry) → IsCount m.version → checkpoint_metadata_of (checkpoint_metadata_data m) ≡ Ok m
+unfolding checkpoint_metadata_of
+checkpoint_metadata_again m h =
+    let fs = checkpoint_metadata_fields m in
+    rw (needed_again count (codes "version") fs (count_data m.version) m.version refl (count_stands m.version h)) refl
+
 neither : (a b : Bool) → (a || b) ≡ false → (a ≡ false) × (b ≡ false)
 neither true b h = absurd cc
 neither false b h = (refl, h)
 
+-- a key that none of these actions has
+among_none : (among : List Known) (key : List ℕ) (d : Data) → list_any (λ known. bytes_eq key known.0) among ≡ false → action_among among key d ≡ Ok (other key d)
+among_none [] key d h = refl
+among_none (known ∷ more) key d h =
+    let both = neither (bytes_eq key known.0) (list_any (λ known. bytes_eq key known.0) more) h in
+    rw both.0 (among_none more key d both.1)
+
 other_again : (key : List ℕ) (d : Data) → is_known key ≡ false → action_of key d ≡ Ok (other key d)
 unfolding action_of
-other_again key d h =
-    let e = neither (bytes_eq key (codes "commitInfo") || bytes_eq key (codes "protocol") || bytes_eq key (codes "metaData") || bytes_eq key (codes "add")) (bytes_eq key (codes "txn")) h in
-    let a = neither (bytes_eq key (codes "commitInfo") || bytes_eq key (codes "protocol") || bytes_eq key (codes "metaData")) (bytes_eq key (codes "add")) e.0 in
-    let m = neither (bytes_eq key (codes "commitInfo") || bytes_eq key (codes "protocol")) (bytes_eq key (codes "metaData")) a.0 in
-    let p = neither (bytes_eq key (codes "commitInfo")) (bytes_eq key (codes "protocol")) m.0 in
-    rw (p.0, p.1, m.1, a.1, e.1) refl
+other_again key d h = among_none known_actions key d h
 
 pub stands_again : (e : Entry) → IsPrintable e → stands_for (data_of e) ≡ Ok e
 unfolding action_of
@@ -97,6 +129,10 @@ stands_again (protocol p) h = ap (λ (r : Result ProtocolEntry (List ℕ)). refu
 stands_again (meta_data m) h = ap (λ (r : Result MetaDataEntry (List ℕ)). refused_as bad_field (r >>= λ x. Ok (meta_data x))) (meta_data_again m h)
 stands_again (add a) h = ap (λ (r : Result AddEntry (List ℕ)). refused_as bad_field (r >>= λ x. Ok (add x))) (add_again a h)
 stands_again (txn t) h = ap (λ (r : Result TxnEntry (List ℕ)). refused_as bad_field (r >>= λ x. Ok (txn x))) (txn_again t h)
+stands_again (remove r) h = ap (λ (r : Result RemoveEntry (List ℕ)). refused_as bad_field (r >>= λ x. Ok (remove x))) (remove_again r h)
+stands_again (domain_metadata m) h = ap (λ (r : Result DomainMetadataEntry (List ℕ)). refused_as bad_field (r >>= λ x. Ok (domain_metadata x))) (domain_metadata_again m)
+stands_again (checkpoint_metadata m) h = ap (λ (r : Result CheckpointMetadataEntry (List ℕ)). refused_as bad_field (r >>= λ x. Ok (checkpoint_metadata x))) (checkpoint_metadata_again m h)
+stands_again (sidecar d) h = refl
 stands_again (other key d) h = ap (refused_as bad_field) (other_again key d h.0)
 
 -- ---- what is printed is shallow enough to be read
@@ -122,6 +158,15 @@ add_depth a h = (omega arith, (omega arith, (omega arith, (text_map_depth a.part
 txn_depth : (t : TxnEntry) → AreShallow 2 (txn_fields t)
 txn_depth t = (omega arith, (omega arith, (leaf count_data (λ n. refl) t.last_updated 2, tt)))
 
+remove_depth : (r : RemoveEntry) → AreShallow 2 (remove_fields r)
+remove_depth r = (omega arith, (omega arith, (leaf count_data (λ n. refl) r.deletion_timestamp 2, tt)))
+
+domain_metadata_depth : (m : DomainMetadataEntry) → AreShallow 2 (domain_metadata_fields m)
+domain_metadata_depth m = (omega arith, (omega arith, (omega arith, tt)))
+
+checkpoint_metadata_depth : (m : CheckpointMetadataEntry) → AreShallow 2 (checkpoint_metadata_fields m)
+checkpoint_metadata_depth m = (omega arith, tt)
+
 fields_line_depth : (key : List ℕ) (fs : List Field) → AreShallow 2 fs → depth (one_field key (fields_object fs)) ≤ 127
 fields_line_depth key fs h = line_depth key (fields_object fs) (body_depth (fields_object fs) (fields_depth fs 2 h))
 
@@ -131,4 +176,8 @@ is_shallow (protocol p) h = fields_line_depth (codes "protocol") (protocol_field
 is_shallow (meta_data m) h = fields_line_depth (codes "metaData") (meta_data_fields m) (meta_data_depth m h)
 is_shallow (add a) h = fields_line_depth (codes "add") (add_fields a) (add_depth a h)
 is_shallow (txn t) h = fields_line_depth (codes "txn") (txn_fields t) (txn_depth t)
+is_shallow (remove r) h = fields_line_depth (codes "remove") (remove_fields r) (remove_depth r)
+is_shallow (domain_metadata m) h = fields_line_depth (codes "domainMetadata") (domain_metadata_fields m) (domain_metadata_depth m)
+is_shallow (checkpoint_metadata m) h = fields_line_depth (codes "checkpointMetadata") (checkpoint_metadata_fields m) (checkpoint_metadata_depth m)
+is_shallow (sidecar d) h = line_depth (codes "sidecar") d h
 is_shallow (other key d) h = line_depth key d h.1

@@ -1,7 +1,8 @@
 -- What a line stands for can be printed.
-use Rattle.std.proofs.Common.{◌≡◌, ℕ, ◌≤◌, Bool, true, false, bytes_eq, List, [], ◌∷◌, ◌++◌, Result, Ok, Err, refl, ap, subst, arith}
-use Rattle.std.specs.Prelude.{IfOk, codes, ◌||◌}
-use Rattle.std.specs.List.{AllByRecursion}
+use Rattle.std.proofs.Common.{◌≡◌, ℕ, ◌≤◌, true, false, bytes_eq, List, [], ◌∷◌, ◌++◌, Result, Ok, Err, refl, ap, subst, arith, inl, inr}
+use Rattle.std.proofs.lemmas.Bool.{cases_Bool}
+use Rattle.std.specs.Prelude.{IfOk, codes}
+use Rattle.std.specs.List.{AllByRecursion, list_any}
 use Rattle.serde_json.specs.Data.{Data, null, boolean, number, string, array, object, Members, no_members, member, depth}
 use Rattle.serde_json.specs.Find.{as_bool, as_str}
 use Rattle.lake_bytes.specs.Results.{◌>>=◌, refused_as}
@@ -14,9 +15,10 @@ use Rattle.delta_actions.specs.declared.fault.ActionFault.{ActionFault}
 use Rattle.delta_actions.specs.Wrong.{bad_field, Gives}
 use Rattle.delta_actions.specs.Kinds.{file_path, format, parquet}
 use Rattle.delta_actions.specs.KindLaws.{is_path, is_format}
-use Rattle.delta_actions.specs.Entry.{Entry, commit_info, protocol, meta_data, add, txn, other, ProtocolEntry, MetaDataEntry, AddEntry, TxnEntry}
-use Rattle.delta_actions.specs.Actions.{protocol_of, meta_data_of, add_of, txn_of, action_of, one_key, stands_for}
-use Rattle.delta_actions.specs.Printing.{IsShallow, IsProtocol, IsMetaData, IsPath, IsAdd, IsTxn, IsPrintable}
+use Rattle.delta_actions.specs.Entry.{Entry, commit_info, protocol, meta_data, add, txn, remove, domain_metadata, checkpoint_metadata, sidecar, other}
+use Rattle.delta_actions.specs.Entry.{ProtocolEntry, MetaDataEntry, AddEntry, TxnEntry, RemoveEntry, CheckpointMetadataEntry}
+use Rattle.delta_actions.specs.Actions.{protocol_of, meta_data_of, add_of, txn_of, remove_of, checkpoint_metadata_of, Known, of_value, of_fields, known_actions, action_among, action_of, one_key, stands_for}
+use Rattle.delta_actions.specs.Printing.{IsShallow, IsProtocol, IsMetaData, IsPath, IsAdd, IsTxn, IsRemove, IsPrintable}
 
 -- ---- actions
 
@@ -78,29 +80,55 @@ protocol_holds body p e =
       min_writer_version = needed_holds count IsCount is_count (codes "minWriterVersion") body writer.0 writer.1;
     })
 
--- an action of a known kind
-known : {A : Type 0} (key : List ℕ) (value : Data) (of : Data → Result A (List ℕ)) (wrap : A → Entry) (P : A → Type 0) (e : Entry) → ((body : Data) (x : A) → of body ≡ Ok x → P x) → ((x : A) → P x → IsPrintable (wrap x))
-    → (fields_of key value >>= of >>= λ x. Ok (wrap x)) ≡ Ok e → IsPrintable e
-known key value of wrap P e holds is same =
-    let b = bind_ok (fields_of key value >>= of) (λ x. Ok (wrap x)) e same in
+remove_holds : (body : Data) (r : RemoveEntry) → remove_of body ≡ Ok r → IsRemove r
+unfolding remove_of
+remove_holds body r e =
+    let path = bind_ok (needed file_path (codes "path") body) _ r e in
+    let change = bind_ok (needed as_bool (codes "dataChange") body) _ r path.2 in
+    let deleted = bind_ok (optional count (codes "deletionTimestamp") body) _ r change.2 in
+    subst IsRemove (ok_is _ r deleted.2) (record {
+      path = needed_holds file_path IsPath is_path (codes "path") body path.0 path.1;
+      deletion_timestamp = optional_holds count IsCount is_count (codes "deletionTimestamp") body deleted.0 deleted.1;
+    })
+
+checkpoint_metadata_holds : (body : Data) (m : CheckpointMetadataEntry) → checkpoint_metadata_of body ≡ Ok m → IsCount m.version
+unfolding checkpoint_metadata_of
+checkpoint_metadata_holds body m e =
+    let version = bind_ok (needed count (codes "version") body) _ m e in
+    subst (λ (m : CheckpointMetadataEntry). IsCount m.version) (ok_is _ m version.2) (needed_holds count IsCount is_count (codes "version") body version.0 version.1)
+
+-- what stands for an action of that key can be printed
+abbrev Holds : Known → Type 0
+Holds known = (value : Data) (e : Entry) → IsShallow value → known.1 value ≡ Ok e → IsPrintable e
+
+-- an action that is any JSON
+value_holds : (key : List ℕ) (wrap : Data → Entry) → ((d : Data) → IsShallow d → IsPrintable (wrap d)) → Holds (of_value key wrap)
+value_holds key wrap holds value e shallow is = subst IsPrintable (ok_is (wrap value) e is) (holds value shallow)
+
+-- an action that is an object of fields
+fields_hold : {A : Type 0} (key : List ℕ) {of : Data → Result A (List ℕ)} (wrap : A → Entry) → ((body : Data) (x : A) → of body ≡ Ok x → IsPrintable (wrap x)) → Holds (of_fields key of wrap)
+fields_hold key {of = of} wrap holds value e shallow is =
+    let b = bind_ok (fields_of key value >>= of) (λ x. Ok (wrap x)) e is in
     let c = bind_ok (fields_of key value) of b.0 b.1 in
-    subst IsPrintable (ok_is (wrap b.0) e b.2) (is b.0 (holds c.0 b.0 c.2))
+    subst IsPrintable (ok_is (wrap b.0) e b.2) (holds c.0 b.0 c.2)
 
-none_of : (a b c d e : Bool) → a ≡ false → b ≡ false → c ≡ false → d ≡ false → e ≡ false → (a || b || c || d || e) ≡ false
-none_of a b c d e ha hb hc hd he = rw (ha, hb, hc, hd, he) refl
+known_hold : AllByRecursion Holds known_actions
+known_hold =
+    (value_holds (codes "commitInfo") commit_info (λ d h. h), (fields_hold _ protocol protocol_holds, (fields_hold _ meta_data meta_data_holds, (fields_hold _ add add_holds, (fields_hold _ txn txn_holds, (fields_hold _ remove remove_holds, (fields_hold _ domain_metadata (λ body m is. tt), (fields_hold _ checkpoint_metadata checkpoint_metadata_holds, (value_holds (codes "sidecar") sidecar (λ d h. h), tt)))))))))
 
-action_at : (key : List ℕ) (value : Data) (e : Entry) (i p m a t : Bool) → bytes_eq key (codes "commitInfo") ≡ i → bytes_eq key (codes "protocol") ≡ p → bytes_eq key (codes "metaData") ≡ m → bytes_eq key (codes "add") ≡ a → bytes_eq key (codes "txn") ≡ t
-    → IsShallow value → action_of key value ≡ Ok e → IsPrintable e
-unfolding action_of
-action_at key value e true p m a t hi hp hm ha ht shallow is = subst IsPrintable (ok_is (commit_info value) e (rw hi at is)) shallow
-action_at key value e false true m a t hi hp hm ha ht shallow is = known key value protocol_of protocol IsProtocol e protocol_holds (λ x h. h) (rw (hi, hp) at is)
-action_at key value e false false true a t hi hp hm ha ht shallow is = known key value meta_data_of meta_data IsMetaData e meta_data_holds (λ x h. h) (rw (hi, hp, hm) at is)
-action_at key value e false false false true t hi hp hm ha ht shallow is = known key value add_of add IsAdd e add_holds (λ x h. h) (rw (hi, hp, hm, ha) at is)
-action_at key value e false false false false true hi hp hm ha ht shallow is = known key value txn_of txn IsTxn e txn_holds (λ x h. h) (rw (hi, hp, hm, ha, ht) at is)
-action_at key value e false false false false false hi hp hm ha ht shallow is = subst IsPrintable (ok_is (other key value) e (rw (hi, hp, hm, ha, ht) at is)) (none_of _ _ _ _ _ hi hp hm ha ht, shallow)
+-- an action among these, or another one
+among_holds : (among : List Known) (key : List ℕ) (value : Data) (e : Entry) → AllByRecursion Holds among → IsShallow value
+    → (list_any (λ known. bytes_eq key known.0) among ≡ false → IsPrintable (other key value)) → action_among among key value ≡ Ok e → IsPrintable e
+among_holds [] key value e hold shallow none is = subst IsPrintable (ok_is (other key value) e is) (none refl)
+among_holds (known ∷ more) key value e hold shallow none is =
+    elim (cases_Bool (bytes_eq key known.0)) [
+      | inl same ↦ hold.0 value e shallow (rw same at is)
+      | inr differs ↦ among_holds more key value e hold.1 shallow (λ h. none (rw differs h)) (rw differs at is)
+    ]
 
 action_holds : (key : List ℕ) (value : Data) (e : Entry) → IsShallow value → action_of key value ≡ Ok e → IsPrintable e
-action_holds key value e shallow is = action_at key value e _ _ _ _ _ refl refl refl refl refl shallow is
+unfolding action_of
+action_holds key value e shallow is = among_holds known_actions key value e known_hold shallow (λ none. (none, shallow)) is
 
 -- a value that was told is one that was found
 refused_ok : {A E F : Type 0} (tell : E → F) (r : Result A E) (x : A) → refused_as tell r ≡ Ok x → r ≡ Ok x

@@ -10,7 +10,9 @@ mod printing;
 mod reading;
 mod table_format;
 
-pub use action::{Action, Add, MetaData, Protocol, Txn};
+pub use action::{
+    Action, Add, CheckpointMetadata, DomainMetadata, MetaData, Protocol, Remove, Txn,
+};
 pub use fault::ActionFault;
 pub use file_path::FilePath;
 pub use json_fields::TextMap;

@@ -28,7 +28,7 @@ fn action_lines(alloc: Global, actions: &[Action]) -> Result<Vec<String>, AllocE
     Ok(lines)
 }
 
-/// What an action is read as. Of an added file also the key that its path decodes to.
+/// What an action is read as. Of an added or removed file also the key that its path decodes to.
 fn title(alloc: Global, action: &Action) -> Result<String, AllocError> {
     let name = match action {
         Action::CommitInfo(_) => "commitInfo",
@@ -39,6 +39,13 @@ fn title(alloc: Global, action: &Action) -> Result<String, AllocError> {
             return format!(in alloc; "add of {key}");
         }
         Action::Txn(_) => "txn",
+        Action::Remove(remove) => {
+            let key = remove.path.key();
+            return format!(in alloc; "remove of {key}");
+        }
+        Action::DomainMetadata(_) => "domainMetadata",
+        Action::CheckpointMetadata(_) => "checkpointMetadata",
+        Action::Sidecar(_) => "sidecar",
         Action::Other { key: _, value: _ } => "other",
     };
     String::from_str(alloc, name)

@@ -4,7 +4,7 @@ use Rattle.std.specs.List.{flat_map, filter_map, cons_option}
 use Rattle.serde_json.specs.Data.{Data}
 use Rattle.store_core.specs.Objects.{Objects}
 use Rattle.delta_actions.specs.Entry as actions
-use Rattle.delta_actions.specs.Entry.{commit_info, protocol, meta_data, add, txn, other}
+use Rattle.delta_actions.specs.Entry.{commit_info, protocol, meta_data, add, txn, remove, domain_metadata, checkpoint_metadata, sidecar, other}
 use Rattle.delta_actions.specs.In.{txn_in}
 use Rattle.delta_actions.specs.Kinds.{Path}
 use Rattle.delta_actions.specs.Commit.{IsCommit}
@@ -27,6 +27,10 @@ told-beside_info tells silent (protocol p ∷ others) = ap (cons_option (tells (
 told-beside_info tells silent (meta_data m ∷ others) = ap (cons_option (tells (meta_data m))) (told-beside_info tells silent others)
 told-beside_info tells silent (add a ∷ others) = ap (cons_option (tells (add a))) (told-beside_info tells silent others)
 told-beside_info tells silent (txn t ∷ others) = ap (cons_option (tells (txn t))) (told-beside_info tells silent others)
+told-beside_info tells silent (remove r ∷ others) = ap (cons_option (tells (remove r))) (told-beside_info tells silent others)
+told-beside_info tells silent (domain_metadata m ∷ others) = ap (cons_option (tells (domain_metadata m))) (told-beside_info tells silent others)
+told-beside_info tells silent (checkpoint_metadata m ∷ others) = ap (cons_option (tells (checkpoint_metadata m))) (told-beside_info tells silent others)
+told-beside_info tells silent (sidecar d ∷ others) = ap (cons_option (tells (sidecar d))) (told-beside_info tells silent others)
 told-beside_info tells silent (other key d ∷ others) = ap (cons_option (tells (other key d))) (told-beside_info tells silent others)
 
 -- the numbers of a commit stand beside what tells of it

@@ -2,11 +2,11 @@
 use Rattle.std.proofs.Common.{◌≡◌, ℕ, List, [], ◌∷◌, None, Some, codes, refl, sym, ap, subst, ◌∙◌}
 use Rattle.store_core.specs.Objects.{Objects}
 use Rattle.delta_actions.specs.Entry as actions
-use Rattle.delta_actions.specs.Entry.{protocol, meta_data, add, txn, other, MetaDataEntry}
+use Rattle.delta_actions.specs.Entry.{protocol, meta_data, add, txn, domain_metadata, MetaDataEntry}
 use Rattle.delta_actions.specs.Names.{commit_name}
 use Rattle.schema_tree.specs.Reading.{schema_of}
 use Rattle.table_store.specs.Schema.{Schema}
-use Rattle.table_store.specs.Commits.{table_protocol, close_data, beside_info, IsCommitOf, IsCreation, StandFor}
+use Rattle.table_store.specs.Commits.{table_protocol, closed_domain, beside_info, IsCommitOf, IsCreation, StandFor}
 use Rattle.table_store.specs.Holds.{Holds}
 use Rattle.table_model.specs.Lawful.{BeginsWithCreation}
 use Rattle.table_model.specs.Table.{Entry, creation, batch, close}
@@ -26,7 +26,7 @@ creation_alone schema second creation beside p q = one_creation schema second be
 creation_alone schema second (batch b) beside p q =
     let lists : protocol table_protocol ∷ meta_data p.metadata ∷ [] ≡ txn q.number ∷ add q.file ∷ [] = sym p.actions ∙ q.actions in absurd cc
 creation_alone schema second (close application) beside p q =
-    let lists : protocol table_protocol ∷ meta_data p.metadata ∷ [] ≡ other (codes "domainMetadata") (close_data application) ∷ [] = sym p.actions ∙ q.actions in absurd cc
+    let lists : protocol table_protocol ∷ meta_data p.metadata ∷ [] ≡ domain_metadata (closed_domain application) ∷ [] = sym p.actions ∙ q.actions in absurd cc
 
 -- bytes that are a creation's commit are a commit under one schema
 pub one_creation_of : (bytes found : List ℕ) (schema second : Schema) (entry : Entry) → bytes ≡ found → IsCommitOf schema creation bytes → IsCommitOf second entry found → schema ≡ second
