@@ -52,7 +52,8 @@ impl RowPrinter {
     }
 
     /// Writes a row as JSON behind what the buffer holds, with no space. The time is linear in the row and in the
-    /// text; only a value that is bytes takes memory besides the buffer's.
+    /// text, and up to 16 KiB of the buffer are readied for it, so rows are best written into a small buffer that is
+    /// used again. Only a value that is bytes takes memory besides the buffer's.
     pub fn write(&self, alloc: Global, row: &Value, out: Vec<u8>) -> Result<Vec<u8>, AllocError>
         ensures { IfOk result (λ bytes. bytes.items
             ≡ out.items ++ compact_text (printed self.now (value_view row.now))) }
