@@ -2,3 +2,4 @@
 pub use Rattle.delta_actions.proofs.Digits.{twenty_digits_printed}
 pub use Rattle.delta_actions.proofs.Lines.{path_is}
 pub use Rattle.delta_actions.proofs.PrintedLines.{are_printable}
+pub use Rattle.delta_actions.proofs.TextBytes.{IsBytes-text}

@@ -5,3 +5,4 @@ pub mod Commits
 pub mod Again
 pub mod PrintedLines
 pub mod Readable
+pub mod TextBytes

@@ -2,6 +2,7 @@
 #![tactic(auto)]
 
 mod action;
+mod domains;
 mod fault;
 mod field;
 mod file_path;
@@ -13,6 +14,7 @@ mod table_format;
 pub use action::{
     Action, Add, CheckpointMetadata, DomainMetadata, MetaData, Protocol, Remove, Txn,
 };
+pub use domains::application_of;
 pub use fault::ActionFault;
 pub use file_path::FilePath;
 pub use json_fields::TextMap;

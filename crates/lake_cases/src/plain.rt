@@ -38,7 +38,7 @@ fn tell_line(
     let (word, rest) = line.split_once(' ').ok_or(Failure::Misspelled)?;
     match word {
         "append" => {
-            let answer = table.append(batch_of(alloc, rest)?)?;
+            let answer = table.append(alloc, batch_of(alloc, rest)?)?;
             tell_appended(answer, out)
         }
         "close" => {

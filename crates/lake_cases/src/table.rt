@@ -45,9 +45,26 @@ pub fn tell_entries(
     for entry in &held.entries {
         match entry {
             Entry::Creation => writeln!(out, "creation")?,
-            Entry::Batch(batch) => tell_batch(alloc, &held.schema, batch, out)?,
+            Entry::Group(batches) => tell_group(alloc, &held.schema, batches, out)?,
             Entry::Close(application) => writeln!(out, "close of {application}")?,
         }
+    }
+    Ok(())
+}
+
+// Adds the batches of a group, one a line, below their count where there are several.
+fn tell_group(
+    alloc: Global,
+    schema: &Schema<Global>,
+    batches: &[Batch],
+    out: &mut Vec<u8>,
+) -> Result<(), Failure> {
+    let count = batches.len();
+    if count != 1 {
+        writeln!(out, "group of {count} batches")?;
+    }
+    for batch in batches {
+        tell_batch(alloc, schema, batch, out)?;
     }
     Ok(())
 }

@@ -1,5 +1,6 @@
 -- What a store keeps of the table that a script made: the ground on which a whole script is told by the plain table.
 use Rattle.std.proofs.Common.{◌≡◌, ◌≤◌, ◌<◌, ℕ, suc, List, [], ◌∷◌, length, IsSome, Ok, Contains}
+use Rattle.std.specs.List.{AllByRecursion}
 use Rattle.std.specs.Str.{IsUtf8}
 use Rattle.schema_tree.specs.Reading.{schema_of}
 use Rattle.schema_tree.specs.Tree.{Tree}
@@ -9,7 +10,7 @@ use Rattle.delta_actions.specs.Commit.{IsCommit}
 use Rattle.parquet_rows.specs.File.{KeepsLimits}
 use Rattle.delta_actions.specs.Names.{commit_name, data_file_name}
 use Rattle.table_store.specs.Schema as data_files
-use Rattle.table_model.specs.Table.{Batch, Entry, creation, batch, close, batches}
+use Rattle.table_model.specs.Table.{Batch, Entry, creation, group, close, batches_of, batches}
 use Rattle.table_model.specs.Lawful.{IsLawful}
 use Rattle.table_store.specs.Holds.{Stands}
 use Rattle.sink_core.specs.Appending.{appending}
@@ -21,11 +22,13 @@ pub record IsFileOf (schema : Tree) (b : Batch) (bytes : List ℕ) : Type 0 wher
   pub file : data_files.IsFileOf schema bytes b.rows
   pub limits : KeepsLimits bytes b.rows
 
--- the file of a batch stands; scripts close no stream yet
-abbrev pub FileKept : Objects → (schema : Tree) → Entry → Type 0
-FileKept objects schema creation = Unit {0}
-FileKept objects schema (batch b) = Stands objects (data_file_name b.application b.number) (IsFileOf schema b)
-FileKept objects schema (close application) = ⊥
+-- the file of a batch stands
+abbrev pub FileKept : Objects → (schema : Tree) → Batch → Type 0
+FileKept objects schema b = Stands objects (data_file_name b.application b.number) (IsFileOf schema b)
+
+-- the files of an entry's batches stand
+abbrev pub FilesKept : Objects → (schema : Tree) → Entry → Type 0
+FilesKept objects schema entry = AllByRecursion (FileKept objects schema) (batches_of entry)
 
 -- the actions of a batch's commit
 pub record IsBatchMade (b : Batch) (made : List actions.Entry) : Type 0 where
@@ -44,10 +47,16 @@ pub record IsCreationMade (schema : Tree) (made : List actions.Entry) : Type 0 w
   pub are : made ≡ created id at text
   pub readable : schema_of text ≡ Ok schema
 
--- the actions are those that this program puts for an entry
+-- the actions are those of a group's commit; scripts put groups of one batch alone
+abbrev pub IsGroupMade : List Batch → List actions.Entry → Type 0
+IsGroupMade [] made = ⊥
+IsGroupMade (b ∷ []) made = IsBatchMade b made
+IsGroupMade (b ∷ c ∷ bs) made = ⊥
+
+-- the actions are those that this program puts for an entry; scripts close no stream yet
 abbrev pub IsMade : (schema : Tree) → Entry → List actions.Entry → Type 0
 IsMade schema creation made = IsCreationMade schema made
-IsMade schema (batch b) made = IsBatchMade b made
+IsMade schema (group bs) made = IsGroupMade bs made
 IsMade schema (close application) made = ⊥
 
 -- bytes are a commit of such actions
@@ -56,11 +65,11 @@ pub record IsCommitMade (schema : Tree) (entry : Entry) (bytes : List ℕ) : Typ
   pub commit : IsCommit bytes made
   pub is : IsMade schema entry made
 
--- from this version on the commits of these entries stand, each with its file
+-- from this version on the commits of these entries stand, each with its files
 abbrev pub KeptFrom : Objects → (schema : Tree) → ℕ → List Entry → Type 0
 KeptFrom objects schema version [] = Unit {0}
 KeptFrom objects schema version (entry ∷ entries) = Stands objects (commit_name version) (IsCommitMade schema entry)
-    × FileKept objects schema entry × KeptFrom objects schema (suc version) entries
+    × FilesKept objects schema entry × KeptFrom objects schema (suc version) entries
 
 -- the name is that of a version's commit, or of a data file
 pub data IsNamed (entries : List Entry) (name : List ℕ) : Type 0 where

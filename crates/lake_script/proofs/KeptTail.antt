@@ -18,7 +18,7 @@ use Rattle.source_core.specs.Offsets.{offset_of}
 use Rattle.lake_bytes.specs.Results.{◌>>=◌}
 use Rattle.lake_script.specs.Tables as tables
 use Rattle.source_core.specs.Tailing as tails
-use Rattle.table_store.specs.Logs.{new_files}
+use Rattle.table_store.specs.Groups.{new_files}
 use Rattle.source_core.specs.Tailing.{Refusal, Handed, rows_of, hand, handed_by, handed_text, tailed, files_at, end_of}
 use Rattle.lake_script.specs.Told.{tailed_reply}
 use Rattle.lake_script.proofs.Kept.{FileKept, IsMade, KeptFrom, IsKept}

@@ -3,9 +3,10 @@
 -- of them here (`AreOfTable`).
 use Rattle.std.specs.Prelude.{ℕ, suc, ◌+◌, List, [], ◌∷◌, ◌++◌, Option, None, Some, Result, Ok, Err, codes, if◌then◌else◌}
 use Rattle.std.specs.Fmt.{decimal}
+use Rattle.std.specs.List.{flat_map}
 use Rattle.serde_json.specs.Data.{string, Items}
 use Rattle.serde_json.specs.Written.{compact_text}
-use Rattle.table_model.specs.Table.{Batch, Entry, creation, batch, close}
+use Rattle.table_model.specs.Table.{Batch, Entry, creation, batches_of, closes_of}
 use Rattle.delta_actions.specs.Names.{data_file_name}
 use Rattle.table_model.specs.Appends.{appended, with_batch}
 use Rattle.table_model.specs.declared.table.Appended.{Appended}
@@ -104,10 +105,12 @@ tail_reply state max (Some place) = read_from state max place
 
 -- ---- history
 
+abbrev pub close_told : List ℕ → List ℕ
+close_told application = codes " close " ++ compact_text (string application)
+
+-- the numbers of its batches, in order, and the stream that it closes
 abbrev pub entry_told : Entry → List ℕ
-entry_told creation = []
-entry_told (batch b) = number_told b.application b.number
-entry_told (close application) = codes " close " ++ compact_text (string application)
+entry_told entry = flat_map (λ b. number_told b.application b.number) (batches_of entry) ++ flat_map close_told (closes_of entry)
 
 abbrev pub history_from : (version : ℕ) → List Entry → List ℕ
 history_from version [] = []

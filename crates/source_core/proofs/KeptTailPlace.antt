@@ -1,5 +1,5 @@
 -- Where a place stands among the files of a log and among the rows of its table.
-use Rattle.std.proofs.Common.{◌≡◌, ℕ, suc, ◌-◌, ◌<◌, Bool, true, false, min, ltb, List, [], ◌∷◌, length, map, Ok, refl, ap, ◌∙◌, arith, inl, inr}
+use Rattle.std.proofs.Common.{◌≡◌, ℕ, suc, ◌-◌, ◌<◌, Bool, true, false, min, ltb, List, [], ◌∷◌, ◌++◌, length, map, Ok, refl, ap, ◌∙◌, append_assoc, arith, inl, inr, ◌⊎◌}
 use Rattle.std.specs.Prelude.{filter, not}
 use Rattle.std.proofs.lemmas.Bool.{cases_Bool}
 use Rattle.std.proofs.lemmas.Bool.Decides.{nat_tests}
@@ -9,23 +9,27 @@ use Rattle.delta_actions.specs.Kinds.{Path}
 use Rattle.delta_actions.specs.Entry as actions
 use Rattle.row_core.specs.Rows.{Row}
 use Rattle.schema_tree.specs.Tree.{Tree}
-use Rattle.table_model.specs.Table.{Entry, creation, batch, close}
-use Rattle.table_model.specs.Reads.{placed_rows, placed_from, is_before}
+use Rattle.table_model.specs.Table.{Entry, files_of}
+use Rattle.table_model.specs.Reads.{placed_rows, placed_files, placed_from, is_before}
 use Rattle.table_model.specs.declared.reading.Place.{Place}
-use Rattle.table_model.proofs.Callers.{none_before, rises_from, rises_lower}
+use Rattle.table_store.specs.Groups.{new_files}
 use Rattle.source_core.specs.Tailing as tails
-use Rattle.table_store.specs.Logs.{new_files}
 use Rattle.source_core.specs.Tailing.{LogFile, rows_of, numbered, files_from}
 use Rattle.source_core.proofs.KeptTailWalk.{Found, file_of, rows_in, AreFound}
 
 -- ---- the files of a log and the rows of its table
 
--- a commit brings the file of its entry, which reads as the entry's rows
+-- paths in order, which read as these lists of rows, whatever their version and number
+abbrev pub AreFilesFound : Objects → (schema : Tree) → List Path → List (List Row) → Type 0
+AreFilesFound objects schema [] [] = Unit {0}
+AreFilesFound objects schema [] (rows ∷ files) = ⊥
+AreFilesFound objects schema (path ∷ paths) [] = ⊥
+AreFilesFound objects schema (path ∷ paths) (rows ∷ files) = ((version file : ℕ) → rows_of objects schema (record { version = version; file = file; path = path }) ≡ Ok rows)
+    × AreFilesFound objects schema paths files
+
+-- a commit brings the files of its entry
 abbrev pub IsEntryFound : Objects → (schema : Tree) → Entry → List actions.Entry → Type 0
-IsEntryFound objects schema creation made = new_files made ≡ []
-IsEntryFound objects schema (batch b) made = (path : Path) × (new_files made ≡ path ∷ [])
-    × ((version : ℕ) → rows_of objects schema (record { version = version; file = 0; path = path }) ≡ Ok b.rows)
-IsEntryFound objects schema (close application) made = ⊥
+IsEntryFound objects schema entry made = AreFilesFound objects schema (new_files made) (files_of entry)
 
 -- the same of a table's entries and the commits of its log, one behind the other
 abbrev pub AreEntriesFound : Objects → (schema : Tree) → List Entry → List (List actions.Entry) → Type 0
@@ -35,39 +39,12 @@ AreEntriesFound objects schema (entry ∷ entries) [] = ⊥
 AreEntriesFound objects schema (entry ∷ entries) (made ∷ commits) = IsEntryFound objects schema entry made × AreEntriesFound objects schema entries commits
 
 -- there is a commit for each entry
-pub as_many_commits : (objects : Objects) (schema : Tree) (entries : List Entry) (commits : List (List actions.Entry)) → AreEntriesFound objects schema entries commits → length commits ≡ length entries
+pub as_many_commits : (objects : Objects) (schema : Tree) (entries : List Entry) (commits : List (List actions.Entry)) → AreEntriesFound objects schema entries commits
+    → length commits ≡ length entries
 as_many_commits objects schema [] [] found = refl
 as_many_commits objects schema [] (made ∷ commits) found = absurd found
 as_many_commits objects schema (entry ∷ entries) [] found = absurd found
 as_many_commits objects schema (entry ∷ entries) (made ∷ commits) found = ap suc (as_many_commits objects schema entries commits found.1)
-
--- The files of commits from a version on, and the rows of their entries.
-pub record InLog (objects : Objects) (schema : Tree) (version : ℕ) (entries : List Entry) (commits : List (List actions.Entry)) : Type 0 where
-  pub founds : List Found
-  pub files : files_from version commits ≡ map file_of founds
-  pub found : AreFound objects schema founds
-  pub rows : placed_from version entries ≡ rows_in founds
-
--- each log of found entries has its files and its rows
-pub in_log : (objects : Objects) (schema : Tree) (version : ℕ) (entries : List Entry) (commits : List (List actions.Entry)) → AreEntriesFound objects schema entries commits → InLog objects schema version entries commits
-in_log objects schema version [] [] found = record { founds = []; files = refl; found = tt; rows = refl }
-in_log objects schema version [] (made ∷ commits) found = absurd found
-in_log objects schema version (entry ∷ entries) [] found = absurd found
-in_log objects schema version (creation ∷ entries) (made ∷ commits) found =
-    let later = in_log objects schema (suc version) entries commits found.1 in
-    record { founds = later.founds; files = rw found.0 later.files; found = later.found; rows = later.rows }
-in_log objects schema version (batch b ∷ entries) (made ∷ commits) found =
-    let later = in_log objects schema (suc version) entries commits found.1 in
-    let first : Found = record { version = version; path = found.0.0; rows = b.rows } in
-    record {
-      founds = first ∷ later.founds;
-      files = rw (found.0.1, later.files) refl;
-      found = (found.0.2 version, later.found);
-      rows = rw later.rows refl;
-    }
-in_log objects schema version (close application ∷ entries) (made ∷ commits) found = absurd found.0
-
--- ---- before a place and behind it
 
 -- a file is that of a place or stands behind it
 abbrev pub is_ahead : Place → LogFile → Bool
@@ -77,60 +54,136 @@ is_ahead place file = not (tails.is_before place file.version file.file)
 abbrev pub stands_before : Place → Place × Row → Bool
 stands_before place p = is_before p.0 place
 
--- files of later versions are ahead
-ahead_later : (place : Place) (version file : ℕ) → place.version < version → not (tails.is_before place version file) ≡ true
-ahead_later place version file lt = grind (arith, nat_tests)
+-- ---- files behind that of a place
 
--- files of earlier versions aren't
-not_ahead_earlier : (place : Place) (version file : ℕ) → version < place.version → not (tails.is_before place version file) ≡ false
-not_ahead_earlier place version file lt = grind (arith, nat_tests)
+-- a version's file stands behind that of a place
+abbrev pub IsPast : Place → (version file : ℕ) → Type 0
+IsPast place version file = (place.version < version) ⊎ ((place.version ≡ version) × (place.file < file))
 
--- all files of a later version are ahead
-later_numbered : (place : Place) (version file : ℕ) (paths : List Path) → place.version < version → filter (is_ahead place) (numbered version file paths) ≡ numbered version file paths
-later_numbered place version file [] lt = refl
-later_numbered place version file (path ∷ paths) lt = rw (ahead_later place version file lt, later_numbered place version (suc file) paths lt) refl
+-- it is ahead
+past_file : (place : Place) (version file : ℕ) → IsPast place version file → not (tails.is_before place version file) ≡ true
+past_file place version file past = grind (arith, nat_tests, past)
 
--- all files from a later version on are ahead
-pub later_files : (place : Place) (version : ℕ) (commits : List (List actions.Entry)) → place.version < version → filter (is_ahead place) (files_from version commits) ≡ files_from version commits
-later_files place version [] lt = refl
-later_files place version (made ∷ commits) lt =
-    let on : place.version < suc version = omega arith in
-    filter-append (is_ahead place) (numbered version 0 (new_files made)) (files_from (suc version) commits) ∙ rw (later_numbered place version 0 (new_files made) lt, later_files place (suc version) commits on) refl
+-- none of its rows stands before the place
+past_row : (place : Place) (version file row : ℕ) → IsPast place version file → is_before (record { version = version; file = file; row = row }) place ≡ false
+past_row place version file row past = grind (arith, nat_tests, past)
 
--- no file of an earlier version is ahead
-earlier_numbered : (place : Place) (version file : ℕ) (paths : List Path) → version < place.version → filter (is_ahead place) (numbered version file paths) ≡ []
-earlier_numbered place version file [] lt = refl
-earlier_numbered place version file (path ∷ paths) lt = rw (not_ahead_earlier place version file lt) (earlier_numbered place version (suc file) paths lt)
+past_rows : (place : Place) (version file row : ℕ) (rs : List Row) → IsPast place version file → filter (stands_before place) (placed_rows version file row rs) ≡ []
+past_rows place version file row [] past = refl
+past_rows place version file row (r ∷ rs) past = rw (past_row place version file row past) (past_rows place version file (suc row) rs past)
 
--- the files ahead are those of the versions behind an earlier one
-pub earlier_files : (place : Place) (version : ℕ) (made : List actions.Entry) (commits : List (List actions.Entry)) → version < place.version
-    → filter (is_ahead place) (files_from version (made ∷ commits)) ≡ filter (is_ahead place) (files_from (suc version) commits)
-earlier_files place version made commits lt = filter-append (is_ahead place) (numbered version 0 (new_files made)) (files_from (suc version) commits) ∙ rw (earlier_numbered place version 0 (new_files made) lt) refl
+-- the version's next file stands behind it too
+past_next : (place : Place) (version file : ℕ) → IsPast place version file → IsPast place version (suc file)
+past_next place version file past = elim past [ inl lt ↦ inl lt | inr at ↦ inr (at.0, omega (arith, at.1)) ]
 
--- no row of a later version stands before a place
-pub later_rows : (place : Place) (version : ℕ) (entries : List Entry) → place.version < version → filter (stands_before place) (placed_from version entries) ≡ []
-later_rows place version entries lt =
-    none_before place (placed_from version entries) (rises_lower place (record { version = version; file = 0; row = 0 }) (placed_from version entries) (inl lt) (rises_from version entries))
+-- Files behind that of a place, which read as these rows.
+pub record Behind (objects : Objects) (schema : Tree) (place : Place) (all_files : List LogFile) (all_rows : List (Place × Row)) : Type 0 where
+  pub founds : List Found
+  pub files : all_files ≡ map file_of founds
+  pub found : AreFound objects schema founds
+  pub rows : all_rows ≡ rows_in founds
+  pub ahead : filter (is_ahead place) all_files ≡ all_files
+  pub none_before : filter (stands_before place) all_rows ≡ []
 
--- a row of an earlier version stands before a place
-pub earlier_row : (place : Place) (version row : ℕ) → version < place.version → is_before (record { version = version; file = 0; row = row }) place ≡ true
-earlier_row place version row lt = grind (arith, nat_tests)
+module _ (objects : Objects) (schema : Tree) (place : Place) where
+  -- one more file in front
+  behind_first : (f : Found) (files : List LogFile) (rows : List (Place × Row)) → IsPast place f.version f.file → rows_of objects schema (file_of f) ≡ Ok f.rows
+      → Behind objects schema place files rows → Behind objects schema place (file_of f ∷ files) (placed_rows f.version f.file 0 f.rows ++ rows)
+  behind_first f files rows past reads later =
+      let here = placed_rows f.version f.file 0 f.rows in
+      record {
+        founds = f ∷ later.founds;
+        files = ap (λ (fs : List LogFile). file_of f ∷ fs) later.files;
+        found = (reads, later.found);
+        rows = ap (λ (ps : List (Place × Row)). here ++ ps) later.rows;
+        ahead = rw (past_file place f.version f.file past, later.ahead) refl;
+        none_before = filter-append (stands_before place) here rows ∙ rw (past_rows place f.version f.file 0 f.rows past, later.none_before) refl;
+      }
 
--- where each row of a version stands before a place, so many do as there are
-pub all_rows_before : (place : Place) (version : ℕ) → ((at : ℕ) → is_before (record { version = version; file = 0; row = at }) place ≡ true) → (row : ℕ) (rs : List Row) → length (filter (stands_before place) (placed_rows version row rs)) ≡ length rs
-all_rows_before place version before row [] = refl
-all_rows_before place version before row (r ∷ rs) = rw (before row) (ap suc (all_rows_before place version before (suc row) rs))
+  -- the files of a version in front, from one on that stands behind that of the place
+  pub files_behind : (version file : ℕ) (paths : List Path) (files : List (List Row)) (late_files : List LogFile) (late_rows : List (Place × Row))
+      → IsPast place version file → AreFilesFound objects schema paths files → Behind objects schema place late_files late_rows
+      → Behind objects schema place (numbered version file paths ++ late_files) (placed_files version file files ++ late_rows)
+  files_behind version file [] [] late_files late_rows past found late = late
+  files_behind version file [] (rows ∷ files) late_files late_rows past found late = absurd found
+  files_behind version file (path ∷ paths) [] late_files late_rows past found late = absurd found
+  files_behind version file (path ∷ paths) (rows ∷ files) late_files late_rows past found late =
+      let first : Found = record { version = version; file = file; path = path; rows = rows } in
+      let others = files_behind version (suc file) paths files late_files late_rows (past_next place version file past) found.1 late in
+      rw (append_assoc (placed_rows version file 0 rows) (placed_files version (suc file) files) late_rows)
+      (behind_first first (numbered version (suc file) paths ++ late_files) (placed_files version (suc file) files ++ late_rows) past (found.0 version file) others)
 
--- how many rows of a file stand before a row of it
-pub rows_before : (version row at : ℕ) (rs : List Row) → length (filter (stands_before (record { version = version; file = 0; row = row })) (placed_rows version at rs)) ≡ min (row - at) (length rs)
-rows_before version row at [] = omega arith
-rows_before version row at (r ∷ rs) =
-    let others = rows_before version row (suc at) rs in
-    elim (cases_Bool (ltb at row)) [
+  -- the files of the versions behind that of the place
+  pub log_behind : (version : ℕ) (entries : List Entry) (commits : List (List actions.Entry)) → place.version < version → AreEntriesFound objects schema entries commits
+      → Behind objects schema place (files_from version commits) (placed_from version entries)
+  log_behind version [] [] lt found = record { founds = []; files = refl; found = tt; rows = refl; ahead = refl; none_before = refl }
+  log_behind version [] (made ∷ commits) lt found = absurd found
+  log_behind version (entry ∷ entries) [] lt found = absurd found
+  log_behind version (entry ∷ entries) (made ∷ commits) lt found =
+      let later = log_behind (suc version) entries commits (omega arith) found.1 in
+      files_behind version 0 (new_files made) (files_of entry) (files_from (suc version) commits) (placed_from (suc version) entries) (inl lt) found.0 later
+
+-- ---- files before that of a place
+
+-- a version's file stands before that of a place
+abbrev pub IsEarlier : Place → (version file : ℕ) → Type 0
+IsEarlier place version file = (version < place.version) ⊎ ((version ≡ place.version) × (file < place.file))
+
+-- it isn't ahead
+earlier_file : (place : Place) (version file : ℕ) → IsEarlier place version file → not (tails.is_before place version file) ≡ false
+earlier_file place version file earlier = grind (arith, nat_tests, earlier)
+
+-- each of its rows stands before the place
+earlier_row : (place : Place) (version file row : ℕ) → IsEarlier place version file → is_before (record { version = version; file = file; row = row }) place ≡ true
+earlier_row place version file row earlier = grind (arith, nat_tests, earlier)
+
+earlier_rows : (place : Place) (version file row : ℕ) (rs : List Row) → IsEarlier place version file → filter (stands_before place) (placed_rows version file row rs) ≡ placed_rows version file row rs
+earlier_rows place version file row [] earlier = refl
+earlier_rows place version file row (r ∷ rs) earlier = rw (earlier_row place version file row earlier, earlier_rows place version file (suc row) rs earlier) refl
+
+-- Files before that of a place, and their rows.
+pub record Passed (place : Place) (files : List LogFile) (rows : List (Place × Row)) : Type 0 where
+  pub none_ahead : filter (is_ahead place) files ≡ []
+  pub all_before : filter (stands_before place) rows ≡ rows
+
+-- one file
+pub file_passed : (place : Place) (f : Found) → IsEarlier place f.version f.file → Passed place (file_of f ∷ []) (placed_rows f.version f.file 0 f.rows)
+file_passed place f earlier = record {
+  none_ahead = rw (earlier_file place f.version f.file earlier) refl;
+  all_before = earlier_rows place f.version f.file 0 f.rows earlier;
+}
+
+-- the files of an earlier version
+numbered_passed : (place : Place) (version file : ℕ) (paths : List Path) → version < place.version → filter (is_ahead place) (numbered version file paths) ≡ []
+numbered_passed place version file [] lt = refl
+numbered_passed place version file (path ∷ paths) lt = rw (earlier_file place version file (inl lt)) (numbered_passed place version (suc file) paths lt)
+
+files_passed : (place : Place) (version file : ℕ) (files : List (List Row)) → version < place.version → filter (stands_before place) (placed_files version file files) ≡ placed_files version file files
+files_passed place version file [] lt = refl
+files_passed place version file (rows ∷ files) lt =
+    filter-append (stands_before place) (placed_rows version file 0 rows) (placed_files version (suc file) files)
+    ∙ rw (earlier_rows place version file 0 rows (inl lt), files_passed place version (suc file) files lt) refl
+
+pub version_passed : (place : Place) (version : ℕ) (paths : List Path) (files : List (List Row)) → version < place.version → Passed place (numbered version 0 paths) (placed_files version 0 files)
+version_passed place version paths files lt = record { none_ahead = numbered_passed place version 0 paths lt; all_before = files_passed place version 0 files lt }
+
+-- ---- the file of a place
+
+-- it is ahead
+pub file_here : (place : Place) (version file : ℕ) → place.version ≡ version → place.file ≡ file → not (tails.is_before place version file) ≡ true
+file_here place version file at here = grind (arith, nat_tests, at, here)
+
+-- how many of its rows stand before the place
+pub rows_before : (place : Place) (version file row : ℕ) (rs : List Row) → place.version ≡ version → place.file ≡ file
+    → length (filter (stands_before place) (placed_rows version file row rs)) ≡ min (place.row - row) (length rs)
+rows_before place version file row [] at here = omega arith
+rows_before place version file row (r ∷ rs) at here =
+    let others = rows_before place version file (suc row) rs at here in
+    elim (cases_Bool (ltb row place.row)) [
       | inl lt ↦
-          let first : is_before (record { version = version; file = 0; row = at }) (record { version = version; file = 0; row = row }) ≡ true = grind (arith, nat_tests, lt) in
+          let first : is_before (record { version = version; file = file; row = row }) place ≡ true = grind (arith, nat_tests, at, here, lt) in
           rw (first, others) (grind (arith, nat_tests, lt))
       | inr ge ↦
-          let first : is_before (record { version = version; file = 0; row = at }) (record { version = version; file = 0; row = row }) ≡ false = grind (arith, nat_tests, ge) in
+          let first : is_before (record { version = version; file = file; row = row }) place ≡ false = grind (arith, nat_tests, at, here, ge) in
           rw (first, others) (grind (arith, nat_tests, ge))
     ]

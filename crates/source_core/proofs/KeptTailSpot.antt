@@ -1,173 +1,202 @@
 -- The tests of a place, by the files of a log and by the entries of its table.
-use Rattle.std.proofs.Common.{◌≡◌, ℕ, zero, suc, ◌+◌, ◌≤◌, ◌<◌, true, false, leb, List, [], ◌∷◌, ◌++◌, length, map, drop, Ok, Err, refl, sym, ap, ◌∙◌, arith, inl, inr, ◌⊎◌, length-append}
-use Rattle.std.specs.Prelude.{filter, not}
+use Rattle.std.proofs.Common.{◌≡◌, ℕ, zero, suc, ◌+◌, ◌≤◌, ◌<◌, Bool, true, false, eqb, leb, List, [], ◌∷◌, ◌++◌, length, map, drop, Ok, Err, refl, ap, ◌∙◌, append_assoc, arith, inl, inr, ◌⊎◌, length-append}
+use Rattle.std.specs.Prelude.{filter, Result, nat_lt, ◌==◌, ◌||◌, ◌&&◌}
 use Rattle.std.proofs.Math.Seq.{drop-append-add}
-use Rattle.std.proofs.lemmas.Bool.{cases_Bool, lt-ltb, leb-true, leb-false, eq-eqb, ne_eqb}
+use Rattle.std.proofs.lemmas.Bool.{cases_Bool, leb-true, leb-false, eq-eqb, eqb-true, eqb-false, ne_eqb}
 use Rattle.std.proofs.lemmas.Bool.Decides.{nat_tests}
 use Rattle.std.proofs.lemmas.List.Elements.{filter-append}
 use Rattle.store_core.specs.Objects.{Objects}
+use Rattle.delta_actions.specs.Kinds.{Path}
 use Rattle.delta_actions.specs.Entry as actions
 use Rattle.row_core.specs.Rows.{Row}
 use Rattle.schema_tree.specs.Tree.{Tree}
-use Rattle.table_model.specs.Table.{Batch, Entry, creation, batch, close}
-use Rattle.table_model.specs.Reads.{placed_rows, placed_entry, placed_from, is_before, is_place_from}
+use Rattle.table_model.specs.Table.{Entry, files_of}
+use Rattle.table_model.specs.Reads.{placed_rows, placed_files, placed_from, is_in_files, is_place_from}
 use Rattle.table_model.specs.declared.reading.Place.{Place}
-use Rattle.source_core.specs.Tailing as tails
-use Rattle.table_store.specs.Logs.{new_files}
-use Rattle.source_core.specs.Tailing.{files_from, commit_at, unless_no_file, bad_place}
-use Rattle.source_core.proofs.KeptTailWalk.{Found, file_of, rows_in, AreFound, AreWithin, length-placed, within_none}
-use Rattle.source_core.proofs.KeptTailPlace.{AreEntriesFound, in_log, is_ahead, stands_before, later_files, later_rows, earlier_files, earlier_row, all_rows_before, rows_before}
-
--- how many rows from a version on stand before a place
-abbrev pub count_before : Place → (version : ℕ) → List Entry → ℕ
-count_before place version entries = length (filter (stands_before place) (placed_from version entries))
+use Rattle.table_store.specs.Groups.{new_files}
+use Rattle.source_core.specs.Tailing.{LogFile, Refusal, rows_of, numbered, files_from, commit_at, unless_no_file, bad_place}
+use Rattle.source_core.proofs.KeptTailWalk.{Found, file_of, rows_in, AreFound, AreWithin, within_none}
+use Rattle.source_core.proofs.KeptTailPlace.{AreFilesFound, AreEntriesFound, is_ahead, stands_before, Behind, files_behind, log_behind, Passed, file_passed, version_passed, file_here, rows_before}
 
 -- The files from a place on read as the rows from it on, but for those in the first file before it.
-pub record Ahead (objects : Objects) (schema : Tree) (place : Place) (version : ℕ) (entries : List Entry) (commits : List (List actions.Entry)) : Type 0 where
+pub record AheadIn (objects : Objects) (schema : Tree) (place : Place) (all_files : List LogFile) (all_rows : List (Place × Row)) : Type 0 where
   pub founds : List Found
-  pub files : filter (is_ahead place) (files_from version commits) ≡ map file_of founds
+  pub files : filter (is_ahead place) all_files ≡ map file_of founds
   pub found : AreFound objects schema founds
   pub within : AreWithin place.row founds
-  pub rows : drop (count_before place version entries) (placed_from version entries) ≡ drop place.row (rows_in founds)
+  pub rows : drop (length (filter (stands_before place) all_rows)) all_rows ≡ drop place.row (rows_in founds)
 
 -- The first file from a place on has fewer rows than the place passes over.
-pub record Short (objects : Objects) (schema : Tree) (place : Place) (version : ℕ) (commits : List (List actions.Entry)) : Type 0 where
+pub record ShortIn (objects : Objects) (schema : Tree) (place : Place) (all_files : List LogFile) : Type 0 where
   pub first : Found
   pub founds : List Found
-  pub files : filter (is_ahead place) (files_from version commits) ≡ map file_of (first ∷ founds)
+  pub files : filter (is_ahead place) all_files ≡ map file_of (first ∷ founds)
   pub found : AreFound objects schema (first ∷ founds)
   pub at : first.version ≡ place.version
   pub past_it : length first.rows < place.row
 
--- what the two tests say of a place, the commit of whose version is the one behind so many: a read can begin there, or
--- the version has no such file, or the file has no such row
-pub data Spot (objects : Objects) (schema : Tree) (place : Place) (version behind : ℕ) (entries : List Entry) (commits : List (List actions.Entry)) : Type 0 where
-  stands : is_place_from version place entries ≡ true → unless_no_file place (length (new_files (commit_at behind commits))) ≡ Ok tt → Ahead objects schema place version entries commits
-      → Spot objects schema place version behind entries commits
-  no_file : is_place_from version place entries ≡ false → unless_no_file place (length (new_files (commit_at behind commits))) ≡ Err (bad_place place.version) → Spot objects schema place version behind entries commits
-  no_row : is_place_from version place entries ≡ false → unless_no_file place (length (new_files (commit_at behind commits))) ≡ Ok tt → Short objects schema place version commits
-      → Spot objects schema place version behind entries commits
+-- what two tests say of a place, that of the table and that of the log: a read can begin there, or the version has no
+-- such file, or the file has no such row
+pub data SpotIn (objects : Objects) (schema : Tree) (place : Place) (is : Bool) (test : Result (Unit {0}) Refusal) (files : List LogFile) (rows : List (Place × Row)) : Type 0 where
+  stands : is ≡ true → test ≡ Ok tt → AheadIn objects schema place files rows → SpotIn objects schema place is test files rows
+  no_file : is ≡ false → test ≡ Err (bad_place place.version) → SpotIn objects schema place is test files rows
+  no_row : is ≡ false → test ≡ Ok tt → ShortIn objects schema place files → SpotIn objects schema place is test files rows
 
--- ---- the file of a place
+-- the same of the entries of a table from a version on, and of their commits
+abbrev pub Ahead : Objects → (schema : Tree) → Place → (version : ℕ) → List Entry → List (List actions.Entry) → Type 0
+Ahead objects schema place version entries commits = AheadIn objects schema place (files_from version commits) (placed_from version entries)
 
--- the file of a place is ahead
-ahead_here : (version row : ℕ) → not (tails.is_before (record { version = version; file = 0; row = row }) version 0) ≡ true
-ahead_here version row = grind (arith, nat_tests)
+-- of which the commit of the place's version is the one behind so many
+abbrev pub Spot : Objects → (schema : Tree) → Place → (version behind : ℕ) → List Entry → List (List actions.Entry) → Type 0
+Spot objects schema place version behind entries commits = SpotIn objects schema place (is_place_from version place entries) (unless_no_file place (length (new_files (commit_at behind commits))))
+    (files_from version commits) (placed_from version entries)
 
--- a file before that of a place isn't
-not_ahead_here : (version file row : ℕ) → not (tails.is_before (record { version = version; file = suc file; row = row }) version 0) ≡ false
-not_ahead_here version file row = grind (arith, nat_tests)
+-- ---- the log's test
 
--- each row of a file before that of a place stands before it
-row_passed : (version file row at : ℕ) → is_before (record { version = version; file = 0; row = at }) (record { version = version; file = suc file; row = row }) ≡ true
-row_passed version file row at = grind (arith, nat_tests)
+-- a file of the version
+in_files : (place : Place) (files : ℕ) → place.file < files → unless_no_file place files ≡ Ok tt
+in_files place files lt =
+    let passes : (nat_lt files place.file || (place.file == files && nat_lt 0 place.row)) ≡ false = grind (arith, nat_tests, lt) in
+    rw passes refl
 
-module _ (objects : Objects) (schema : Tree) where
-  -- all files and all rows of later versions are ahead
-  later_ahead : (place : Place) (version : ℕ) (entries : List Entry) (commits : List (List actions.Entry)) → AreEntriesFound objects schema entries commits → place.version < version → place.row ≡ 0
-      → Ahead objects schema place version entries commits
-  later_ahead place version entries commits found lt none =
-      let all = in_log objects schema version entries commits found in
-      record {
-        founds = all.founds;
-        files = later_files place version commits lt ∙ all.files;
-        found = all.found;
-        within = rw none (within_none all.founds);
-        rows = rw (later_rows place version entries lt, none) all.rows;
-      }
+-- directly behind the last one
+behind_files : (place : Place) (files : ℕ) → place.file ≡ files → place.row ≡ 0 → unless_no_file place files ≡ Ok tt
+behind_files place files at none =
+    let passes : (nat_lt files place.file || (place.file == files && nat_lt 0 place.row)) ≡ false = grind (arith, nat_tests, at, none) in
+    rw passes refl
 
-  -- the creation brings no file
-  spot_in_creation : (version file row : ℕ) (entries : List Entry) (made : List actions.Entry) (commits : List (List actions.Entry)) → new_files made ≡ [] → AreEntriesFound objects schema entries commits
-      → Spot objects schema (record { version = version; file = file; row = row }) version zero (creation ∷ entries) (made ∷ commits)
-  spot_in_creation version zero zero entries made commits none found =
-      let place : Place = record { version = version; file = 0; row = 0 } in
-      let later = later_ahead place (suc version) entries commits found (omega arith) refl in
-      stands (rw (eq-eqb version version refl) refl) (rw none refl) (record {
-        founds = later.founds;
-        files = rw none later.files;
-        found = later.found;
-        within = later.within;
-        rows = later.rows;
-      })
-  spot_in_creation version zero (suc row) entries made commits none found =
-      no_file (rw (eq-eqb version version refl, ne_eqb (suc row) 0 (λ e. omega arith)) refl) (rw (none, lt-ltb 0 (suc row) (omega arith)) refl)
-  spot_in_creation version (suc file) row entries made commits none found =
-      no_file (rw (eq-eqb version version refl) refl) (rw (none, lt-ltb 0 (suc file) (omega arith)) refl)
+-- a row behind the last one
+row_behind_files : (place : Place) (files : ℕ) → place.file ≡ files → (place.row ≡ 0 → ⊥) → unless_no_file place files ≡ Err (bad_place place.version)
+row_behind_files place files at some =
+    let fails : (nat_lt files place.file || (place.file == files && nat_lt 0 place.row)) ≡ true = grind (arith, nat_tests, at, some) in
+    rw fails refl
 
-  module _ (version : ℕ) (b : Batch) (entries : List Entry) (made : List actions.Entry) (commits : List (List actions.Entry)) (found : AreEntriesFound objects schema (batch b ∷ entries) (made ∷ commits)) where
+-- a file that the version doesn't have
+past_files : (place : Place) (files : ℕ) → files < place.file → unless_no_file place files ≡ Err (bad_place place.version)
+past_files place files lt =
+    let fails : (nat_lt files place.file || (place.file == files && nat_lt 0 place.row)) ≡ true = grind (arith, nat_tests, lt) in
+    rw fails refl
+
+module _ (objects : Objects) (schema : Tree) (place : Place) where
+  -- ---- files before that of the place
+
+  -- files that are passed change nothing of the files ahead
+  files_on : (before files : List LogFile) → filter (is_ahead place) before ≡ [] → filter (is_ahead place) (before ++ files) ≡ filter (is_ahead place) files
+  files_on before files none = filter-append (is_ahead place) before files ∙ rw none refl
+
+  -- nor do their rows of the rows ahead
+  rows_on : (before rows : List (Place × Row)) → filter (stands_before place) before ≡ before
+      → drop (length (filter (stands_before place) (before ++ rows))) (before ++ rows) ≡ drop (length (filter (stands_before place) rows)) rows
+  rows_on before rows all =
+      let others = filter (stands_before place) rows in
+      let count : length (filter (stands_before place) (before ++ rows)) ≡ length before + length others =
+      ap (λ (ps : List (Place × Row)). length ps) (filter-append (stands_before place) before rows) ∙ rw all (length-append before others) in
+      rw count (drop-append-add before rows (length others))
+
+  -- the tests say the same with passed files in front
+  spot_on : (is : Bool) (test : Result (Unit {0}) Refusal) (before files : List LogFile) (rows_of_before rows : List (Place × Row)) → Passed place before rows_of_before
+      → SpotIn objects schema place is test files rows → SpotIn objects schema place is test (before ++ files) (rows_of_before ++ rows)
+  spot_on is test before files rows_of_before rows passed (stands begins file ahead) = stands begins file (record {
+    founds = ahead.founds;
+    files = files_on before files passed.none_ahead ∙ ahead.files;
+    found = ahead.found;
+    within = ahead.within;
+    rows = rows_on rows_of_before rows passed.all_before ∙ ahead.rows;
+  })
+  spot_on is test before files rows_of_before rows passed (no_file fails file) = no_file fails file
+  spot_on is test before files rows_of_before rows passed (no_row fails file short) = no_row fails file (record {
+    first = short.first;
+    founds = short.founds;
+    files = files_on before files passed.none_ahead ∙ short.files;
+    found = short.found;
+    at = short.at;
+    past_it = short.past_it;
+  })
+
+  -- ---- the file of the place
+
+  -- directly behind the last file of a version
+  ahead_behind : (files : List LogFile) (rows : List (Place × Row)) → place.row ≡ 0 → Behind objects schema place files rows → AheadIn objects schema place files rows
+  ahead_behind files rows none late = record {
+    founds = late.founds;
+    files = late.ahead ∙ late.files;
+    found = late.found;
+    within = rw none (within_none late.founds);
+    rows = rw (late.none_before, none) late.rows;
+  }
+
+  module _ (f : Found) (files : List LogFile) (rows : List (Place × Row)) (at : place.version ≡ f.version) (here : place.file ≡ f.file) (reads : rows_of objects schema (file_of f) ≡ Ok f.rows)
+      (late : Behind objects schema place files rows) where
+    -- the file is the first one ahead
+    first_ahead : filter (is_ahead place) (file_of f ∷ files) ≡ map file_of (f ∷ late.founds)
+    first_ahead = rw (file_here place f.version f.file at here, late.ahead) (ap (λ (fs : List LogFile). file_of f ∷ fs) late.files)
+
     -- a row of the file, or the place behind its last one
-    ahead_in_file : (row : ℕ) → row ≤ length b.rows → Ahead objects schema (record { version = version; file = 0; row = row }) version (batch b ∷ entries) (made ∷ commits)
-    ahead_in_file row fits =
-        let place : Place = record { version = version; file = 0; row = row } in
-        let later = in_log objects schema (suc version) entries commits found.1 in
-        let first : Found = record { version = version; path = found.0.0; rows = b.rows } in
-        let on : version < suc version = omega arith in
-        let here = placed_rows version 0 b.rows in
-        let late = placed_from (suc version) entries in
-        let count : length (filter (stands_before place) (here ++ late)) ≡ row =
-        ap (λ (ps : List (Place × Row)). length ps) (filter-append (stands_before place) here late) ∙ rw (later_rows place (suc version) entries on) (length-append (filter (stands_before place) here) [] ∙ omega (arith, rows_before version row 0 b.rows)) in
+    ahead_in_file : place.row ≤ length f.rows → AheadIn objects schema place (file_of f ∷ files) (placed_rows f.version f.file 0 f.rows ++ rows)
+    ahead_in_file fits =
+        let first = placed_rows f.version f.file 0 f.rows in
+        let count : length (filter (stands_before place) (first ++ rows)) ≡ place.row =
+        ap (λ (ps : List (Place × Row)). length ps) (filter-append (stands_before place) first rows)
+        ∙ rw late.none_before (length-append (filter (stands_before place) first) [] ∙ omega (arith, rows_before place f.version f.file 0 f.rows at here)) in
         record {
-          founds = first ∷ later.founds;
-          files = rw (found.0.1, ahead_here version row, later_files place (suc version) commits on, later.files) refl;
-          found = (found.0.2 version, later.found);
+          founds = f ∷ late.founds;
+          files = first_ahead;
+          found = (reads, late.found);
           within = fits;
-          rows = rw (count, later.rows) refl;
-        }
-
-    -- the place behind a file
-    ahead_of_file : Ahead objects schema (record { version = version; file = 1; row = 0 }) version (batch b ∷ entries) (made ∷ commits)
-    ahead_of_file =
-        let place : Place = record { version = version; file = 1; row = 0 } in
-        let on : version < suc version = omega arith in
-        let later = later_ahead place (suc version) entries commits found.1 on refl in
-        let here = placed_rows version 0 b.rows in
-        let late = placed_from (suc version) entries in
-        let all : length (filter (stands_before place) here) ≡ length here = all_rows_before place version (row_passed version 0 0) 0 b.rows ∙ sym (length-placed version 0 b.rows) in
-        let count : length (filter (stands_before place) (here ++ late)) ≡ length here + count_before place (suc version) entries =
-        ap (λ (ps : List (Place × Row)). length ps) (filter-append (stands_before place) here late) ∙ length-append (filter (stands_before place) here) (filter (stands_before place) late)
-        ∙ ap (λ (n : ℕ). n + count_before place (suc version) entries) all in
-        record {
-          founds = later.founds;
-          files = rw (found.0.1, not_ahead_here version 0 0) later.files;
-          found = later.found;
-          within = later.within;
-          rows = rw (count, drop-append-add here late (count_before place (suc version) entries)) later.rows;
+          rows = rw (count, late.rows) refl;
         }
 
     -- a row that the file doesn't have
-    short_in_file : (row : ℕ) → length b.rows < row → Short objects schema (record { version = version; file = 0; row = row }) version (made ∷ commits)
-    short_in_file row past_it =
-        let place : Place = record { version = version; file = 0; row = row } in
-        let on : version < suc version = omega arith in
-        let later = in_log objects schema (suc version) entries commits found.1 in
-        record {
-          first = record { version = version; path = found.0.0; rows = b.rows };
-          founds = later.founds;
-          files = rw (found.0.1, ahead_here version row, later_files place (suc version) commits on, later.files) refl;
-          found = (found.0.2 version, later.found);
-          at = refl;
-          past_it = past_it;
-        }
+    short_in_file : length f.rows < place.row → ShortIn objects schema place (file_of f ∷ files)
+    short_in_file past_it = record {
+      first = f;
+      founds = late.founds;
+      files = first_ahead;
+      found = (reads, late.found);
+      at = rw at refl;
+      past_it = past_it;
+    }
 
-    -- a batch brings one file
-    spot_in_batch : (file row : ℕ) → Spot objects schema (record { version = version; file = file; row = row }) version zero (batch b ∷ entries) (made ∷ commits)
-    spot_in_batch zero row =
-        elim (cases_Bool (leb row (length b.rows))) [
-          | inl fits ↦ stands (rw (eq-eqb version version refl, fits) refl) (rw found.0.1 refl) (ahead_in_file row (leb-true row (length b.rows) fits))
-          | inr fails ↦ no_row (rw (eq-eqb version version refl, fails) refl) (rw found.0.1 refl) (short_in_file row (leb-false row (length b.rows) fails))
+    -- the tests in the file of the place
+    spot_in_file : (test : Result (Unit {0}) Refusal) → test ≡ Ok tt
+        → SpotIn objects schema place (leb place.row (length f.rows)) test (file_of f ∷ files) (placed_rows f.version f.file 0 f.rows ++ rows)
+    spot_in_file test is =
+        elim (cases_Bool (leb place.row (length f.rows))) [
+          | inl fits ↦ stands fits is (ahead_in_file (leb-true place.row (length f.rows) fits))
+          | inr fails ↦ no_row fails is (short_in_file (leb-false place.row (length f.rows) fails))
         ]
-    spot_in_batch (suc zero) zero = stands (rw (eq-eqb version version refl) refl) (rw found.0.1 refl) ahead_of_file
-    spot_in_batch (suc zero) (suc row) = no_file (rw (eq-eqb version version refl, ne_eqb (suc row) 0 (λ e. omega arith)) refl) (rw (found.0.1, lt-ltb 0 (suc row) (omega arith)) refl)
-    spot_in_batch (suc (suc file)) row = no_file (rw (eq-eqb version version refl) refl) (rw (found.0.1, lt-ltb 1 (suc (suc file)) (omega arith)) refl)
 
-  -- the tests in a place's own version
-  spot_in_version : (version file row : ℕ) (entry : Entry) (entries : List Entry) (made : List actions.Entry) (commits : List (List actions.Entry)) → AreEntriesFound objects schema (entry ∷ entries) (made ∷ commits)
-      → Spot objects schema (record { version = version; file = file; row = row }) version zero (entry ∷ entries) (made ∷ commits)
-  spot_in_version version file row creation entries made commits found = spot_in_creation version file row entries made commits found.0 found.1
-  spot_in_version version file row (batch b) entries made commits found = spot_in_batch version b entries made commits found file row
-  spot_in_version version file row (close application) entries made commits found = absurd found.0
+  -- ---- the version of the place
 
-  -- ---- the end of the log
+  module _ (version count : ℕ) (at : place.version ≡ version) (late_files : List LogFile) (late_rows : List (Place × Row))
+      (late : Behind objects schema place late_files late_rows) where
+    -- the tests in a version of so many files, of which these are the files from one on
+    spot_in_files : (file k : ℕ) (paths : List Path) (files : List (List Row)) → AreFilesFound objects schema paths files → place.file ≡ file + k → count ≡ file + length paths
+        → SpotIn objects schema place (is_in_files k place.row files) (unless_no_file place count) (numbered version file paths ++ late_files) (placed_files version file files ++ late_rows)
+    spot_in_files file k [] (rows ∷ files) found here many = absurd found
+    spot_in_files file k (path ∷ paths) [] found here many = absurd found
+    spot_in_files file zero [] [] found here many =
+        let last : place.file ≡ count = omega arith in
+        elim (cases_Bool (eqb place.row 0)) [
+          | inl none ↦ let start = eqb-true place.row 0 none in stands none (behind_files place count last start) (ahead_behind late_files late_rows start late)
+          | inr some ↦ no_file some (row_behind_files place count last (eqb-false place.row 0 some))
+        ]
+    spot_in_files file (suc k) [] [] found here many = no_file refl (past_files place count (omega arith))
+    spot_in_files file zero (path ∷ paths) (rows ∷ files) found here many =
+        let first : Found = record { version = version; file = file; path = path; rows = rows } in
+        let others = files_behind objects schema place version (suc file) paths files late_files late_rows (inr (at, omega arith)) found.1 late in
+        rw (append_assoc (placed_rows version file 0 rows) (placed_files version (suc file) files) late_rows)
+        (spot_in_file first (numbered version (suc file) paths ++ late_files) (placed_files version (suc file) files ++ late_rows) at (omega arith) (found.0 version file) others
+        (unless_no_file place count) (in_files place count (omega arith)))
+    spot_in_files file (suc k) (path ∷ paths) (rows ∷ files) found here many =
+        let first : Found = record { version = version; file = file; path = path; rows = rows } in
+        let passed = file_passed place first (inr (omega arith, omega arith)) in
+        rw (append_assoc (placed_rows version file 0 rows) (placed_files version (suc file) files) late_rows)
+        (spot_on (is_in_files k place.row files) (unless_no_file place count) (file_of first ∷ []) (numbered version (suc file) paths ++ late_files) (placed_rows version file 0 rows)
+        (placed_files version (suc file) files ++ late_rows) passed (spot_in_files (suc file) k paths files found.1 (omega arith) (omega arith)))
+
+module _ (objects : Objects) (schema : Tree) where
+  -- ---- the whole log
 
   -- no version is left
   spot_at_end : (place : Place) (version : ℕ) → place.version ≡ version → place.file ≡ 0 → place.row ≡ 0 → Spot objects schema place version zero [] []
@@ -179,50 +208,14 @@ module _ (objects : Objects) (schema : Tree) where
     rows = rw row refl;
   })
 
-  -- ---- the versions before that of a place
-
-  -- all rows of an earlier version stand before a place
-  entry_before : (place : Place) (version : ℕ) (entry : Entry) → version < place.version → length (filter (stands_before place) (placed_entry version entry)) ≡ length (placed_entry version entry)
-  entry_before place version creation lt = refl
-  entry_before place version (batch b) lt = all_rows_before place version (λ at. earlier_row place version at lt) 0 b.rows ∙ sym (length-placed version 0 b.rows)
-  entry_before place version (close application) lt = refl
-
-  -- the rows ahead are those of the versions behind an earlier one
-  rows_later : (place : Place) (version : ℕ) (entry : Entry) (entries : List Entry) → version < place.version
-      → drop (count_before place version (entry ∷ entries)) (placed_from version (entry ∷ entries)) ≡ drop (count_before place (suc version) entries) (placed_from (suc version) entries)
-  rows_later place version entry entries lt =
-      let here = placed_entry version entry in
-      let late = placed_from (suc version) entries in
-      let count : length (filter (stands_before place) (here ++ late)) ≡ length here + count_before place (suc version) entries =
-      ap (λ (ps : List (Place × Row)). length ps) (filter-append (stands_before place) here late) ∙ length-append (filter (stands_before place) here) (filter (stands_before place) late)
-      ∙ ap (λ (n : ℕ). n + count_before place (suc version) entries) (entry_before place version entry lt) in
-      rw (count, drop-append-add here late (count_before place (suc version) entries)) refl
-
   -- the tests don't look at earlier versions
   spot_later : (place : Place) (version behind : ℕ) (entry : Entry) (entries : List Entry) (made : List actions.Entry) (commits : List (List actions.Entry)) → version < place.version
       → Spot objects schema place (suc version) behind entries commits → Spot objects schema place version (suc behind) (entry ∷ entries) (made ∷ commits)
-  spot_later place version behind entry entries made commits lt (stands is file ahead) =
+  spot_later place version behind entry entries made commits lt later =
       let other = ne_eqb place.version version (λ e. omega arith) in
-      stands (rw other is) file (record {
-        founds = ahead.founds;
-        files = earlier_files place version made commits lt ∙ ahead.files;
-        found = ahead.found;
-        within = ahead.within;
-        rows = rows_later place version entry entries lt ∙ ahead.rows;
-      })
-  spot_later place version behind entry entries made commits lt (no_file is file) =
-      let other = ne_eqb place.version version (λ e. omega arith) in
-      no_file (rw other is) file
-  spot_later place version behind entry entries made commits lt (no_row is file short) =
-      let other = ne_eqb place.version version (λ e. omega arith) in
-      no_row (rw other is) file (record {
-        first = short.first;
-        founds = short.founds;
-        files = earlier_files place version made commits lt ∙ short.files;
-        found = short.found;
-        at = short.at;
-        past_it = short.past_it;
-      })
+      rw other (spot_on objects schema place (is_place_from (suc version) place entries) (unless_no_file place (length (new_files (commit_at behind commits))))
+      (numbered version 0 (new_files made)) (files_from (suc version) commits) (placed_files version 0 (files_of entry)) (placed_from (suc version) entries)
+      (version_passed place version (new_files made) (files_of entry) lt) later)
 
   -- what the tests say of a place that is at most the start of the version that comes next
   pub spotted : (place : Place) (version behind : ℕ) (entries : List Entry) (commits : List (List actions.Entry)) → AreEntriesFound objects schema entries commits → place.version ≡ version + behind
@@ -234,8 +227,10 @@ module _ (objects : Objects) (schema : Tree) where
   spotted place version behind [] (made ∷ commits) found at near = absurd found
   spotted place version behind (entry ∷ entries) [] found at near = absurd found
   spotted place version zero (entry ∷ entries) (made ∷ commits) found at near =
-      let same : version ≡ place.version = omega arith in
-      rw same (spot_in_version place.version place.file place.row entry entries made commits found)
+      let same : place.version ≡ version = omega arith in
+      let late = log_behind objects schema place (suc version) entries commits (omega arith) found.1 in
+      rw (eq-eqb place.version version same) (spot_in_files objects schema place version (length (new_files made)) same (files_from (suc version) commits) (placed_from (suc version) entries) late
+      0 place.file (new_files made) (files_of entry) found.0 (omega arith) (omega arith))
   spotted place version (suc behind) (entry ∷ entries) (made ∷ commits) found at (inl near) =
       spot_later place version behind entry entries made commits (omega arith) (spotted place (suc version) behind entries commits found.1 (omega arith) (inl (omega arith)))
   spotted place version (suc behind) (entry ∷ entries) (made ∷ commits) found at (inr near) =

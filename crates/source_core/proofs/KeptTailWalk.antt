@@ -19,28 +19,28 @@ use Rattle.source_core.specs.Tailing.{LogFile, Refusal, Handed, rows_of, bad_pla
 -- ---- rows with their places
 
 -- the rows behind the first ones keep their places
-pub drop-placed : (version row k : ℕ) (rs : List Row) → drop k (placed_rows version row rs) ≡ placed_rows version (row + k) (drop k rs)
-drop-placed version row zero rs = let none : row ≡ row + 0 = omega arith in ap (λ (n : ℕ). placed_rows version n rs) none
-drop-placed version row (suc k) [] = refl
-drop-placed version row (suc k) (r ∷ rs) =
+drop-placed : (version file row k : ℕ) (rs : List Row) → drop k (placed_rows version file row rs) ≡ placed_rows version file (row + k) (drop k rs)
+drop-placed version file row zero rs = let none : row ≡ row + 0 = omega arith in ap (λ (n : ℕ). placed_rows version file n rs) none
+drop-placed version file row (suc k) [] = refl
+drop-placed version file row (suc k) (r ∷ rs) =
     let on : suc row + k ≡ row + suc k = omega arith in
-    drop-placed version (suc row) k rs ∙ ap (λ (n : ℕ). placed_rows version n (drop k rs)) on
+    drop-placed version file (suc row) k rs ∙ ap (λ (n : ℕ). placed_rows version file n (drop k rs)) on
 
 -- so do the first ones
-take-placed : (version row k : ℕ) (rs : List Row) → take k (placed_rows version row rs) ≡ placed_rows version row (take k rs)
-take-placed version row zero rs = refl
-take-placed version row (suc k) [] = refl
-take-placed version row (suc k) (r ∷ rs) = ap (λ (ps : List (Place × Row)). (record { version = version; file = 0; row = row }, r) ∷ ps) (take-placed version (suc row) k rs)
+take-placed : (version file row k : ℕ) (rs : List Row) → take k (placed_rows version file row rs) ≡ placed_rows version file row (take k rs)
+take-placed version file row zero rs = refl
+take-placed version file row (suc k) [] = refl
+take-placed version file row (suc k) (r ∷ rs) = ap (λ (ps : List (Place × Row)). (record { version = version; file = file; row = row }, r) ∷ ps) (take-placed version file (suc row) k rs)
 
 -- the rows without their places
-rows-placed : (version row : ℕ) (rs : List Row) → map (λ p. p.1) (placed_rows version row rs) ≡ rs
-rows-placed version row [] = refl
-rows-placed version row (r ∷ rs) = ap (λ (xs : List Row). r ∷ xs) (rows-placed version (suc row) rs)
+rows-placed : (version file row : ℕ) (rs : List Row) → map (λ p. p.1) (placed_rows version file row rs) ≡ rs
+rows-placed version file row [] = refl
+rows-placed version file row (r ∷ rs) = ap (λ (xs : List Row). r ∷ xs) (rows-placed version file (suc row) rs)
 
 -- there are as many places as rows
-pub length-placed : (version row : ℕ) (rs : List Row) → length (placed_rows version row rs) ≡ length rs
-length-placed version row [] = refl
-length-placed version row (r ∷ rs) = ap suc (length-placed version (suc row) rs)
+length-placed : (version file row : ℕ) (rs : List Row) → length (placed_rows version file row rs) ≡ length rs
+length-placed version file row [] = refl
+length-placed version file row (r ∷ rs) = ap suc (length-placed version file (suc row) rs)
 
 -- the first elements of a list and of the one behind it
 take-append : {A : Type 0} (n : ℕ) (xs ys : List A) → take n (xs ++ ys) ≡ take n xs ++ take (n - length xs) ys
@@ -67,28 +67,30 @@ behind_both next [] ys = refl
 behind_both next (x ∷ xs) ys = behind_both (past x.0) xs ys
 
 -- behind the rows of a file from a row on
-behind_from : (version row : ℕ) (rs : List Row) → behind_all (record { version = version; file = 0; row = row }) (placed_rows version row rs) ≡ record { version = version; file = 0; row = row + length rs }
-behind_from version row [] = let none : row ≡ row + 0 = omega arith in ap (λ (n : ℕ). record { version = version; file = 0; row = n }) none
-behind_from version row (r ∷ rs) =
+behind_from : (version file row : ℕ) (rs : List Row)
+    → behind_all (record { version = version; file = file; row = row }) (placed_rows version file row rs) ≡ record { version = version; file = file; row = row + length rs }
+behind_from version file row [] = let none : row ≡ row + 0 = omega arith in ap (λ (n : ℕ). record { version = version; file = file; row = n }) none
+behind_from version file row (r ∷ rs) =
     let on : suc row + length rs ≡ row + suc (length rs) = omega arith in
-    behind_from version (suc row) rs ∙ ap (λ (n : ℕ). record { version = version; file = 0; row = n }) on
+    behind_from version file (suc row) rs ∙ ap (λ (n : ℕ). record { version = version; file = file; row = n }) on
 
 -- ---- files that can be read
 
--- a version's only file, and the rows that are read from it
+-- a file of a version, and the rows that are read from it
 pub record Found : Type 0 where
   pub version : ℕ
+  pub file : ℕ
   pub path : Path
   pub rows : List Row
 
 -- as a file of the log
 abbrev pub file_of : Found → LogFile
-file_of f = record { version = f.version; file = 0; path = f.path }
+file_of f = record { version = f.version; file = f.file; path = f.path }
 
 -- the rows of files, each with its place
 abbrev pub rows_in : List Found → List (Place × Row)
 rows_in [] = []
-rows_in (f ∷ fs) = placed_rows f.version 0 f.rows ++ rows_in fs
+rows_in (f ∷ fs) = placed_rows f.version f.file 0 f.rows ++ rows_in fs
 
 -- each file reads as its rows
 abbrev pub AreFound : Objects → (schema : Tree) → List Found → Type 0
@@ -101,11 +103,11 @@ AreWithin skip [] = skip ≡ 0
 AreWithin skip (f ∷ fs) = skip ≤ length f.rows
 
 -- behind a part of a file
-behind_part : (f : Found) (skip : ℕ) (part : List Row) (next : Place) → behind (file_of f) skip part next ≡ behind_all next (placed_rows f.version skip part)
+behind_part : (f : Found) (skip : ℕ) (part : List Row) (next : Place) → behind (file_of f) skip part next ≡ behind_all next (placed_rows f.version f.file skip part)
 behind_part f skip [] next = refl
 behind_part f skip (z ∷ part) next =
     let on : suc skip + length part ≡ skip + suc (length part) = omega arith in
-    sym (behind_from f.version (suc skip) part ∙ ap (λ (n : ℕ). record { version = f.version; file = 0; row = n }) on)
+    sym (behind_from f.version f.file (suc skip) part ∙ ap (λ (n : ℕ). record { version = f.version; file = f.file; row = n }) on)
 
 -- What is said is rows behind `rows`, at most so many of those ahead, and where the next read begins.
 pub record Goes (end : Place) (most : ℕ) (rows : List Row) (next : Place) (ahead : List (Place × Row)) (said : Result Handed Refusal) : Type 0 where
@@ -150,16 +152,16 @@ same_test a b c d onward back = grind (arith, nat_tests, onward, back)
 
 -- the rows ahead, of which the first stand in the first file
 ahead_in : (f : Found) (fs : List Found) (most skip : ℕ) → skip ≤ length f.rows
-    → take most (drop skip (rows_in (f ∷ fs))) ≡ placed_rows f.version skip (take most (drop skip f.rows)) ++ take (most - length (take most (drop skip f.rows))) (rows_in fs)
+    → take most (drop skip (rows_in (f ∷ fs))) ≡ placed_rows f.version f.file skip (take most (drop skip f.rows)) ++ take (most - length (take most (drop skip f.rows))) (rows_in fs)
 ahead_in f fs most skip within =
     let left = drop skip f.rows in
-    let here = placed_rows f.version skip left in
-    let fits : skip ≤ length (placed_rows f.version 0 f.rows) = omega (arith, length-placed f.version 0 f.rows) in
-    let placed_left : drop skip (placed_rows f.version 0 f.rows) ≡ here =
-    drop-placed f.version 0 skip f.rows ∙ (let at : 0 + skip ≡ skip = omega arith in rw at refl) in
-    let first : take most here ≡ placed_rows f.version skip (take most left) = take-placed f.version skip most left in
-    let count : most - length here ≡ most - length (take most left) = omega (arith, length-placed f.version skip left, length-take most left) in
-    ap (λ (ps : List (Place × Row)). take most ps) (drop-append-le skip (placed_rows f.version 0 f.rows) (rows_in fs) fits ∙ ap (λ (ps : List (Place × Row)). ps ++ rows_in fs) placed_left)
+    let here = placed_rows f.version f.file skip left in
+    let fits : skip ≤ length (placed_rows f.version f.file 0 f.rows) = omega (arith, length-placed f.version f.file 0 f.rows) in
+    let placed_left : drop skip (placed_rows f.version f.file 0 f.rows) ≡ here =
+    drop-placed f.version f.file 0 skip f.rows ∙ (let at : 0 + skip ≡ skip = omega arith in rw at refl) in
+    let first : take most here ≡ placed_rows f.version f.file skip (take most left) = take-placed f.version f.file skip most left in
+    let count : most - length here ≡ most - length (take most left) = omega (arith, length-placed f.version f.file skip left, length-take most left) in
+    ap (λ (ps : List (Place × Row)). take most ps) (drop-append-le skip (placed_rows f.version f.file 0 f.rows) (rows_in fs) fits ∙ ap (λ (ps : List (Place × Row)). ps ++ rows_in fs) placed_left)
     ∙ take-append most here (rows_in fs) ∙ rw (first, count) refl
 
 -- what goes on behind a part of the first file
@@ -168,12 +170,12 @@ goes_on : (end : Place) (f : Found) (fs : List Found) (most skip : ℕ) (rows : 
     → Goes end most rows next (drop skip (rows_in (f ∷ fs))) said
 goes_on end f fs most skip rows next said within later =
     let part = take most (drop skip f.rows) in
-    let first = placed_rows f.version skip part in
+    let first = placed_rows f.version f.file skip part in
     let more = take (most - length part) (rows_in fs) in
     let cut : take most (drop skip (rows_in (f ∷ fs))) ≡ first ++ more = ahead_in f fs most skip within in
     let all_rows : later.handed.rows ≡ rows ++ map (λ p. p.1) (first ++ more) =
-    later.rows_are ∙ rw (map-append (λ (p : Place × Row). p.1) first more, rows-placed f.version skip part) (append_assoc rows part (map (λ p. p.1) more)) in
-    let many : length (first ++ more) ≡ length part + length more = length-append first more ∙ rw (length-placed f.version skip part) refl in
+    later.rows_are ∙ rw (map-append (λ (p : Place × Row). p.1) first more, rows-placed f.version f.file skip part) (append_assoc rows part (map (λ p. p.1) more)) in
+    let many : length (first ++ more) ≡ length part + length more = length-append first more ∙ rw (length-placed f.version f.file skip part) refl in
     let few : length part ≤ most = omega (arith, length-take most (drop skip f.rows)) in
     let test : eqb (length more) (most - length part) ≡ eqb (length (first ++ more)) most = same_test (length more) (most - length part) (length (first ++ more)) most (λ e. omega arith) (λ e. omega arith) in
     let to : behind_all (behind (file_of f) skip part next) more ≡ behind_all next (first ++ more) = rw (behind_part f skip part next) (sym (behind_both next first more)) in

@@ -1,5 +1,5 @@
 -- The lemmas that proofs of other crates may cite.
-pub use Rattle.table_model.proofs.Batches.{IsAbove, Rises-tail, batches-append, below_later, last_batch-append, last_none, last_number, numbers_by-own}
+pub use Rattle.table_model.proofs.Batches.{IsAbove, Rises-tail, numbers_in, numbers_in-append, batches-append, below_later, last_batch-append, last_none, last_number, numbers_by-own}
 pub use Rattle.table_model.proofs.Facts.{last_stands}
 pub use Rattle.table_model.proofs.Grown.{beginning_is_place, is_answered, stays}
 pub use Rattle.table_model.proofs.Kept.{append_keeps, later_is_greater}

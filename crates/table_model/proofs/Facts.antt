@@ -1,14 +1,16 @@
 -- What the answers of appends and closes tell of the table that they leave, and that it stays so while the table grows.
-use Rattle.std.proofs.Common.{◌≡◌, ℕ, zero, suc, ◌<◌, ◌≤◌, Bool, true, eqb, ltb, List, [], ◌∷◌, ◌++◌, length, get_or, slice_get, Option, Some, None, All, Contains, refl, sym, ap, subst, ◌∙◌, append_assoc, arith, inl, inr}
+use Rattle.std.proofs.Common.{◌≡◌, ℕ, zero, suc, ◌<◌, ◌≤◌, Bool, true, eqb, ltb, List, [], ◌∷◌, ◌++◌, length, slice_get, Option, Some, None, All, Contains, refl, sym, ap, subst, ◌∙◌, append_assoc, arith, inl, inr}
 use Rattle.std.specs.Prelude.{bytes_eq}
+use Rattle.std.specs.List.{AllByRecursion, flat_map, list_any}
+use Rattle.std.proofs.lemmas.List.Concat.{flat_map-append}
 use Rattle.std.proofs.lemmas.Bool.{false≢true, cases_Bool, eqb-true, eqb-false, ltb-true, ltb-false}
 use Rattle.std.proofs.lemmas.Slice.Eq.{bytes_eq-Decides}
 use Rattle.std.proofs.lemmas.List.{append-nil}
-use Rattle.std.proofs.lemmas.List.Elements.{All-contains, All-contains_itself, All-filter, Contains-append_left, Contains-append_right, Contains-push, filter_passes}
+use Rattle.std.proofs.lemmas.List.Elements.{All-contains, All-contains_itself, All-filter, Contains-append_cases, Contains-append_left, Contains-push, filter_passes}
 use Rattle.row_core.specs.Rows.{Row, same_rows}
-use Rattle.table_model.specs.Table.{Batch, Entry, creation, batch, close, batches, batches_by, numbers_by, last, last_batch, is_closed}
+use Rattle.table_model.specs.Table.{Batch, Entry, creation, group, close, closes_of, batches, batches_by, numbers_by, last, last_batch, is_closed}
 use Rattle.table_model.specs.Appends.{appended, appended_new, appended_behind, with_batch, closing, with_close, Tells, TellsClose}
-use Rattle.table_model.specs.Lawful.{NoCreation, BeginsWithCreation, Rises, IsLawful}
+use Rattle.table_model.specs.Lawful.{NoCreation, BeginsWithCreation, Rises, IsWellGrouped, IsLawful}
 use Rattle.table_model.specs.declared.table.Appended.{Appended}
 use Rattle.table_model.specs.declared.table.Appended.TheVariants.{Committed, Already, Stale, Differs, StreamClosed}
 use Rattle.table_model.specs.declared.table.Closing.{Closing}
@@ -44,39 +46,39 @@ last_stands application entries c is =
     let named : own c ≡ true = All-contains (λ b. own b ≡ true) (batches_by application entries) c (filter_passes own all) among in
     (stands, (bytes_eq-Decides c.application application).0 named)
 
--- a list with x in it, cut there
-record IsCut {A : Type 0} (xs : List A) (x : A) : Type 0 where
-  before : List A
-  after : List A
-  is : xs ≡ before ++ x ∷ after
+-- a list whose pieces together have y, cut at the one that has it
+pub record IsCut {A B : Type 0} (f : A → List B) (xs : List A) (y : B) : Type 0 where
+  pub before : List A
+  pub after : List A
+  pub one : A
+  pub is : xs ≡ before ++ one ∷ after
+  pub has : Contains (f one) y
 
-cut_later : {A : Type 0} (y : A) (xs : List A) (x : A) → IsCut xs x → IsCut (y ∷ xs) x
-cut_later {A = A} y xs x cut = record { before = y ∷ cut.before; after = cut.after; is = ap (λ (zs : List A). y ∷ zs) cut.is }
+cut_later : {A B : Type 0} (f : A → List B) (x : A) (xs : List A) (y : B) → IsCut f xs y → IsCut f (x ∷ xs) y
+cut_later {A = A} f x xs y cut = record { before = x ∷ cut.before; after = cut.after; one = cut.one; is = ap (λ (zs : List A). x ∷ zs) cut.is; has = cut.has }
 
-cut_at : {A : Type 0} (xs : List A) (x : A) (k : ℕ) → k < length xs → get_or xs k x ≡ x → IsCut xs x
-cut_at [] x k lt e = absurd (omega arith)
-cut_at {A = A} (y ∷ xs) x zero lt e = record { before = []; after = xs; is = ap (λ (z : A). z ∷ xs) e }
-cut_at (y ∷ xs) x (suc k) lt e = cut_later y xs x (cut_at xs x k (omega arith) e)
-
--- where a stream is closed, its close stands
-cut_at_close : (application : List ℕ) (entries : List Entry) → is_closed application entries ≡ true → IsCut entries (close application)
-cut_at_close application [] shut = absurd (false≢true shut)
-cut_at_close application (creation ∷ entries) shut = cut_later creation entries (close application) (cut_at_close application entries shut)
-cut_at_close application (batch b ∷ entries) shut = cut_later (batch b) entries (close application) (cut_at_close application entries shut)
-cut_at_close application (close other ∷ entries) shut =
-    elim (cases_Bool (bytes_eq other application)) [
-      | inl own ↦
-          let is : other ≡ application = (bytes_eq-Decides other application).0 own in
-          record { before = []; after = entries; is = ap (λ (a : List ℕ). close a ∷ entries) is }
-      | inr foreign ↦
-          let later : is_closed application entries ≡ true = rw foreign at shut in
-          cut_later (close other) entries (close application) (cut_at_close application entries later)
+pub cut_at : {A B : Type 0} (f : A → List B) (xs : List A) (y : B) → Contains (flat_map f xs) y → IsCut f xs y
+cut_at f [] y c = absurd (omega (arith, c.1))
+cut_at f (x ∷ xs) y c =
+    elim (Contains-append_cases (f x) (flat_map f xs) y c) [
+      | inl here ↦ record { before = []; after = xs; one = x; is = refl; has = here }
+      | inr later ↦ cut_later f x xs y (cut_at f xs y later)
     ]
 
-close_stands : (application : List ℕ) (entries : List Entry) → is_closed application entries ≡ true → Contains entries (close application)
-close_stands application entries shut =
-    let cut = cut_at_close application entries shut in
-    subst (λ (es : List Entry). Contains es (close application)) (sym cut.is) (Contains-append_right cut.before (close application ∷ cut.after) (close application) (Contains-append_left (close application ∷ []) cut.after (close application) (Contains-push [] (close application))))
+-- the closes among which a test finds one of an application
+any_is : (application : List ℕ) (closed : List (List ℕ)) → list_any (λ c. bytes_eq c application) closed ≡ true → Contains closed application
+any_is application [] some = absurd (false≢true some)
+any_is application (c ∷ closed) some =
+    elim (cases_Bool (bytes_eq c application)) [
+      | inl own ↦ (0, omega arith, (bytes_eq-Decides c application).0 own)
+      | inr other ↦
+          let later = any_is application closed (rw other at some) in
+          (suc later.0, omega (arith, later.1), later.2)
+    ]
+
+-- where a stream is closed, its close stands
+close_stands : (application : List ℕ) (entries : List Entry) → is_closed application entries ≡ true → Contains (flat_map closes_of entries) application
+close_stands application entries shut = any_is application (flat_map closes_of entries) shut
 
 -- ---- what an append tells
 
@@ -84,7 +86,7 @@ new_tells : (b : Batch) (entries : List Entry) → IsAbove b.number (last (numbe
 new_tells b entries above =
     elim (cases_Bool (is_closed b.application entries)) [
       | inl shut ↦ rw shut (close_stands b.application entries shut, λ lawful. all_below (numbers_by b.application entries) b.number (lawful.rises b.application) above)
-      | inr fresh ↦ rw fresh (at_the_end entries (batch b))
+      | inr fresh ↦ rw fresh (group (b ∷ []), at_the_end entries (group (b ∷ [])), (0, omega arith, refl))
     ]
 
 behind_tells : (b : Batch) (entries : List Entry) (before : Option Batch) → last_batch b.application entries ≡ before → Tells (appended_behind b entries before) b (with_batch (appended_behind b entries before) b entries)
@@ -120,7 +122,7 @@ pub close_tells : (application : List ℕ) (entries : List Entry) → TellsClose
 close_tells application entries =
     elim (cases_Bool (is_closed application entries)) [
       | inl shut ↦ rw shut (close_stands application entries shut)
-      | inr fresh ↦ rw fresh (at_the_end entries (close application))
+      | inr fresh ↦ rw fresh (close application, at_the_end entries (close application), (0, omega arith, refl))
     ]
 
 -- ---- the entry that is committed
@@ -149,7 +151,7 @@ behind_version b version entries (Some before) e =
       ]
     ]
 
-pub next_batch : (b : Batch) (version : ℕ) (entries : List Entry) → appended b entries ≡ Committed version → (version ≡ length entries) × (with_batch (appended b entries) b entries ≡ entries ++ batch b ∷ [])
+pub next_batch : (b : Batch) (version : ℕ) (entries : List Entry) → appended b entries ≡ Committed version → (version ≡ length entries) × (with_batch (appended b entries) b entries ≡ entries ++ group (b ∷ []) ∷ [])
 next_batch b version entries e = (behind_version b version entries (last_batch b.application entries) e, ap (λ (a : Appended). with_batch a b entries) e)
 
 pub next_close : (application : List ℕ) (version : ℕ) (entries : List Entry) → closing application entries ≡ Closed version → (version ≡ length entries) × (with_close application entries ≡ entries ++ close application ∷ [])
@@ -167,27 +169,32 @@ next_close application version entries e =
 NoCreation-front : (entries more : List Entry) → NoCreation (entries ++ more) → NoCreation entries
 NoCreation-front [] more none = tt
 NoCreation-front (creation ∷ entries) more none = none
-NoCreation-front (batch b ∷ entries) more none = NoCreation-front entries more none
+NoCreation-front (group bs ∷ entries) more none = NoCreation-front entries more none
 NoCreation-front (close application ∷ entries) more none = NoCreation-front entries more none
 
 begins-front : (entries more : List Entry) → BeginsWithCreation (entries ++ more) → BeginsWithCreation entries
 begins-front [] more begins = tt
 begins-front (creation ∷ entries) more begins = NoCreation-front entries more begins
-begins-front (batch b ∷ entries) more begins = begins
+begins-front (group bs ∷ entries) more begins = begins
 begins-front (close application ∷ entries) more begins = begins
 
+each_front : {A : Type 0} (P : A → Type 0) (xs ys : List A) → AllByRecursion P (xs ++ ys) → AllByRecursion P xs
+each_front P [] ys all = tt
+each_front P (x ∷ xs) ys all = (all.0, each_front P xs ys all.1)
+
 -- no batch stands behind a close, not even in what the table grew by
-none_grown : (application : List ℕ) (entries more before after : List Entry) → IsLawful (entries ++ more) → entries ≡ before ++ close application ∷ after
-    → (numbers_by application after ≡ []) × (numbers_by application more ≡ [])
-none_grown application entries more before after lawful is =
-    let at : entries ++ more ≡ before ++ close application ∷ (after ++ more) = ap (λ (es : List Entry). es ++ more) is ∙ append_assoc before (close application ∷ after) more in
-    none_behind (numbers_by application after) (numbers_by application more) (sym (numbers_by-append application after more) ∙ lawful.closed application before (after ++ more) at)
+none_grown : (application : List ℕ) (entries more before after : List Entry) (entry : Entry) → IsLawful (entries ++ more) → entries ≡ before ++ entry ∷ after → Contains (closes_of entry) application
+    → (numbers_by application (entry ∷ after) ≡ []) × (numbers_by application more ≡ [])
+none_grown application entries more before after entry lawful is closes =
+    let at : entries ++ more ≡ before ++ entry ∷ (after ++ more) = ap (λ (es : List Entry). es ++ more) is ∙ append_assoc before (entry ∷ after) more in
+    none_behind (numbers_by application (entry ∷ after)) (numbers_by application more) (sym (numbers_by-append application (entry ∷ after) more) ∙ lawful.closed application before (after ++ more) entry at closes)
 
 pub lawful-front : (entries more : List Entry) → IsLawful (entries ++ more) → IsLawful entries
 lawful-front entries more lawful = record {
   begins = begins-front entries more lawful.begins;
+  groups = each_front IsWellGrouped entries more lawful.groups;
   rises = λ application. Rises-front (numbers_by application entries) (numbers_by application more) (subst Rises (numbers_by-append application entries more) (lawful.rises application));
-  closed = λ application before after is. (none_grown application entries more before after lawful is).0;
+  closed = λ application before after entry is closes. (none_grown application entries more before after entry lawful is closes).0;
 }
 
 -- ---- what was told lasts
@@ -195,23 +202,28 @@ lawful-front entries more lawful = record {
 pub batch_lasts : (b : Batch) (entries more : List Entry) → Contains (batches entries) b → Contains (batches (entries ++ more)) b
 batch_lasts b entries more stands = subst (λ (bs : List Batch). Contains bs b) (sym (batches-append entries more)) (Contains-append_left (batches entries) (batches more) b stands)
 
+-- a close that stands stays
+close_lasts_at : (application : List ℕ) (entries more : List Entry) → Contains (flat_map closes_of entries) application → Contains (flat_map closes_of (entries ++ more)) application
+close_lasts_at application entries more stands =
+    subst (λ (cs : List (List ℕ)). Contains cs application) (sym (flat_map-append closes_of entries more)) (Contains-append_left (flat_map closes_of entries) (flat_map closes_of more) application stands)
+
 -- no number comes behind a close
-still_below : (b : Batch) (entries more : List Entry) → Contains entries (close b.application) → (IsLawful entries → All (λ n. n < b.number) (numbers_by b.application entries))
+still_below : (b : Batch) (entries more : List Entry) → Contains (flat_map closes_of entries) b.application → (IsLawful entries → All (λ n. n < b.number) (numbers_by b.application entries))
     → IsLawful (entries ++ more) → All (λ n. n < b.number) (numbers_by b.application (entries ++ more))
 still_below b entries more stands below lawful =
-    let cut = cut_at entries (close b.application) stands.0 stands.1 stands.2 in
-    let none : numbers_by b.application more ≡ [] = (none_grown b.application entries more cut.before cut.after lawful cut.is).1 in
+    let cut = cut_at closes_of entries b.application stands in
+    let none : numbers_by b.application more ≡ [] = (none_grown b.application entries more cut.before cut.after cut.one lawful cut.is cut.has).1 in
     let same : numbers_by b.application (entries ++ more) ≡ numbers_by b.application entries = numbers_by-append b.application entries more ∙ rw none (append-nil (numbers_by b.application entries)) in
     subst (λ (ns : List ℕ). All (λ n. n < b.number) ns) (sym same) (below (lawful-front entries more lawful))
 
 pub append_lasts : (answer : Appended) (b : Batch) (entries more : List Entry) → Tells answer b entries → Tells answer b (entries ++ more)
-append_lasts (Committed version) b entries more told = at_the_front entries more version (batch b) told
+append_lasts (Committed version) b entries more told = (told.0, at_the_front entries more version told.0 told.1, told.2)
 append_lasts (Already number) b entries more told = (told.0, batch_lasts b entries more told.1)
 append_lasts (Stale number) b entries more told = (told.0, told.1, batch_lasts (record b { number = number; rows = told.1 }) entries more told.2)
 append_lasts Differs b entries more told = (told.0, told.1, batch_lasts (record b { rows = told.0 }) entries more told.2)
 append_lasts StreamClosed b entries more told =
-    (Contains-append_left entries more (close b.application) told.0, still_below b entries more told.0 told.1)
+    (close_lasts_at b.application entries more told.0, still_below b entries more told.0 told.1)
 
 pub close_lasts : (answer : Closing) (application : List ℕ) (entries more : List Entry) → TellsClose answer application entries → TellsClose answer application (entries ++ more)
-close_lasts (Closed version) application entries more told = at_the_front entries more version (close application) told
-close_lasts AlreadyClosed application entries more told = Contains-append_left entries more (close application) told
+close_lasts (Closed version) application entries more told = (told.0, at_the_front entries more version told.0 told.1, told.2)
+close_lasts AlreadyClosed application entries more told = close_lasts_at application entries more told

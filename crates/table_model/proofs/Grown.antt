@@ -4,38 +4,33 @@ use Rattle.std.specs.Prelude.{filter}
 use Rattle.std.proofs.lemmas.Bool.{cases_Bool, eq-eqb, eqb-true, le-leb}
 use Rattle.std.proofs.lemmas.Bool.Decides.{nat_tests}
 use Rattle.std.proofs.lemmas.List.{append-nil}
+use Rattle.std.proofs.lemmas.List.Concat.{flat_map-append}
 use Rattle.std.proofs.lemmas.List.Elements.{filter-append}
 use Rattle.row_core.specs.Rows.{Row}
-use Rattle.table_model.specs.Table.{Batch, Entry, creation, batch, close, rows, batches, rows_of_batches}
-use Rattle.table_model.specs.Reads.{handed, placed_entry, placed_from, placed, is_before, position, files, is_in_files, is_place_from, is_place, is_beyond, end, part, next_place, read}
+use Rattle.table_model.specs.Table.{Entry, files_of, rows_of, rows}
+use Rattle.table_model.specs.Reads.{handed, placed_files, placed_from, placed, is_before, position, is_in_files, is_place_from, is_place, is_beyond, end, part, next_place, read}
 use Rattle.table_model.specs.Resumed.{beginning}
 use Rattle.table_model.specs.declared.reading.Place.{Place}
-use Rattle.table_model.proofs.Batches.{batches-append}
 use Rattle.table_model.proofs.Places.{Reaches, rises_from, rises_lower, none_before}
 
 -- ---- the rows of joined entries
 
-rows_of_batches-append : (bs cs : List Batch) → rows_of_batches (bs ++ cs) ≡ rows_of_batches bs ++ rows_of_batches cs
-rows_of_batches-append [] cs = refl
-rows_of_batches-append (b ∷ bs) cs = ap (λ (rs : List Row). b.rows ++ rs) (rows_of_batches-append bs cs) ∙ sym (append_assoc b.rows (rows_of_batches bs) (rows_of_batches cs))
-
 pub rows-append : (entries more : List Entry) → rows (entries ++ more) ≡ rows entries ++ rows more
-rows-append entries more = ap (λ (bs : List Batch). rows_of_batches bs) (batches-append entries more) ∙ rows_of_batches-append (batches entries) (batches more)
+rows-append entries more = flat_map-append rows_of entries more
 
 placed_from-append : (version to : ℕ) (entries more : List Entry) → to ≡ version + length entries → placed_from version (entries ++ more) ≡ placed_from version entries ++ placed_from to more
 placed_from-append version to [] more at = let here : to ≡ version = omega arith in ap (λ (n : ℕ). placed_from n more) (sym here)
 placed_from-append version to (entry ∷ entries) more at =
     let later : to ≡ suc version + length entries = omega arith in
-    ap (λ (ps : List (Place × Row)). placed_entry version entry ++ ps) (placed_from-append (suc version) to entries more later)
-    ∙ sym (append_assoc (placed_entry version entry) (placed_from (suc version) entries) (placed_from to more))
+    ap (λ (ps : List (Place × Row)). placed_files version 0 (files_of entry) ++ ps) (placed_from-append (suc version) to entries more later)
+    ∙ sym (append_assoc (placed_files version 0 (files_of entry)) (placed_from (suc version) entries) (placed_from to more))
 
 -- ---- a place stays one
 
--- the start of a version, whatever its entry
-start_in_files : (entry : Entry) → is_in_files 0 0 (files entry) ≡ true
-start_in_files creation = refl
-start_in_files (batch b) = le-leb 0 (length b.rows) (omega arith)
-start_in_files (close application) = refl
+-- the start of a version, whatever its files
+start_in_files : (files : List (List Row)) → is_in_files 0 0 files ≡ true
+start_in_files [] = refl
+start_in_files (rows ∷ files) = le-leb 0 (length rows) (omega arith)
 
 record IsStart (version : ℕ) (place : Place) : Type 0 where
   at : place.version ≡ version
@@ -49,10 +44,10 @@ stays_from : (version : ℕ) (place : Place) (entries more : List Entry) → is_
 stays_from version place [] [] e = e
 stays_from version place [] (entry ∷ more) e =
     let start = is_start version place e in
-    rw (eq-eqb place.version version start.at, start.file, start.row) (start_in_files entry)
+    rw (eq-eqb place.version version start.at, start.file, start.row) (start_in_files (files_of entry))
 stays_from version place (entry ∷ entries) more e =
     elim (cases_Bool (eqb place.version version)) [
-      | inl yes_ ↦ let inside : is_in_files place.file place.row (files entry) ≡ true = rw yes_ at e in rw yes_ inside
+      | inl yes_ ↦ let inside : is_in_files place.file place.row (files_of entry) ≡ true = rw yes_ at e in rw yes_ inside
       | inr no_ ↦ let on : is_place_from (suc version) place entries ≡ true = rw no_ at e in rw no_ (stays_from (suc version) place entries more on)
     ]
 
@@ -110,7 +105,7 @@ is_answered max place entries more good =
 
 pub beginning_is_place : (entries : List Entry) → is_place beginning entries ≡ true
 beginning_is_place [] = refl
-beginning_is_place (entry ∷ entries) = start_in_files entry
+beginning_is_place (entry ∷ entries) = start_in_files (files_of entry)
 
 pub position_beginning : (entries : List Entry) → position beginning entries ≡ 0
 position_beginning entries = ap (λ (ps : List (Place × Row)). length ps) (none_before beginning (placed entries) (rises_from 0 entries))

@@ -1,14 +1,14 @@
 -- The places of a table's rows rise.
-use Rattle.std.proofs.Common.{◌≡◌, ℕ, suc, ◌+◌, ◌<◌, ◌≤◌, true, false, List, [], ◌∷◌, ◌++◌, length, map, refl, ap, subst, ◌∙◌, arith, inl, inr, ◌⊎◌}
+use Rattle.std.proofs.Common.{◌≡◌, ℕ, suc, ◌+◌, ◌<◌, ◌≤◌, true, false, List, [], ◌∷◌, ◌++◌, length, map, refl, sym, ap, subst, ◌∙◌, append_assoc, arith, inl, inr, ◌⊎◌}
 use Rattle.std.specs.Prelude.{filter}
-use Rattle.std.specs.List.{AllByRecursion}
+use Rattle.std.specs.List.{AllByRecursion, flat_map}
 use Rattle.std.proofs.lemmas.Bool.{lt-ltb, le-leb, eq-eqb, ne_eqb}
 use Rattle.std.proofs.lemmas.Bool.Decides.{nat_tests}
 use Rattle.std.proofs.lemmas.List.{map-append}
 use Rattle.std.proofs.lemmas.List.Elements.{filter-append}
 use Rattle.row_core.specs.Rows.{Row}
-use Rattle.table_model.specs.Table.{Batch, Entry, creation, batch, close, rows}
-use Rattle.table_model.specs.Reads.{placed_rows, placed_entry, placed_from, placed, is_before, position, is_place_from, is_place, end}
+use Rattle.table_model.specs.Table.{Entry, files_of, rows}
+use Rattle.table_model.specs.Reads.{placed_rows, placed_files, placed_from, placed, is_before, position, is_in_files, is_place_from, is_place, end}
 use Rattle.table_model.specs.declared.reading.Place.{Place}
 
 -- directly behind a row
@@ -48,15 +48,24 @@ pub rises_lower : (low from : Place) (ps : List (Place × Row)) → Reaches low 
 rises_lower low from [] a r = tt
 rises_lower low from (p ∷ ps) a r = (reaches_on low from p.0 a r.0, r.1)
 
-rises_rows : (version row : ℕ) (rs : List Row) (ps : List (Place × Row)) → RisesFrom (record { version = suc version; file = 0; row = 0 }) ps → RisesFrom (record { version = version; file = 0; row = row }) (placed_rows version row rs ++ ps)
-rises_rows version row [] ps r = rises_lower (record { version = version; file = 0; row = row }) (record { version = suc version; file = 0; row = 0 }) ps (inl (omega arith)) r
-rises_rows version row (x ∷ rs) ps r = (reaches_itself (record { version = version; file = 0; row = row }), rises_rows version (suc row) rs ps r)
+abbrev at : (version file row : ℕ) → Place
+at version file row = record { version = version; file = file; row = row }
+
+-- rows of a file whose rows all stand before a place, and those from this place on
+rises_rows : (version file row : ℕ) (rs : List Row) (after : Place) (ps : List (Place × Row)) → ((r : ℕ) → Reaches (at version file r) after) → RisesFrom after ps
+    → RisesFrom (at version file row) (placed_rows version file row rs ++ ps)
+rises_rows version file row [] after ps behind r = rises_lower (at version file row) after ps (behind row) r
+rises_rows version file row (x ∷ rs) after ps behind r = (reaches_itself (at version file row), rises_rows version file (suc row) rs after ps behind r)
+
+rises_files : (version file : ℕ) (files : List (List Row)) (ps : List (Place × Row)) → RisesFrom (at (suc version) 0 0) ps → RisesFrom (at version file 0) (placed_files version file files ++ ps)
+rises_files version file [] ps r = rises_lower (at version file 0) (at (suc version) 0 0) ps (inl (omega arith)) r
+rises_files version file (rows ∷ files) ps r =
+    subst (λ (qs : List (Place × Row)). RisesFrom (at version file 0) qs) (sym (append_assoc (placed_rows version file 0 rows) (placed_files version (suc file) files) ps))
+    (rises_rows version file 0 rows (at version (suc file) 0) (placed_files version (suc file) files ++ ps) (λ row. inr (refl, inl (omega arith))) (rises_files version (suc file) files ps r))
 
 pub rises_from : (version : ℕ) (entries : List Entry) → RisesFrom (record { version = version; file = 0; row = 0 }) (placed_from version entries)
 rises_from version [] = tt
-rises_from version (creation ∷ entries) = rises_rows version 0 [] (placed_from (suc version) entries) (rises_from (suc version) entries)
-rises_from version (batch b ∷ entries) = rises_rows version 0 b.rows (placed_from (suc version) entries) (rises_from (suc version) entries)
-rises_from version (close application ∷ entries) = rises_rows version 0 [] (placed_from (suc version) entries) (rises_from (suc version) entries)
+rises_from version (entry ∷ entries) = rises_files version 0 (files_of entry) (placed_from (suc version) entries) (rises_from (suc version) entries)
 
 -- ---- how many rows stand before a place
 
@@ -84,21 +93,21 @@ position_past entries front p rest is =
     let rises : RisesFrom low (front ++ p ∷ rest) = subst (λ (ps : List (Place × Row)). RisesFrom low ps) is (rises_from 0 entries) in
     ap (λ (ps : List (Place × Row)). length (filter (λ q. is_before q.0 (past p.0)) ps)) is ∙ count_past low front p rest rises
 
-rows_before : (version row : ℕ) (rs : List Row) (e : Place) → version < e.version → filter (λ p. is_before p.0 e) (placed_rows version row rs) ≡ placed_rows version row rs
-rows_before version row [] e lt = refl
-rows_before version row (x ∷ rs) e lt = rw (lt-ltb version e.version lt, rows_before version (suc row) rs e lt) refl
+rows_before : (version file row : ℕ) (rs : List Row) (e : Place) → version < e.version → filter (λ p. is_before p.0 e) (placed_rows version file row rs) ≡ placed_rows version file row rs
+rows_before version file row [] e lt = refl
+rows_before version file row (x ∷ rs) e lt = rw (lt-ltb version e.version lt, rows_before version file (suc row) rs e lt) refl
 
-entry_before : (version : ℕ) (entry : Entry) (e : Place) → version < e.version → filter (λ p. is_before p.0 e) (placed_entry version entry) ≡ placed_entry version entry
-entry_before version creation e lt = refl
-entry_before version (batch b) e lt = rows_before version 0 b.rows e lt
-entry_before version (close application) e lt = refl
+files_before : (version file : ℕ) (files : List (List Row)) (e : Place) → version < e.version → filter (λ p. is_before p.0 e) (placed_files version file files) ≡ placed_files version file files
+files_before version file [] e lt = refl
+files_before version file (rows ∷ files) e lt =
+    filter-append (λ (p : Place × Row). is_before p.0 e) (placed_rows version file 0 rows) (placed_files version (suc file) files) ∙ rw (rows_before version file 0 rows e lt, files_before version (suc file) files e lt) refl
 
 all_before : (version : ℕ) (entries : List Entry) (e : Place) → version + length entries ≤ e.version → filter (λ p. is_before p.0 e) (placed_from version entries) ≡ placed_from version entries
 all_before version [] e le = refl
 all_before version (entry ∷ entries) e le =
     let lt : version < e.version = omega arith in
     let later : suc version + length entries ≤ e.version = omega arith in
-    filter-append (λ (p : Place × Row). is_before p.0 e) (placed_entry version entry) (placed_from (suc version) entries) ∙ rw (entry_before version entry e lt, all_before (suc version) entries e later) refl
+    filter-append (λ (p : Place × Row). is_before p.0 e) (placed_files version 0 (files_of entry)) (placed_from (suc version) entries) ∙ rw (files_before version 0 (files_of entry) e lt, all_before (suc version) entries e later) refl
 
 -- the place behind the log has all rows before it
 pub position_end : (entries : List Entry) → position (end entries) entries ≡ length (placed entries)
@@ -106,15 +115,18 @@ position_end entries = ap (λ (ps : List (Place × Row)). length ps) (all_before
 
 -- ---- the rows alone
 
-rows_alone : (version row : ℕ) (rs : List Row) → map (λ p. p.1) (placed_rows version row rs) ≡ rs
-rows_alone version row [] = refl
-rows_alone version row (x ∷ rs) = ap (λ (ys : List Row). x ∷ ys) (rows_alone version (suc row) rs)
+rows_alone : (version file row : ℕ) (rs : List Row) → map (λ p. p.1) (placed_rows version file row rs) ≡ rs
+rows_alone version file row [] = refl
+rows_alone version file row (x ∷ rs) = ap (λ (ys : List Row). x ∷ ys) (rows_alone version file (suc row) rs)
+
+files_alone : (version file : ℕ) (files : List (List Row)) → map (λ p. p.1) (placed_files version file files) ≡ flat_map (λ rows. rows) files
+files_alone version file [] = refl
+files_alone version file (rows ∷ files) = map-append (λ (p : Place × Row). p.1) (placed_rows version file 0 rows) (placed_files version (suc file) files) ∙ rw (rows_alone version file 0 rows, files_alone version (suc file) files) refl
 
 rows_from : (version : ℕ) (entries : List Entry) → map (λ p. p.1) (placed_from version entries) ≡ rows entries
 rows_from version [] = refl
-rows_from version (creation ∷ entries) = rows_from (suc version) entries
-rows_from version (batch b ∷ entries) = map-append (λ (p : Place × Row). p.1) (placed_rows version 0 b.rows) (placed_from (suc version) entries) ∙ rw (rows_alone version 0 b.rows, rows_from (suc version) entries) refl
-rows_from version (close application ∷ entries) = rows_from (suc version) entries
+rows_from version (entry ∷ entries) =
+    map-append (λ (p : Place × Row). p.1) (placed_files version 0 (files_of entry)) (placed_from (suc version) entries) ∙ rw (files_alone version 0 (files_of entry), rows_from (suc version) entries) refl
 
 pub rows-placed : (entries : List Entry) → map (λ p. p.1) (placed entries) ≡ rows entries
 rows-placed entries = rows_from 0 entries
@@ -133,20 +145,33 @@ each_at : (P : Place × Row → Type 0) (xs : List (Place × Row)) (p : Place ×
 each_at P [] p ys a = a.0
 each_at P (x ∷ xs) p ys a = each_at P xs p ys a.1
 
--- a row of this file among those of which there are so many
-abbrev InFile : ℕ → ℕ → Place × Row → Type 0
-InFile version count p = (p.0.version ≡ version) × (p.0.file ≡ 0) × (p.0.row < count)
+-- the place behind a row is one of this version's files, of which these are the files from this one on
+abbrev InFiles : (version file : ℕ) → List (List Row) → Place × Row → Type 0
+InFiles version file files p = (p.0.version ≡ version) × (k : ℕ) × (p.0.file ≡ file + k) × (is_in_files k (suc p.0.row) files ≡ true)
 
-each_in_file : (version row count : ℕ) (rs : List Row) → row + length rs ≤ count → AllByRecursion (InFile version count) (placed_rows version row rs)
-each_in_file version row count [] le = tt
-each_in_file version row count (x ∷ rs) le = ((refl, refl, omega arith), each_in_file version (suc row) count rs (omega arith))
+each_in_rows : (version file row : ℕ) (rs rows : List Row) (files : List (List Row)) → row + length rs ≤ length rows → AllByRecursion (InFiles version file (rows ∷ files)) (placed_rows version file row rs)
+each_in_rows version file row [] rows files le = tt
+each_in_rows version file row (x ∷ rs) rows files le =
+    ((refl, 0, omega arith, le-leb (suc row) (length rows) (omega arith)), each_in_rows version file (suc row) rs rows files (omega arith))
+
+in_later : (version file : ℕ) (rows : List Row) (files : List (List Row)) (p : Place × Row) → InFiles version (suc file) files p → InFiles version file (rows ∷ files) p
+in_later version file rows files p h = (h.0, suc h.1, omega (arith, h.2), h.3)
+
+each_in_files : (version file : ℕ) (files : List (List Row)) → AllByRecursion (InFiles version file files) (placed_files version file files)
+each_in_files version file [] = tt
+each_in_files version file (rows ∷ files) = each_append (InFiles version file (rows ∷ files)) (placed_rows version file 0 rows) (placed_files version (suc file) files)
+    (each_in_rows version file 0 rows rows files (omega arith))
+    (each_implies (InFiles version (suc file) files) (InFiles version file (rows ∷ files)) (in_later version file rows files) (placed_files version (suc file) files) (each_in_files version (suc file) files))
 
 -- the place behind a row is one that a read can begin at
 abbrev IsGood : ℕ → List Entry → Place × Row → Type 0
 IsGood version entries p = (version ≤ p.0.version) × (is_place_from version (past p.0) entries ≡ true)
 
-good_in_file : (version : ℕ) (b : Batch) (entries : List Entry) (p : Place × Row) → InFile version (length b.rows) p → IsGood version (batch b ∷ entries) p
-good_in_file version b entries p h = (omega (arith, h.0), rw (eq-eqb p.0.version version h.0, h.1, le-leb (suc p.0.row) (length b.rows) (omega (arith, h.2))) refl)
+good_in_files : (version : ℕ) (entry : Entry) (entries : List Entry) (p : Place × Row) → InFiles version 0 (files_of entry) p → IsGood version (entry ∷ entries) p
+good_in_files version entry entries p h =
+    let at_file : h.1 ≡ p.0.file = omega (arith, h.2) in
+    let inside : is_in_files p.0.file (suc p.0.row) (files_of entry) ≡ true = subst (λ (k : ℕ). is_in_files k (suc p.0.row) (files_of entry) ≡ true) at_file h.3 in
+    (omega (arith, h.0), rw (eq-eqb p.0.version version h.0) inside)
 
 good_later : (version : ℕ) (entry : Entry) (entries : List Entry) (p : Place × Row) → IsGood (suc version) entries p → IsGood version (entry ∷ entries) p
 good_later version entry entries p h =
@@ -155,11 +180,9 @@ good_later version entry entries p h =
 
 each_good : (version : ℕ) (entries : List Entry) → AllByRecursion (IsGood version entries) (placed_from version entries)
 each_good version [] = tt
-each_good version (creation ∷ entries) = each_implies (IsGood (suc version) entries) (IsGood version (creation ∷ entries)) (good_later version creation entries) (placed_from (suc version) entries) (each_good (suc version) entries)
-each_good version (batch b ∷ entries) = each_append (IsGood version (batch b ∷ entries)) (placed_rows version 0 b.rows) (placed_from (suc version) entries)
-    (each_implies (InFile version (length b.rows)) (IsGood version (batch b ∷ entries)) (good_in_file version b entries) (placed_rows version 0 b.rows) (each_in_file version 0 (length b.rows) b.rows (omega arith)))
-    (each_implies (IsGood (suc version) entries) (IsGood version (batch b ∷ entries)) (good_later version (batch b) entries) (placed_from (suc version) entries) (each_good (suc version) entries))
-each_good version (close application ∷ entries) = each_implies (IsGood (suc version) entries) (IsGood version (close application ∷ entries)) (good_later version (close application) entries) (placed_from (suc version) entries) (each_good (suc version) entries)
+each_good version (entry ∷ entries) = each_append (IsGood version (entry ∷ entries)) (placed_files version 0 (files_of entry)) (placed_from (suc version) entries)
+    (each_implies (InFiles version 0 (files_of entry)) (IsGood version (entry ∷ entries)) (good_in_files version entry entries) (placed_files version 0 (files_of entry)) (each_in_files version 0 (files_of entry)))
+    (each_implies (IsGood (suc version) entries) (IsGood version (entry ∷ entries)) (good_later version entry entries) (placed_from (suc version) entries) (each_good (suc version) entries))
 
 pub past_is_place : (entries : List Entry) (front : List (Place × Row)) (p : Place × Row) (rest : List (Place × Row)) → placed entries ≡ front ++ p ∷ rest → is_place (past p.0) entries ≡ true
 past_is_place entries front p rest is =

@@ -1,7 +1,7 @@
 //! Laws of what appends and closes answer: each answer is a fact of the table, and stays one while the table grows.
 
 ghost use Rattle.std.specs.Prelude.{◌≡◌, ℕ, List, [], ◌∷◌, ◌++◌, length, Contains};
-ghost use Rattle.table_model.specs.Table.{Batch, Entry, batch, close, batches};
+ghost use Rattle.table_model.specs.Table.{Batch, Entry, group, close, batches};
 ghost use Rattle.table_model.specs.Appends.{appended, with_batch, closing, with_close, Tells, TellsClose};
 ghost use Rattle.table_model.specs.Lawful.{IsLawful};
 ghost use Rattle.table_model.specs.declared.table.Appended.{Appended};
@@ -22,7 +22,7 @@ pub fn answers_are_facts()
 /// What is committed is the version behind the last one, and no version before it changes.
 pub fn a_commit_is_the_next_version()
     ensures append { (b : Batch) (version : ℕ) (entries : List Entry) → appended b entries ≡ Committed version
-        → (version ≡ length entries) × (with_batch (appended b entries) b entries ≡ entries ++ batch b ∷ []) }
+        → (version ≡ length entries) × (with_batch (appended b entries) b entries ≡ entries ++ group (b ∷ []) ∷ []) }
     ensures close { (application : List ℕ) (version : ℕ) (entries : List Entry) → closing application entries ≡ Closed version
         → (version ≡ length entries) × (with_close application entries ≡ entries ++ close application ∷ []) }
 {}

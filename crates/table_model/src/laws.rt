@@ -1,8 +1,9 @@
 //! Laws of the plain table, each a function with an empty body whose contract is the law.
 
-ghost use Rattle.std.specs.Prelude.{◌≡◌, ◌↔◌, ◌<◌, ◌≤◌, ◌-◌, ◌⊎◌, IsTrue, ℕ, List, [], ◌∷◌, ◌++◌, length, take, drop, true};
+ghost use Rattle.std.specs.Prelude.{◌≡◌, ◌↔◌, ◌<◌, ◌≤◌, ◌-◌, ◌⊎◌, IsTrue, ℕ, List, [], ◌∷◌, ◌++◌, length, take, drop, true, Some};
+ghost use Rattle.std.specs.List.{flat_map};
 ghost use Rattle.row_core.specs.Rows.{Row};
-ghost use Rattle.table_model.specs.Table.{Batch, Entry, creation, batch, batches_by, rows};
+ghost use Rattle.table_model.specs.Table.{Batch, Entry, creation, batches, last_batch, rows};
 ghost use Rattle.table_model.specs.Appends.{appended, with_batch, with_close};
 ghost use Rattle.table_model.specs.Reads.{read, handed, position, is_place, end};
 ghost use Rattle.table_model.specs.Resumed.{reads_on, growth, beginning};
@@ -28,15 +29,19 @@ pub fn closes_keep_lawful()
 /// The last batch of an application stands already when it is handed in again, whatever others wrote behind it and
 /// also behind its stream's close; and then the table stays as it was.
 pub fn a_committed_batch_stands_already()
-    ensures answer { (b : Batch) (entries more : List Entry) → batches_by b.application more ≡ [] → appended b (entries ++ batch b ∷ more) ≡ Already b.number }
-    ensures left { (b : Batch) (entries more : List Entry) → batches_by b.application more ≡ []
-        → with_batch (appended b (entries ++ batch b ∷ more)) b (entries ++ batch b ∷ more) ≡ entries ++ batch b ∷ more }
+    ensures answer { (b : Batch) (entries : List Entry) → last_batch b.application entries ≡ Some b → appended b entries ≡ Already b.number }
+    ensures left { (b : Batch) (entries : List Entry) → last_batch b.application entries ≡ Some b → with_batch (appended b entries) b entries ≡ entries }
 {}
 
 /// In a lawful table no batch stands twice: of two batches of one application, the later one has the greater number.
 pub fn numbers_stand_once()
-    ensures { (before between after : List Entry) (b c : Batch) → IsLawful (before ++ batch b ∷ between ++ batch c ∷ after)
+    ensures { (entries : List Entry) (before between after : List Batch) (b c : Batch) → IsLawful entries → batches entries ≡ before ++ (b ∷ between) ++ (c ∷ after)
         → b.application ≡ c.application → b.number < c.number }
+{}
+
+/// A table's rows are those of its batches, one batch behind the other.
+pub fn rows_are_those_of_the_batches()
+    ensures { (entries : List Entry) → rows entries ≡ flat_map (λ b. b.rows) (batches entries) }
 {}
 
 /// What a read hands out are the table's rows from its place up to the next one, in the order of the log: `max` of

@@ -2,38 +2,30 @@
 use Rattle.std.proofs.Common.{◌≡◌, ℕ, suc, true, List, [], ◌∷◌, ◌++◌, None, Some, refl, sym, ap₂, subst, ◌∙◌}
 use Rattle.store_core.specs.Objects.{Objects}
 use Rattle.delta_actions.specs.Entry as actions
-use Rattle.delta_actions.specs.Names.{commit_name, data_file_name}
+use Rattle.delta_actions.specs.Names.{commit_name}
 use Rattle.table_store.specs.Schema.{Schema}
 use Rattle.table_store.specs.Commits.{beside_info, StandFor}
 use Rattle.table_store.specs.Growth.{HasObjectsOf}
-use Rattle.table_store.specs.Holds.{Stands, FileStands, HoldsFrom, Holds}
+use Rattle.table_store.specs.Holds.{HoldsFrom, Holds}
 use Rattle.table_model.specs.Lawful.{BeginsWithCreation}
 use Rattle.table_model.specs.Reads.{is_place, position}
-use Rattle.table_model.specs.Table.{Entry, creation, batch, close}
+use Rattle.table_model.specs.Table.{Entry, creation, group, close}
 use Rattle.table_model.specs.declared.reading.Place.{Place}
 use Rattle.table_model.proofs.Callers.{stays}
+use Rattle.table_store.proofs.HoldingKept.{Stands-kept, FilesStand-kept}
 use Rattle.table_store.proofs.HoldingOne.{one_entry, one_list, one_object}
 use Rattle.table_store.proofs.HoldingSchema.{one_creation_of}
 
 module _ (objects more : Objects) (schema : Schema) (grown : HasObjectsOf objects more) where
-  -- what stands still stands
-  abbrev kept : (name : List ℕ) (P : List ℕ → Type 0) → Stands objects name P → Stands more name P
-  kept name P stands = (stands.0, grown name stands.0 stands.1, stands.2)
-
-  kept_file : (entry : Entry) → FileStands objects schema entry → FileStands more schema entry
-  kept_file creation file = tt
-  kept_file (batch b) file = kept (data_file_name b.application b.number) _ file
-  kept_file (close application) file = tt
-
   -- from a version on, the entries of one table come first
   front_from : (version : ℕ) (entries others : List Entry) → HoldsFrom objects schema version entries → HoldsFrom more schema version others → (later : List Entry) × (others ≡ entries ++ later)
   front_from version [] others p q = (others, refl)
   front_from version (entry ∷ entries) [] p q = let none : None ≡ Some p.0.0 = sym q ∙ grown (commit_name version) p.0.0 p.0.1 in absurd cc
   front_from version (entry ∷ entries) (found ∷ others) p q =
-      let bytes : p.0.0 ≡ q.0.0 = one_object more (commit_name version) (commit_name version) _ _ (kept (commit_name version) _ p.0) q.0 refl in
+      let bytes : p.0.0 ≡ q.0.0 = one_object more (commit_name version) (commit_name version) _ _ (Stands-kept objects more grown (commit_name version) _ p.0) q.0 refl in
       let lists = one_list p.0.0 q.0.0 schema schema entry found bytes p.0.2 q.0.2 in
       let stand : StandFor schema entry (beside_info q.0.2.actions) = subst (λ (actions : List actions.Entry). StandFor schema entry (beside_info actions)) lists p.0.2.stand in
-      let first : entry ≡ found = one_entry more schema entry found (beside_info q.0.2.actions) stand q.0.2.stand (kept_file entry p.1) q.1 in
+      let first : entry ≡ found = one_entry more schema entry found (beside_info q.0.2.actions) stand q.0.2.stand (FilesStand-kept objects more grown schema entry p.1) q.1 in
       let behind = front_from (suc version) entries others p.2 q.2 in
       (behind.0, ap₂ (λ e es. e ∷ es) (sym first) behind.1)
 
@@ -41,11 +33,11 @@ module _ (objects more : Objects) (schema : Schema) (grown : HasObjectsOf object
   by_creation : (other : Schema) (entries others : List Entry) → Holds objects schema (creation ∷ entries) → Holds more other others → schema ≡ other
   by_creation other entries [] p q = let none : None ≡ Some p.0.0 = sym q ∙ grown (commit_name 0) p.0.0 p.0.1 in absurd cc
   by_creation other entries (found ∷ others) p q =
-      let bytes : p.0.0 ≡ q.0.0 = one_object more (commit_name 0) (commit_name 0) _ _ (kept (commit_name 0) _ p.0) q.0 refl in
+      let bytes : p.0.0 ≡ q.0.0 = one_object more (commit_name 0) (commit_name 0) _ _ (Stands-kept objects more grown (commit_name 0) _ p.0) q.0 refl in
       one_creation_of p.0.0 q.0.0 schema other found bytes p.0.2 q.0.2
 
   pub same_schema : (other : Schema) (first : Entry) (entries others : List Entry) → BeginsWithCreation (first ∷ entries) → Holds objects schema (first ∷ entries) → Holds more other others → schema ≡ other
-  same_schema other (batch b) entries others begins p q = absurd begins
+  same_schema other (group bs) entries others begins p q = absurd begins
   same_schema other (close application) entries others begins p q = absurd begins
   same_schema other creation entries others begins p q = by_creation other entries others p q
 

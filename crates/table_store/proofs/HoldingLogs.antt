@@ -1,21 +1,24 @@
 -- The table that a store holds is the one that the store's log tells of.
-use Rattle.std.proofs.Common.{◌≡◌, ℕ, suc, List, [], ◌∷◌, ◌++◌, Option, None, Some, option_map, refl, sym, ap, ap₂, subst, ◌∙◌}
-use Rattle.std.specs.List.{flat_map, filter_map, cons_option}
+use Rattle.std.proofs.Common.{◌≡◌, ℕ, suc, true, List, [], ◌∷◌, ◌++◌, map, append_assoc, Option, None, Some, refl, sym, ap, ap₂, subst, ◌∙◌}
+use Rattle.std.specs.Prelude.{if◌then◌else◌}
+use Rattle.std.specs.List.{AllByRecursion, flat_map, filter_map, cons_option}
+use Rattle.std.specs.Option.{option_and_then}
 use Rattle.serde_json.specs.Data.{Data}
 use Rattle.store_core.specs.Objects.{Objects}
 use Rattle.delta_actions.specs.Entry as actions
-use Rattle.delta_actions.specs.Entry.{commit_info, protocol, meta_data, add, txn, remove, domain_metadata, checkpoint_metadata, sidecar, other}
-use Rattle.delta_actions.specs.In.{txn_in}
+use Rattle.delta_actions.specs.Entry.{commit_info, protocol, meta_data, add, txn, remove, domain_metadata, checkpoint_metadata, sidecar, other, AddEntry, TxnEntry}
+use Rattle.delta_actions.specs.In.{add_in, txn_in}
 use Rattle.delta_actions.specs.Kinds.{Path}
 use Rattle.delta_actions.specs.Commit.{IsCommit}
 use Rattle.row_core.specs.Rows.{Row}
 use Rattle.delta_actions.specs.Names.{commit_name, data_file_name}
 use Rattle.table_store.specs.Schema.{Schema, IsFileOf}
 use Rattle.table_store.specs.Commits.{beside_info, StandFor}
-use Rattle.table_store.specs.Holds.{Stands, FileStands, HoldsFrom, Holds}
-use Rattle.table_store.specs.Logs.{LogFrom, IsLog, numbers, new_file, new_files, AreBatchesOf, AreBatches, AreRowsOf, AreRows}
-use Rattle.table_model.specs.Table.{Batch, Entry, creation, batch, close, batches, rows}
-use Rattle.table_store.proofs.HoldingOne.{one_object, one_file, one_commit}
+use Rattle.table_store.specs.Holds.{Stands, FileStands, FilesStand, HoldsFrom, Holds}
+use Rattle.table_store.specs.Groups.{numbers, added, new_file, new_files, AreFilesOf}
+use Rattle.table_store.specs.Logs.{LogFrom, IsLog, AreBatchesOf, AreBatches, AreRowsOf, AreRows}
+use Rattle.table_model.specs.Table.{Batch, Entry, creation, group, close, batches_of, rows_of, batches, rows}
+use Rattle.table_store.proofs.HoldingOne.{named, one_object, one_file, one_commit}
 
 -- ---- what tells only of the commit names no number and no file
 
@@ -35,31 +38,77 @@ told-beside_info tells silent (other key d ∷ others) = ap (cons_option (tells 
 
 -- the numbers of a commit stand beside what tells of it
 pub numbers-beside_info : (made : List actions.Entry) → numbers (beside_info made) ≡ numbers made
-numbers-beside_info made = told-beside_info (λ action. option_map (λ t. (t.app_id, t.version)) (txn_in action)) (λ d. refl) made
+numbers-beside_info made = ap (map (λ (t : TxnEntry). (t.app_id, t.version))) (told-beside_info txn_in (λ d. refl) made)
 
 -- the new files of a commit stand beside what tells of it
 new_files-beside_info : (made : List actions.Entry) → new_files (beside_info made) ≡ new_files made
 new_files-beside_info made = told-beside_info new_file (λ d. refl) made
 
--- ---- an entry in front
+-- ---- what actions tell of an entry's batches
 
--- The actions of an entry in front tell of the batches with those of the entry in front.
-AreBatchesOf-entry : (objects : Objects) (schema : Schema) (entry : Entry) (entries : List Entry) (beside : List actions.Entry) (ns : List (List ℕ × ℕ)) → StandFor schema entry beside → FileStands objects schema entry
-    → AreBatchesOf objects schema ns (batches entries) → AreBatchesOf objects schema (numbers beside ++ ns) (batches (entry ∷ entries))
-AreBatchesOf-entry objects schema creation entries beside ns stand file behind = rw stand.actions behind
-AreBatchesOf-entry objects schema (batch b) entries beside ns stand file behind =
-    let named : Stands objects (data_file_name stand.number.app_id stand.number.version) (λ bytes. IsFileOf schema bytes b.rows) = rw (stand.by, stand.numbered) file in
-    rw stand.actions (sym stand.by, sym stand.numbered, named, behind)
-AreBatchesOf-entry objects schema (close application) entries beside ns stand file behind = rw stand.actions behind
+-- The actions of an entry have the numbers of its batches.
+pub numbers_of_entry : (schema : Schema) (entry : Entry) (beside : List actions.Entry) → StandFor schema entry beside → numbers beside ≡ map named (batches_of entry)
+numbers_of_entry schema creation beside stand = rw stand.actions refl
+numbers_of_entry schema (group bs) beside stand = stand.numbered
+numbers_of_entry schema (close application) beside stand = rw stand.actions refl
 
--- The actions of an entry in front tell of the rows with those of the entry in front.
-AreRowsOf-entry : (objects : Objects) (schema : Schema) (entry : Entry) (entries : List Entry) (beside : List actions.Entry) (paths : List Path) → StandFor schema entry beside → FileStands objects schema entry
-    → AreRowsOf objects schema paths (rows entries) → AreRowsOf objects schema (new_files beside ++ paths) (rows (entry ∷ entries))
-AreRowsOf-entry objects schema creation entries beside paths stand file behind = rw stand.actions behind
-AreRowsOf-entry objects schema (batch b) entries beside paths stand file behind =
-    let named : Stands objects stand.file.path.key (λ bytes. IsFileOf schema bytes b.rows) = rw stand.named file in
-    rw (stand.actions, stand.new_rows) (b.rows, rows entries, named, behind, refl)
-AreRowsOf-entry objects schema (close application) entries beside paths stand file behind = rw stand.actions behind
+-- Numbers of batches whose files stand tell of these batches in front.
+AreBatchesOf-named : (objects : Objects) (schema : Schema) (bs behind : List Batch) (ns : List (List ℕ × ℕ)) → AllByRecursion (FileStands objects schema) bs
+    → AreBatchesOf objects schema ns behind → AreBatchesOf objects schema (map named bs ++ ns) (bs ++ behind)
+AreBatchesOf-named objects schema [] behind ns files told = told
+AreBatchesOf-named objects schema (b ∷ bs) behind ns files told = (refl, refl, files.0, AreBatchesOf-named objects schema bs behind ns files.1 told)
+
+-- The actions of an entry in front tell of its batches in front.
+AreBatchesOf-entry : (objects : Objects) (schema : Schema) (entry : Entry) (behind : List Batch) (beside : List actions.Entry) (ns : List (List ℕ × ℕ)) → StandFor schema entry beside
+    → FilesStand objects schema entry → AreBatchesOf objects schema ns behind → AreBatchesOf objects schema (numbers beside ++ ns) (batches_of entry ++ behind)
+AreBatchesOf-entry objects schema entry behind beside ns stand files told =
+    subst (λ (ms : List (List ℕ × ℕ)). AreBatchesOf objects schema (ms ++ ns) (batches_of entry ++ behind)) (sym (numbers_of_entry schema entry beside stand))
+    (AreBatchesOf-named objects schema (batches_of entry) behind ns files told)
+
+-- ---- what actions tell of an entry's rows
+
+-- the paths of files
+abbrev paths_of : List AddEntry → List Path
+paths_of files = map (λ file. file.path) files
+
+-- the files of numbers have new rows
+AreFilesOf-new : (ns : List (List ℕ × ℕ)) (files : List AddEntry) → AreFilesOf ns files → AllByRecursion (λ file. file.data_change ≡ true) files
+AreFilesOf-new [] [] are = tt
+AreFilesOf-new [] (file ∷ files) are = absurd are
+AreFilesOf-new (n ∷ ns) [] are = absurd are
+AreFilesOf-new (n ∷ ns) (file ∷ files) are = (are.1, AreFilesOf-new ns files are.2)
+
+-- one action in front, which may bring a file with new rows
+new_file-front : (file : Option AddEntry) (files : List AddEntry) (paths : List Path) → AllByRecursion (λ a. a.data_change ≡ true) (cons_option file files)
+    → (AllByRecursion (λ a. a.data_change ≡ true) files → paths ≡ paths_of files)
+    → cons_option (option_and_then (λ a. if a.data_change then Some a.path else None) file) paths ≡ paths_of (cons_option file files)
+new_file-front None files paths all behind = behind all
+new_file-front (Some a) files paths all behind = rw all.0 (ap (λ (ps : List Path). a.path ∷ ps) (behind all.1))
+
+-- where each file that joins has new rows, the new files are these
+new_files-added : (made : List actions.Entry) → AllByRecursion (λ a. a.data_change ≡ true) (added made) → new_files made ≡ paths_of (added made)
+new_files-added [] all = refl
+new_files-added (action ∷ made) all = new_file-front (add_in action) (added made) (new_files made) all (new_files-added made)
+
+-- Files of batches in order, which stand, have the rows of these batches in front.
+AreRowsOf-named : (objects : Objects) (schema : Schema) (bs : List Batch) (files : List AddEntry) (paths : List Path) (behind : List Row) → AreFilesOf (map named bs) files
+    → AllByRecursion (FileStands objects schema) bs → AreRowsOf objects schema paths behind → AreRowsOf objects schema (paths_of files ++ paths) (rows_of (group bs) ++ behind)
+AreRowsOf-named objects schema [] [] paths behind are stand told = told
+AreRowsOf-named objects schema [] (file ∷ files) paths behind are stand told = absurd are
+AreRowsOf-named objects schema (b ∷ bs) [] paths behind are stand told = absurd are
+AreRowsOf-named objects schema (b ∷ bs) (file ∷ files) paths behind are stand told =
+    let first : Stands objects file.path.key (λ bytes. IsFileOf schema bytes b.rows) = rw are.0 stand.0 in
+    (b.rows, rows_of (group bs) ++ behind, first, AreRowsOf-named objects schema bs files paths behind are.2 stand.1 told, append_assoc b.rows (rows_of (group bs)) behind)
+
+-- The actions of an entry in front tell of its rows in front.
+AreRowsOf-entry : (objects : Objects) (schema : Schema) (entry : Entry) (behind : List Row) (beside : List actions.Entry) (paths : List Path) → StandFor schema entry beside
+    → FilesStand objects schema entry → AreRowsOf objects schema paths behind → AreRowsOf objects schema (new_files beside ++ paths) (rows_of entry ++ behind)
+AreRowsOf-entry objects schema creation behind beside paths stand files told = rw stand.actions told
+AreRowsOf-entry objects schema (group bs) behind beside paths stand files told =
+    let new : new_files beside ≡ paths_of (added beside) = new_files-added beside (AreFilesOf-new (numbers beside) (added beside) stand.files) in
+    let are : AreFilesOf (map named bs) (added beside) = subst (λ (ns : List (List ℕ × ℕ)). AreFilesOf ns (added beside)) stand.numbered stand.files in
+    subst (λ (ps : List Path). AreRowsOf objects schema (ps ++ paths) (rows_of (group bs) ++ behind)) (sym new) (AreRowsOf-named objects schema bs (added beside) paths behind are files told)
+AreRowsOf-entry objects schema (close application) behind beside paths stand files told = rw stand.actions told
 
 -- ---- the log of the table
 
@@ -70,8 +119,8 @@ HoldsFrom-log objects schema version [] holds = ([], holds, tt, refl)
 HoldsFrom-log objects schema version (entry ∷ entries) holds =
     let later = HoldsFrom-log objects schema (suc version) entries holds.2 in
     let made = holds.0.2.actions in
-    let told = AreBatchesOf-entry objects schema entry entries (beside_info made) (flat_map numbers later.0) holds.0.2.stand holds.1 later.2 in
-    let files = AreRowsOf-entry objects schema entry entries (beside_info made) (flat_map new_files later.0) holds.0.2.stand holds.1 later.3 in (
+    let told = AreBatchesOf-entry objects schema entry (batches entries) (beside_info made) (flat_map numbers later.0) holds.0.2.stand holds.1 later.2 in
+    let files = AreRowsOf-entry objects schema entry (rows entries) (beside_info made) (flat_map new_files later.0) holds.0.2.stand holds.1 later.3 in (
       made ∷ later.0,
       ((holds.0.0, holds.0.1, holds.0.2.commit), later.1),
       subst (λ (ns : List (List ℕ × ℕ)). AreBatchesOf objects schema (ns ++ flat_map numbers later.0) (batches (entry ∷ entries))) (numbers-beside_info made) told,

@@ -5,18 +5,21 @@ use Rattle.store_core.specs.ObjectLaws.{object_at-with_object_same, object_at-wi
 use Rattle.delta_actions.specs.Names.{commit_name, data_file_name}
 use Rattle.table_store.specs.Schema.{Schema}
 use Rattle.table_store.specs.Commits.{IsCommitOf}
-use Rattle.table_store.specs.Holds.{Stands, FileStands, HoldsFrom}
-use Rattle.table_model.specs.Table.{Entry, creation, batch, close}
+use Rattle.table_store.specs.Growth.{HasObjectsOf}
+use Rattle.table_store.specs.Holds.{Stands, FilesStand, HoldsFrom}
+use Rattle.table_model.specs.Table.{Entry}
+use Rattle.table_store.proofs.HoldingKept.{Stands-kept, FilesStand-kept}
 use Rattle.table_store.proofs.HoldingNames.{commit_name-suc, commit_name-data_file_name}
 
 -- what stands still stands
-Stands-put : (objects : Objects) (name bytes other : List ℕ) (P : List ℕ → Type 0) → Stands objects other P → Stands (with_object objects name bytes) other P
-Stands-put objects name bytes other P stands = (stands.0, object_at-with_object_kept objects name bytes other stands.0 stands.1, stands.2)
+pub HasObjectsOf-put : (objects : Objects) (name bytes : List ℕ) → HasObjectsOf objects (with_object objects name bytes)
+HasObjectsOf-put objects name bytes = λ other found. object_at-with_object_kept objects name bytes other found
 
-FileStands-put : (objects : Objects) (name bytes : List ℕ) (schema : Schema) (entry : Entry) → FileStands objects schema entry → FileStands (with_object objects name bytes) schema entry
-FileStands-put objects name bytes schema creation stands = tt
-FileStands-put objects name bytes schema (batch b) stands = Stands-put objects name bytes (data_file_name b.application b.number) _ stands
-FileStands-put objects name bytes schema (close application) stands = tt
+Stands-put : (objects : Objects) (name bytes other : List ℕ) (P : List ℕ → Type 0) → Stands objects other P → Stands (with_object objects name bytes) other P
+Stands-put objects name bytes = Stands-kept objects (with_object objects name bytes) (HasObjectsOf-put objects name bytes)
+
+FilesStand-put : (objects : Objects) (name bytes : List ℕ) (schema : Schema) (entry : Entry) → FilesStand objects schema entry → FilesStand (with_object objects name bytes) schema entry
+FilesStand-put objects name bytes = FilesStand-kept objects (with_object objects name bytes) (HasObjectsOf-put objects name bytes)
 
 -- a put of another name than the next commit's leaves the table
 HoldsFrom-put : (objects : Objects) (name bytes : List ℕ) (schema : Schema) (version : ℕ) (entries : List Entry) → commit_name (version + length entries) ≢ name
@@ -25,7 +28,7 @@ HoldsFrom-put objects name bytes schema version [] apart holds =
     object_at-with_object_other objects name bytes (commit_name version) (subst (λ (n : ℕ). commit_name n ≢ name) (omega arith) apart) ∙ holds
 HoldsFrom-put objects name bytes schema version (entry ∷ entries) apart holds = (
   Stands-put objects name bytes (commit_name version) _ holds.0,
-  FileStands-put objects name bytes schema entry holds.1,
+  FilesStand-put objects name bytes schema entry holds.1,
   HoldsFrom-put objects name bytes schema (suc version) entries (subst (λ (n : ℕ). commit_name n ≢ name) (omega arith) apart) holds.2,
 )
 
@@ -36,7 +39,7 @@ HoldsFrom-data_file objects schema version entries application bytes number hold
 
 -- a commit that is put at the next version is one entry more
 pub HoldsFrom-commit : (objects : Objects) (schema : Schema) (version next : ℕ) (entries : List Entry) (entry : Entry) (bytes : List ℕ) → next ≡ version + length entries
-    → HoldsFrom objects schema version entries → IsCommitOf schema entry bytes → FileStands objects schema entry → object_at objects (commit_name (suc next)) ≡ None
+    → HoldsFrom objects schema version entries → IsCommitOf schema entry bytes → FilesStand objects schema entry → object_at objects (commit_name (suc next)) ≡ None
     → HoldsFrom (with_object objects (commit_name next) bytes) schema version (entries ++ entry ∷ [])
 HoldsFrom-commit objects schema version next [] entry bytes at holds commit file last =
     let same : version ≡ next = omega (arith, at) in
@@ -45,11 +48,11 @@ HoldsFrom-commit objects schema version next [] entry bytes at holds commit file
     let behind : object_at (with_object objects (commit_name next) bytes) (commit_name (suc next)) ≡ None = object_at-with_object_other objects (commit_name next) bytes (commit_name (suc next)) (commit_name-suc next) ∙ last in
     subst (λ (n : ℕ). HoldsFrom (with_object objects (commit_name next) bytes) schema n (entry ∷ [])) (sym same) (
       (bytes, put, commit),
-      FileStands-put objects (commit_name next) bytes schema entry file,
+      FilesStand-put objects (commit_name next) bytes schema entry file,
       behind,
     )
 HoldsFrom-commit objects schema version next (first ∷ entries) entry bytes at holds commit file last = (
   Stands-put objects (commit_name next) bytes (commit_name version) _ holds.0,
-  FileStands-put objects (commit_name next) bytes schema first holds.1,
+  FilesStand-put objects (commit_name next) bytes schema first holds.1,
   HoldsFrom-commit objects schema (suc version) next entries entry bytes (omega (arith, at)) holds.2 commit file last,
 )

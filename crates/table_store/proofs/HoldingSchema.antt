@@ -2,15 +2,15 @@
 use Rattle.std.proofs.Common.{◌≡◌, ℕ, List, [], ◌∷◌, None, Some, refl, sym, ap, subst, ◌∙◌}
 use Rattle.store_core.specs.Objects.{Objects}
 use Rattle.delta_actions.specs.Entry as actions
-use Rattle.delta_actions.specs.Entry.{protocol, meta_data, add, txn, domain_metadata, MetaDataEntry}
+use Rattle.delta_actions.specs.Entry.{protocol, meta_data, MetaDataEntry}
 use Rattle.delta_actions.specs.Names.{commit_name}
 use Rattle.schema_tree.specs.Reading.{schema_of}
 use Rattle.table_store.specs.Schema.{Schema}
-use Rattle.table_store.specs.Commits.{table_protocol, closed_domain, beside_info, IsCommitOf, IsCreation, StandFor}
+use Rattle.table_store.specs.Commits.{table_protocol, beside_info, IsCommitOf, IsCreation, StandFor}
 use Rattle.table_store.specs.Holds.{Holds}
 use Rattle.table_model.specs.Lawful.{BeginsWithCreation}
-use Rattle.table_model.specs.Table.{Entry, creation, batch, close}
-use Rattle.table_store.proofs.HoldingOne.{one_object, one_list, one_log}
+use Rattle.table_model.specs.Table.{Entry, creation, group, close}
+use Rattle.table_store.proofs.HoldingOne.{group_no_creation, close_no_creation, one_object, one_list, one_log}
 use Rattle.table_store.proofs.NamesOnce.{ok_is}
 
 -- two creations of the same actions have one text, which is read as one schema
@@ -23,10 +23,8 @@ one_creation schema second beside p q =
 -- Where actions are a creation of one schema, what they stand for in a table of another schema is that creation too.
 creation_alone : (schema second : Schema) (found : Entry) (beside : List actions.Entry) → IsCreation schema beside → StandFor second found beside → schema ≡ second
 creation_alone schema second creation beside p q = one_creation schema second beside p q
-creation_alone schema second (batch b) beside p q =
-    let lists : protocol table_protocol ∷ meta_data p.metadata ∷ [] ≡ txn q.number ∷ add q.file ∷ [] = sym p.actions ∙ q.actions in absurd cc
-creation_alone schema second (close application) beside p q =
-    let lists : protocol table_protocol ∷ meta_data p.metadata ∷ [] ≡ domain_metadata (closed_domain application) ∷ [] = sym p.actions ∙ q.actions in absurd cc
+creation_alone schema second (group bs) beside p q = absurd (group_no_creation schema bs beside q p)
+creation_alone schema second (close application) beside p q = absurd (close_no_creation schema application beside q p)
 
 -- bytes that are a creation's commit are a commit under one schema
 pub one_creation_of : (bytes found : List ℕ) (schema second : Schema) (entry : Entry) → bytes ≡ found → IsCommitOf schema creation bytes → IsCommitOf second entry found → schema ≡ second
@@ -44,7 +42,7 @@ by_creation objects schema second entries (found ∷ others) p q =
 -- a table that begins with its creation has the schema of each table that the store holds
 pub one_schema : (objects : Objects) (schema second : Schema) (first : Entry) (entries others : List Entry) → BeginsWithCreation (first ∷ entries) → Holds objects schema (first ∷ entries) → Holds objects second others → schema ≡ second
 one_schema objects schema second creation entries others begins p q = by_creation objects schema second entries others p q
-one_schema objects schema second (batch b) entries others begins p q = absurd begins
+one_schema objects schema second (group bs) entries others begins p q = absurd begins
 one_schema objects schema second (close application) entries others begins p q = absurd begins
 
 -- a table that begins with its creation is the only one that the store holds

@@ -1,32 +1,31 @@
 -- The log of a lawful store is lawful.
-use Rattle.std.proofs.Common.{◌≡◌, ℕ, zero, suc, ◌<◌, true, List, [], ◌∷◌, ◌++◌, length, map, filter, Contains, slice_index_or, Some, None, refl, sym, ap, ap₂, subst, ◌∙◌, arith, inl, inr, bytes_eq, flat_map}
+use Rattle.std.proofs.Common.{◌≡◌, ◌≢◌, ℕ, zero, suc, ◌<◌, true, List, [], ◌∷◌, ◌++◌, length, map, filter, Contains, slice_index_or, Some, None, refl, sym, ap, ap₂, subst, ◌∙◌, arith, inl, inr, bytes_eq, flat_map}
 use Rattle.std.specs.List.{AllByRecursion}
 use Rattle.std.proofs.lemmas.Bool.{cases_Bool}
+use Rattle.std.proofs.lemmas.List.{map-append}
+use Rattle.std.proofs.lemmas.Simd.{map-map}
 use Rattle.std.proofs.lemmas.Slice.Eq.{bytes_eq-Decides}
 use Rattle.store_core.specs.Objects.{Objects}
 use Rattle.delta_actions.specs.Entry as actions
 use Rattle.delta_actions.specs.Commit.{IsCommit}
-use Rattle.delta_actions.specs.Names.{commit_name, data_file_name}
+use Rattle.delta_actions.specs.Names.{commit_name}
 use Rattle.table_store.specs.Schema.{Schema}
 use Rattle.table_store.specs.Commits.{beside_info, IsClose, StandFor}
-use Rattle.table_store.specs.Holds.{FileStands, HoldsFrom, IsLawfulStore}
-use Rattle.table_model.specs.Lawful.{NoCreation, BeginsWithCreation, Rises, IsLawful}
-use Rattle.table_store.specs.Logs.{LogFrom, numbers}
-use Rattle.table_store.specs.LawfulLogs.{AreDifferent, IsLater, BeginsLog, numbers_of, HasLawfulLog}
-use Rattle.table_model.specs.Table.{Batch, Entry, creation, batch, close, batches, numbers_by}
+use Rattle.table_store.specs.Holds.{FilesStand, HoldsFrom, IsLawfulStore}
+use Rattle.table_model.specs.Lawful.{NoCreation, BeginsWithCreation, Rises, AreDifferent, IsWellGrouped, IsLawful}
+use Rattle.table_store.specs.Groups.{numbers}
+use Rattle.table_store.specs.Logs.{LogFrom}
+use Rattle.table_store.specs.LawfulLogs.{IsLater, BeginsLog, numbers_of, HasLawfulLog}
+use Rattle.table_model.specs.Table.{Batch, Entry, creation, group, close, batches_of, batches, numbers_by}
 use Rattle.table_model.proofs.Callers.{Rises-tail, below_later}
-use Rattle.table_store.proofs.HoldingLogs.{HoldsFrom-log, numbers-beside_info}
-use Rattle.table_store.proofs.HoldingOne.{one_object, one_commit, one_entry}
+use Rattle.table_store.proofs.HoldingLogs.{HoldsFrom-log, numbers-beside_info, numbers_of_entry}
+use Rattle.table_store.proofs.HoldingOne.{named, one_object, one_commit, one_entry}
 use Rattle.table_model.proofs.Callers.{NoCreation-behind}
 
 -- ---- numbers of which each application's rise
 
--- the application and the number of a batch
-abbrev named : Batch → List ℕ × ℕ
-named b = (b.application, b.number)
-
 -- the numbers of an application are those of its batches
-numbers_of-named : (application : List ℕ) (bs : List Batch) → numbers_of application (map named bs) ≡ map (λ b. b.number) (filter (λ b. bytes_eq b.application application) bs)
+pub numbers_of-named : (application : List ℕ) (bs : List Batch) → numbers_of application (map named bs) ≡ map (λ b. b.number) (filter (λ b. bytes_eq b.application application) bs)
 numbers_of-named application [] = refl
 numbers_of-named application (b ∷ bs) =
     elim (cases_Bool (bytes_eq b.application application)) [
@@ -71,12 +70,12 @@ different-from_rises (n ∷ ns) rises = (twice, different-from_rises ns (λ appl
 -- ---- a log that stands for entries
 
 module _ (objects : Objects) (schema : Schema) where
-  -- commit by commit the actions are those of the entries, and the file of each entry stands
-  abbrev AreMadeFor : List Entry → List (List actions.Entry) → Type 0
+  -- commit by commit the actions are those of the entries, and the files of each entry stand
+  abbrev pub AreMadeFor : List Entry → List (List actions.Entry) → Type 0
   AreMadeFor [] [] = Unit {0}
   AreMadeFor [] (made ∷ log) = ⊥
   AreMadeFor (entry ∷ entries) [] = ⊥
-  AreMadeFor (entry ∷ entries) (made ∷ log) = StandFor schema entry (beside_info made) × FileStands objects schema entry × AreMadeFor entries log
+  AreMadeFor (entry ∷ entries) (made ∷ log) = StandFor schema entry (beside_info made) × FilesStand objects schema entry × AreMadeFor entries log
 
   -- a store's log stands for the entries that the store holds
   made_for : (version : ℕ) (entries : List Entry) (log : List (List actions.Entry)) → HoldsFrom objects schema version entries → LogFrom objects version log → AreMadeFor entries log
@@ -88,56 +87,53 @@ module _ (objects : Objects) (schema : Schema) where
       let same : p.0.2.actions ≡ made = one_commit q.0.0 p.0.2.actions made (subst (λ (t : List ℕ). IsCommit t p.0.2.actions) bytes p.0.2.commit) q.0.2 in
       (subst (λ (m : List actions.Entry). StandFor schema entry (beside_info m)) same p.0.2.stand, p.1, made_for (suc version) entries log p.2 q.1)
 
-  -- a commit has the number of its entry's batch, if that is a batch
-  numbers_of_one : (entry : Entry) (beside : List actions.Entry) → StandFor schema entry beside → numbers beside ≡ map named (batches (entry ∷ []))
-  numbers_of_one creation beside stand = rw stand.actions refl
-  numbers_of_one (batch b) beside stand = rw stand.actions (λ i. (stand.by i, stand.numbered i) ∷ [])
-  numbers_of_one (close application) beside stand = rw stand.actions refl
-
-  -- one entry's batch in front
-  batches_first : (entry : Entry) (entries : List Entry) → map named (batches (entry ∷ entries)) ≡ map named (batches (entry ∷ [])) ++ map named (batches entries)
-  batches_first creation entries = refl
-  batches_first (batch b) entries = refl
-  batches_first (close application) entries = refl
-
   -- the log has the numbers of the batches
   numbers_of_log : (entries : List Entry) (log : List (List actions.Entry)) → AreMadeFor entries log → flat_map numbers log ≡ map named (batches entries)
   numbers_of_log [] [] p = refl
   numbers_of_log [] (made ∷ log) p = absurd p
   numbers_of_log (entry ∷ entries) [] p = absurd p
   numbers_of_log (entry ∷ entries) (made ∷ log) p =
-      let first : numbers made ≡ map named (batches (entry ∷ [])) = sym (numbers-beside_info made) ∙ numbers_of_one entry (beside_info made) p.0 in
-      ap₂ (λ (ns ms : List (List ℕ × ℕ)). ns ++ ms) first (numbers_of_log entries log p.2) ∙ sym (batches_first entry entries)
+      let first : numbers made ≡ map named (batches_of entry) = sym (numbers-beside_info made) ∙ numbers_of_entry schema entry (beside_info made) p.0 in
+      ap₂ (λ (ns ms : List (List ℕ × ℕ)). ns ++ ms) first (numbers_of_log entries log p.2) ∙ sym (map-append named (batches_of entry) (batches entries))
 
   -- an application has the same numbers in the log as in the table
-  numbers_by_log : (application : List ℕ) (entries : List Entry) (log : List (List actions.Entry)) → AreMadeFor entries log → numbers_of application (flat_map numbers log) ≡ numbers_by application entries
+  pub numbers_by_log : (application : List ℕ) (entries : List Entry) (log : List (List actions.Entry)) → AreMadeFor entries log → numbers_of application (flat_map numbers log) ≡ numbers_by application entries
   numbers_by_log application entries log p = ap (numbers_of application) (numbers_of_log entries log p) ∙ numbers_of-named application (batches entries)
 
   -- ---- the log begins with the creation
 
-  -- the commit of an entry that is no creation is a group of one batch, or a close
-  later_entry : (entry : Entry) (entries : List Entry) (beside : List actions.Entry) → NoCreation (entry ∷ entries) → StandFor schema entry beside → IsLater beside
-  later_entry creation entries beside none stand = absurd none
-  later_entry (batch b) entries beside none stand =
-      let key : stand.file.path.key ≡ data_file_name stand.number.app_id stand.number.version = stand.named ∙ ap₂ data_file_name (sym stand.by) (sym stand.numbered) in
-      rw stand.actions (inl (record { only = refl; some = λ e. absurd cc; different = (λ h. let no : h.0 < 0 = h.1 in omega (arith, no), tt); files = (key, stand.new_rows, tt) }))
-  later_entry (close application) entries beside none stand = inr (application, stand)
+  -- the numbers of a group's batches aren't none, and are of different applications
+  group_numbered : (bs : List Batch) (ns : List (List ℕ × ℕ)) → ns ≡ map named bs → IsWellGrouped (group bs) → (ns ≢ []) × AreDifferent (map (λ n. n.0) ns)
+  group_numbered [] ns is grouped = absurd (grouped.0 refl)
+  group_numbered (b ∷ bs) ns is grouped =
+      let applications : map (λ n. n.0) ns ≡ map (λ c. c.application) (b ∷ bs) = ap (map (λ (n : List ℕ × ℕ). n.0)) is ∙ map-map (λ (n : List ℕ × ℕ). n.0) named (b ∷ bs) in
+      ((λ none. let no : map named (b ∷ bs) ≡ [] = sym is ∙ none in absurd cc), subst AreDifferent (sym applications) grouped.1)
+
+  -- the commit of an entry that is no creation is a group, or a close
+  later_entry : (entry : Entry) (entries : List Entry) (beside : List actions.Entry) → NoCreation (entry ∷ entries) → IsWellGrouped entry → StandFor schema entry beside → IsLater beside
+  later_entry creation entries beside none grouped stand = absurd none
+  later_entry (group bs) entries beside none grouped stand =
+      let numbered = group_numbered bs (numbers beside) stand.numbered grouped in
+      inl (record { only = stand.only; some = numbered.0; different = numbered.1; files = stand.files })
+  later_entry (close application) entries beside none grouped stand = inr (application, stand)
 
   -- where no entry is a creation, each commit is a group or a close
-  all_later : (entries : List Entry) (log : List (List actions.Entry)) → NoCreation entries → AreMadeFor entries log → AllByRecursion (λ made. IsLater (beside_info made)) log
-  all_later [] [] none p = tt
-  all_later [] (made ∷ log) none p = absurd p
-  all_later (entry ∷ entries) [] none p = absurd p
-  all_later (entry ∷ entries) (made ∷ log) none p = (later_entry entry entries (beside_info made) none p.0, all_later entries log (NoCreation-behind entry entries none) p.2)
+  all_later : (entries : List Entry) (log : List (List actions.Entry)) → NoCreation entries → AllByRecursion IsWellGrouped entries → AreMadeFor entries log
+      → AllByRecursion (λ made. IsLater (beside_info made)) log
+  all_later [] [] none grouped p = tt
+  all_later [] (made ∷ log) none grouped p = absurd p
+  all_later (entry ∷ entries) [] none grouped p = absurd p
+  all_later (entry ∷ entries) (made ∷ log) none grouped p =
+      (later_entry entry entries (beside_info made) none grouped.0 p.0, all_later entries log (NoCreation-behind entry entries none) grouped.1 p.2)
 
   -- the log begins as the table does
-  begins_log : (entries : List Entry) (log : List (List actions.Entry)) → BeginsWithCreation entries → AreMadeFor entries log → BeginsLog schema log
-  begins_log [] [] begins p = tt
-  begins_log [] (made ∷ log) begins p = absurd p
-  begins_log (creation ∷ entries) [] begins p = absurd p
-  begins_log (creation ∷ entries) (made ∷ log) begins p = (p.0, all_later entries log begins p.2)
-  begins_log (batch b ∷ entries) log begins p = absurd begins
-  begins_log (close application ∷ entries) log begins p = absurd begins
+  begins_log : (entries : List Entry) (log : List (List actions.Entry)) → BeginsWithCreation entries → AllByRecursion IsWellGrouped entries → AreMadeFor entries log → BeginsLog schema log
+  begins_log [] [] begins grouped p = tt
+  begins_log [] (made ∷ log) begins grouped p = absurd p
+  begins_log (creation ∷ entries) [] begins grouped p = absurd p
+  begins_log (creation ∷ entries) (made ∷ log) begins grouped p = (p.0, all_later entries log begins grouped.1 p.2)
+  begins_log (group bs ∷ entries) log begins grouped p = absurd begins
+  begins_log (close application ∷ entries) log begins grouped p = absurd begins
 
   -- ---- a close in the log
 
@@ -148,26 +144,27 @@ module _ (objects : Objects) (schema : Schema) where
     back : List Entry
     parts : entries ≡ front ++ entry ∷ back
     stand : StandFor schema entry (beside_info made)
-    file : FileStands objects schema entry
+    files : FilesStand objects schema entry
     behind : AreMadeFor (entry ∷ back) (made ∷ after)
 
   -- each commit of the log stands for an entry
   within : (entries : List Entry) (before : List (List actions.Entry)) (made : List actions.Entry) (after : List (List actions.Entry)) → AreMadeFor entries (before ++ made ∷ after) → StandsWithin entries made after
   within [] [] made after p = absurd p
   within [] (first ∷ before) made after p = absurd p
-  within (entry ∷ entries) [] made after p = record { front = []; entry = entry; back = entries; parts = refl; stand = p.0; file = p.1; behind = p }
+  within (entry ∷ entries) [] made after p = record { front = []; entry = entry; back = entries; parts = refl; stand = p.0; files = p.1; behind = p }
   within (entry ∷ entries) (first ∷ before) made after p =
       let later = within entries before made after p.2 in
-      record { front = entry ∷ later.front; entry = later.entry; back = later.back; parts = ap (λ (es : List Entry). entry ∷ es) later.parts; stand = later.stand; file = later.file; behind = later.behind }
+      record { front = entry ∷ later.front; entry = later.entry; back = later.back; parts = ap (λ (es : List Entry). entry ∷ es) later.parts; stand = later.stand; files = later.files; behind = later.behind }
 
   -- no number of an application stands in or behind a close of its stream
   closed_log : (entries : List Entry) (log : List (List actions.Entry)) → IsLawful entries → AreMadeFor entries log → (application : List ℕ) (before after : List (List actions.Entry)) (made : List actions.Entry)
       → log ≡ before ++ made ∷ after → IsClose application (beside_info made) → numbers_of application (flat_map numbers (made ∷ after)) ≡ []
   closed_log entries log lawful p application before after made at is_close =
       let here = within entries before made after (subst (AreMadeFor entries) at p) in
-      let is : here.entry ≡ close application = one_entry objects schema here.entry (close application) (beside_info made) here.stand is_close here.file tt in
+      let is : here.entry ≡ close application = one_entry objects schema here.entry (close application) (beside_info made) here.stand is_close here.files tt in
       let cut : entries ≡ here.front ++ close application ∷ here.back = here.parts ∙ ap (λ (e : Entry). here.front ++ e ∷ here.back) is in
-      numbers_by_log application (here.entry ∷ here.back) (made ∷ after) here.behind ∙ ap (λ (e : Entry). numbers_by application (e ∷ here.back)) is ∙ lawful.closed application here.front here.back cut
+      let none : numbers_by application (close application ∷ here.back) ≡ [] = lawful.closed application here.front here.back (close application) cut (0, omega arith, refl) in
+      numbers_by_log application (here.entry ∷ here.back) (made ∷ after) here.behind ∙ ap (λ (e : Entry). numbers_by application (e ∷ here.back)) is ∙ none
 
 -- The log of a lawful store is lawful.
 pub lawful_log : (objects : Objects) → IsLawfulStore objects → HasLawfulLog objects
@@ -180,7 +177,7 @@ lawful_log objects store =
       told.0,
       told.1,
       record {
-        begins = begins_log objects store.schema store.entries told.0 store.lawful.begins made;
+        begins = begins_log objects store.schema store.entries told.0 store.lawful.begins store.lawful.groups made;
         files = (batches store.entries, told.2);
         once = different-from_rises (flat_map numbers told.0) rises;
         rises = rises;

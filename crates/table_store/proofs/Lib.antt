@@ -1,13 +1,16 @@
 pub mod HeldLemmas
 pub mod HoldingGrown
+pub mod HoldingKept
 pub mod HoldingLogs
 pub mod HoldingNames
 pub mod HoldingOne
 pub mod HoldingPuts
 pub mod HoldingSchema
 pub mod LawfulLogLemmas
+pub mod LawfulStoreLemmas
 pub mod LeftLemmas
 pub mod NamesOnce
 pub mod SameText
+pub mod SoundLemmas
 pub mod Variants
 pub mod Callers

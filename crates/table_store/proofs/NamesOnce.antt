@@ -11,7 +11,7 @@ use Rattle.std.proofs.lemmas.List.{append_cancel_left, append_cancel_right, leng
 use Rattle.hex.specs.Hex.{IsBytes, encode_lower, encode_with, lower_digits, hex_digit_value, decode_of}
 use Rattle.hex.proofs.HexLemmas.{IsDigits-lower_digits, decode_of-encode_lower}
 use Rattle.delta_actions.specs.Names.{twenty_digits, commit_name, data_file_name}
-use Rattle.table_store.proofs.HoldingNames.{IsBytes-text}
+use Rattle.delta_actions.proofs.Callers.{IsBytes-text}
 
 -- ---- a number in 20 digits
 

@@ -1,16 +1,15 @@
 -- The log of a store as its commits' actions, and the batches and the rows that this log tells of (Delta PROTOCOL.md,
 -- "Delta Log Entries").
-use Rattle.std.specs.Prelude.{◌≡◌, ℕ, suc, List, [], ◌∷◌, ◌++◌, if◌then◌else◌, Option, Some, None, option_map}
-use Rattle.std.specs.List.{flat_map, filter_map}
-use Rattle.std.specs.Option.{option_and_then}
+use Rattle.std.specs.Prelude.{◌≡◌, ℕ, suc, List, [], ◌∷◌, ◌++◌, None}
+use Rattle.std.specs.List.{flat_map}
 use Rattle.store_core.specs.Objects.{Objects, object_at}
 use Rattle.delta_actions.specs.Entry as actions
-use Rattle.delta_actions.specs.In.{add_in, txn_in}
 use Rattle.delta_actions.specs.Kinds.{Path}
 use Rattle.delta_actions.specs.Commit.{IsCommit}
 use Rattle.delta_actions.specs.Names.{commit_name, data_file_name}
 use Rattle.row_core.specs.Rows.{Row}
 use Rattle.table_store.specs.Schema.{Schema, IsFileOf}
+use Rattle.table_store.specs.Groups.{numbers, new_files}
 use Rattle.table_store.specs.Holds.{Stands}
 use Rattle.table_model.specs.Table.{Batch}
 
@@ -22,18 +21,6 @@ LogFrom objects version (made ∷ log) = Stands objects (commit_name version) (�
 -- The store's log: the actions of the commits of versions 0, 1, 2 and so on, up to the first name that isn't there.
 abbrev pub IsLog : Objects → List (List actions.Entry) → Type 0
 IsLog objects log = LogFrom objects 0 log
-
--- the application and the number of each `txn` action, in order (Delta PROTOCOL.md, "Transaction Identifiers")
-abbrev pub numbers : List actions.Entry → List (List ℕ × ℕ)
-numbers made = filter_map (λ action. option_map (λ t. (t.app_id, t.version)) (txn_in action)) made
-
--- the file that an action brings new rows with (Delta PROTOCOL.md, "Add File and Remove File")
-abbrev pub new_file : actions.Entry → Option Path
-new_file action = option_and_then (λ a. if a.data_change then Some a.path else None) (add_in action)
-
--- the files with new rows that join the table, in order
-abbrev pub new_files : List actions.Entry → List Path
-new_files made = filter_map new_file made
 
 -- For each number in order stands the batch of that application and number, with the rows of the file named for them.
 abbrev pub AreBatchesOf : Objects → Schema → List (List ℕ × ℕ) → List Batch → Type 0

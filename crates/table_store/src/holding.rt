@@ -7,13 +7,14 @@ ghost use Rattle.delta_actions.specs.Names.{commit_name, data_file_name};
 ghost use Rattle.table_store.specs.Schema.{Schema};
 ghost use Rattle.table_store.specs.Commits.{IsCommitOf};
 ghost use Rattle.table_store.specs.Growth.{HasObjectsOf};
-ghost use Rattle.table_store.specs.Holds.{Holds, FileStands, IsLawfulStore};
+ghost use Rattle.table_store.specs.Holds.{Holds, FilesStand, IsLawfulStore};
 ghost use Rattle.table_model.specs.Lawful.{BeginsWithCreation, IsLawful};
 ghost use Rattle.table_store.specs.Logs.{IsLog, AreBatches, AreRows};
 ghost use Rattle.table_store.specs.LawfulLogs.{HasLawfulLog};
+ghost use Rattle.table_store.specs.Sound.{IsAdmissible, IsSound};
 ghost use Rattle.row_core.specs.Rows.{Row};
 ghost use Rattle.table_model.specs.Reads.{is_place, position};
-ghost use Rattle.table_model.specs.Table.{Batch, Entry, batch, batches, rows};
+ghost use Rattle.table_model.specs.Table.{Batch, Entry, batches, rows};
 ghost use Rattle.table_model.specs.declared.reading.Place.{Place};
 
 /// A store holds one table at most that begins with its creation: one log of entries, and one schema. (Without a
@@ -44,7 +45,7 @@ pub fn a_grown_store_holds_a_grown_table()
 /// Where the commit of an entry is put at the next version, its file stands, and no commit stands at the version
 /// behind it, the store holds the table with one entry more.
 pub fn a_commit_is_one_entry_more()
-    ensures { (objects : Objects) (schema : Schema) (entries : List Entry) (entry : Entry) (bytes : List ℕ) → Holds objects schema entries → IsCommitOf schema entry bytes → FileStands objects schema entry
+    ensures { (objects : Objects) (schema : Schema) (entries : List Entry) (entry : Entry) (bytes : List ℕ) → Holds objects schema entries → IsCommitOf schema entry bytes → FilesStand objects schema entry
         → object_at objects (commit_name (suc (length entries))) ≡ None
         → Holds (with_object objects (commit_name (length entries)) bytes) schema (entries ++ entry ∷ []) }
 {}
@@ -80,13 +81,26 @@ pub fn a_held_table_is_its_log()
 /// In the log of a lawful store no batch stands twice, and each application's numbers rise: of two batches of one
 /// application, the later one has the greater number.
 pub fn a_lawful_store_has_each_batch_once()
-    ensures { (objects : Objects) (schema : Schema) (before between after : List Entry) (b c : Batch) → IsLawfulStore objects
-        → Holds objects schema (before ++ batch b ∷ between ++ batch c ∷ after) → b.application ≡ c.application → b.number < c.number }
+    ensures { (objects : Objects) (schema : Schema) (entries : List Entry) (before between after : List Batch) (b c : Batch) → IsLawfulStore objects → Holds objects schema entries
+        → batches entries ≡ before ++ (b ∷ between) ++ (c ∷ after) → b.application ≡ c.application → b.number < c.number }
 {}
 
-/// A lawful store's log is lawful in terms of commits and their actions: it is empty or begins with its creation, each
-/// later commit is a group of batches of different applications or the close of one stream, the file of each batch
-/// stands, no batch stands twice, each application's numbers rise, and none stands behind a close of its stream.
-pub fn a_lawful_store_has_a_lawful_log()
-    ensures { (objects : Objects) → IsLawfulStore objects → HasLawfulLog objects }
+/// A store is lawful exactly where its log is lawful in terms of commits and their actions: it is empty or begins with
+/// its creation, each later commit is a group of batches of different applications or the close of one stream, the
+/// file of each batch stands, no batch stands twice, each application's numbers rise, and none stands behind a close
+/// of its stream.
+pub fn a_store_is_lawful_where_its_log_is()
+    ensures log { (objects : Objects) → IsLawfulStore objects → HasLawfulLog objects }
+    ensures store { (objects : Objects) → HasLawfulLog objects → IsLawfulStore objects }
+{}
+
+/// A commit that is admissible at a version leaves a sound store sound, whether its name was taken before or not. Of
+/// versions that fit 64 bits.
+pub fn an_admissible_commit_keeps_a_store_sound()
+    ensures { (objects : Objects) (version : ℕ) (bytes : List ℕ) → version < 2 ^ 64 → IsSound objects → IsAdmissible objects version bytes → IsSound (with_object objects (commit_name version) bytes) }
+{}
+
+/// So does a data file, whatever its bytes.
+pub fn a_data_file_keeps_a_store_sound()
+    ensures { (objects : Objects) (application bytes : List ℕ) (number : ℕ) → IsSound objects → IsSound (with_object objects (data_file_name application number) bytes) }
 {}

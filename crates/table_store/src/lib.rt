@@ -4,13 +4,15 @@
 #![tactic(auto)]
 
 mod commit;
+mod group;
 mod held;
 mod holding;
 mod schema;
 
 pub use held::{Held, held_by};
 pub use holding::{
-    a_commit_is_one_entry_more, a_data_file_changes_no_table, a_grown_store_holds_a_grown_table,
-    a_held_table_is_its_log, a_lawful_store_has_a_lawful_log, a_lawful_store_has_each_batch_once,
-    a_lawful_store_holds_lawful_tables, names_stand_apart, one_table,
+    a_commit_is_one_entry_more, a_data_file_changes_no_table, a_data_file_keeps_a_store_sound,
+    a_grown_store_holds_a_grown_table, a_held_table_is_its_log, a_lawful_store_has_each_batch_once,
+    a_lawful_store_holds_lawful_tables, a_store_is_lawful_where_its_log_is,
+    an_admissible_commit_keeps_a_store_sound, names_stand_apart, one_table,
 };
