@@ -1,50 +1,41 @@
 -- What a put leaves of a sound store.
-use Rattle.std.proofs.Common.{◌≡◌, ◌≢◌, ℕ, suc, ◌+◌, ◌^◌, ◌<◌, ◌≤◌, List, [], ◌∷◌, ◌++◌, length, Option, None, Some, refl, sym, ap, subst, ◌∙◌, arith, length-append}
+use Rattle.std.proofs.Common.{◌≡◌, ◌≢◌, ℕ, suc, ◌<◌, ◌≤◌, List, [], ◌∷◌, ◌++◌, length, Option, None, Some, refl, sym, ap, subst, ◌∙◌, arith, length-append}
 use Rattle.store_core.specs.Objects.{Objects, object_at, with_object}
 use Rattle.store_core.specs.ObjectLaws.{object_at-with_object_other, with_object_stands}
 use Rattle.delta_actions.specs.Names.{commit_name, data_file_name}
-use Rattle.table_store.specs.Schema.{Schema}
-use Rattle.table_store.specs.Holds.{HoldsFirst, HoldsFrom, Holds}
-use Rattle.table_store.specs.Sound.{IsSound, IsAdmissible}
-use Rattle.table_model.specs.Table.{Entry}
+use Rattle.table_store.specs.Holds.{Holds}
+use Rattle.table_store.specs.Sound.{IsSound, IsAdmissible, greatest_version}
+use Rattle.table_store.proofs.HeldLemmas.{HoldsFirst-end}
 use Rattle.table_store.proofs.HoldingPuts.{HoldsFrom-commit, HoldsFrom-data_file}
 use Rattle.table_store.proofs.HoldingSchema.{only_table}
 use Rattle.table_store.proofs.HoldingNames.{commit_name-data_file_name}
 use Rattle.table_store.proofs.NamesOnce.{commit_name-once}
 
--- Where the commits of these entries stand, and none at the version behind them, they are all that stand.
-HoldsFrom-first : (objects : Objects) (schema : Schema) (version : ℕ) (entries : List Entry) → HoldsFirst objects schema version entries
-    → object_at objects (commit_name (version + length entries)) ≡ None → HoldsFrom objects schema version entries
-HoldsFrom-first objects schema version [] first none = subst (λ (n : ℕ). object_at objects (commit_name n) ≡ None) (omega arith) none
-HoldsFrom-first objects schema version (entry ∷ entries) first none =
-    let last : object_at objects (commit_name (suc version + length entries)) ≡ None = subst (λ (n : ℕ). object_at objects (commit_name n) ≡ None) (omega arith) none in
-    (first.0, first.1, HoldsFrom-first objects schema (suc version) entries first.2 last)
-
 -- the admissible commit of a version whose name is free is one entry more
-sound_with_commit : (objects : Objects) (version : ℕ) (bytes : List ℕ) → version < 2 ^ 64 → object_at objects (commit_name version) ≡ None
+sound_with_commit : (objects : Objects) (version : ℕ) (bytes : List ℕ) → version < greatest_version → object_at objects (commit_name version) ≡ None
     → (sound : IsSound objects) (new : IsAdmissible objects version bytes) → IsSound (with_object objects (commit_name version) bytes)
 sound_with_commit objects version bytes small free sound new = record {
   schema = new.schema;
   entries = new.entries ++ new.entry ∷ [];
-  holds = HoldsFrom-commit objects new.schema 0 version new.entries new.entry bytes (omega (arith, new.at)) holds new.commit new.files (sound.ends (suc version) (omega (arith, as_long, new.at)));
+  holds = HoldsFrom-commit objects new.schema 0 version new.entries new.entry bytes (omega (arith, new.at)) holds new.commit new.files (sound.ends (suc version) (omega (arith, as_long, new.at)) (omega (arith, small)));
   lawful = new.lawful;
   ends = ends;
 }
   where
     holds : Holds objects new.schema new.entries
-    holds = HoldsFrom-first objects new.schema 0 new.entries new.stand (subst (λ (n : ℕ). object_at objects (commit_name n) ≡ None) (omega (arith, new.at)) free)
+    holds = HoldsFirst-end objects new.schema 0 version new.entries (omega (arith, new.at)) new.stand free
 
     as_long : length sound.entries ≡ length new.entries
     as_long = ap length (only_table objects sound.schema new.schema sound.entries new.entries sound.lawful.begins sound.holds holds)
 
-    ends : (later : ℕ) → length (new.entries ++ new.entry ∷ []) ≤ later → object_at (with_object objects (commit_name version) bytes) (commit_name later) ≡ None
-    ends later behind =
+    ends : (later : ℕ) → length (new.entries ++ new.entry ∷ []) ≤ later → later ≤ greatest_version → object_at (with_object objects (commit_name version) bytes) (commit_name later) ≡ None
+    ends later behind few =
         let beyond : version < later = omega (arith, behind, new.at, length-append new.entries (new.entry ∷ [])) in
         let apart : commit_name later ≢ commit_name version = λ same. omega (arith, beyond, commit_name-once version later (omega (arith, small)) (sym same)) in
-        object_at-with_object_other objects (commit_name version) bytes (commit_name later) apart ∙ sound.ends later (omega (arith, beyond, as_long, new.at))
+        object_at-with_object_other objects (commit_name version) bytes (commit_name later) apart ∙ sound.ends later (omega (arith, beyond, as_long, new.at)) few
 
 -- An admissible commit leaves a sound store sound.
-pub sound_commit : (objects : Objects) (version : ℕ) (bytes : List ℕ) → version < 2 ^ 64 → IsSound objects → IsAdmissible objects version bytes
+pub sound_commit : (objects : Objects) (version : ℕ) (bytes : List ℕ) → version < greatest_version → IsSound objects → IsAdmissible objects version bytes
     → IsSound (with_object objects (commit_name version) bytes)
 sound_commit objects version bytes small sound new = by_name (object_at objects (commit_name version)) refl
   where
@@ -62,7 +53,7 @@ sound_data_file objects application bytes number sound = record {
   ends = ends;
 }
   where
-    ends : (version : ℕ) → length sound.entries ≤ version → object_at (with_object objects (data_file_name application number) bytes) (commit_name version) ≡ None
-    ends version behind =
+    ends : (version : ℕ) → length sound.entries ≤ version → version ≤ greatest_version → object_at (with_object objects (data_file_name application number) bytes) (commit_name version) ≡ None
+    ends version behind few =
         let apart : commit_name version ≢ data_file_name application number = commit_name-data_file_name version application number in
-        object_at-with_object_other objects (data_file_name application number) bytes (commit_name version) apart ∙ sound.ends version behind
+        object_at-with_object_other objects (data_file_name application number) bytes (commit_name version) apart ∙ sound.ends version behind few

@@ -11,7 +11,7 @@ ghost use Rattle.table_store.specs.Holds.{Holds, FilesStand, IsLawfulStore};
 ghost use Rattle.table_model.specs.Lawful.{BeginsWithCreation, IsLawful};
 ghost use Rattle.table_store.specs.Logs.{IsLog, AreBatches, AreRows};
 ghost use Rattle.table_store.specs.LawfulLogs.{HasLawfulLog};
-ghost use Rattle.table_store.specs.Sound.{IsAdmissible, IsSound};
+ghost use Rattle.table_store.specs.Sound.{IsAdmissible, IsSound, greatest_version};
 ghost use Rattle.row_core.specs.Rows.{Row};
 ghost use Rattle.table_model.specs.Reads.{is_place, position};
 ghost use Rattle.table_model.specs.Table.{Batch, Entry, batches, rows};
@@ -42,7 +42,7 @@ pub fn a_grown_store_holds_a_grown_table()
         → is_place place entries ≡ true → (is_place place others ≡ true) × (position place others ≡ position place entries) }
 {}
 
-/// Where the commit of an entry is put at the next version, its file stands, and no commit stands at the version
+/// Where the commit of an entry is put at the next version, its files stand, and no commit stands at the version
 /// behind it, the store holds the table with one entry more.
 pub fn a_commit_is_one_entry_more()
     ensures { (objects : Objects) (schema : Schema) (entries : List Entry) (entry : Entry) (bytes : List ℕ) → Holds objects schema entries → IsCommitOf schema entry bytes → FilesStand objects schema entry
@@ -78,8 +78,8 @@ pub fn a_held_table_is_its_log()
         → rs ≡ rows entries }
 {}
 
-/// In the log of a lawful store no batch stands twice, and each application's numbers rise: of two batches of one
-/// application, the later one has the greater number.
+/// In the table that a lawful store holds no batch stands twice, and each application's numbers rise: of two batches of
+/// one application, the later one has the greater number.
 pub fn a_lawful_store_has_each_batch_once()
     ensures { (objects : Objects) (schema : Schema) (entries : List Entry) (before between after : List Batch) (b c : Batch) → IsLawfulStore objects → Holds objects schema entries
         → batches entries ≡ before ++ (b ∷ between) ++ (c ∷ after) → b.application ≡ c.application → b.number < c.number }
@@ -87,20 +87,20 @@ pub fn a_lawful_store_has_each_batch_once()
 
 /// A store is lawful exactly where its log is lawful in terms of commits and their actions: it is empty or begins with
 /// its creation, each later commit is a group of batches of different applications or the close of one stream, the
-/// file of each batch stands, no batch stands twice, each application's numbers rise, and none stands behind a close
-/// of its stream.
+/// file of each batch stands, no batch stands twice, each application's numbers rise, and none stands in or behind a
+/// close of its stream.
 pub fn a_store_is_lawful_where_its_log_is()
     ensures log { (objects : Objects) → IsLawfulStore objects → HasLawfulLog objects }
     ensures store { (objects : Objects) → HasLawfulLog objects → IsLawfulStore objects }
 {}
 
-/// A commit that is admissible at a version leaves a sound store sound, whether its name was taken before or not. Of
-/// versions that fit 64 bits.
+/// A commit that is admissible at a version leaves a sound store sound, whether its name was taken before or not: a name
+/// that is taken keeps its bytes. Of versions below the greatest one.
 pub fn an_admissible_commit_keeps_a_store_sound()
-    ensures { (objects : Objects) (version : ℕ) (bytes : List ℕ) → version < 2 ^ 64 → IsSound objects → IsAdmissible objects version bytes → IsSound (with_object objects (commit_name version) bytes) }
+    ensures { (objects : Objects) (version : ℕ) (bytes : List ℕ) → version < greatest_version → IsSound objects → IsAdmissible objects version bytes → IsSound (with_object objects (commit_name version) bytes) }
 {}
 
-/// So does a data file, whatever its bytes.
+/// So does a data file, whatever its bytes: a name that is taken keeps those that it has.
 pub fn a_data_file_keeps_a_store_sound()
     ensures { (objects : Objects) (application bytes : List ℕ) (number : ℕ) → IsSound objects → IsSound (with_object objects (data_file_name application number) bytes) }
 {}
