@@ -17,7 +17,7 @@ use Rattle.delta_actions.specs.Names.{data_file_name}
 use Rattle.delta_actions.specs.Names as names
 use Rattle.row_core.specs.Rows.{Row, same_rows}
 use Rattle.table_model.specs.Table as model
-use Rattle.table_model.specs.Table.{Entry, creation, batch, close, last_batch, is_closed}
+use Rattle.table_model.specs.Table.{Entry, creation, group, close, last_batch, is_closed}
 use Rattle.table_store.proofs.Callers.{commit_name-data_file_name}
 use Rattle.table_model.proofs.Callers.{append_keeps}
 use Rattle.sink_core.specs.Appending.{Batch, Request, Step, puts, stands, checked, count, appending, file_name, is_repeat, request_of, request_behind, file_or_refusal, batch_of, fitting, new_step, repeated_step, step_of, settled, answered, with_append, IsWellMade, PutsWell}
@@ -62,8 +62,8 @@ small_number application number rows fine = by_tests (length application == 0 ||
 pub stays_open : (objects : Objects) (schema : Tree) (version : ℕ) (entries : List Entry) (application : List ℕ) → KeptFrom objects schema version entries → is_closed application entries ≡ false
 stays_open objects schema version [] application kept = refl
 stays_open objects schema version (creation ∷ entries) application kept = stays_open objects schema _ entries application kept.2
-stays_open objects schema version (batch b ∷ entries) application kept = stays_open objects schema _ entries application kept.2
-stays_open objects schema version (close other ∷ entries) application kept = absurd kept.1
+stays_open objects schema version (group bs ∷ entries) application kept = stays_open objects schema _ entries application kept.2
+stays_open objects schema version (close other ∷ entries) application kept = absurd kept.0.2.is
 
 -- the table behind an append is lawful
 pub lawful_after : (objects : Objects) (schema : Tree) (entries : List Entry) (b : model.Batch) → IsKept objects schema entries → IsLawful (with_batch (appended b entries) b entries)
@@ -96,7 +96,7 @@ module _ (schema : Tree) (version : ℕ) (rows : List Row) (application : List �
 
   -- and its commit is one of the batch that is handed in
   pub commit_made : IsUtf8 application → number ≤ 999_999_999_999 → IsWellMade application number at (made_with version schema rows application number at file)
-      → IsCommitMade schema (batch (handed_in application number rows)) (made_with version schema rows application number at file).commit
+      → IsCommitMade schema (group (handed_in application number rows ∷ [])) (made_with version schema rows application number at file).commit
   commit_made utf8 fits well = record {
     made = appending application number at (file_name application number) (length file) (length rows);
     commit = well.commit;
@@ -116,7 +116,7 @@ module _ (objects : Objects) (schema : Tree) (entries : List Entry) (kept : IsKe
       let none = none_behind objects schema entries kept few in
       let is_file = file_made schema (length entries) rows application number at file well in
       let is_commit = commit_made schema (length entries) rows application number at file utf8 fits well in
-      let lawful : IsLawful (entries ++ batch b ∷ []) = rw new at (lawful_after objects schema entries b kept) in
+      let lawful : IsLawful (entries ++ group (b ∷ []) ∷ []) = rw new at (lawful_after objects schema entries b kept) in
       let more = kept_more objects schema entries b file made.commit kept lawful free none is_file is_commit in
       let apart = object_at-with_object_other objects (data_file_name application number) file (names.commit_name (length entries)) (commit_name-data_file_name (length entries) application number) ∙ none in
       let alone = no_other_more objects entries b file made.commit own in
@@ -162,7 +162,7 @@ module _ (objects : Objects) (schema : Tree) (entries : List Entry) (kept : IsKe
   last_agrees : (before : model.Batch) → last_batch application entries ≡ Some before → ltb number before.number ≡ false → eqb number before.number ≡ true
       → Agrees objects schema entries number (repeated_step objects (asked (length entries) schema rows true) application number) (Ok (handed_in application number rows))
   last_agrees before last over equal =
-      let file : FileKept objects schema (batch before) = (batch_stands objects schema 0 entries before kept.kept (last_stands application entries before last)).1 in
+      let file : FileKept objects schema before = (batch_stands objects schema 0 entries before kept.kept (last_stands application entries before last)).1 in
       let name : data_file_name application number ≡ data_file_name before.application before.number =
       ap (λ (a : List ℕ). data_file_name a number) (sym (last_own application entries before last)) ∙ ap (data_file_name before.application) (eqb-true number before.number equal) in
       again_agrees before file.0 last over equal (ap (object_at objects) name ∙ file.1) (file_read schema before file.0 file.2)

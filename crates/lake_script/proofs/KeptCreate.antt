@@ -1,5 +1,5 @@
 -- A line that creates a table, over a store that keeps what a script made so far.
-use Rattle.std.proofs.Common.{◌≡◌, ◌≢◌, ℕ, Bool, true, false, List, [], ◌∷◌, ◌++◌, length, Option, Some, None, IsSome, Result, Ok, Err, refl, sym, ap, subst, ◌∙◌, arith, length-append}
+use Rattle.std.proofs.Common.{◌≡◌, ◌≢◌, ℕ, Bool, true, false, List, [], ◌∷◌, ◌++◌, length, Option, Some, None, Contains, IsSome, Result, Ok, Err, refl, sym, ap, subst, ◌∙◌, arith, length-append}
 use Rattle.std.specs.Prelude.{bytes_eq, nat_le, is_some, cond}
 use Rattle.std.proofs.lemmas.Slice.Eq.{bytes_eq-Decides}
 use Rattle.schema_tree.specs.Fault.{Fault}
@@ -8,7 +8,7 @@ use Rattle.schema_tree.specs.Tree.{Tree}
 use Rattle.store_core.specs.Objects.{Objects, object_at, with_object}
 use Rattle.store_core.specs.ObjectLaws.{with_object_stands, with_object_absent}
 use Rattle.delta_actions.specs.Names as names
-use Rattle.table_model.specs.Table.{Entry, creation, close}
+use Rattle.table_model.specs.Table.{Entry, creation, closes_of}
 use Rattle.table_model.specs.Lawful.{IsLawful}
 use Rattle.table_store.proofs.Callers.{commit_name-data_file_name}
 use Rattle.commit_core.specs.Commits.{commit_name, commit_text, creation as created}
@@ -21,7 +21,7 @@ use Rattle.lake_script.specs.Tables as tables
 use Rattle.lake_script.specs.Tables.{State, nothing, table, creating, with_table}
 use Rattle.lake_script.specs.Told.{reply_to_wish, left_by_wish, created_reply}
 use Rattle.lake_script.proofs.Kept.{IsKept, Keeps, KeptFrom, of_commit}
-use Rattle.lake_script.proofs.KeptNames.{same_name}
+use Rattle.lake_script.proofs.KeptNames.{none_in_nothing, same_name}
 
 -- ---- what a line describes, and what is put for it
 
@@ -59,17 +59,19 @@ module _ (text printed : List ℕ) where
 
 -- ---- the table of one creation
 
--- no close stands among one creation
-no_close : (application : List ℕ) (before after : List Entry) → creation ∷ [] ≡ before ++ close application ∷ after → ⊥
-no_close application [] after e = let other : creation ≡ close application = cc in cc
-no_close application (entry ∷ before) after e =
-    let none : [] ≡ before ++ close application ∷ after = cc in
+-- no stream is closed by one creation
+no_close : (application : List ℕ) (before after : List Entry) (entry : Entry) → creation ∷ [] ≡ before ++ entry ∷ after → Contains (closes_of entry) application → ⊥
+no_close application [] after entry e closes =
+    let is : creation ≡ entry = cc in
+    none_in_nothing application (subst (λ (other : Entry). Contains (closes_of other) application) (sym is) closes)
+no_close application (first ∷ before) after entry e closes =
+    let none : [] ≡ before ++ entry ∷ after = cc in
     let long = ap (λ (entries : List Entry). length entries) none in
-    omega (arith, long, length-append before (close application ∷ after))
+    omega (arith, long, length-append before (entry ∷ after))
 
 -- a table of its creation alone is lawful
 lawful_creation : IsLawful (creation ∷ [])
-lawful_creation = record { begins = tt; rises = λ application. tt; closed = λ application before after e. absurd (no_close application before after e) }
+lawful_creation = record { begins = tt; groups = (tt, tt); rises = λ application. tt; closed = λ application before after entry e closes. absurd (no_close application before after entry e closes) }
 
 -- the one name that stands
 one_name : (name bytes other : List ℕ) (same : Bool) → bytes_eq other name ≡ same → is_some (cond same (Some bytes) None) ≡ true → other ≡ name

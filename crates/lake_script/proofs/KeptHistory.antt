@@ -1,5 +1,5 @@
 -- What is told of the versions of a store that keeps a table: a line for each entry.
-use Rattle.std.proofs.Common.{◌≡◌, ℕ, zero, suc, ◌+◌, ◌<◌, ◌≤◌, ◌^◌, List, [], ◌∷◌, ◌++◌, length, None, refl, ap, add-one, arith}
+use Rattle.std.proofs.Common.{◌≡◌, ℕ, zero, suc, ◌+◌, ◌<◌, ◌≤◌, ◌^◌, List, [], ◌∷◌, ◌++◌, length, None, refl, sym, ap, add-one, arith}
 use Rattle.std.specs.Fmt.{decimal}
 use Rattle.std.specs.List.{flat_map}
 use Rattle.std.proofs.lemmas.List.{append-nil}
@@ -7,7 +7,7 @@ use Rattle.schema_tree.specs.Tree.{Tree}
 use Rattle.store_core.specs.Objects.{Objects, object_at, names_of}
 use Rattle.delta_actions.specs.Entry as actions
 use Rattle.delta_actions.specs.Names as names
-use Rattle.table_model.specs.Table.{Entry, creation, batch, close}
+use Rattle.table_model.specs.Table.{Entry, creation, group, close}
 use Rattle.sink_core.specs.Appending.{appending}
 use Rattle.commit_core.specs.Commits.{commit_name, creation as created}
 use Rattle.commit_core.specs.Histories.{number_told, action_told, history_from, or_bad_log, history_of, bad_log}
@@ -21,7 +21,9 @@ use Rattle.lake_script.proofs.KeptLog.{commit_read, none_behind}
 entry_is_told : (schema : Tree) (entry : Entry) (made : List actions.Entry) → IsMade schema entry made → flat_map action_told made ≡ entry_told entry
 unfolding created appending
 entry_is_told schema creation made is = rw is.are refl
-entry_is_told schema (batch b) made is = rw is.are (append-nil (number_told b.application b.number))
+entry_is_told schema (group []) made is = absurd is
+entry_is_told schema (group (b ∷ [])) made is = rw is.are (sym (append-nil (number_told b.application b.number ++ [])))
+entry_is_told schema (group (b ∷ c ∷ bs)) made is = absurd is
 entry_is_told schema (close application) made is = absurd is
 
 -- the lines of the versions that stand are those of their entries

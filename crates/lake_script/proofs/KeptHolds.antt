@@ -1,5 +1,6 @@
 -- A store that keeps a table holds it, and so it is lawful.
 use Rattle.std.proofs.Common.{◌≡◌, ℕ, suc, ◌+◌, ◌<◌, ◌^◌, List, [], ◌∷◌, ◌++◌, length, None, refl, ap, length-append, arith}
+use Rattle.std.specs.List.{AllByRecursion, Contains}
 use Rattle.schema_tree.specs.LongColumn.{one_long}
 use Rattle.schema_tree.specs.Tree.{Tree}
 use Rattle.store_core.specs.Objects.{Objects, object_at}
@@ -8,7 +9,7 @@ use Rattle.table_store.specs.Commits.{beside_info, StandFor, IsCommitOf}
 use Rattle.table_store.specs.Holds.{FileStands, HoldsFrom, Holds, IsLawfulStore}
 use Rattle.table_model.specs.Lawful.{IsLawful}
 use Rattle.delta_actions.specs.Names.{commit_name}
-use Rattle.table_model.specs.Table.{Entry, creation, batch, close, numbers_by}
+use Rattle.table_model.specs.Table.{Batch, Entry, creation, group, close, batches_of, closes_of, numbers_by}
 use Rattle.sink_core.specs.Appending.{appending}
 use Rattle.commit_core.specs.Commits.{creation as created}
 use Rattle.lake_script.proofs.Kept.{FileKept, IsMade, IsCommitMade, KeptFrom, IsKept}
@@ -26,26 +27,19 @@ made_stands schema creation made is = rw is.are (record {
   unconfigured = refl;
   unnamed = (refl, refl);
 })
-made_stands schema (batch b) made is = rw is.are (record {
-  number = _;
-  file = _;
-  actions = refl;
-  by = refl;
-  numbered = refl;
-  named = refl;
-  new_rows = refl;
-})
+made_stands schema (group []) made is = absurd is
+made_stands schema (group (b ∷ [])) made is = rw is.are (record { only = refl; numbered = refl; files = (refl, refl, tt) })
+made_stands schema (group (b ∷ c ∷ bs)) made is = absurd is
 made_stands schema (close application) made is = absurd is
 
 -- so bytes that are made for an entry are its commit
 commit_stands : (schema : Tree) (entry : Entry) (bytes : List ℕ) → IsCommitMade schema entry bytes → IsCommitOf schema entry bytes
 commit_stands schema entry bytes is = record { actions = is.made; commit = is.commit; stand = made_stands schema entry is.made is.is }
 
--- the file that is kept for an entry stands
-file_stands : (objects : Objects) (schema : Tree) (entry : Entry) → FileKept objects schema entry → FileStands objects schema entry
-file_stands objects schema creation kept = tt
-file_stands objects schema (batch b) kept = (kept.0, kept.1, kept.2.file)
-file_stands objects schema (close application) kept = absurd kept
+-- the files that are kept for batches stand
+files_stand : (objects : Objects) (schema : Tree) (bs : List Batch) → AllByRecursion (FileKept objects schema) bs → AllByRecursion (FileStands objects schema) bs
+files_stand objects schema [] kept = tt
+files_stand objects schema (b ∷ bs) kept = ((kept.0.0, kept.0.1, kept.0.2.file), files_stand objects schema bs kept.1)
 
 -- what is kept from a version on is held from it on, where no commit stands behind it
 holds_from : (objects : Objects) (schema : Tree) (version end : ℕ) (entries : List Entry) → KeptFrom objects schema version entries → version + length entries ≡ end
@@ -54,7 +48,7 @@ holds_from objects schema version end [] kept is none =
     let here : version ≡ end = omega arith in
     rw here none
 holds_from objects schema version end (entry ∷ entries) kept is none =
-    ((kept.0.0, kept.0.1, commit_stands schema entry kept.0.0 kept.0.2), file_stands objects schema entry kept.1, holds_from objects schema (suc version) end entries kept.2 (omega arith) none)
+    ((kept.0.0, kept.0.1, commit_stands schema entry kept.0.0 kept.0.2), files_stand objects schema (batches_of entry) kept.1, holds_from objects schema (suc version) end entries kept.2 (omega arith) none)
 
 -- A store that keeps a table holds it.
 pub kept_holds : (objects : Objects) (schema : Tree) (entries : List Entry) → IsKept objects schema entries → length entries < 2 ^ 62 → Holds objects schema entries
@@ -65,12 +59,12 @@ pub kept_lawful : (objects : Objects) (schema : Tree) (entries : List Entry) →
 kept_lawful objects schema entries kept few = record { schema = schema; entries = entries; holds = kept_holds objects schema entries kept few; lawful = kept.lawful }
 
 -- where there is no entry no stream was closed
-no_close : (application : List ℕ) (before after : List Entry) → [] ≡ before ++ close application ∷ after → numbers_by application after ≡ []
-no_close application before after is = absurd (omega (arith, ap (λ (all : List Entry). length all) is, length-append before (close application ∷ after)))
+no_close : (application : List ℕ) (before after : List Entry) (entry : Entry) → [] ≡ before ++ entry ∷ after → Contains (closes_of entry) application → numbers_by application (entry ∷ after) ≡ []
+no_close application before after entry is closes = absurd (omega (arith, ap (λ (all : List Entry). length all) is, length-append before (entry ∷ after)))
 
 -- a table of no entries is lawful
 no_entries_lawful : IsLawful []
-no_entries_lawful = record { begins = tt; rises = λ application. tt; closed = no_close }
+no_entries_lawful = record { begins = tt; groups = tt; rises = λ application. tt; closed = no_close }
 
 -- A store of nothing is lawful: it holds no entry.
 pub nothing_lawful : IsLawfulStore []

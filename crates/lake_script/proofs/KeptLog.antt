@@ -8,7 +8,7 @@ use Rattle.store_core.specs.Objects.{Objects, object_at, names_of}
 use Rattle.delta_actions.specs.Entry as actions
 use Rattle.delta_actions.specs.Commit.{IsCommit}
 use Rattle.delta_actions.specs.Names as names
-use Rattle.table_model.specs.Table.{Batch, Entry, creation, batch, close, last, last_batch}
+use Rattle.table_model.specs.Table.{Batch, Entry, creation, group, close, last, last_batch}
 use Rattle.table_model.proofs.Callers.{last_batch-append}
 use Rattle.table_store.proofs.Callers.{commit_name-data_file_name}
 use Rattle.table_store.proofs.Callers.{commit_name-once}
@@ -101,7 +101,9 @@ first_told schema found made is = rw is.are (is.text, refl, is.readable)
 told_on : (schema : Tree) (found : Option (List ℕ)) (entry : Entry) (made : List actions.Entry) → IsTold schema found → IsMade schema entry made → IsTold schema (latest schema_in found made)
 unfolding latest appending
 told_on schema found creation made told is = first_told schema found made is
-told_on schema found (batch b) made told is = rw is.are told
+told_on schema found (group []) made told is = absurd is
+told_on schema found (group (b ∷ [])) made told is = rw is.are told
+told_on schema found (group (b ∷ c ∷ bs)) made told is = absurd is
 told_on schema found (close application) made told is = absurd is
 
 -- so behind the first commit the schema stays
@@ -173,11 +175,13 @@ number_goes_on : (schema : Tree) (application : List ℕ) (found : Option ℕ) (
     → latest (number_in application) found made ≡ option_or (number_by application (entry ∷ [])) found
 unfolding latest created appending
 number_goes_on schema application found creation made is = rw is.are refl
-number_goes_on schema application found (batch b) made is = rw is.are (own (bytes_eq b.application application))
+number_goes_on schema application found (group []) made is = absurd is
+number_goes_on schema application found (group (b ∷ [])) made is = rw is.are (own (bytes_eq b.application application))
   where
     own : (same : Bool) → option_or (if same then Some b.number else None) found ≡ option_or (option_map (λ (c : Batch). c.number) (last (if same then b ∷ [] else []))) found
     own true = refl
     own false = refl
+number_goes_on schema application found (group (b ∷ c ∷ bs)) made is = absurd is
 number_goes_on schema application found (close other) made is = absurd is
 
 -- several commits tell the number of their entries, or what was found before

@@ -1,6 +1,6 @@
 -- What stands for the batches of a kept table, and that the name of a new number's file is free.
-use Rattle.std.proofs.Common.{◌≡◌, ℕ, zero, suc, ◌^◌, ◌<◌, ◌≤◌, ◌⊎◌, Bool, true, false, List, [], ◌∷◌, length, map, Option, Some, None, Contains, inl, inr, refl, ap, subst, arith}
-use Rattle.std.specs.Prelude.{bytes_eq, cond, is_some, option_map, slice_index_or}
+use Rattle.std.proofs.Common.{◌≡◌, ℕ, zero, suc, ◌^◌, ◌<◌, ◌≤◌, ◌⊎◌, Bool, true, false, List, [], ◌∷◌, length, map, Option, Some, None, Contains, inl, inr, refl, sym, ap, subst, arith}
+use Rattle.std.specs.Prelude.{bytes_eq, cond, filter, is_some, option_map, slice_index_or}
 use Rattle.std.specs.Str.{IsUtf8}
 use Rattle.std.proofs.lemmas.Slice.Eq.{bytes_eq-Decides}
 use Rattle.schema_tree.specs.Tree.{Tree}
@@ -8,8 +8,8 @@ use Rattle.store_core.specs.Objects.{Objects, object_at}
 use Rattle.delta_actions.specs.Names.{data_file_name}
 use Rattle.delta_actions.specs.Names as names
 use Rattle.table_model.specs.Lawful.{Rises}
-use Rattle.table_model.specs.Table.{Batch, Entry, creation, batch, close, batches, batches_by, numbers_by, last, last_batch}
-use Rattle.table_model.proofs.Callers.{IsAbove, last_none, last_number, numbers_by-own}
+use Rattle.table_model.specs.Table.{Batch, Entry, creation, group, close, batches, numbers_by, last, last_batch}
+use Rattle.table_model.proofs.Callers.{IsAbove, last_none, last_number, numbers_in}
 use Rattle.table_store.proofs.Callers.{data_file_name-once}
 use Rattle.sink_core.specs.Appending.{file_name}
 use Rattle.commit_core.specs.Commits.{commit_name}
@@ -53,33 +53,33 @@ none_in_nothing y has = omega (arith, has.1)
 
 -- each batch's application is text, and its file stands
 pub batch_stands : (objects : Objects) (schema : Tree) (version : ℕ) (entries : List Entry) (b : Batch) → KeptFrom objects schema version entries → Contains (batches entries) b
-    → IsUtf8 b.application × FileKept objects schema (batch b)
+    → IsUtf8 b.application × FileKept objects schema b
 batch_stands objects schema version [] b kept has = absurd (none_in_nothing b has)
 batch_stands objects schema version (creation ∷ entries) b kept has = batch_stands objects schema (suc version) entries b kept.2 has
-batch_stands objects schema version (batch c ∷ entries) b kept has =
+batch_stands objects schema version (group [] ∷ entries) b kept has = absurd kept.0.2.is
+batch_stands objects schema version (group (c ∷ []) ∷ entries) b kept has =
     elim (first_or_behind c (batches entries) b has) [
-      | inl same ↦ subst (λ (d : Batch). IsUtf8 d.application × FileKept objects schema (batch d)) same (kept.0.2.is.utf8, kept.1)
+      | inl same ↦ subst (λ (d : Batch). IsUtf8 d.application × FileKept objects schema d) same (kept.0.2.is.utf8, kept.1.0)
       | inr later ↦ batch_stands objects schema (suc version) entries b kept.2 later
     ]
-batch_stands objects schema version (close application ∷ entries) b kept has = absurd kept.1
+batch_stands objects schema version (group (c ∷ d ∷ bs) ∷ entries) b kept has = absurd kept.0.2.is
+batch_stands objects schema version (close application ∷ entries) b kept has = absurd kept.0.2.is
 
 -- a batch's number is one of its application's
-number_among : (entries : List Entry) (b : Batch) → Contains (batches entries) b → Contains (numbers_by b.application entries) b.number
+number_among : (bs : List Batch) (b : Batch) → Contains bs b → Contains (numbers_in b.application bs) b.number
 number_among [] b has = absurd (none_in_nothing b has)
-number_among (creation ∷ entries) b has = number_among entries b has
-number_among (batch c ∷ entries) b has =
-    elim (first_or_behind c (batches entries) b has) [
+number_among (c ∷ bs) b has =
+    elim (first_or_behind c bs b has) [
       | inl same ↦
           let own : bytes_eq c.application b.application ≡ true = (bytes_eq-Decides c.application b.application).1 (ap (λ (d : Batch). d.application) same) in
           let number : c.number ≡ b.number = ap (λ (d : Batch). d.number) same in
-          rw (numbers_by-own b.application c entries own, number) (first_in b.number (numbers_by b.application entries))
-      | inr later ↦ passed (bytes_eq c.application b.application) (number_among entries b later)
+          rw own (subst (λ (n : ℕ). Contains (n ∷ numbers_in b.application bs) b.number) (sym number) (first_in b.number (numbers_in b.application bs)))
+      | inr later ↦ passed (bytes_eq c.application b.application) (number_among bs b later)
     ]
   where
-    passed : (own : Bool) → Contains (numbers_by b.application entries) b.number → Contains (map (λ (d : Batch). d.number) (cond own (c ∷ batches_by b.application entries) (batches_by b.application entries))) b.number
-    passed true there = behind_first c.number (numbers_by b.application entries) b.number there
+    passed : (own : Bool) → Contains (numbers_in b.application bs) b.number → Contains (map (λ (d : Batch). d.number) (cond own (c ∷ filter (λ d. bytes_eq d.application b.application) bs) (filter (λ d. bytes_eq d.application b.application) bs))) b.number
+    passed true there = behind_first c.number (numbers_in b.application bs) b.number there
     passed false there = there
-number_among (close application ∷ entries) b has = number_among entries b has
 
 -- the last of rising numbers is the greatest
 up_to_last : (ns : List ℕ) (n m : ℕ) → Rises ns → Contains ns n → last ns ≡ Some m → n ≤ m
@@ -117,5 +117,5 @@ no_file objects schema entries application number kept own utf8 small above =
     never : IsOwn entries (data_file_name application number) → ⊥
     never (b, has, is) =
         let parts = data_file_name-once application b.application number b.number utf8 (batch_stands objects schema 0 entries b kept.kept has).0 small is in
-        let there : Contains (numbers_by application entries) number = rw (parts.0, parts.1) (number_among entries b has) in
+        let there : Contains (numbers_by application entries) number = rw (parts.0, parts.1) (number_among (batches entries) b has) in
         none_above (numbers_by application entries) number _ (last_number application entries) (kept.lawful.rises application) there above

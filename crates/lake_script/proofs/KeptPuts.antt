@@ -5,6 +5,7 @@ use Rattle.std.specs.declared.cmp.Ordering.{Ordering}
 use Rattle.std.specs.declared.cmp.Ordering.TheVariants.{Less, Equal, Greater}
 use Rattle.std.specs.Ordering.{is_eq, match_ordering}
 use Rattle.std.specs.BTreeMap.{insert_entry}
+use Rattle.std.specs.List.{AllByRecursion}
 use Rattle.std.proofs.lemmas.List.Elements.{Contains-append_left, Contains-append_right}
 use Rattle.std.proofs.lemmas.Map.Text.{is_eq-slice_cmp}
 use Rattle.std.proofs.lemmas.Slice.Eq.{bytes_eq-Decides}
@@ -14,10 +15,10 @@ use Rattle.store_core.specs.ObjectLaws.{with_object_absent, with_object_stands, 
 use Rattle.delta_actions.specs.Names.{commit_name, data_file_name}
 use Rattle.table_store.specs.Holds.{Stands}
 use Rattle.table_model.specs.Lawful.{IsLawful}
-use Rattle.table_model.specs.Table.{Batch, Entry, creation, batch, close, batches}
+use Rattle.table_model.specs.Table.{Batch, Entry, group, batches_of, batches}
 use Rattle.table_model.proofs.Callers.{batches-append}
 use Rattle.table_store.proofs.Callers.{commit_name-data_file_name}
-use Rattle.lake_script.proofs.Kept.{IsFileOf, FileKept, IsCommitMade, KeptFrom, IsNamed, of_commit, of_file, IsKept, IsOwn, HasNoOther}
+use Rattle.lake_script.proofs.Kept.{IsFileOf, FileKept, FilesKept, IsCommitMade, KeptFrom, IsNamed, of_commit, of_file, IsKept, IsOwn, HasNoOther}
 use Rattle.lake_script.proofs.KeptNames.{first_in}
 
 -- ---- what stood still stands
@@ -28,16 +29,19 @@ module _ (objects : Objects) (name bytes : List ℕ) where
   Stands-put other P stands = (stands.0, object_at-with_object_kept objects name bytes other stands.0 stands.1, stands.2)
 
   -- and so does a batch's file
-  FileKept-put : (schema : Tree) (entry : Entry) → FileKept objects schema entry → FileKept (with_object objects name bytes) schema entry
-  FileKept-put schema creation kept = tt
-  FileKept-put schema (batch b) kept = Stands-put (data_file_name b.application b.number) (IsFileOf schema b) kept
-  FileKept-put schema (close application) kept = kept
+  FileKept-put : (schema : Tree) (b : Batch) → FileKept objects schema b → FileKept (with_object objects name bytes) schema b
+  FileKept-put schema b kept = Stands-put (data_file_name b.application b.number) (IsFileOf schema b) kept
+
+  -- and so do those of several
+  each_put : (schema : Tree) (bs : List Batch) → AllByRecursion (FileKept objects schema) bs → AllByRecursion (FileKept (with_object objects name bytes) schema) bs
+  each_put schema [] kept = tt
+  each_put schema (b ∷ bs) kept = (FileKept-put schema b kept.0, each_put schema bs kept.1)
 
   -- a put takes nothing away
   KeptFrom-put : (schema : Tree) (version : ℕ) (entries : List Entry) → KeptFrom objects schema version entries → KeptFrom (with_object objects name bytes) schema version entries
   KeptFrom-put schema version [] kept = tt
   KeptFrom-put schema version (entry ∷ entries) kept =
-      (Stands-put (commit_name version) (IsCommitMade schema entry) kept.0, FileKept-put schema entry kept.1, KeptFrom-put schema (suc version) entries kept.2)
+      (Stands-put (commit_name version) (IsCommitMade schema entry) kept.0, each_put schema (batches_of entry) kept.1, KeptFrom-put schema (suc version) entries kept.2)
 
   -- what is put under a free name stands
   pub put_stands : object_at objects name ≡ None → object_at (with_object objects name bytes) name ≡ Some bytes
@@ -51,14 +55,14 @@ module _ (objects : Objects) (name bytes : List ℕ) where
       by_name true is = subst P (sym ((bytes_eq-Decides other name).0 is)) put
       by_name false is = before other (ap is_some (sym (object_at-with_object_other objects name bytes other (λ e. let one = (bytes_eq-Decides other name).1 e in cc))) ∙ some)
 
--- the next version's commit, with its file, is one entry more
+-- the next version's commit, with its files, is one entry more
 KeptFrom-push : (objects : Objects) (schema : Tree) (version next : ℕ) (entries : List Entry) (entry : Entry) → next ≡ version + length entries → KeptFrom objects schema version entries
-    → Stands objects (commit_name next) (IsCommitMade schema entry) → FileKept objects schema entry → KeptFrom objects schema version (entries ++ entry ∷ [])
-KeptFrom-push objects schema version next [] entry at kept commit file =
+    → Stands objects (commit_name next) (IsCommitMade schema entry) → FilesKept objects schema entry → KeptFrom objects schema version (entries ++ entry ∷ [])
+KeptFrom-push objects schema version next [] entry at kept commit files =
     let same : next ≡ version = omega (arith, at) in
-    (subst (λ (v : ℕ). Stands objects (commit_name v) (IsCommitMade schema entry)) same commit, file, tt)
-KeptFrom-push objects schema version next (first ∷ entries) entry at kept commit file =
-    (kept.0, kept.1, KeptFrom-push objects schema (suc version) next entries entry (omega (arith, at)) kept.2 commit file)
+    (subst (λ (v : ℕ). Stands objects (commit_name v) (IsCommitMade schema entry)) same commit, files, tt)
+KeptFrom-push objects schema version next (first ∷ entries) entry at kept commit files =
+    (kept.0, kept.1, KeptFrom-push objects schema (suc version) next entries entry (omega (arith, at)) kept.2 commit files)
 
 -- ---- how many names there are
 
@@ -109,31 +113,31 @@ kept_file objects schema entries application number file kept =
 -- ---- one batch more
 
 -- a name of a table is one of a table with an entry more
-named_more : (entries : List Entry) (b : Batch) (name : List ℕ) → IsNamed entries name → IsNamed (entries ++ batch b ∷ []) name
-named_more entries b name (of_commit version lt is) = of_commit version (omega (arith, lt, length-append entries (batch b ∷ []))) is
+named_more : (entries : List Entry) (b : Batch) (name : List ℕ) → IsNamed entries name → IsNamed (entries ++ group (b ∷ []) ∷ []) name
+named_more entries b name (of_commit version lt is) = of_commit version (omega (arith, lt, length-append entries (group (b ∷ []) ∷ []))) is
 named_more entries b name (of_file application number is) = of_file application number is
 
 -- Where a batch's file stands, the next version's commit, put under a free name, is one entry more.
-pub kept_commit : (objects : Objects) (schema : Tree) (entries : List Entry) (b : Batch) (commit : List ℕ) → IsKept objects schema entries → IsLawful (entries ++ batch b ∷ [])
-    → FileKept objects schema (batch b) → object_at objects (commit_name (length entries)) ≡ None → IsCommitMade schema (batch b) commit
-    → IsKept (with_object objects (commit_name (length entries)) commit) schema (entries ++ batch b ∷ [])
+pub kept_commit : (objects : Objects) (schema : Tree) (entries : List Entry) (b : Batch) (commit : List ℕ) → IsKept objects schema entries → IsLawful (entries ++ group (b ∷ []) ∷ [])
+    → FileKept objects schema b → object_at objects (commit_name (length entries)) ≡ None → IsCommitMade schema (group (b ∷ [])) commit
+    → IsKept (with_object objects (commit_name (length entries)) commit) schema (entries ++ group (b ∷ []) ∷ [])
 kept_commit objects schema entries b commit kept lawful file free is_commit =
     let next = commit_name (length entries) in
-    let more : length (entries ++ batch b ∷ []) ≡ length entries + 1 = length-append entries (batch b ∷ []) in
+    let more : length (entries ++ group (b ∷ []) ∷ []) ≡ length entries + 1 = length-append entries (group (b ∷ []) ∷ []) in
     record {
-      kept = KeptFrom-push (with_object objects next commit) schema 0 (length entries) entries (batch b) (omega arith) (KeptFrom-put objects next commit schema 0 entries kept.kept)
-          (commit, put_stands objects next commit free, is_commit) (FileKept-put objects next commit schema (batch b) file);
-      rest = kept.rest ++ batch b ∷ [];
-      begins = ap (λ (es : List Entry). es ++ batch b ∷ []) kept.begins;
+      kept = KeptFrom-push (with_object objects next commit) schema 0 (length entries) entries (group (b ∷ [])) (omega arith) (KeptFrom-put objects next commit schema 0 entries kept.kept)
+          (commit, put_stands objects next commit free, is_commit) (FileKept-put objects next commit schema b file, tt);
+      rest = kept.rest ++ group (b ∷ []) ∷ [];
+      begins = ap (λ (es : List Entry). es ++ group (b ∷ []) ∷ []) kept.begins;
       lawful = lawful;
-      named = named_put objects next commit (IsNamed (entries ++ batch b ∷ [])) (λ other some. named_more entries b other (kept.named other some)) (of_commit (length entries) (omega (arith, more)) refl);
+      named = named_put objects next commit (IsNamed (entries ++ group (b ∷ []) ∷ [])) (λ other some. named_more entries b other (kept.named other some)) (of_commit (length entries) (omega (arith, more)) refl);
       many = omega (arith, more, kept.many, names_put objects next commit free);
     }
 
 -- A batch's file and then the next version's commit, put under free names, are one entry more.
-pub kept_more : (objects : Objects) (schema : Tree) (entries : List Entry) (b : Batch) (file commit : List ℕ) → IsKept objects schema entries → IsLawful (entries ++ batch b ∷ [])
-    → object_at objects (data_file_name b.application b.number) ≡ None → object_at objects (commit_name (length entries)) ≡ None → IsFileOf schema b file → IsCommitMade schema (batch b) commit
-    → IsKept (with_object (with_object objects (data_file_name b.application b.number) file) (commit_name (length entries)) commit) schema (entries ++ batch b ∷ [])
+pub kept_more : (objects : Objects) (schema : Tree) (entries : List Entry) (b : Batch) (file commit : List ℕ) → IsKept objects schema entries → IsLawful (entries ++ group (b ∷ []) ∷ [])
+    → object_at objects (data_file_name b.application b.number) ≡ None → object_at objects (commit_name (length entries)) ≡ None → IsFileOf schema b file → IsCommitMade schema (group (b ∷ [])) commit
+    → IsKept (with_object (with_object objects (data_file_name b.application b.number) file) (commit_name (length entries)) commit) schema (entries ++ group (b ∷ []) ∷ [])
 kept_more objects schema entries b file commit kept lawful no_file no_commit is_file is_commit =
     let name = data_file_name b.application b.number in
     let next = commit_name (length entries) in
@@ -143,14 +147,14 @@ kept_more objects schema entries b file commit kept lawful no_file no_commit is_
 
 -- And no data file stands then that is no batch's, where none stood before.
 pub no_other_more : (objects : Objects) (entries : List Entry) (b : Batch) (file commit : List ℕ) → HasNoOther objects entries
-    → HasNoOther (with_object (with_object objects (data_file_name b.application b.number) file) (commit_name (length entries)) commit) (entries ++ batch b ∷ [])
+    → HasNoOther (with_object (with_object objects (data_file_name b.application b.number) file) (commit_name (length entries)) commit) (entries ++ group (b ∷ []) ∷ [])
 no_other_more objects entries b file commit own application number some =
     let name = data_file_name b.application b.number in
     let next = commit_name (length entries) in
     named_put (with_object objects name file) next commit IsOwned (named_put objects name file IsOwned old new) none (data_file_name application number) some refl
   where
     IsOwned : List ℕ → Type 0
-    IsOwned other = other ≡ data_file_name application number → IsOwn (entries ++ batch b ∷ []) other
+    IsOwned other = other ≡ data_file_name application number → IsOwn (entries ++ group (b ∷ []) ∷ []) other
 
     old : (other : List ℕ) → IsSome (object_at objects other) → IsOwned other
     old other some is =

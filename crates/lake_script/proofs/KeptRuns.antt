@@ -5,7 +5,7 @@ use Rattle.std.proofs.lemmas.Bool.{cases_Bool}
 use Rattle.serde_json.specs.Data.{Items}
 use Rattle.schema_tree.specs.Tree.{Tree}
 use Rattle.store_core.specs.Objects.{Objects}
-use Rattle.table_model.specs.Table.{Batch, Entry, batch}
+use Rattle.table_model.specs.Table.{Batch, Entry, group}
 use Rattle.table_model.specs.Appends.{appended, with_batch}
 use Rattle.table_model.specs.declared.table.Appended.{Appended}
 use Rattle.table_model.specs.declared.table.Appended.TheVariants.{Committed, Already, Stale, Differs, StreamClosed}
@@ -47,7 +47,7 @@ created_one state (Err why) = omega arith
 
 -- an append leaves one entry more, or what was there
 batch_one : (answer : Appended) (b : Batch) (entries : List Entry) → length (with_batch answer b entries) ≤ suc (length entries)
-batch_one (Committed version) b entries = let joined = length-append entries (batch b ∷ []) in omega arith
+batch_one (Committed version) b entries = let joined = length-append entries (group (b ∷ []) ∷ []) in omega arith
 batch_one (Already number) b entries = omega arith
 batch_one (Stale last) b entries = omega arith
 batch_one Differs b entries = omega arith

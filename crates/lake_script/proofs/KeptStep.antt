@@ -18,7 +18,7 @@ use Rattle.delta_actions.specs.Names as names
 use Rattle.row_core.specs.Rows.{Row}
 use Rattle.row_core.proofs.Callers.{same_rows-is}
 use Rattle.table_model.specs.Table as model
-use Rattle.table_model.specs.Table.{Entry, batch, last_batch}
+use Rattle.table_model.specs.Table.{Entry, group, last_batch}
 use Rattle.table_store.proofs.Callers.{commit_name-data_file_name}
 use Rattle.sink_core.specs.Appending.{Batch, Step, puts, stands, checked, count, file_name, is_repeat, is_same, unless_other, where_same, file_or_refusal, batch_of, fitting, new_step, step_of, settled, with_append, with_file_alone, IsWellMade, PutsWell}
 use Rattle.sink_core.specs.Refusals.{Refusal, stale, differs}
@@ -104,7 +104,7 @@ module _ (objects : Objects) (schema : Tree) (entries : List Entry) (kept : IsKe
 
   -- behind the put of a file of rows, one stands under the name
   file_behind : (file : List ℕ) (found : Option (List ℕ)) → object_at objects (data_file_name application number) ≡ found → unless_other schema rows (data_file_name application number) found ≡ Ok tt
-      → IsFileOf schema (handed_in application number rows) file → FileKept (with_object objects (data_file_name application number) file) schema (batch (handed_in application number rows))
+      → IsFileOf schema (handed_in application number rows) file → FileKept (with_object objects (data_file_name application number) file) schema (handed_in application number rows)
   file_behind file None there free is = (file, put_stands objects (data_file_name application number) file there, is)
   file_behind file (Some old) there free is =
       Stands-put objects (data_file_name application number) file (data_file_name application number) (IsFileOf schema (handed_in application number rows)) (old, there, same_file old there (passes (is_same rows (rows_at old schema)) free))
@@ -125,15 +125,15 @@ module _ (objects : Objects) (schema : Tree) (entries : List Entry) (kept : IsKe
       let filed : Objects = with_object objects name file in
       let is_file = file_made schema (length entries) rows application number at file well in
       let is_commit = commit_made schema (length entries) rows application number at file utf8 fits well in
-      let lawful : IsLawful (entries ++ batch b ∷ []) = rw new at (lawful_after objects schema entries b kept) in
+      let lawful : IsLawful (entries ++ group (b ∷ []) ∷ []) = rw new at (lawful_after objects schema entries b kept) in
       let filed_kept : IsKept filed schema entries = kept_file objects schema entries application number file kept in
       let filed_files : AreFiles filed schema = files_put objects schema name b file files is_file in
-      let there : FileKept filed schema (batch b) = file_behind file (object_at objects name) refl (rw (same_file_name application number) at free) is_file in
-      let more : IsKept (with_object filed next (made file).commit) schema (entries ++ batch b ∷ []) =
+      let there : FileKept filed schema b = file_behind file (object_at objects name) refl (rw (same_file_name application number) at free) is_file in
+      let more : IsKept (with_object filed next (made file).commit) schema (entries ++ group (b ∷ []) ∷ []) =
       kept_commit filed schema entries b (made file).commit filed_kept lawful there (none_behind filed schema entries filed_kept few) is_commit in
       let alone : Stays (suc most) filed = keeps schema entries filed_kept filed_files (omega (arith, up)) in
       let whole : Stays (suc most) (with_object filed next (made file).commit) =
-      keeps schema (entries ++ batch b ∷ []) more (files_commit filed schema (length entries) (made file).commit filed_files) (omega (arith, up, length-append entries (batch b ∷ []))) in
+      keeps schema (entries ++ group (b ∷ []) ∷ []) more (files_commit filed schema (length entries) (made file).commit filed_files) (omega (arith, up, length-append entries (group (b ∷ []) ∷ []))) in
       rw (same_file_name application number, same_name (length entries)) (alone, rw (same_file_name application number) at whole)
 
   -- what is done for a new number

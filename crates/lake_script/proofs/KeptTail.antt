@@ -6,9 +6,8 @@ use Rattle.std.proofs.lemmas.Bool.Decides.{nat_tests}
 use Rattle.schema_tree.specs.Tree.{Tree}
 use Rattle.store_core.specs.Objects.{Objects}
 use Rattle.delta_actions.specs.Entry as actions
-use Rattle.delta_actions.specs.Names.{data_file_name}
 use Rattle.row_core.specs.Rows.{Row}
-use Rattle.table_model.specs.Table.{Entry, creation, batch, close, last}
+use Rattle.table_model.specs.Table.{Entry, creation, group, close, last}
 use Rattle.table_model.specs.Reads.{Answer, handed, beyond, bad_place, is_beyond, is_place, behind, part, next_place, end, read}
 use Rattle.table_model.specs.declared.reading.Place.{Place}
 use Rattle.sink_core.specs.Appending.{appending}
@@ -21,7 +20,7 @@ use Rattle.source_core.specs.Tailing as tails
 use Rattle.table_store.specs.Groups.{new_files}
 use Rattle.source_core.specs.Tailing.{Refusal, Handed, rows_of, hand, handed_by, handed_text, tailed, files_at, end_of}
 use Rattle.lake_script.specs.Told.{tailed_reply}
-use Rattle.lake_script.proofs.Kept.{FileKept, IsMade, KeptFrom, IsKept}
+use Rattle.lake_script.proofs.Kept.{FilesKept, IsMade, KeptFrom, IsKept}
 use Rattle.lake_script.proofs.KeptFile.{file_read}
 use Rattle.lake_script.proofs.KeptLog.{AreMade, kept_log, log_of_nothing}
 use Rattle.source_core.proofs.Callers.{file_of, rows_in, behind_all, behind_last, walked, row_missing}
@@ -30,14 +29,15 @@ use Rattle.source_core.proofs.Callers.{Ahead, Spot, stands, no_file, no_row, spo
 
 -- ---- the commits of a table and their files
 
--- the commit of an entry brings its file, which stands and reads as its rows
-entry_found : (objects : Objects) (schema : Tree) (entry : Entry) (made : List actions.Entry) → IsMade schema entry made → FileKept objects schema entry → IsEntryFound objects schema entry made
+-- the commit of an entry brings its files, which stand and read as its batches' rows
+entry_found : (objects : Objects) (schema : Tree) (entry : Entry) (made : List actions.Entry) → IsMade schema entry made → FilesKept objects schema entry → IsEntryFound objects schema entry made
 unfolding created appending rows_of
-entry_found objects schema creation made is kept = rw is.are refl
-entry_found objects schema (batch b) made is kept =
-    let name = data_file_name b.application b.number in
-    let reads = file_read schema b kept.0 kept.2 in
-    (record { text = name; key = name }, rw is.are refl, λ version. rw (kept.1, reads) refl)
+entry_found objects schema creation made is kept = rw is.are tt
+entry_found objects schema (group []) made is kept = absurd is
+entry_found objects schema (group (b ∷ [])) made is kept =
+    let reads = file_read schema b kept.0.0 kept.0.2 in
+    rw is.are (λ version file. rw (kept.0.1, reads) refl, tt)
+entry_found objects schema (group (b ∷ c ∷ bs)) made is kept = absurd is
 entry_found objects schema (close application) made is kept = absurd is
 
 -- so does each commit of a table

@@ -1,3 +1,5 @@
+pub mod ActionLemmas
+pub mod GroupLemmas
 pub mod HeldLemmas
 pub mod HoldingGrown
 pub mod HoldingKept

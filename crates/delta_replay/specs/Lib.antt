@@ -1,0 +1,6 @@
+pub mod Closes
+pub mod Keys
+pub mod Places
+pub mod Snapshots
+pub mod Support
+pub mod SupportTexts

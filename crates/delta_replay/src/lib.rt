@@ -1,0 +1,17 @@
+//! What the commits of a table's log leave, read one behind the other: the newest action of each key. It knows nothing
+//! of stores, the bytes of files, or batches.
+#![tactic(auto)]
+
+mod closing;
+mod features;
+mod keeping;
+mod kept;
+mod places;
+mod readable;
+mod snapshot;
+mod support;
+mod writable;
+
+pub use closing::closes;
+pub use kept::{FileAction, Snapshot};
+pub use support::{SupportError, SupportFault};

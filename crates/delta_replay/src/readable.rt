@@ -1,0 +1,74 @@
+//! Whether a table is read: what its protocol asks of a reader, and its schema.
+
+ghost use Rattle.std.specs.Prelude.{List, map, string_bytes};
+ghost use Rattle.lake_bytes.specs.Outcome.{Gives};
+ghost use Rattle.schema_tree.specs.Schema.{tree_of};
+ghost use Rattle.delta_actions.specs.Entry.{Entry, meta_data_view, protocol_view};
+ghost use Rattle.delta_replay.specs.Snapshots.{IsSnapshotOf};
+ghost use Rattle.delta_replay.specs.Support.{first_unknown, is_known_to_readers, readable, readable_protocol, says, schema_told, unless_unknown};
+
+use crate::features::{is_known_to_readers, unknown_feature};
+use crate::kept::Snapshot;
+use crate::support::{SupportError, SupportFault};
+use delta_actions::{MetaData, Protocol};
+use schema_tree::{ReadError, Schema};
+use std::alloc::Global;
+
+impl Snapshot {
+    /// The schema of the table, if it is read. This product's rule, over the fields of Delta PROTOCOL.md, "Protocol
+    /// Evolution" and "Change Metadata": reader version 1, or 3 with no feature but `v2Checkpoint`; no partition columns;
+    /// and a schema that can be read.
+    ///
+    /// C1 without a protocol, C2 without a metadata, C5 for another reader version, C3 for the first other reader
+    /// feature, C4 for a table with partition columns, and C6 for the schema's text, in this order; `Memory` where
+    /// memory runs out. The time is linear in the protocol and the schema's text.
+    pub fn supports_read(&self, alloc: Global) -> Result<Schema<Global>, SupportError>
+        ensures { (log : List (List Entry)) → IsSnapshotOf log self.now → Gives says tree_of result (readable log) }
+    {
+        let Some(protocol) = self.protocol() else {
+            return Err(SupportFault::NoProtocol.into());
+        };
+        let Some(meta_data) = self.meta_data() else {
+            return Err(SupportFault::NoMetadata.into());
+        };
+        check_protocol(alloc, protocol)?;
+        if !meta_data.partition_columns.is_empty() {
+            return Err(SupportFault::Partitioned.into());
+        }
+        schema_in(alloc, meta_data)
+    }
+}
+
+/// Whether a reader of this crate's features reads tables of a protocol.
+fn check_protocol(alloc: Global, protocol: &Protocol) -> Result<(), SupportError>
+    ensures { Gives says (λ u. u) result (readable_protocol (protocol_view protocol.now)) }
+{
+    match protocol.min_reader_version {
+        1 => Ok(()),
+        3 => check_features(alloc, &protocol.reader_features),
+        n => Err(SupportFault::ReaderVersion { n }.into()),
+    }
+}
+
+/// Whether all features are known to readers.
+fn check_features(alloc: Global, features: &[String]) -> Result<(), SupportError>
+    ensures { Gives says (λ u. u) result (unless_unknown (first_unknown is_known_to_readers (map (λ s. string_bytes s) features.now))) }
+{
+    for feature in features {
+        if !is_known_to_readers(feature) {
+            return Err(unknown_feature(alloc, feature));
+        }
+    }
+    Ok(())
+}
+
+/// The schema that a metadata tells.
+fn schema_in(alloc: Global, meta_data: &MetaData) -> Result<Schema<Global>, SupportError>
+    ensures { Gives says tree_of result (schema_told (meta_data_view meta_data.now)) }
+{
+    match Schema::from_text(alloc, &meta_data.schema_string) {
+        Ok(schema) => Ok(schema),
+        Err(ReadError::Memory) => Err(SupportError::Memory),
+        Err(ReadError::Fault(fault)) => Err(SupportFault::BadSchema { fault }.into()),
+    }
+}
