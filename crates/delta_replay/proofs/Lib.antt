@@ -1,2 +1,4 @@
 pub mod Filled
 pub mod Grown
+pub mod Listed
+pub mod Picked

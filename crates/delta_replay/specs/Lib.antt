@@ -1,5 +1,6 @@
 pub mod Closes
 pub mod Keys
+pub mod Lists
 pub mod Places
 pub mod Snapshots
 pub mod Support

@@ -6,6 +6,7 @@ mod closing;
 mod features;
 mod keeping;
 mod kept;
+mod lists;
 mod places;
 mod readable;
 mod snapshot;

@@ -56,6 +56,8 @@ impl Log {
     /// - `protocol` and `metadata`: the versions of a reader and a writer with their features, and the table's id;
     /// - `number APP`, `domain NAME` and `file PATH`: the application's number, what the domain keeps, and the file's
     ///   size or that it left the table, by its decoded path;
+    /// - `numbers`, `domains` and `files`: all applications, domains, and files with those that left the table, a line
+    ///   each;
     /// - `read` and `write`: the schema's text, or why the table isn't read or written.
     pub fn answer(&self, question: &str, out: &mut Vec<u8>) -> Result<(), Failure> {
         let (word, rest) = question.split_once(' ').unwrap_or((question, ""));
@@ -66,6 +68,9 @@ impl Log {
             "number" => self.tell_number(rest, out)?,
             "domain" => self.tell_domain(rest, out)?,
             "file" => self.tell_file(rest, out)?,
+            "numbers" => self.tell_numbers(out)?,
+            "domains" => self.tell_domains(out)?,
+            "files" => self.tell_files(out)?,
             "read" => self.tell_schema(self.snapshot.supports_read(self.alloc), out)?,
             "write" => self.tell_schema(self.snapshot.supports_write(self.alloc), out)?,
             _ => return Err(Failure::Misspelled),
@@ -125,6 +130,32 @@ impl Log {
                 writeln!(out, "tombstone {}", remove.path.text())?;
             }
             None => writeln!(out, "no file")?,
+        }
+        Ok(())
+    }
+
+    fn tell_numbers(&self, out: &mut Vec<u8>) -> Result<(), Failure> {
+        for number in self.snapshot.numbers(self.alloc)? {
+            let version = number.version;
+            writeln!(out, "number {} {version}", number.app_id)?;
+        }
+        Ok(())
+    }
+
+    fn tell_domains(&self, out: &mut Vec<u8>) -> Result<(), Failure> {
+        for metadata in self.snapshot.domains(self.alloc)? {
+            writeln!(out, "domain {} {}", metadata.domain, metadata.configuration)?;
+        }
+        Ok(())
+    }
+
+    fn tell_files(&self, out: &mut Vec<u8>) -> Result<(), Failure> {
+        for add in self.snapshot.files(self.alloc)? {
+            let size = add.size;
+            writeln!(out, "file {} {size}", add.path.text())?;
+        }
+        for remove in self.snapshot.tombstones(self.alloc)? {
+            writeln!(out, "tombstone {}", remove.path.text())?;
         }
         Ok(())
     }
