@@ -9,3 +9,4 @@ pub mod Reading
 pub mod Printing
 pub mod FaultTexts
 pub mod Names
+pub mod Lent

@@ -1,4 +1,9 @@
+pub mod Callers
 pub mod Filled
 pub mod Grown
+pub mod Lent
 pub mod Listed
+pub mod Passes
 pub mod Picked
+pub mod Same
+pub mod Whole

@@ -1,3 +1,4 @@
+pub mod All
 pub mod Closes
 pub mod Keys
 pub mod Lists
@@ -5,3 +6,4 @@ pub mod Places
 pub mod Snapshots
 pub mod Support
 pub mod SupportTexts
+pub mod Whole

@@ -2,6 +2,7 @@
 //! of stores, the bytes of files, or batches.
 #![tactic(auto)]
 
+mod actions;
 mod closing;
 mod features;
 mod keeping;

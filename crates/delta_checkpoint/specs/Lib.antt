@@ -1,0 +1,4 @@
+pub mod Checkpoints
+pub mod Faults
+pub mod Names
+pub mod Tests
