@@ -1,5 +1,8 @@
 //! The cases of an input, one behind the other.
 
+ghost use Rattle.std.specs.Prelude.{OnOk};
+ghost use Rattle.log_inspect.specs.Logs.{IsOfLog};
+
 use crate::failure::Failure;
 use crate::log::Log;
 use std::alloc::Global;
@@ -13,11 +16,28 @@ pub fn tell_cases(alloc: Global, text: &str, out: &mut Vec<u8>) -> Result<(), Fa
             log = Log::new(alloc);
             writeln!(out, "== {name}")?;
         } else if let Some(question) = line.strip_prefix(">> ") {
-            log.end_commit(out)?;
-            log.answer(question, out)?;
+            tell_question(&mut log, question, out)?;
         } else if !line.is_empty() {
             log.add_line(line)?;
         }
     }
     Ok(())
+}
+
+/// Adds the answer to a question.
+fn tell_question(log: &mut Log, question: &str, out: &mut Vec<u8>) -> Result<(), Failure>
+    requires { IsOfLog log.old.snapshot }
+    ensures { OnOk result (IsOfLog log.new.snapshot) }
+{
+    if let Some(sizes) = question.strip_prefix("grow ") {
+        return log.grow(sizes);
+    }
+    if let Some(version) = question.strip_prefix("restore ") {
+        return log.restore(version, out);
+    }
+    log.end_commit(out)?;
+    if let Some(version) = question.strip_prefix("again ") {
+        return log.print_and_restore(version, out);
+    }
+    log.answer(question, out)
 }

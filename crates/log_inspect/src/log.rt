@@ -1,7 +1,11 @@
 //! A log that grows commit by commit, and its snapshot.
 
+ghost use Rattle.std.specs.Prelude.{◌≡◌, ◌<◌, ◌^◌, IfOk, OnOk};
+ghost use Rattle.log_inspect.specs.Logs.{IsOfLog};
+
 use crate::failure::Failure;
-use delta_actions::{ActionFault, read_commit};
+use delta_actions::{Action, ActionFault, read_commit};
+use delta_checkpoint::{CheckpointError, checkpoint_name, print_checkpoint, read_checkpoint};
 use delta_replay::{FileAction, Snapshot, SupportError, closes};
 use schema_tree::Schema;
 use std::alloc::Global;
@@ -11,12 +15,14 @@ use std::io::Write;
 #[derive(Drop)]
 pub struct Log {
     alloc: Global,
-    snapshot: Snapshot,
+    pub snapshot: Snapshot,
     commit: Vec<u8>,
 }
 
 impl Log {
-    pub fn new(alloc: Global) -> Log {
+    pub fn new(alloc: Global) -> Log
+        ensures { IsOfLog result.snapshot }
+    {
         Log {
             alloc,
             snapshot: Snapshot::new(alloc),
@@ -25,7 +31,9 @@ impl Log {
     }
 
     /// Adds a line to the commit that is begun.
-    pub fn add_line(&mut self, line: &str) -> Result<(), Failure> {
+    pub fn add_line(&mut self, line: &str) -> Result<(), Failure>
+        ensures { self.new.snapshot ≡ self.old.snapshot }
+    {
         self.commit.extend_from_slice(line.as_bytes())?;
         self.commit.push(b'\n')?;
         Ok(())
@@ -33,14 +41,13 @@ impl Log {
 
     /// Ends the commit that is begun: the snapshot takes its actions in. A commit that can't be read is told, and
     /// changes nothing.
-    pub fn end_commit(&mut self, out: &mut Vec<u8>) -> Result<(), Failure> {
+    pub fn end_commit(&mut self, out: &mut Vec<u8>) -> Result<(), Failure>
+        requires { IsOfLog self.old.snapshot }
+        ensures { OnOk result (IsOfLog self.new.snapshot) }
+    {
         match read_commit(self.alloc, &self.commit) {
             Ok(actions) => {
-                for action in &actions {
-                    if let Some(application) = closes(self.alloc, action)? {
-                        writeln!(out, "closes {application}")?;
-                    }
-                }
+                tell_closes(self.alloc, &actions, out)?;
                 self.snapshot.apply(self.alloc, actions)?;
             }
             Err(ActionFault::Memory) => return Err(Failure::Memory),
@@ -48,6 +55,57 @@ impl Log {
         }
         self.commit.clear();
         Ok(())
+    }
+
+    /// Adds lines to the commit that is begun: so many files, and so many applications' numbers, named by their places.
+    pub fn grow(&mut self, sizes: &str) -> Result<(), Failure>
+        ensures { self.new.snapshot ≡ self.old.snapshot }
+    {
+        let (files, applications) = sizes.split_once(' ').ok_or(Failure::Misspelled)?;
+        let files = number_of(files)?;
+        let applications = number_of(applications)?;
+        for file in 0..files {
+            writeln!(self.commit, "{{\"add\":{{\"path\":\"{file}.parquet\",\"size\":1,\"dataChange\":true}}}}")?;
+        }
+        for application in 0..applications {
+            writeln!(self.commit, "{{\"txn\":{{\"appId\":\"{application}\",\"version\":1}}}}")?;
+        }
+        Ok(())
+    }
+
+    /// Reads the lines that are begun as a version's checkpoint in place of a commit: its snapshot takes the place of the
+    /// log's. A refusal is told, and changes nothing.
+    pub fn restore(&mut self, version: &str, out: &mut Vec<u8>) -> Result<(), Failure>
+        requires { IsOfLog self.old.snapshot }
+        ensures { OnOk result (IsOfLog self.new.snapshot) }
+    {
+        let version = number_of(version)?;
+        match read_checkpoint(self.alloc, &self.commit, version) {
+            Ok(snapshot) => self.snapshot = snapshot,
+            Err(CheckpointError::Memory) => return Err(Failure::Memory),
+            Err(CheckpointError::Fault(fault)) => writeln!(out, "refused {fault}")?,
+        }
+        self.commit.clear();
+        Ok(())
+    }
+
+    /// Prints the checkpoint of a version, and goes on with the snapshot that is read from it.
+    pub fn print_and_restore(&mut self, version: &str, out: &mut Vec<u8>) -> Result<(), Failure>
+        requires { IsOfLog self.old.snapshot }
+        ensures { OnOk result (IsOfLog self.new.snapshot) }
+    {
+        self.commit = self.checkpoint(number_of(version)?)?;
+        self.restore(version, out)
+    }
+
+    /// The bytes of a version's checkpoint.
+    fn checkpoint(&self, version: u64) -> Result<Vec<u8>, Failure>
+        requires { IsOfLog self.now.snapshot }
+    {
+        if version > MOST_VERSION {
+            return Err(Failure::Misspelled);
+        }
+        Ok(print_checkpoint(self.alloc, &self.snapshot, version)?)
     }
 
     /// Adds the answer to a question:
@@ -58,8 +116,12 @@ impl Log {
     ///   size or that it left the table, by its decoded path;
     /// - `numbers`, `domains` and `files`: all applications, domains, and files with those that left the table, a line
     ///   each;
-    /// - `read` and `write`: the schema's text, or why the table isn't read or written.
-    pub fn answer(&self, question: &str, out: &mut Vec<u8>) -> Result<(), Failure> {
+    /// - `sizes`: how many applications, domains, files, and files that left the table there are;
+    /// - `read` and `write`: the schema's text, or why the table isn't read or written;
+    /// - `checkpoint V`: the name and the lines of that version's checkpoint.
+    pub fn answer(&self, question: &str, out: &mut Vec<u8>) -> Result<(), Failure>
+        requires { IsOfLog self.now.snapshot }
+    {
         let (word, rest) = question.split_once(' ').unwrap_or((question, ""));
         match word {
             "commit" => {}
@@ -71,6 +133,8 @@ impl Log {
             "numbers" => self.tell_numbers(out)?,
             "domains" => self.tell_domains(out)?,
             "files" => self.tell_files(out)?,
+            "sizes" => self.tell_sizes(out)?,
+            "checkpoint" => self.tell_checkpoint(rest, out)?,
             "read" => self.tell_schema(self.snapshot.supports_read(self.alloc), out)?,
             "write" => self.tell_schema(self.snapshot.supports_write(self.alloc), out)?,
             _ => return Err(Failure::Misspelled),
@@ -160,6 +224,32 @@ impl Log {
         Ok(())
     }
 
+    fn tell_sizes(&self, out: &mut Vec<u8>) -> Result<(), Failure> {
+        let numbers = self.snapshot.numbers(self.alloc)?.len();
+        let domains = self.snapshot.domains(self.alloc)?.len();
+        let files = self.snapshot.files(self.alloc)?.len();
+        let tombstones = self.snapshot.tombstones(self.alloc)?.len();
+        writeln!(
+            out,
+            "numbers {numbers} domains {domains} files {files} tombstones {tombstones}",
+        )?;
+        Ok(())
+    }
+
+    fn tell_checkpoint(&self, version: &str, out: &mut Vec<u8>) -> Result<(), Failure>
+        requires { IsOfLog self.now.snapshot }
+    {
+        let version = number_of(version)?;
+        let id = match self.snapshot.meta_data() {
+            Some(meta_data) => meta_data.id.as_str(),
+            None => "",
+        };
+        writeln!(out, "{}", checkpoint_name(self.alloc, version, id)?)?;
+        let bytes = self.checkpoint(version)?;
+        out.extend_from_slice(&bytes)?;
+        Ok(())
+    }
+
     fn tell_schema(
         &self,
         answer: Result<Schema<Global>, SupportError>,
@@ -175,4 +265,22 @@ impl Log {
         }
         Ok(())
     }
+}
+
+/// The greatest version that a commit or a checkpoint has.
+const MOST_VERSION: u64 = 999_999_999_999;
+
+/// The number that a question names.
+fn number_of(text: &str) -> Result<u64, Failure> {
+    text.parse().map_err(|_error| Failure::Misspelled)
+}
+
+/// Adds the applications whose streams these actions close.
+fn tell_closes(alloc: Global, actions: &[Action], out: &mut Vec<u8>) -> Result<(), Failure> {
+    for action in actions {
+        if let Some(application) = closes(alloc, action)? {
+            writeln!(out, "closes {application}")?;
+        }
+    }
+    Ok(())
 }
