@@ -1,4 +1,8 @@
+pub mod Callers
+pub mod ClosedLists
 pub mod Filled
 pub mod Grown
 pub mod Listed
 pub mod Picked
+pub mod Same
+pub mod StreamLemmas
