@@ -1,4 +1,5 @@
 pub mod Callers
+pub mod ClosedLists
 pub mod Filled
 pub mod Grown
 pub mod Lent
@@ -6,4 +7,5 @@ pub mod Listed
 pub mod Passes
 pub mod Picked
 pub mod Same
+pub mod StreamLemmas
 pub mod Whole

@@ -4,6 +4,7 @@ pub mod Keys
 pub mod Lists
 pub mod Places
 pub mod Snapshots
+pub mod Streams
 pub mod Support
 pub mod SupportTexts
 pub mod Whole

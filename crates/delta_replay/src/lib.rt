@@ -11,6 +11,7 @@ mod lists;
 mod places;
 mod readable;
 mod snapshot;
+mod streams;
 mod support;
 mod writable;
 
