@@ -1,14 +1,14 @@
 -- What is wrong with the lines of a checkpoint that is read.
 use Rattle.std.specs.Prelude.{◌≡◌, ◌==◌, ℕ, List, [], ◌∷◌, Bool, Option, Some, None, Result, Ok, Err, is_some, not, option_map, if◌then◌else◌}
 use Rattle.std.specs.List.{filter_map, list_any}
-use Rattle.lake_bytes.specs.Outcome.{Said, refuses, says_nothing, never_comes}
+use Rattle.lake_bytes.specs.Outcome.{IsSaid, Said, refuses, says_nothing, never_comes}
 use Rattle.lake_bytes.specs.Results.{◌>>=◌, refused_if}
-use Rattle.delta_actions.specs.Commit.{IsFirstFault, Names}
+use Rattle.delta_actions.specs.Commit.{IsCommit, IsFirstFault, Names}
 use Rattle.delta_actions.specs.Entry.{Entry}
 use Rattle.delta_actions.specs.In.{checkpoint_metadata_in, sidecar_in}
 use Rattle.delta_actions.specs.Wrong as lines
 use Rattle.delta_actions.specs.declared.fault.ActionFault.{ActionFault}
-use Rattle.delta_checkpoint.specs.Checkpoints.{tells_of_it}
+use Rattle.delta_checkpoint.specs.Checkpoints.{is_metadata}
 use Rattle.delta_checkpoint.specs.declared.fault.CheckpointError.{CheckpointError}
 use Rattle.delta_checkpoint.specs.declared.fault.CheckpointError.TheVariants as errors
 use Rattle.delta_checkpoint.specs.declared.fault.CheckpointFault.{CheckpointFault}
@@ -37,7 +37,7 @@ is_sidecar action = is_some (sidecar_in action)
 -- the first counts, or one refers to a sidecar; tested in this order.
 abbrev pub tested : ℕ → List Entry → Result (Unit {0}) Wrong
 tested version actions = do
-  told ← refused_if (not (list_any tells_of_it actions)) no_metadata
+  told ← refused_if (not (list_any is_metadata actions)) no_metadata
   same ← unless_other version (versions_in actions)
   refused_if (list_any is_sidecar actions) has_sidecar
 
@@ -62,7 +62,9 @@ IsBadLine bytes errors.Memory = Unit {0}
 IsBadLine bytes (errors.Fault (faults.BadLine fault)) = IsFirstBad bytes fault
 IsBadLine bytes (errors.Fault fault) = ⊥
 
--- where an error is that of a line, it is the first that can't be read
-abbrev pub IsOfLine : List ℕ → CheckpointError → Type 0
-IsOfLine bytes (errors.Fault (faults.BadLine fault)) = IsFirstBad bytes fault
-IsOfLine bytes error = Unit {0}
+-- What an error says of the bytes stands in them: the first line that can't be read; or what is wrong with the actions
+-- that the lines stand for.
+abbrev pub IsRefusalOf : List ℕ → (version : ℕ) → CheckpointError → Type 0
+IsRefusalOf bytes version errors.Memory = Unit {0}
+IsRefusalOf bytes version (errors.Fault (faults.BadLine fault)) = IsFirstBad bytes fault
+IsRefusalOf bytes version (errors.Fault fault) = (actions : List Entry) × IsCommit bytes actions × IsSaid (fault_says fault) (tested version actions)

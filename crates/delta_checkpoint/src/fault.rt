@@ -14,9 +14,9 @@ use thiserror::Error;
 /// so that contracts know them.
 #[derive(Clone, Copy, Debug, PartialEq, Eq, Error)]
 pub enum CheckpointFault {
-    /// No line tells of the checkpoint (Delta PROTOCOL.md, "Checkpoint Metadata").
+    /// There is no `checkpointMetadata` (Delta PROTOCOL.md, "Checkpoint Metadata").
     NoCheckpointMetadata,
-    /// A line tells another version.
+    /// The version of a `checkpointMetadata` isn't the one asked for.
     VersionMismatch { found: u64 },
     /// A line refers to a sidecar (Delta PROTOCOL.md, "Sidecar File Information"), which isn't read.
     HasSidecar,

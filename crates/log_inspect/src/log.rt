@@ -1,6 +1,9 @@
 //! A log that grows commit by commit, and its snapshot.
 
-ghost use Rattle.std.specs.Prelude.{◌≡◌, ◌<◌, ◌^◌, IfOk, OnOk};
+ghost use Rattle.std.specs.Prelude.{◌≡◌, OnOk};
+ghost use Rattle.std.specs.List.{AllByRecursion};
+ghost use Rattle.delta_actions.specs.Entry.{views};
+ghost use Rattle.delta_actions.specs.Printing.{IsPrintable};
 ghost use Rattle.log_inspect.specs.Logs.{IsOfLog};
 
 use crate::failure::Failure;
@@ -45,15 +48,28 @@ impl Log {
         requires { IsOfLog self.old.snapshot }
         ensures { OnOk result (IsOfLog self.new.snapshot) }
     {
-        match read_commit(self.alloc, &self.commit) {
+        let read = read_commit(self.alloc, &self.commit);
+        self.commit.clear();
+        match read {
             Ok(actions) => {
                 tell_closes(self.alloc, &actions, out)?;
-                self.snapshot.apply(self.alloc, actions)?;
+                self.take_in(actions)
             }
-            Err(ActionFault::Memory) => return Err(Failure::Memory),
-            Err(fault) => writeln!(out, "refused {fault}")?,
+            Err(ActionFault::Memory) => Err(Failure::Memory),
+            Err(fault) => {
+                writeln!(out, "refused {fault}")?;
+                Ok(())
+            }
         }
-        self.commit.clear();
+    }
+
+    /// The snapshot takes the actions of a commit in.
+    fn take_in(&mut self, actions: Vec<Action>) -> Result<(), Failure>
+        requires of_log { IsOfLog self.old.snapshot }
+        requires printable { AllByRecursion IsPrintable (views actions.items) }
+        ensures { OnOk result (IsOfLog self.new.snapshot) }
+    {
+        self.snapshot.apply(self.alloc, actions)?;
         Ok(())
     }
 
@@ -62,15 +78,8 @@ impl Log {
         ensures { self.new.snapshot ≡ self.old.snapshot }
     {
         let (files, applications) = sizes.split_once(' ').ok_or(Failure::Misspelled)?;
-        let files = number_of(files)?;
-        let applications = number_of(applications)?;
-        for file in 0..files {
-            writeln!(self.commit, "{{\"add\":{{\"path\":\"{file}.parquet\",\"size\":1,\"dataChange\":true}}}}")?;
-        }
-        for application in 0..applications {
-            writeln!(self.commit, "{{\"txn\":{{\"appId\":\"{application}\",\"version\":1}}}}")?;
-        }
-        Ok(())
+        add_files(&mut self.commit, number_of(files)?)?;
+        add_numbers(&mut self.commit, number_of(applications)?)
     }
 
     /// Reads the lines that are begun as a version's checkpoint in place of a commit: its snapshot takes the place of the
@@ -80,13 +89,19 @@ impl Log {
         ensures { OnOk result (IsOfLog self.new.snapshot) }
     {
         let version = number_of(version)?;
-        match read_checkpoint(self.alloc, &self.commit, version) {
-            Ok(snapshot) => self.snapshot = snapshot,
-            Err(CheckpointError::Memory) => return Err(Failure::Memory),
-            Err(CheckpointError::Fault(fault)) => writeln!(out, "refused {fault}")?,
-        }
+        let read = read_checkpoint(self.alloc, &self.commit, version);
         self.commit.clear();
-        Ok(())
+        match read {
+            Ok(snapshot) => {
+                self.snapshot = snapshot;
+                Ok(())
+            }
+            Err(CheckpointError::Memory) => Err(Failure::Memory),
+            Err(CheckpointError::Fault(fault)) => {
+                writeln!(out, "refused {fault}")?;
+                Ok(())
+            }
+        }
     }
 
     /// Prints the checkpoint of a version, and goes on with the snapshot that is read from it.
@@ -116,6 +131,7 @@ impl Log {
     ///   size or that it left the table, by its decoded path;
     /// - `numbers`, `domains` and `files`: all applications, domains, and files with those that left the table, a line
     ///   each;
+    /// - `closed` and `stream APP`: the applications whose streams are closed, a line each, and whether that one is;
     /// - `sizes`: how many applications, domains, files, and files that left the table there are;
     /// - `read` and `write`: the schema's text, or why the table isn't read or written;
     /// - `checkpoint V`: the name and the lines of that version's checkpoint.
@@ -133,6 +149,8 @@ impl Log {
             "numbers" => self.tell_numbers(out)?,
             "domains" => self.tell_domains(out)?,
             "files" => self.tell_files(out)?,
+            "closed" => self.tell_closed(out)?,
+            "stream" => self.tell_stream(rest, out)?,
             "sizes" => self.tell_sizes(out)?,
             "checkpoint" => self.tell_checkpoint(rest, out)?,
             "read" => self.tell_schema(self.snapshot.supports_read(self.alloc), out)?,
@@ -224,6 +242,22 @@ impl Log {
         Ok(())
     }
 
+    fn tell_closed(&self, out: &mut Vec<u8>) -> Result<(), Failure> {
+        for application in self.snapshot.closed(self.alloc)? {
+            writeln!(out, "closed {application}")?;
+        }
+        Ok(())
+    }
+
+    fn tell_stream(&self, application: &str, out: &mut Vec<u8>) -> Result<(), Failure> {
+        if self.snapshot.is_closed(application) {
+            writeln!(out, "closed")?;
+        } else {
+            writeln!(out, "open")?;
+        }
+        Ok(())
+    }
+
     fn tell_sizes(&self, out: &mut Vec<u8>) -> Result<(), Failure> {
         let numbers = self.snapshot.numbers(self.alloc)?.len();
         let domains = self.snapshot.domains(self.alloc)?.len();
@@ -273,6 +307,28 @@ const MOST_VERSION: u64 = 999_999_999_999;
 /// The number that a question names.
 fn number_of(text: &str) -> Result<u64, Failure> {
     text.parse().map_err(|_error| Failure::Misspelled)
+}
+
+/// Adds lines of so many files, named by their places.
+fn add_files(commit: &mut Vec<u8>, files: u64) -> Result<(), Failure> {
+    for file in 0..files {
+        writeln!(
+            commit,
+            "{{\"add\":{{\"path\":\"{file}.parquet\",\"size\":1,\"dataChange\":true}}}}",
+        )?;
+    }
+    Ok(())
+}
+
+/// Adds lines of so many applications' numbers, named by their places.
+fn add_numbers(commit: &mut Vec<u8>, applications: u64) -> Result<(), Failure> {
+    for application in 0..applications {
+        writeln!(
+            commit,
+            "{{\"txn\":{{\"appId\":\"{application}\",\"version\":1}}}}",
+        )?;
+    }
+    Ok(())
 }
 
 /// Adds the applications whose streams these actions close.
