@@ -71,15 +71,15 @@ readable log = do
 abbrev pub is_known_to_writers : List ℕ → Bool
 is_known_to_writers name = list_any (λ known. bytes_eq name known) (codes "appendOnly" ∷ codes "invariants" ∷ codes "domainMetadata" ∷ codes "v2Checkpoint" ∷ [])
 
--- the feature that a writer of this crate needs
-abbrev pub has_domains : List (List ℕ) → Bool
-has_domains names = list_any (λ name. bytes_eq name (codes "domainMetadata")) names
+-- a feature is among these
+abbrev pub has_feature : (wanted : List ℕ) → List (List ℕ) → Bool
+has_feature wanted names = list_any (λ name. bytes_eq name wanted) names
 
 -- Writer version 7, with `domainMetadata` among the features and none that isn't known.
 abbrev pub writable_protocol : ProtocolEntry → Result (Unit {0}) Unsupported
 writable_protocol p = do
   version ← refused_if (not (p.min_writer_version == 7)) (feature (codes "domainMetadata"))
-  domains ← refused_if (not (has_domains p.writer_features)) (feature (codes "domainMetadata"))
+  domains ← refused_if (not (has_feature (codes "domainMetadata") p.writer_features)) (feature (codes "domainMetadata"))
   unless_unknown (first_unknown is_known_to_writers p.writer_features)
 
 -- whether a field, at any depth, has this key at the top of its metadata
@@ -102,6 +102,14 @@ writable log = do
   known ← writable_protocol p
   plain ← refused_if (has_key_inside (codes "delta.invariants") schema) (feature (codes "invariants"))
   Ok schema
+
+-- Whether a checkpoint is put: the table is written, and the features of both its readers and its writers have
+-- `v2Checkpoint`.
+abbrev pub checkpointable : List (List Entry) → Result (Unit {0}) Unsupported
+checkpointable log = do
+  schema ← writable log
+  p ← or_refusal (option_and_then protocol_in (at the_protocol log)) no_protocol
+  refused_if (not (has_feature (codes "v2Checkpoint") p.reader_features) || not (has_feature (codes "v2Checkpoint") p.writer_features)) (feature (codes "v2Checkpoint"))
 
 -- ---- what the code's faults say
 

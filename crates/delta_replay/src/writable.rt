@@ -9,7 +9,7 @@ ghost use Rattle.schema_tree.specs.View.{field_views, metadata_of};
 ghost use Rattle.schema_tree.specs.View as trees;
 ghost use Rattle.delta_actions.specs.Entry.{Entry, protocol_view};
 ghost use Rattle.delta_replay.specs.Snapshots.{IsSnapshotOf};
-ghost use Rattle.delta_replay.specs.Support.{first_unknown, has_domains, has_key_inside, have_key_inside, is_known_to_writers, says, unless_unknown, writable, writable_protocol};
+ghost use Rattle.delta_replay.specs.Support.{checkpointable, first_unknown, has_feature, has_key_inside, have_key_inside, is_known_to_writers, says, unless_unknown, writable, writable_protocol};
 
 use crate::features::{is_known_to_writers, unknown_feature};
 use crate::kept::Snapshot;
@@ -43,22 +43,46 @@ impl Snapshot {
     }
 }
 
+impl Snapshot {
+    /// Whether a checkpoint of the table is put. This product's rule, over the fields of Delta PROTOCOL.md, "V2 Checkpoint
+    /// Table Feature": the table is written, and the features of both its readers and its writers have `v2Checkpoint`.
+    ///
+    /// First the faults of [`Snapshot::supports_write`]; then C3 `v2Checkpoint`; `Memory` where memory runs out. The time is
+    /// linear in the protocol and the schema's text.
+    pub fn supports_checkpoint(&self, alloc: Global) -> Result<(), SupportError>
+        ensures { (log : List (List Entry)) → IsSnapshotOf log self.now → Gives says (λ u. u) result (checkpointable log) }
+    {
+        let _schema = self.supports_write(alloc)?;
+        let Some(protocol) = self.protocol() else {
+            return Err(SupportFault::NoProtocol.into());
+        };
+        if !has_feature(&protocol.reader_features, "v2Checkpoint")
+            || !has_feature(&protocol.writer_features, "v2Checkpoint")
+        {
+            return Err(unknown_feature(alloc, "v2Checkpoint"));
+        }
+        Ok(())
+    }
+}
+
 /// Whether a writer of this crate's features writes tables of a protocol.
 fn check_writer(alloc: Global, protocol: &Protocol) -> Result<(), SupportError>
     ensures { Gives says (λ u. u) result (writable_protocol (protocol_view protocol.now)) }
 {
-    if protocol.min_writer_version != 7 || !have_domains(&protocol.writer_features) {
+    if protocol.min_writer_version != 7
+        || !has_feature(&protocol.writer_features, "domainMetadata")
+    {
         return Err(unknown_feature(alloc, "domainMetadata"));
     }
     check_writer_features(alloc, &protocol.writer_features)
 }
 
-/// Whether the feature that writers need is among these.
-fn have_domains(features: &[String]) -> bool
-    ensures { result ≡ has_domains (map (λ s. string_bytes s) features.now) }
+/// Whether a feature is among these.
+fn has_feature(features: &[String], name: &str) -> bool
+    ensures { result ≡ has_feature name.now (map (λ s. string_bytes s) features.now) }
 {
     for feature in features {
-        if feature.as_str() == "domainMetadata" {
+        if feature.as_str() == name {
             return true;
         }
     }

@@ -134,7 +134,8 @@ impl Log {
     /// - `closed` and `stream APP`: the applications whose streams are closed, a line each, and whether that one is;
     /// - `sizes`: how many applications, domains, files, and files that left the table there are;
     /// - `read` and `write`: the schema's text, or why the table isn't read or written;
-    /// - `checkpoint V`: the name and the lines of that version's checkpoint.
+    /// - `checkpoint V`: the name and the lines of that version's checkpoint;
+    /// - `put`: whether a checkpoint is put, or why it isn't.
     pub fn answer(&self, question: &str, out: &mut Vec<u8>) -> Result<(), Failure>
         requires { IsOfLog self.now.snapshot }
     {
@@ -155,6 +156,7 @@ impl Log {
             "checkpoint" => self.tell_checkpoint(rest, out)?,
             "read" => self.tell_schema(self.snapshot.supports_read(self.alloc), out)?,
             "write" => self.tell_schema(self.snapshot.supports_write(self.alloc), out)?,
+            "put" => self.tell_put(out)?,
             _ => return Err(Failure::Misspelled),
         }
         Ok(())
@@ -281,6 +283,15 @@ impl Log {
         writeln!(out, "{}", checkpoint_name(self.alloc, version, id)?)?;
         let bytes = self.checkpoint(version)?;
         out.extend_from_slice(&bytes)?;
+        Ok(())
+    }
+
+    fn tell_put(&self, out: &mut Vec<u8>) -> Result<(), Failure> {
+        match self.snapshot.supports_checkpoint(self.alloc) {
+            Ok(()) => writeln!(out, "put")?,
+            Err(SupportError::Memory) => return Err(Failure::Memory),
+            Err(SupportError::Fault(fault)) => writeln!(out, "refused {fault}")?,
+        }
         Ok(())
     }
 
