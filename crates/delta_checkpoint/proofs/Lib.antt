@@ -1,2 +1,4 @@
+pub mod Places
 pub mod Printed
 pub mod Restored
+pub mod TwentyDigits

@@ -1,5 +1,5 @@
 -- The names of checkpoints (Delta PROTOCOL.md, "UUID-named checkpoint").
-use Rattle.std.specs.Prelude.{ℕ, List, ◌++◌, codes, take, unwrap_or}
+use Rattle.std.specs.Prelude.{◌≡◌, ◌≤◌, ℕ, List, ◌++◌, true, codes, is_some, length, take, unwrap_or}
 use Rattle.std.specs.Fmt.{decimal}
 use Rattle.delta_actions.specs.Names.{twenty_digits}
 use Rattle.sha1.specs.Sha1.{sha1}
@@ -20,7 +20,18 @@ table_namespace table_id = unwrap_or (parsed table_id) zero_bytes
 abbrev pub checkpoint_id : (version : ℕ) (table_id : List ℕ) → List ℕ
 checkpoint_id version table_id = named_id (table_namespace table_id) (codes "checkpoint " ++ decimal version)
 
--- the name of a version's checkpoint
+-- the name of a version's checkpoint with the text of a UUID
+abbrev pub name_with : (version : ℕ) (id : List ℕ) → List ℕ
+name_with version id = codes "_delta_log/" ++ (twenty_digits version ++ (codes ".checkpoint." ++ (id ++ codes ".json")))
+
+-- the name of a version's checkpoint as this product makes it
 abbrev pub checkpoint_name : (version : ℕ) (table_id : List ℕ) → List ℕ
-checkpoint_name version table_id =
-    codes "_delta_log/" ++ (twenty_digits version ++ (codes ".checkpoint." ++ (hyphenated_text lower (checkpoint_id version table_id) ++ codes ".json")))
+checkpoint_name version table_id = name_with version (hyphenated_text lower (checkpoint_id version table_id))
+
+-- The name is one of a version's checkpoint: with any UUID, in the form with hyphens.
+pub record IsCheckpointName (version : ℕ) (name : List ℕ) : Type 0 where
+  pub id : List ℕ
+  pub is : name ≡ name_with version id
+  pub small : version ≤ 999_999_999_999
+  pub hyphenated : length id ≡ 36
+  pub uuid : is_some (parsed id) ≡ true

@@ -8,6 +8,6 @@ mod printing;
 mod reading;
 
 pub use fault::{CheckpointError, CheckpointFault};
-pub use naming::checkpoint_name;
+pub use naming::{checkpoint_name, checkpoint_version};
 pub use printing::print_checkpoint;
 pub use reading::read_checkpoint;

@@ -8,7 +8,9 @@ ghost use Rattle.log_inspect.specs.Logs.{IsOfLog};
 
 use crate::failure::Failure;
 use delta_actions::{Action, ActionFault, read_commit};
-use delta_checkpoint::{CheckpointError, checkpoint_name, print_checkpoint, read_checkpoint};
+use delta_checkpoint::{
+    CheckpointError, checkpoint_name, checkpoint_version, print_checkpoint, read_checkpoint,
+};
 use delta_replay::{FileAction, Snapshot, SupportError, closes};
 use schema_tree::Schema;
 use std::alloc::Global;
@@ -135,7 +137,8 @@ impl Log {
     /// - `sizes`: how many applications, domains, files, and files that left the table there are;
     /// - `read` and `write`: the schema's text, or why the table isn't read or written;
     /// - `checkpoint V`: the name and the lines of that version's checkpoint;
-    /// - `put`: whether a checkpoint is put, or why it isn't.
+    /// - `put`: whether a checkpoint is put, or why it isn't;
+    /// - `name NAME`: the version whose checkpoint has that name.
     pub fn answer(&self, question: &str, out: &mut Vec<u8>) -> Result<(), Failure>
         requires { IsOfLog self.now.snapshot }
     {
@@ -157,6 +160,7 @@ impl Log {
             "read" => self.tell_schema(self.snapshot.supports_read(self.alloc), out)?,
             "write" => self.tell_schema(self.snapshot.supports_write(self.alloc), out)?,
             "put" => self.tell_put(out)?,
+            "name" => self.tell_name(rest, out)?,
             _ => return Err(Failure::Misspelled),
         }
         Ok(())
@@ -283,6 +287,14 @@ impl Log {
         writeln!(out, "{}", checkpoint_name(self.alloc, version, id)?)?;
         let bytes = self.checkpoint(version)?;
         out.extend_from_slice(&bytes)?;
+        Ok(())
+    }
+
+    fn tell_name(&self, name: &str, out: &mut Vec<u8>) -> Result<(), Failure> {
+        match checkpoint_version(self.alloc, name)? {
+            Some(version) => writeln!(out, "version {version}")?,
+            None => writeln!(out, "no checkpoint")?,
+        }
         Ok(())
     }
 
