@@ -10,8 +10,8 @@ use std::fmt;
 use std::fmt::{Display, Formatter};
 use thiserror::Error;
 
-/// Why bytes aren't the checkpoint of a version. The order of the tests is K4, K1, K2, K3. The texts are written by hand,
-/// so that contracts know them.
+/// Why bytes aren't the checkpoint of a version. The order of the tests is K4, K1, K2, K3. The texts are written by
+/// hand, so that contracts know them.
 #[derive(Clone, Copy, Debug, PartialEq, Eq, Error)]
 pub enum CheckpointFault {
     /// There is no `checkpointMetadata` (Delta PROTOCOL.md, "Checkpoint Metadata").

@@ -16,8 +16,8 @@ use std::alloc::Global;
 
 impl Snapshot {
     /// The schema of the table, if it is read. This product's rule, over the fields of Delta PROTOCOL.md, "Protocol
-    /// Evolution" and "Change Metadata": reader version 1, or 3 with no feature but `v2Checkpoint`; no partition columns;
-    /// and a schema that can be read.
+    /// Evolution" and "Change Metadata": reader version 1, or 3 with no feature but `v2Checkpoint`; no partition
+    /// columns; and a schema that can be read.
     ///
     /// C1 without a protocol, C2 without a metadata, C5 for another reader version, C3 for the first other reader
     /// feature, C4 for a table with partition columns, and C6 for the schema's text, in this order; `Memory` where

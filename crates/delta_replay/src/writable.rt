@@ -22,8 +22,8 @@ use std::alloc::{AllocError, Global};
 impl Snapshot {
     /// The schema of the table, if it is written. This product's rule, over the fields of Delta PROTOCOL.md, "Table
     /// Features" and "Column Invariants": it is read, its writer version is 7 with `domainMetadata` among the features
-    /// and none but `appendOnly`, `invariants`, `domainMetadata` and `v2Checkpoint`, and no field has `delta.invariants`
-    /// at the top of its metadata.
+    /// and none but `appendOnly`, `invariants`, `domainMetadata` and `v2Checkpoint`, and no field has
+    /// `delta.invariants` at the top of its metadata.
     ///
     /// First the faults of [`Snapshot::supports_read`]; then C3 `domainMetadata` for another version or without that
     /// feature, C3 for the first other feature, and C3 `invariants` for a field that has them; `Memory` where memory
@@ -44,11 +44,12 @@ impl Snapshot {
 }
 
 impl Snapshot {
-    /// Whether a checkpoint of the table is put. This product's rule, over the fields of Delta PROTOCOL.md, "V2 Checkpoint
-    /// Table Feature": the table is written, and the features of both its readers and its writers have `v2Checkpoint`.
+    /// Whether a checkpoint of the table is put. This product's rule, over the fields of Delta PROTOCOL.md, "V2
+    /// Checkpoint Table Feature": the table is written, and the features of both its readers and its writers have
+    /// `v2Checkpoint`.
     ///
-    /// First the faults of [`Snapshot::supports_write`]; then C3 `v2Checkpoint`; `Memory` where memory runs out. The time is
-    /// linear in the protocol and the schema's text.
+    /// First the faults of [`Snapshot::supports_write`]; then C3 `v2Checkpoint`; `Memory` where memory runs out. The
+    /// time is linear in the protocol and the schema's text.
     pub fn supports_checkpoint(&self, alloc: Global) -> Result<(), SupportError>
         ensures { (log : List (List Entry)) → IsSnapshotOf log self.now → Gives says (λ u. u) result (checkpointable log) }
     {

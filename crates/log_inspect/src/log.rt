@@ -84,8 +84,8 @@ impl Log {
         add_numbers(&mut self.commit, number_of(applications)?)
     }
 
-    /// Reads the lines that are begun as a version's checkpoint in place of a commit: its snapshot takes the place of the
-    /// log's. A refusal is told, and changes nothing.
+    /// Reads the lines that are begun as a version's checkpoint in place of a commit: its snapshot takes the place of
+    /// the log's. A refusal is told, and changes nothing.
     pub fn restore(&mut self, version: &str, out: &mut Vec<u8>) -> Result<(), Failure>
         requires { IsOfLog self.old.snapshot }
         ensures { OnOk result (IsOfLog self.new.snapshot) }
