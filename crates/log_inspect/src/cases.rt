@@ -35,6 +35,9 @@ fn tell_question(log: &mut Log, question: &str, out: &mut Vec<u8>) -> Result<(),
     if let Some(version) = question.strip_prefix("restore ") {
         return log.restore(version, out);
     }
+    if let Some(version) = question.strip_prefix("spoil ") {
+        return log.spoil(version, out);
+    }
     log.end_commit(out)?;
     if let Some(version) = question.strip_prefix("again ") {
         return log.print_and_restore(version, out);

@@ -7,6 +7,7 @@ ghost use Rattle.delta_actions.specs.Printing.{IsPrintable};
 ghost use Rattle.log_inspect.specs.Logs.{IsOfLog};
 
 use crate::failure::Failure;
+use crate::spoiled::tell_spoiled;
 use delta_actions::{Action, ActionFault, read_commit};
 use delta_checkpoint::{
     CheckpointError, checkpoint_name, checkpoint_version, print_checkpoint, read_checkpoint,
@@ -104,6 +105,17 @@ impl Log {
                 Ok(())
             }
         }
+    }
+
+    /// Reads the lines that are begun as a version's checkpoint, cut before each byte, and with each byte changed to 00
+    /// and to FF, and tells how many of these are read, and how many are refused by each code. The log stays.
+    pub fn spoil(&mut self, version: &str, out: &mut Vec<u8>) -> Result<(), Failure>
+        ensures { self.new.snapshot ≡ self.old.snapshot }
+    {
+        let version = number_of(version)?;
+        tell_spoiled(self.alloc, &self.commit, version, out)?;
+        self.commit.clear();
+        Ok(())
     }
 
     /// Prints the checkpoint of a version, and goes on with the snapshot that is read from it.

@@ -8,6 +8,7 @@
 mod cases;
 mod failure;
 mod log;
+mod spoiled;
 
 use std::io;
 use std::io::{Read, Write};
