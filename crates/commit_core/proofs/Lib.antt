@@ -1,3 +1,4 @@
+pub mod CloseLemmas
 pub mod CommitLemmas
 pub mod CreationLemmas
 pub mod HistoryLemmas

@@ -4,6 +4,7 @@ pub mod Filled
 pub mod Grown
 pub mod Lent
 pub mod Listed
+pub mod NewestTold
 pub mod Passes
 pub mod Picked
 pub mod Same

@@ -55,15 +55,26 @@ unless_partitioned (column ∷ columns) = Err partitioned
 abbrev pub schema_told : MetaDataEntry → Result Tree Unsupported
 schema_told m = refused_as bad_schema (schema_of m.schema_string)
 
--- The schema of a table that is read, or the first of these: no protocol, no metadata, the reader's version, a feature,
--- partition columns, and the schema's text.
-abbrev pub readable : List (List Entry) → Result Tree Unsupported
-readable log = do
-  p ← or_refusal (option_and_then protocol_in (at the_protocol log)) no_protocol
-  m ← or_refusal (option_and_then meta_data_in (at the_meta_data log)) no_meta_data
+-- The schema of a table with this protocol and this metadata, where it is read, or the first of these: no protocol, no
+-- metadata, the reader's version, a feature, partition columns, and the schema's text.
+abbrev pub readable_by : Option ProtocolEntry → Option MetaDataEntry → Result Tree Unsupported
+readable_by protocol metadata = do
+  p ← or_refusal protocol no_protocol
+  m ← or_refusal metadata no_meta_data
   version ← readable_protocol p
   whole ← unless_partitioned m.partition_columns
   schema_told m
+
+-- the newest protocol and the newest metadata of a log
+abbrev pub protocol_of : List (List Entry) → Option ProtocolEntry
+protocol_of log = option_and_then protocol_in (at the_protocol log)
+
+abbrev pub meta_data_of : List (List Entry) → Option MetaDataEntry
+meta_data_of log = option_and_then meta_data_in (at the_meta_data log)
+
+-- the schema of a table that is read
+abbrev pub readable : List (List Entry) → Result Tree Unsupported
+readable log = readable_by (protocol_of log) (meta_data_of log)
 
 -- ---- tables that are written
 
@@ -98,7 +109,7 @@ abbrev mutual
 abbrev pub writable : List (List Entry) → Result Tree Unsupported
 writable log = do
   schema ← readable log
-  p ← or_refusal (option_and_then protocol_in (at the_protocol log)) no_protocol
+  p ← or_refusal (protocol_of log) no_protocol
   known ← writable_protocol p
   plain ← refused_if (has_key_inside (codes "delta.invariants") schema) (feature (codes "invariants"))
   Ok schema
@@ -108,7 +119,7 @@ writable log = do
 abbrev pub checkpointable : List (List Entry) → Result (Unit {0}) Unsupported
 checkpointable log = do
   schema ← writable log
-  p ← or_refusal (option_and_then protocol_in (at the_protocol log)) no_protocol
+  p ← or_refusal (protocol_of log) no_protocol
   refused_if (not (has_feature (codes "v2Checkpoint") p.reader_features) || not (has_feature (codes "v2Checkpoint") p.writer_features)) (feature (codes "v2Checkpoint"))
 
 -- ---- what the code's faults say

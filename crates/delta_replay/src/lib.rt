@@ -8,6 +8,7 @@ mod features;
 mod keeping;
 mod kept;
 mod lists;
+mod newest;
 mod places;
 mod readable;
 mod snapshot;
@@ -17,4 +18,6 @@ mod writable;
 
 pub use closing::closes;
 pub use kept::{FileAction, Snapshot};
+pub use newest::{newest_meta_data, newest_protocol};
+pub use readable::supports_read;
 pub use support::{SupportError, SupportFault};

@@ -1,11 +1,11 @@
 //! Whether a table is read: what its protocol asks of a reader, and its schema.
 
-ghost use Rattle.std.specs.Prelude.{List, map, string_bytes};
+ghost use Rattle.std.specs.Prelude.{List, map, option_map, string_bytes};
 ghost use Rattle.lake_bytes.specs.Outcome.{Gives};
 ghost use Rattle.schema_tree.specs.Schema.{tree_of};
 ghost use Rattle.delta_actions.specs.Entry.{Entry, meta_data_view, protocol_view};
 ghost use Rattle.delta_replay.specs.Snapshots.{IsSnapshotOf};
-ghost use Rattle.delta_replay.specs.Support.{first_unknown, is_known_to_readers, readable, readable_protocol, says, schema_told, unless_unknown};
+ghost use Rattle.delta_replay.specs.Support.{first_unknown, is_known_to_readers, readable, readable_by, readable_protocol, says, schema_told, unless_unknown};
 
 use crate::features::{is_known_to_readers, unknown_feature};
 use crate::kept::Snapshot;
@@ -15,28 +15,40 @@ use schema_tree::{ReadError, Schema};
 use std::alloc::Global;
 
 impl Snapshot {
-    /// The schema of the table, if it is read. This product's rule, over the fields of Delta PROTOCOL.md, "Protocol
-    /// Evolution" and "Change Metadata": reader version 1, or 3 with no feature but `v2Checkpoint`; no partition
-    /// columns; and a schema that can be read.
-    ///
-    /// C1 without a protocol, C2 without a metadata, C5 for another reader version, C3 for the first other reader
-    /// feature, C4 for a table with partition columns, and C6 for the schema's text, in this order; `Memory` where
-    /// memory runs out. The time is linear in the protocol and the schema's text.
+    /// The schema of the table, if it is read, by [`supports_read`] with the newest protocol and metadata.
     pub fn supports_read(&self, alloc: Global) -> Result<Schema<Global>, SupportError>
         ensures { (log : List (List Entry)) → IsSnapshotOf log self.now → Gives says tree_of result (readable log) }
     {
-        let Some(protocol) = self.protocol() else {
-            return Err(SupportFault::NoProtocol.into());
-        };
-        let Some(meta_data) = self.meta_data() else {
-            return Err(SupportFault::NoMetadata.into());
-        };
-        check_protocol(alloc, protocol)?;
-        if !meta_data.partition_columns.is_empty() {
-            return Err(SupportFault::Partitioned.into());
-        }
-        schema_in(alloc, meta_data)
+        supports_read(alloc, self.protocol(), self.meta_data())
     }
+}
+
+/// The schema of a table with this protocol and this metadata, if it is read. This product's rule, over the fields of
+/// Delta PROTOCOL.md, "Protocol Evolution" and "Change Metadata": reader version 1, or 3 with no feature but
+/// `v2Checkpoint`; no partition columns; and a schema that can be read.
+///
+/// C1 without a protocol, C2 without a metadata, C5 for another reader version, C3 for the first other reader feature, C4
+/// for a table with partition columns, and C6 for the schema's text, in this order; `Memory` where memory runs out. The
+/// time is linear in the protocol and the schema's text.
+pub fn supports_read(
+    alloc: Global,
+    protocol: Option<&Protocol>,
+    meta_data: Option<&MetaData>,
+) -> Result<Schema<Global>, SupportError>
+    ensures { Gives says tree_of result
+        (readable_by (option_map (λ p. protocol_view p.now) protocol.entry) (option_map (λ m. meta_data_view m.now) meta_data.entry)) }
+{
+    let Some(protocol) = protocol else {
+        return Err(SupportFault::NoProtocol.into());
+    };
+    let Some(meta_data) = meta_data else {
+        return Err(SupportFault::NoMetadata.into());
+    };
+    check_protocol(alloc, protocol)?;
+    if !meta_data.partition_columns.is_empty() {
+        return Err(SupportFault::Partitioned.into());
+    }
+    schema_in(alloc, meta_data)
 }
 
 /// Whether a reader of this crate's features reads tables of a protocol.

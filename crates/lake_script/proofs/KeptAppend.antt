@@ -1,8 +1,8 @@
 -- A line that appends a batch, over a store that keeps what a script made so far.
 use Rattle.std.proofs.Common.{◌≡◌, ◌≢◌, ℕ, ◌<◌, ◌≤◌, ◌^◌, ◌==◌, ◌||◌, Bool, true, false, not, List, [], ◌∷◌, ◌++◌, length, Option, Some, None, Result, Ok, Err, eqb, ltb, eqb-true, refl, sym, ap, subst, ◌∙◌, arith}
-use Rattle.std.specs.Prelude.{cond, nat_lt, option_map}
+use Rattle.std.specs.Prelude.{codes, cond, nat_lt, option_map}
 use Rattle.std.specs.Str.{IsUtf8}
-use Rattle.std.proofs.lemmas.Bool.{eqb-false, ltb-false}
+use Rattle.std.proofs.lemmas.Bool.{eqb-false, le-ltb, ltb-false}
 use Rattle.serde_json.specs.Data.{Items}
 use Rattle.schema_tree.specs.Tree.{Tree}
 use Rattle.store_core.specs.Objects.{Objects, object_at}
@@ -16,11 +16,12 @@ use Rattle.table_model.specs.Lawful.{IsLawful}
 use Rattle.delta_actions.specs.Names.{data_file_name}
 use Rattle.delta_actions.specs.Names as names
 use Rattle.row_core.specs.Rows.{Row, same_rows}
+use Rattle.delta_replay.specs.Support.{has_key_inside}
 use Rattle.table_model.specs.Table as model
 use Rattle.table_model.specs.Table.{Entry, creation, group, close, last_batch, is_closed}
 use Rattle.table_store.proofs.Callers.{commit_name-data_file_name}
 use Rattle.table_model.proofs.Callers.{append_keeps}
-use Rattle.sink_core.specs.Appending.{Batch, Request, Step, puts, stands, checked, count, appending, file_name, is_repeat, request_of, request_behind, file_or_refusal, batch_of, fitting, new_step, repeated_step, step_of, settled, answered, with_append, IsWellMade, PutsWell}
+use Rattle.sink_core.specs.Appending.{Batch, Request, Step, puts, stands, checked, count, appending, file_name, is_repeat, request_of, file_or_refusal, batch_of, fitting, new_step, repeated_step, step_of, settled, answered, with_append, IsWellMade, PutsWell}
 use Rattle.commit_core.specs.Commits.{commit_text}
 use Rattle.lake_script.specs.Lines.{append, task}
 use Rattle.sink_core.specs.Refusals.{Refusal, bad_app, too_large, file_too_large, stale, differs, bad_log}
@@ -33,9 +34,11 @@ use Rattle.lake_script.specs.Tables.{State, nothing, table}
 use Rattle.lake_script.specs.Told.{reply_to_wish, left_by_wish, appended_reply}
 use Rattle.lake_script.proofs.Kept.{IsFileOf, FileKept, IsCommitMade, KeptFrom, IsKept, HasNoOther, Keeps}
 use Rattle.lake_script.proofs.KeptFile.{last_stands, last_own, same_either_way, file_read}
-use Rattle.lake_script.proofs.KeptLog.{kept_log, made_length, made_number, log_of_nothing, none_behind}
+use Rattle.lake_script.proofs.KeptLog.{made_of, are_made, none_behind}
 use Rattle.lake_script.proofs.KeptNames.{same_name, same_file_name, batch_stands, no_file}
 use Rattle.lake_script.proofs.KeptPuts.{kept_more, no_other_more}
+use Rattle.lake_script.proofs.KeptRequest.{asked, unless_invariant, request_is}
+use Rattle.lake_script.proofs.KeptVersions.{log_kept, log_of_nothing}
 
 -- what an append does agrees with the batch that is handed in at the plain table
 abbrev Agrees : (objects : Objects) (schema : Tree) (entries : List Entry) (number : ℕ) → Result Step Refusal → Result model.Batch Refusal → Type 0
@@ -70,9 +73,9 @@ pub lawful_after : (objects : Objects) (schema : Tree) (entries : List Entry) (b
 lawful_after objects schema entries b kept =
     subst (λ (es : List Entry). IsLawful (with_batch (appended b es) b es)) (sym kept.begins) (append_keeps b creation kept.rest (subst IsLawful kept.begins kept.lawful))
 
--- what is asked of a table
-abbrev pub asked : (version : ℕ) (schema : Tree) (rows : List Row) (repeats : Bool) → Request
-asked version schema rows repeats = record { version = version; schema = schema; rows = rows; repeats = repeats }
+-- the next version of a table of few entries is one that a commit may have
+pub version_fits : (entries : List Entry) → length entries < 2 ^ 32 → nat_lt 999_999_999_999 (length entries) ≡ false
+version_fits entries few = le-ltb 999_999_999_999 (length entries) (omega arith)
 
 -- the batch that is put with this file
 abbrev pub made_with : (version : ℕ) (schema : Tree) (rows : List Row) (application : List ℕ) (number at : ℕ) (file : List ℕ) → Batch
@@ -103,7 +106,7 @@ module _ (schema : Tree) (version : ℕ) (rows : List Row) (application : List �
     is = record { at = at; size = length file; rows = length rows; utf8 = utf8; small = fits; are = ap (λ (name : List ℕ). appending application number at name (length file) (length rows)) (same_file_name application number) };
   }
 
-module _ (objects : Objects) (schema : Tree) (entries : List Entry) (kept : IsKept objects schema entries) (own : HasNoOther objects entries) (few : length entries < 2 ^ 62) (application : List ℕ) (number at : ℕ) (utf8 : IsUtf8 application)
+module _ (objects : Objects) (schema : Tree) (entries : List Entry) (kept : IsKept objects schema entries) (own : HasNoOther objects entries) (few : length entries < 2 ^ 32) (application : List ℕ) (number at : ℕ) (utf8 : IsUtf8 application)
     (fits : number ≤ 999_999_999_999) (rows : List Row) where
   -- ---- a new number
 
@@ -127,7 +130,9 @@ module _ (objects : Objects) (schema : Tree) (entries : List Entry) (kept : IsKe
       → IsSoundStep application number at (new_step objects (asked (length entries) schema rows false) application number at)
       → Agrees objects schema entries number (new_step objects (asked (length entries) schema rows false) application number at) (Ok (handed_in application number rows))
   unfolding batch_of
-  new_agrees new free sound = by_file (written_file schema rows) sound
+  new_agrees new free sound =
+      let fitting_version = version_fits entries few in
+      rw fitting_version (by_file (written_file schema rows) (rw fitting_version at sound))
     where
       by_file : (written : Result (List ℕ) FileFault) → IsSoundStep application number at ((file_or_refusal written >>= λ file. Ok (made_with (length entries) schema rows application number at file)) >>= fitting objects)
           → Agrees objects schema entries number ((file_or_refusal written >>= λ file. Ok (made_with (length entries) schema rows application number at file)) >>= fitting objects) (Ok (handed_in application number rows))
@@ -196,27 +201,30 @@ step_with objects entries application number at schema read =
     >>= step_of objects application number at
 
 -- what a line asks of a kept table
-abbrev pub step_behind : (objects : Objects) (schema : Tree) (entries : List Entry) (application : List ℕ) (number at : ℕ) (items : Items) → Result (Unit {0}) Refusal → Result (Unit {0}) Refusal → Result Step Refusal
-step_behind objects schema entries application number at items fine takes =
-    (fine >>= λ passed. takes >>= λ supported. rows_from 0 schema items >>= λ rows. is_repeat number (option_map (λ (b : model.Batch). b.number) (last_batch application entries)) >>= λ repeats.
+abbrev pub step_behind : (objects : Objects) (schema : Tree) (entries : List Entry) (application : List ℕ) (number at : ℕ) (items : Items) → Result (Unit {0}) Refusal → (barred : Bool) → Result (Unit {0}) Refusal → Result Step Refusal
+step_behind objects schema entries application number at items fine barred takes =
+    (fine >>= λ passed. unless_invariant barred >>= λ plain. takes >>= λ supported. rows_from 0 schema items >>= λ rows. is_repeat number (option_map (λ (b : model.Batch). b.number) (last_batch application entries)) >>= λ repeats.
     Ok (asked (length entries) schema rows repeats)) >>= step_of objects application number at
 
 -- that is what an append does over the objects
-pub step_is : (objects : Objects) (schema : Tree) (entries : List Entry) (application : List ℕ) (number at : ℕ) (items : Items) → IsKept objects schema entries → length entries < 2 ^ 62
-    → settled objects application number at items ≡ step_behind objects schema entries application number at items (checked application number (count items)) (takes_rows schema)
-unfolding request_of request_behind
+pub step_is : (objects : Objects) (schema : Tree) (entries : List Entry) (application : List ℕ) (number at : ℕ) (items : Items) → IsKept objects schema entries → length entries < 2 ^ 32
+    → settled objects application number at items
+    ≡ step_behind objects schema entries application number at items (checked application number (count items)) (has_key_inside (codes "delta.invariants") schema) (takes_rows schema)
+unfolding request_of
 step_is objects schema entries application number at items kept few =
-    let log = kept_log objects schema entries kept few in
-    rw (log.2, made_length schema entries log.0 log.1, made_number schema application entries log.0 log.1) refl
+    let commits = made_of objects schema 0 entries kept.kept in
+    rw (log_kept objects schema entries kept few, request_is schema entries kept.rest commits application number items kept.begins (are_made objects schema 0 entries kept.kept)) refl
 
 -- where a table is kept, the answer is the plain table's
-table_agrees : (objects : Objects) (schema : Tree) (entries : List Entry) (application : List ℕ) (number at : ℕ) (items : Items) (fine takes : Result (Unit {0}) Refusal)
-    → Keeps objects (table schema entries) → length entries < 2 ^ 62 → IsUtf8 application → checked application number (count items) ≡ fine
-    → IsSoundStep application number at (step_behind objects schema entries application number at items fine takes)
-    → Agrees objects schema entries number (step_behind objects schema entries application number at items fine takes) (fine >>= λ passed. takes >>= λ supported. rows_from 0 schema items >>= λ rows. Ok (handed_in application number rows))
-table_agrees objects schema entries application number at items (Err why) takes kept few utf8 is sound = (refl, kept)
-table_agrees objects schema entries application number at items (Ok passed) (Err why) kept few utf8 is sound = (refl, kept)
-table_agrees objects schema entries application number at items (Ok passed) (Ok supported) kept few utf8 is sound = by_read (rows_from 0 schema items) sound
+table_agrees : (objects : Objects) (schema : Tree) (entries : List Entry) (application : List ℕ) (number at : ℕ) (items : Items) (fine : Result (Unit {0}) Refusal) (barred : Bool) (takes : Result (Unit {0}) Refusal)
+    → Keeps objects (table schema entries) → length entries < 2 ^ 32 → IsUtf8 application → checked application number (count items) ≡ fine
+    → IsSoundStep application number at (step_behind objects schema entries application number at items fine barred takes)
+    → Agrees objects schema entries number (step_behind objects schema entries application number at items fine barred takes)
+    (fine >>= λ passed. unless_invariant barred >>= λ plain. takes >>= λ supported. rows_from 0 schema items >>= λ rows. Ok (handed_in application number rows))
+table_agrees objects schema entries application number at items (Err why) barred takes kept few utf8 is sound = (refl, kept)
+table_agrees objects schema entries application number at items (Ok passed) true takes kept few utf8 is sound = (refl, kept)
+table_agrees objects schema entries application number at items (Ok passed) false (Err why) kept few utf8 is sound = (refl, kept)
+table_agrees objects schema entries application number at items (Ok passed) false (Ok supported) kept few utf8 is sound = by_read (rows_from 0 schema items) sound
   where
     by_read : (read : Result (List Row) Refusal) → IsSoundStep application number at (step_with objects entries application number at schema read)
         → Agrees objects schema entries number (step_with objects entries application number at schema read) (read >>= λ rows. Ok (handed_in application number rows))
@@ -240,7 +248,7 @@ nothing_agrees application number at (Err why) = (refl, refl)
 nothing_agrees application number at (Ok passed) = (refl, refl)
 
 -- the reply to a line that appends a batch is the plain table's, and the store goes on to keep it
-pub append_told : (objects : Objects) (state : State) (application : List ℕ) (number at : ℕ) (items : Items) (printed : List ℕ) → Keeps objects state → length (tables.entries_of state) < 2 ^ 62
+pub append_told : (objects : Objects) (state : State) (application : List ℕ) (number at : ℕ) (items : Items) (printed : List ℕ) → Keeps objects state → length (tables.entries_of state) < 2 ^ 32
     → IsSoundWish objects (task (append application number at items)) printed
     → (reply_to_wish objects (task (append application number at items)) printed ≡ tables.reply_to_wish state (task (append application number at items)))
     × Keeps (left_by_wish objects (task (append application number at items)) printed) (tables.left_by_wish state (task (append application number at items)))
@@ -249,5 +257,6 @@ append_told objects nothing application number at items printed keeps few sound 
 append_told objects (table schema entries) application number at items printed keeps few sound =
     let is = step_is objects schema entries application number at items keeps.0 few in
     let step_sound : IsSoundStep application number at (settled objects application number at items) = (sound.1, sound.2) in
-    let told = table_agrees objects schema entries application number at items (checked application number (count items)) (takes_rows schema) keeps few sound.0 refl (rw is at step_sound) in
+    let barred = has_key_inside (codes "delta.invariants") schema in
+    let told = table_agrees objects schema entries application number at items (checked application number (count items)) barred (takes_rows schema) keeps few sound.0 refl (rw is at step_sound) in
     rw is told

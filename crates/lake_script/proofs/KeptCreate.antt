@@ -11,7 +11,8 @@ use Rattle.delta_actions.specs.Names as names
 use Rattle.table_model.specs.Table.{Entry, creation, closes_of}
 use Rattle.table_model.specs.Lawful.{IsLawful}
 use Rattle.table_store.proofs.Callers.{commit_name-data_file_name}
-use Rattle.commit_core.specs.Commits.{commit_name, commit_text, creation as created}
+use Rattle.commit_core.specs.Commits.{commit_text, creation as created}
+use Rattle.table_log.specs.Names.{commit_name}
 use Rattle.commit_core.specs.Creating.{Refusal, bad_schema, bad_id, too_large, id_of, described, within, most_bytes, commit_from, unless_there, with_creation}
 use Rattle.lake_script.specs.Lines.{create}
 use Rattle.lake_bytes.specs.Results.{◌>>=◌, or_refusal, refused_as}

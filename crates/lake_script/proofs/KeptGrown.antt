@@ -10,7 +10,7 @@ use Rattle.table_store.specs.LawfulLogs.{HasLawfulLog}
 use Rattle.table_model.specs.Table.{creation}
 use Rattle.table_store.proofs.Callers.{lawful_log}
 use Rattle.sink_core.specs.Appending.{checked, count, settled, with_append, with_file_alone}
-use Rattle.commit_core.specs.Commits.{commit_name}
+use Rattle.table_log.specs.Names.{commit_name}
 use Rattle.commit_core.specs.Creating as creations
 use Rattle.commit_core.specs.Creating.{commit_from, with_creation}
 use Rattle.sink_core.specs.Appending.{MayAppend}

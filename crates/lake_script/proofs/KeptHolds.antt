@@ -51,11 +51,11 @@ holds_from objects schema version end (entry ∷ entries) kept is none =
     ((kept.0.0, kept.0.1, commit_stands schema entry kept.0.0 kept.0.2), files_stand objects schema (batches_of entry) kept.1, holds_from objects schema (suc version) end entries kept.2 (omega arith) none)
 
 -- A store that keeps a table holds it.
-pub kept_holds : (objects : Objects) (schema : Tree) (entries : List Entry) → IsKept objects schema entries → length entries < 2 ^ 62 → Holds objects schema entries
+pub kept_holds : (objects : Objects) (schema : Tree) (entries : List Entry) → IsKept objects schema entries → length entries < 2 ^ 32 → Holds objects schema entries
 kept_holds objects schema entries kept few = holds_from objects schema 0 (length entries) entries kept.kept (omega arith) (none_behind objects schema entries kept few)
 
 -- A store that keeps a table is lawful.
-pub kept_lawful : (objects : Objects) (schema : Tree) (entries : List Entry) → IsKept objects schema entries → length entries < 2 ^ 62 → IsLawfulStore objects
+pub kept_lawful : (objects : Objects) (schema : Tree) (entries : List Entry) → IsKept objects schema entries → length entries < 2 ^ 32 → IsLawfulStore objects
 kept_lawful objects schema entries kept few = record { schema = schema; entries = entries; holds = kept_holds objects schema entries kept few; lawful = kept.lawful }
 
 -- where there is no entry no stream was closed

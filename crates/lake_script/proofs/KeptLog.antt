@@ -1,20 +1,18 @@
 -- The log of a store that keeps a table: its schema, and commits of the actions that were made for its entries.
-use Rattle.std.proofs.Common.{◌≡◌, ℕ, zero, suc, ◌+◌, ◌<◌, ◌≤◌, ◌^◌, Bool, true, false, List, [], ◌∷◌, map, length, Option, Some, None, IsSome, option_map, Ok, Err, refl, sym, ap, ◌∙◌, add-one, arith}
-use Rattle.std.specs.Prelude.{bytes_eq, if◌then◌else◌}
-use Rattle.std.specs.Option.{option_or}
+use Rattle.std.proofs.Common.{◌≡◌, ℕ, zero, suc, ◌+◌, ◌<◌, ◌≤◌, ◌^◌, List, [], ◌∷◌, map, length, Option, Some, None, IsSome, option_map, Ok, Err, refl, sym, ap, ◌∙◌, add-one, arith}
 use Rattle.schema_tree.specs.Reading.{schema_of}
 use Rattle.schema_tree.specs.Tree.{Tree}
 use Rattle.store_core.specs.Objects.{Objects, object_at, names_of}
 use Rattle.delta_actions.specs.Entry as actions
 use Rattle.delta_actions.specs.Commit.{IsCommit}
 use Rattle.delta_actions.specs.Names as names
-use Rattle.table_model.specs.Table.{Batch, Entry, creation, group, close, last, last_batch}
-use Rattle.table_model.proofs.Callers.{last_batch-append}
-use Rattle.table_store.proofs.Callers.{commit_name-data_file_name}
-use Rattle.table_store.proofs.Callers.{commit_name-once}
+use Rattle.table_model.specs.Table.{Entry, creation, group, close}
+use Rattle.table_store.proofs.Callers.{commit_name-data_file_name, commit_name-once}
 use Rattle.sink_core.specs.Appending.{appending}
-use Rattle.commit_core.specs.Commits.{commit_name, creation as created}
-use Rattle.commit_core.specs.Log.{bad_commit, all_of, commit_of, commits_from, commits_in, latest, latest_in, schema_in, number_in, table_schema, last_number, log_of}
+use Rattle.commit_core.specs.Commits.{creation as created}
+use Rattle.table_log.specs.Names.{commit_name}
+use Rattle.commit_core.specs.Log.{bad_commit, commits_from, commits_in, latest, latest_in, schema_in, table_schema, log_of}
+use Rattle.table_log.specs.Versions.{all_of, commit_of}
 use Rattle.lake_script.proofs.Kept.{IsCreationMade, IsMade, KeptFrom, IsNamed, of_commit, of_file, IsKept}
 
 -- each of these commits has the actions that this program puts for the entry at its place
@@ -50,15 +48,19 @@ none_stands : (found : Option (List ℕ)) → (IsSome found → ⊥) → found �
 none_stands None never = refl
 none_stands (Some bytes) never = absurd (never refl)
 
--- the name of the commit of the version that comes next isn't one of the table's
-not_named : (entries : List Entry) → length entries < 2 ^ 62 → IsNamed entries (names.commit_name (length entries)) → ⊥
-not_named entries few (of_commit version low same) =
-    let one : length entries ≡ version = commit_name-once (length entries) version (omega arith) same in
+-- the name of a commit that is one of the table's is that of a version below its end
+pub named_below : (entries : List Entry) (version : ℕ) → version < 10 ^ 63 → IsNamed entries (names.commit_name version) → version < length entries
+named_below entries version small (of_commit other low same) =
+    let one : version ≡ other = commit_name-once version other small same in
     omega arith
-not_named entries few (of_file application number same) = commit_name-data_file_name (length entries) application number same
+named_below entries version small (of_file application number same) = absurd (commit_name-data_file_name version application number same)
+
+-- so that of the version that comes next isn't one
+not_named : (entries : List Entry) → length entries < 2 ^ 32 → IsNamed entries (names.commit_name (length entries)) → ⊥
+not_named entries few named = omega (arith, named_below entries (length entries) (omega arith) named)
 
 -- no commit stands behind those of the entries
-pub none_behind : (objects : Objects) (schema : Tree) (entries : List Entry) → IsKept objects schema entries → length entries < 2 ^ 62 → object_at objects (names.commit_name (length entries)) ≡ None
+pub none_behind : (objects : Objects) (schema : Tree) (entries : List Entry) → IsKept objects schema entries → length entries < 2 ^ 32 → object_at objects (names.commit_name (length entries)) ≡ None
 none_behind objects schema entries kept few =
     none_stands (object_at objects (names.commit_name (length entries))) (λ stands. not_named entries few (kept.named (names.commit_name (length entries)) stands))
 
@@ -129,7 +131,7 @@ schema_told objects schema entries commits kept made =
     rw (told.1, told.2) refl
 
 -- The log of a store that keeps a table has its schema, and a commit for each entry.
-pub kept_log : (objects : Objects) (schema : Tree) (entries : List Entry) → IsKept objects schema entries → length entries < 2 ^ 62
+pub kept_log : (objects : Objects) (schema : Tree) (entries : List Entry) → IsKept objects schema entries → length entries < 2 ^ 32
     → (commits : List (List actions.Entry)) × AreMade schema entries commits × (log_of objects ≡ Ok (record { schema = schema; commits = commits }))
 unfolding log_of
 kept_log objects schema entries kept few =
@@ -143,59 +145,3 @@ kept_log objects schema entries kept few =
 pub log_of_nothing : log_of [] ≡ Err (bad_commit 0)
 unfolding log_of commits_from table_schema latest_in
 log_of_nothing = refl
-
--- ---- the number of an application
-
--- the first of what there is, whichever two are asked first
-or_regroup : {A : Type 0} (a b c : Option A) → option_or a (option_or b c) ≡ option_or (option_or a b) c
-or_regroup None b c = refl
-or_regroup (Some x) b c = refl
-
--- a function of the first of what there is
-map_or : {A B : Type 0} (f : A → B) (a b : Option A) → option_map f (option_or a b) ≡ option_or (option_map f a) (option_map f b)
-map_or f None b = refl
-map_or f (Some x) b = refl
-
--- nothing behind it adds nothing
-or_none : {A : Type 0} (a : Option A) → option_or a None ≡ a
-or_none None = refl
-or_none (Some x) = refl
-
--- the number of an application's last batch
-abbrev number_by : (application : List ℕ) → List Entry → Option ℕ
-number_by application entries = option_map (λ b. b.number) (last_batch application entries)
-
--- an entry in front tells its number where no later one does
-number_by-cons : (application : List ℕ) (entry : Entry) (entries : List Entry) → number_by application (entry ∷ entries) ≡ option_or (number_by application entries) (number_by application (entry ∷ []))
-number_by-cons application entry entries =
-    ap (option_map (λ (b : Batch). b.number)) (last_batch-append application (entry ∷ []) entries) ∙ map_or (λ (b : Batch). b.number) (last_batch application entries) (last_batch application (entry ∷ []))
-
--- one commit tells the number of its entry, or what was found before
-number_goes_on : (schema : Tree) (application : List ℕ) (found : Option ℕ) (entry : Entry) (made : List actions.Entry) → IsMade schema entry made
-    → latest (number_in application) found made ≡ option_or (number_by application (entry ∷ [])) found
-unfolding latest created appending
-number_goes_on schema application found creation made is = rw is.are refl
-number_goes_on schema application found (group []) made is = absurd is
-number_goes_on schema application found (group (b ∷ [])) made is = rw is.are (own (bytes_eq b.application application))
-  where
-    own : (same : Bool) → option_or (if same then Some b.number else None) found ≡ option_or (option_map (λ (c : Batch). c.number) (last (if same then b ∷ [] else []))) found
-    own true = refl
-    own false = refl
-number_goes_on schema application found (group (b ∷ c ∷ bs)) made is = absurd is
-number_goes_on schema application found (close other) made is = absurd is
-
--- several commits tell the number of their entries, or what was found before
-numbers_told : (schema : Tree) (application : List ℕ) (found : Option ℕ) (entries : List Entry) (commits : List (List actions.Entry)) → AreMade schema entries commits
-    → latest_in (number_in application) found commits ≡ option_or (number_by application entries) found
-unfolding latest_in
-numbers_told schema application found [] [] made = refl
-numbers_told schema application found [] (commit ∷ commits) made = absurd made
-numbers_told schema application found (entry ∷ entries) [] made = absurd made
-numbers_told schema application found (entry ∷ entries) (commit ∷ commits) made =
-    rw (number_goes_on schema application found entry commit made.0, number_by-cons application entry entries)
-    (numbers_told schema application (option_or (number_by application (entry ∷ [])) found) entries commits made.1 ∙ or_regroup (number_by application entries) (number_by application (entry ∷ [])) found)
-
--- The number that an application has come to by these commits is that of its last batch.
-pub made_number : (schema : Tree) (application : List ℕ) (entries : List Entry) (commits : List (List actions.Entry)) → AreMade schema entries commits
-    → last_number application commits ≡ option_map (λ b. b.number) (last_batch application entries)
-made_number schema application entries commits made = numbers_told schema application None entries commits made ∙ or_none (number_by application entries)

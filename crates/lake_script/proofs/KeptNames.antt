@@ -12,7 +12,7 @@ use Rattle.table_model.specs.Table.{Batch, Entry, creation, group, close, batche
 use Rattle.table_model.proofs.Callers.{IsAbove, last_none, last_number, numbers_in}
 use Rattle.table_store.proofs.Callers.{data_file_name-once}
 use Rattle.sink_core.specs.Appending.{file_name}
-use Rattle.commit_core.specs.Commits.{commit_name}
+use Rattle.table_log.specs.Names.{commit_name}
 use Rattle.lake_script.proofs.Kept.{IsKept, IsOwn, HasNoOther, KeptFrom, FileKept}
 
 -- ---- the names that contracts don't look into

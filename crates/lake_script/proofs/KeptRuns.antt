@@ -24,18 +24,18 @@ use Rattle.lake_script.proofs.Kept.{IsKept, Keeps}
 
 -- what is known of single lines
 pub record Given : Type 0 where
-  pub create_told : (objects : Objects) (state : State) (id : List ℕ) (at : ℕ) (schema printed : List ℕ) → Keeps objects state → length (entries_of state) < 2 ^ 62
+  pub create_told : (objects : Objects) (state : State) (id : List ℕ) (at : ℕ) (schema printed : List ℕ) → Keeps objects state → length (entries_of state) < 2 ^ 32
       → IsSoundWish objects (create id at schema) printed
       → (told.reply_to_wish objects (create id at schema) printed ≡ tables.reply_to_wish state (create id at schema))
       × Keeps (told.left_by_wish objects (create id at schema) printed) (tables.left_by_wish state (create id at schema))
-  pub append_told : (objects : Objects) (state : State) (application : List ℕ) (number at : ℕ) (items : Items) (printed : List ℕ) → Keeps objects state → length (entries_of state) < 2 ^ 62
+  pub append_told : (objects : Objects) (state : State) (application : List ℕ) (number at : ℕ) (items : Items) (printed : List ℕ) → Keeps objects state → length (entries_of state) < 2 ^ 32
       → IsSoundWish objects (task (append application number at items)) printed
       → (told.reply_to_wish objects (task (append application number at items)) printed ≡ tables.reply_to_wish state (task (append application number at items)))
       × Keeps (told.left_by_wish objects (task (append application number at items)) printed) (tables.left_by_wish state (task (append application number at items)))
-  pub tail_told : (objects : Objects) (schema : Tree) (entries : List Entry) → IsKept objects schema entries → length entries < 2 ^ 62 → (max : ℕ) (offset : List ℕ)
+  pub tail_told : (objects : Objects) (schema : Tree) (entries : List Entry) → IsKept objects schema entries → length entries < 2 ^ 32 → (max : ℕ) (offset : List ℕ)
       → tailed_reply (tailed objects max offset) ≡ tables.tail_reply (table schema entries) max (offset_of offset)
   pub tail_of_nothing : (max : ℕ) (offset : List ℕ) → tailed_reply (tailed [] max offset) ≡ tables.tail_reply nothing max (offset_of offset)
-  pub history_told : (objects : Objects) (schema : Tree) (entries : List Entry) → IsKept objects schema entries → length entries < 2 ^ 62 → history_of objects ≡ tables.history_from 0 entries
+  pub history_told : (objects : Objects) (schema : Tree) (entries : List Entry) → IsKept objects schema entries → length entries < 2 ^ 32 → history_of objects ≡ tables.history_from 0 entries
   pub history_of_nothing : history_of [] ≡ bad_log 0
 
 -- ---- a line adds one entry at most
@@ -82,7 +82,7 @@ left_from_short state (line ∷ lines) =
     ]
 
 -- few lines leave a table of few entries
-pub left_is_short : (lines : List (List ℕ)) → length lines ≤ 2 ^ 31 → length (entries_of (tables.left_from nothing lines)) < 2 ^ 62
+pub left_is_short : (lines : List (List ℕ)) → length lines ≤ 2 ^ 31 → length (entries_of (tables.left_from nothing lines)) < 2 ^ 32
 left_is_short lines few = omega (arith, left_from_short nothing lines)
 
 -- ---- sound lines
@@ -118,18 +118,18 @@ no_text line lines none = none
 
 module _ (given : Given) where
   -- a read is told what the table tells, also where there is none
-  tail_state : (objects : Objects) (state : State) → Keeps objects state → length (entries_of state) < 2 ^ 62 → (max : ℕ) (offset : List ℕ)
+  tail_state : (objects : Objects) (state : State) → Keeps objects state → length (entries_of state) < 2 ^ 32 → (max : ℕ) (offset : List ℕ)
       → tailed_reply (tailed objects max offset) ≡ tables.tail_reply state max (offset_of offset)
   tail_state objects nothing keeps small max offset = ap (λ (o : Objects). tailed_reply (tailed o max offset)) keeps ∙ given.tail_of_nothing max offset
   tail_state objects (table schema entries) keeps small max offset = given.tail_told objects schema entries keeps.0 small max offset
 
   -- so is the history
-  history_state : (objects : Objects) (state : State) → Keeps objects state → length (entries_of state) < 2 ^ 62 → history_of objects ≡ tables.history_reply state
+  history_state : (objects : Objects) (state : State) → Keeps objects state → length (entries_of state) < 2 ^ 32 → history_of objects ≡ tables.history_reply state
   history_state objects nothing keeps small = ap history_of keeps ∙ given.history_of_nothing
   history_state objects (table schema entries) keeps small = given.history_told objects schema entries keeps.0 small
 
   -- what a line asks for is told as by the table
-  wish_told : (objects : Objects) (state : State) (wish : Wish) (printed : List ℕ) → Keeps objects state → length (entries_of state) < 2 ^ 62 → IsSoundWish objects wish printed → ShowsNoObject wish
+  wish_told : (objects : Objects) (state : State) (wish : Wish) (printed : List ℕ) → Keeps objects state → length (entries_of state) < 2 ^ 32 → IsSoundWish objects wish printed → ShowsNoObject wish
       → told.reply_to_wish objects wish printed ≡ tables.reply_to_wish state wish
   wish_told objects state (create id at schema) printed keeps small sound only = (given.create_told objects state id at schema printed keeps small sound).0
   wish_told objects state (task (append application number at items)) printed keeps small sound only = (given.append_told objects state application number at items printed keeps small sound).0
@@ -140,21 +140,21 @@ module _ (given : Given) where
   wish_told objects state _ printed keeps small sound only = refl
 
   -- behind it the store keeps the table behind it
-  wish_kept : (objects : Objects) (state : State) (wish : Wish) (printed : List ℕ) → Keeps objects state → length (entries_of state) < 2 ^ 62 → IsSoundWish objects wish printed
+  wish_kept : (objects : Objects) (state : State) (wish : Wish) (printed : List ℕ) → Keeps objects state → length (entries_of state) < 2 ^ 32 → IsSoundWish objects wish printed
       → Keeps (told.left_by_wish objects wish printed) (tables.left_by_wish state wish)
   wish_kept objects state (create id at schema) printed keeps small sound = (given.create_told objects state id at schema printed keeps small sound).1
   wish_kept objects state (task (append application number at items)) printed keeps small sound = (given.append_told objects state application number at items printed keeps small sound).1
   wish_kept objects state _ printed keeps small sound = keeps
 
   -- a line that shows no object is told what the table tells
-  pub line_told : (number : ℕ) (objects : Objects) (state : State) (r : Reading) (printed : List ℕ) → Keeps objects state → length (entries_of state) < 2 ^ 62 → IsSound objects r printed → IsOfTable r
+  pub line_told : (number : ℕ) (objects : Objects) (state : State) (r : Reading) (printed : List ℕ) → Keeps objects state → length (entries_of state) < 2 ^ 32 → IsSound objects r printed → IsOfTable r
       → told.reply_to number objects r printed ≡ tables.reply_to number state r
   line_told number objects state skipped printed keeps small sound only = refl
   line_told number objects state bad printed keeps small sound only = refl
   line_told number objects state (asks wish) printed keeps small sound only = wish_told objects state wish printed keeps small sound only
 
   -- behind a line the store keeps the table behind it
-  pub line_kept : (objects : Objects) (state : State) (r : Reading) (printed : List ℕ) → Keeps objects state → length (entries_of state) < 2 ^ 62 → IsSound objects r printed
+  pub line_kept : (objects : Objects) (state : State) (r : Reading) (printed : List ℕ) → Keeps objects state → length (entries_of state) < 2 ^ 32 → IsSound objects r printed
       → Keeps (told.left_by objects r printed) (tables.left_by state r)
   line_kept objects state skipped printed keeps small sound = keeps
   line_kept objects state bad printed keeps small sound = keeps
@@ -170,7 +170,7 @@ module _ (given : Given) where
   told_on number objects state (line ∷ lines) [] keeps few printed sound only = absurd (no_text line lines printed)
   told_on number objects state (line ∷ lines) (text ∷ texts) keeps few printed sound only =
       let r = reading_of line in
-      let small : length (entries_of state) < 2 ^ 62 = omega arith in
+      let small : length (entries_of state) < 2 ^ 32 = omega arith in
       let here = first_sound line text lines texts objects sound in
       let same = line_told number objects state r text keeps small here only.0 in
       let kept = line_kept objects state r text keeps small here in
@@ -190,7 +190,7 @@ module _ (given : Given) where
   left_on objects state (line ∷ lines) [] keeps few printed sound = absurd (no_text line lines printed)
   left_on objects state (line ∷ lines) (text ∷ texts) keeps few printed sound =
       let r = reading_of line in
-      let small : length (entries_of state) < 2 ^ 62 = omega arith in
+      let small : length (entries_of state) < 2 ^ 32 = omega arith in
       let kept = line_kept objects state r text keeps small (first_sound line text lines texts objects sound) in
       let fewer : length (entries_of (tables.left_by state r)) + length lines ≤ 2 ^ 32 = omega (arith, left_by_one state r) in
       elim (cases_Bool (is_bad r)) [

@@ -40,16 +40,16 @@ reads_told = record {
 }
 
 -- the store that keeps a table holds it
-pub kept_held : (objects : Objects) (state : State) → Keeps objects state → length (entries_of state) < 2 ^ 62 → HoldsState objects state
+pub kept_held : (objects : Objects) (state : State) → Keeps objects state → length (entries_of state) < 2 ^ 32 → HoldsState objects state
 kept_held objects nothing keeps small = keeps
 kept_held objects (table schema entries) keeps small = (kept_holds objects schema entries keeps.0 small, keeps.0.lawful)
 
-kept_answers : (objects : Objects) (state : State) → Keeps objects state → length (entries_of state) < 2 ^ 62 → AnswersReads objects state
+kept_answers : (objects : Objects) (state : State) → Keeps objects state → length (entries_of state) < 2 ^ 32 → AnswersReads objects state
 kept_answers objects nothing keeps small = tt
 kept_answers objects (table schema entries) keeps small = are_answered reads_told objects schema entries keeps.0 small
 
 -- and reads over it hand out its rows
-pub kept_reads_out : (objects : Objects) (state : State) → Keeps objects state → length (entries_of state) < 2 ^ 62 → ReadsOut objects state
+pub kept_reads_out : (objects : Objects) (state : State) → Keeps objects state → length (entries_of state) < 2 ^ 32 → ReadsOut objects state
 kept_reads_out objects state keeps small = record {
   answered = kept_answers objects state keeps small;
   up_to = hand_out_the_log reads_told objects state keeps small;

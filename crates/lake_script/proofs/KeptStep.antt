@@ -1,6 +1,6 @@
 -- What an append leaves, however far it comes, of a store that keeps a table.
 use Rattle.std.proofs.Common.{◌≡◌, ℕ, suc, ◌<◌, ◌≤◌, ◌^◌, ◌⊎◌, inl, inr, Bool, true, false, not, List, [], ◌∷◌, ◌++◌, length, Option, Some, None, Result, Ok, Err, eqb, ltb, refl, sym, ap, subst, ◌∙◌, arith, length-append}
-use Rattle.std.specs.Prelude.{bytes_eq, cond, option_map, unwrap_or}
+use Rattle.std.specs.Prelude.{bytes_eq, codes, cond, option_map, unwrap_or}
 use Rattle.std.specs.Str.{IsUtf8}
 use Rattle.std.proofs.lemmas.Slice.Eq.{bytes_eq-Decides}
 use Rattle.serde_json.specs.Data.{Items}
@@ -15,6 +15,7 @@ use Rattle.table_model.specs.declared.table.Appended.TheVariants.{Committed}
 use Rattle.table_model.specs.Lawful.{IsLawful}
 use Rattle.delta_actions.specs.Names.{data_file_name}
 use Rattle.delta_actions.specs.Names as names
+use Rattle.delta_replay.specs.Support.{has_key_inside}
 use Rattle.row_core.specs.Rows.{Row}
 use Rattle.row_core.proofs.Callers.{same_rows-is}
 use Rattle.table_model.specs.Table as model
@@ -25,10 +26,11 @@ use Rattle.sink_core.specs.Refusals.{Refusal, stale, differs}
 use Rattle.lake_bytes.specs.Results.{◌>>=◌, refused_if}
 use Rattle.sink_core.specs.RowsIn.{rows_from, takes_rows}
 use Rattle.lake_script.proofs.Kept.{IsFileOf, FileKept, IsKept}
-use Rattle.lake_script.proofs.KeptAppend.{small_number, stays_open, lawful_after, asked, made_with, handed_in, file_made, commit_made, step_with, step_behind, step_is}
+use Rattle.lake_script.proofs.KeptAppend.{small_number, stays_open, lawful_after, version_fits, made_with, handed_in, file_made, commit_made, step_with, step_behind, step_is}
 use Rattle.lake_script.proofs.KeptFile.{file_read}
 use Rattle.lake_script.proofs.KeptLog.{none_behind}
 use Rattle.lake_script.proofs.KeptNames.{same_name, same_file_name}
+use Rattle.lake_script.proofs.KeptRequest.{asked}
 use Rattle.lake_script.proofs.KeptPuts.{Stands-put, put_stands, kept_file, kept_commit}
 
 -- each data file that stands is one of rows
@@ -80,7 +82,7 @@ files_commit objects schema version bytes files application number found there =
 abbrev pub GoesOn : (most : ℕ) → Objects → Result Step Refusal → Type 0
 GoesOn most objects step = Stays most (with_file_alone objects step) × Stays most (with_append objects step)
 
-module _ (objects : Objects) (schema : Tree) (entries : List Entry) (kept : IsKept objects schema entries) (files : AreFiles objects schema) (few : length entries < 2 ^ 62) (most : ℕ) (up : length entries ≤ most)
+module _ (objects : Objects) (schema : Tree) (entries : List Entry) (kept : IsKept objects schema entries) (files : AreFiles objects schema) (few : length entries < 2 ^ 32) (most : ℕ) (up : length entries ≤ most)
     (application : List ℕ) (number at : ℕ) (utf8 : IsUtf8 application) (fits : number ≤ 999_999_999_999) (rows : List Row) where
   -- the batch that is put with this file
   abbrev made : (file : List ℕ) → Batch
@@ -140,7 +142,9 @@ module _ (objects : Objects) (schema : Tree) (entries : List Entry) (kept : IsKe
   new_goes_on : appended (handed_in application number rows) entries ≡ Committed (length entries) → PutsWell application number at (new_step objects (asked (length entries) schema rows false) application number at)
       → GoesOn (suc most) objects (new_step objects (asked (length entries) schema rows false) application number at)
   unfolding batch_of
-  new_goes_on new well = by_file (written_file schema rows) well
+  new_goes_on new well =
+      let fitting_version = version_fits entries few in
+      rw fitting_version (by_file (written_file schema rows) (rw fitting_version at well))
     where
       by_fit : (file : List ℕ) (fit : Result (Unit {0}) Refusal) → unless_other schema rows (file_name application number) (object_at objects (file_name application number)) ≡ fit
           → PutsWell application number at (fit >>= λ fits. Ok (puts (made file)))
@@ -177,11 +181,11 @@ module _ (objects : Objects) (schema : Tree) (entries : List Entry) (kept : IsKe
           new_goes_on (rw (is, over, other, open_) refl) well
 
 -- An append over a table that is kept leaves one that is kept, however far it comes.
-pub append_goes_on : (objects : Objects) (schema : Tree) (entries : List Entry) → IsKept objects schema entries → AreFiles objects schema → length entries < 2 ^ 62 → (most : ℕ) → length entries ≤ most
+pub append_goes_on : (objects : Objects) (schema : Tree) (entries : List Entry) → IsKept objects schema entries → AreFiles objects schema → length entries < 2 ^ 32 → (most : ℕ) → length entries ≤ most
     → (application : List ℕ) (number at : ℕ) (items : Items) → IsUtf8 application → PutsWell application number at (settled objects application number at items) → GoesOn (suc most) objects (settled objects application number at items)
 append_goes_on objects schema entries kept files few most up application number at items utf8 well =
     let is = step_is objects schema entries application number at items kept few in
-    rw is (by_tests (checked application number (count items)) (takes_rows schema) refl (rw is at well))
+    rw is (by_tests (checked application number (count items)) (has_key_inside (codes "delta.invariants") schema) (takes_rows schema) refl (rw is at well))
   where
     same : GoesOn (suc most) objects (Ok stands)
     same = let still = keeps schema entries kept files (omega (arith, up)) in (still, still)
@@ -192,9 +196,10 @@ append_goes_on objects schema entries kept files few most up application number 
     by_read (Ok rows) small well =
         behind_goes_on objects schema entries kept files few most up application number at utf8 small rows (last_batch application entries) refl well
 
-    by_tests : (fine takes : Result (Unit {0}) Refusal) → checked application number (count items) ≡ fine
-        → PutsWell application number at (step_behind objects schema entries application number at items fine takes) → GoesOn (suc most) objects (step_behind objects schema entries application number at items fine takes)
-    by_tests (Err why) takes is well = same
-    by_tests (Ok passed) (Err why) is well = same
-    by_tests (Ok passed) (Ok supported) is well =
+    by_tests : (fine : Result (Unit {0}) Refusal) (barred : Bool) (takes : Result (Unit {0}) Refusal) → checked application number (count items) ≡ fine
+        → PutsWell application number at (step_behind objects schema entries application number at items fine barred takes) → GoesOn (suc most) objects (step_behind objects schema entries application number at items fine barred takes)
+    by_tests (Err why) barred takes is well = same
+    by_tests (Ok passed) true takes is well = same
+    by_tests (Ok passed) false (Err why) is well = same
+    by_tests (Ok passed) false (Ok supported) is well =
         by_read (rows_from 0 schema items) (small_number application number (count items) is) well

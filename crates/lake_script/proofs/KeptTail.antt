@@ -145,7 +145,7 @@ module _ (objects : Objects) (max : ℕ) (offset : List ℕ) where
   tail_of_none (Some place) is = rw (is, log_of_nothing) refl
 
 -- Over a store that keeps a table a read is told what the table tells.
-pub tail_told : (objects : Objects) (schema : Tree) (entries : List Entry) → IsKept objects schema entries → length entries < 2 ^ 62 → (max : ℕ) (offset : List ℕ)
+pub tail_told : (objects : Objects) (schema : Tree) (entries : List Entry) → IsKept objects schema entries → length entries < 2 ^ 32 → (max : ℕ) (offset : List ℕ)
     → tailed_reply (tailed objects max offset) ≡ tables.tail_reply (tables.table schema entries) max (offset_of offset)
 tail_told objects schema entries kept few max offset =
     let log = kept_log objects schema entries kept few in

@@ -152,13 +152,13 @@ reads_as objects entries log is answers max place =
 
 -- what is known of single reads
 pub record GivenReads : Type 0 where
-  pub handed_told : (objects : Objects) (schema : Tree) (entries : List Entry) → IsKept objects schema entries → length entries < 2 ^ 62
+  pub handed_told : (objects : Objects) (schema : Tree) (entries : List Entry) → IsKept objects schema entries → length entries < 2 ^ 32
       → (log : Log) × (log_of objects ≡ Ok log) × ((max : ℕ) (place : Place) → IsRead (handed_by objects log max place) (read max place entries))
   pub log_of_nothing : log_of [] ≡ Err (bad_commit 0)
 
 module _ (given : GivenReads) where
   -- a store that keeps a table reads as it
-  kept_reads : (objects : Objects) (schema : Tree) (entries : List Entry) → IsKept objects schema entries → length entries < 2 ^ 62 → ReadsAs objects entries
+  kept_reads : (objects : Objects) (schema : Tree) (entries : List Entry) → IsKept objects schema entries → length entries < 2 ^ 32 → ReadsAs objects entries
   kept_reads objects schema entries kept small =
       let told = given.handed_told objects schema entries kept small in
       reads_as objects entries told.0 told.1 told.2
@@ -174,19 +174,19 @@ module _ (given : GivenReads) where
   nothing_handed (max ∷ limits) place = rw (nothing_read max place) (nothing_handed limits place)
 
   -- reads hand out the rows of the table in order
-  pub hand_out_the_log : (objects : Objects) (state : State) → Keeps objects state → length (entries_of state) < 2 ^ 62 → HandOutTheLog objects (entries_of state)
+  pub hand_out_the_log : (objects : Objects) (state : State) → Keeps objects state → length (entries_of state) < 2 ^ 32 → HandOutTheLog objects (entries_of state)
   hand_out_the_log objects nothing keeps small =
       let none : HandOutTheLog [] [] = λ limits. nothing_handed limits beginning ∙ sym (take_all (position (tails [] limits beginning).next []) [] (omega arith)) in
       subst (λ (o : Objects). HandOutTheLog o []) (sym keeps) none
   hand_out_the_log objects (table schema entries) keeps small = reads_log objects entries (kept_reads objects schema entries keeps.0 small)
 
   -- and all of them, where the last read handed out fewer than its limit
-  pub hand_out_all : (objects : Objects) (state : State) → Keeps objects state → length (entries_of state) < 2 ^ 62 → HandOutAll objects (entries_of state)
+  pub hand_out_all : (objects : Objects) (state : State) → Keeps objects state → length (entries_of state) < 2 ^ 32 → HandOutAll objects (entries_of state)
   hand_out_all objects nothing keeps small =
       let none : HandOutAll [] [] = λ earlier max short. nothing_handed (earlier ++ max ∷ []) beginning in
       subst (λ (o : Objects). HandOutAll o []) (sym keeps) none
   hand_out_all objects (table schema entries) keeps small = reads_all objects entries (kept_reads objects schema entries keeps.0 small)
 
   -- and none is refused
-  pub are_answered : (objects : Objects) (schema : Tree) (entries : List Entry) → IsKept objects schema entries → length entries < 2 ^ 62 → AreAnswered objects
+  pub are_answered : (objects : Objects) (schema : Tree) (entries : List Entry) → IsKept objects schema entries → length entries < 2 ^ 32 → AreAnswered objects
   are_answered objects schema entries kept small = reads_answered objects entries (kept_reads objects schema entries kept small)

@@ -1,5 +1,6 @@
 pub mod Kept
 pub mod KeptAppend
+pub mod KeptCommits
 pub mod KeptCreate
 pub mod KeptFile
 pub mod KeptGrown
@@ -8,11 +9,13 @@ pub mod KeptHolds
 pub mod KeptLog
 pub mod KeptNames
 pub mod KeptPuts
+pub mod KeptRequest
 pub mod KeptRuns
 pub mod KeptScripts
 pub mod KeptStep
 pub mod KeptTail
 pub mod KeptTails
+pub mod KeptVersions
 pub mod LineLemmas
 pub mod Moments
 pub mod Numbers

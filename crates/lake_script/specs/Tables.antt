@@ -4,8 +4,7 @@
 use Rattle.std.specs.Prelude.{ℕ, suc, ◌+◌, List, [], ◌∷◌, ◌++◌, Option, None, Some, Result, Ok, Err, codes, if◌then◌else◌}
 use Rattle.std.specs.Fmt.{decimal}
 use Rattle.std.specs.List.{flat_map}
-use Rattle.serde_json.specs.Data.{string, Items}
-use Rattle.serde_json.specs.Written.{compact_text}
+use Rattle.serde_json.specs.Data.{Items}
 use Rattle.table_model.specs.Table.{Batch, Entry, creation, batches_of, closes_of}
 use Rattle.delta_actions.specs.Names.{data_file_name}
 use Rattle.table_model.specs.Appends.{appended, with_batch}
@@ -17,7 +16,7 @@ use Rattle.schema_tree.specs.Tree.{Tree}
 use Rattle.sink_core.specs.Appending.{checked, count}
 use Rattle.commit_core.specs.Creating as creations
 use Rattle.commit_core.specs.Creating.{table_exists, described}
-use Rattle.commit_core.specs.Histories.{number_told}
+use Rattle.commit_core.specs.Histories.{close_told, number_told}
 use Rattle.commit_core.specs.Histories as histories
 use Rattle.lake_script.specs.Lines.{Wish, create, task, history, show, hex, append, tail, Reading, skipped, bad, asks, reading_of}
 use Rattle.source_core.specs.Offsets.{offset_of}
@@ -25,7 +24,8 @@ use Rattle.sink_core.specs.Refusals as appends
 use Rattle.commit_core.specs.Texts as texts
 use Rattle.commit_core.specs.Texts.{refused, line_of}
 use Rattle.lake_script.specs.Replies.{created, committed_at, already, bad_line}
-use Rattle.lake_bytes.specs.Results.{◌>>=◌}
+use Rattle.lake_bytes.specs.Results.{◌>>=◌, refused_if}
+use Rattle.delta_replay.specs.Support.{feature, has_key_inside}
 use Rattle.sink_core.specs.RowsIn.{rows_from, takes_rows}
 use Rattle.source_core.specs.Tailing as tails
 use Rattle.source_core.specs.TailFaults as tail_texts
@@ -60,6 +60,7 @@ abbrev pub batch_in : State → (application : List ℕ) (number : ℕ) → Item
 batch_in nothing application number items = checked application number (count items) >>= λ fine. Err (appends.bad_log 0)
 batch_in (table schema entries) application number items = do
   fine ← checked application number (count items)
+  plain ← refused_if (has_key_inside (codes "delta.invariants") schema) (appends.read_only (feature (codes "invariants")))
   supported ← takes_rows schema
   rows ← rows_from 0 schema items
   Ok (record { application = application; number = number; rows = rows })
@@ -104,9 +105,6 @@ tail_reply state max None = line_of (refused (tail_texts.refusal_text tails.bad_
 tail_reply state max (Some place) = read_from state max place
 
 -- ---- history
-
-abbrev pub close_told : List ℕ → List ℕ
-close_told application = codes " close " ++ compact_text (string application)
 
 -- the numbers of its batches, in order, and the stream that it closes
 abbrev pub entry_told : Entry → List ℕ

@@ -11,7 +11,7 @@ use Rattle.lake_script.specs.declared.faults.Fault.TheVariants.{NotYet, NoSuchNa
 use Rattle.sink_core.specs.Appending.{appended_by, settled, with_append}
 use Rattle.sink_core.specs.declared.appending.Appended.{Appended}
 use Rattle.sink_core.specs.declared.appending.Appended.TheVariants.{Committed, Already}
-use Rattle.commit_core.specs.Commits.{commit_name}
+use Rattle.table_log.specs.Names.{commit_name}
 use Rattle.commit_core.specs.Creating as creations
 use Rattle.commit_core.specs.Creating.{commit_from, created_by, with_creation, IsPrintedFor}
 use Rattle.commit_core.specs.Histories.{history_of}

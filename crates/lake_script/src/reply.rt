@@ -3,7 +3,7 @@ ghost use Rattle.std.specs.Prelude.{◌≡◌, ◌<◌, ◌^◌, [], false, OnOk
 ghost use Rattle.std.specs.Io.KnownBytes.{Appends};
 ghost use Rattle.serde_json.specs.View.{items_view};
 ghost use Rattle.store_core.specs.Objects.{object_at};
-ghost use Rattle.commit_core.specs.Commits.{commit_name};
+ghost use Rattle.table_log.specs.Names.{commit_name};
 ghost use Rattle.lake_script.specs.Growth.{MayPut};
 ghost use Rattle.commit_core.specs.Histories.{history_of};
 ghost use Rattle.lake_script.specs.Lines.{append, create, task, wish_view, IsTimely};
@@ -18,13 +18,14 @@ use crate::faults::{Fault, Refusal};
 use crate::line::{Job, Line};
 use crate::outputs::{Output, OutputError};
 use crate::showing::hex_of;
-use commit_core::{CreateFault, commit_at, create, history};
+use commit_core::{CreateFault, create, history};
 use serde_json::Value;
 use sink_core::{AppendFault, Appended, append};
 use source_core::{TailFault, tail};
 use std::alloc::Global;
 use std::io::Write;
 use store_core::{Store, StoreFault};
+use table_log::commit_at;
 
 /// What a line is told.
 #[derive(Drop)]

@@ -2,31 +2,34 @@
 ghost use Rattle.std.specs.Prelude.{Some};
 ghost use Rattle.sink_core.specs.Refusals.{refusal_text, refusal_view};
 
-use commit_core::LogFault;
+use delta_replay::{SupportError, SupportFault};
 use row_core::RowFault;
 use std::alloc::{AllocError, AllocFailed};
 use std::fmt;
 use std::fmt::{Display, Formatter};
 use store_core::StoreFault;
+use table_log::LogFault;
 use thiserror::Error;
 
 /// Why a batch of rows isn't appended. Its texts are written by hand, so that contracts know them.
 #[derive(Debug, Drop, Error)]
 pub enum AppendFault {
-    /// A table whose log tells no schema that can be read.
-    NotYet,
     /// The application's id has no bytes, or over 64.
     BadApp,
     /// The number passes 999,999,999,999, or there are more than 65,536 rows.
     TooLarge,
     /// The file passes 64 MiB.
     FileTooLarge,
-    /// The commit of that version can't be read, or no commit has a schema.
+    /// The commit of that version is missing or can't be read.
     BadLog { version: u64 },
+    /// The table isn't written, for what it has or lacks.
+    ReadOnly { fault: SupportFault },
     /// The first row that is wrong, by its index from 0. Of a column whose type has no rows the index is 0.
     BadRow { index: u64, fault: RowFault },
     /// The number is below the application's last one, which is this.
     Stale { last: u64 },
+    /// The number is new, and the application's stream is closed.
+    StreamClosed,
     /// Under the file's name stand other rows, or no file.
     Differs { name: String },
     /// A commit has the version: another one, or the batch's own, where the store took its put twice.
@@ -42,12 +45,20 @@ impl Display for AppendFault {
 
     fn fmt<W: fmt::Write>(&self, f: &mut Formatter<W>) -> fmt::Result {
         match self {
-            AppendFault::NotYet => f.write_str("N1 NotYet"),
             AppendFault::BadApp => f.write_str("S11 BadApp"),
             AppendFault::TooLarge | AppendFault::FileTooLarge => f.write_str("S8 TooLarge"),
             AppendFault::BadLog { version } => write!(f, "S9 BadLog {version}"),
+            AppendFault::ReadOnly { fault } => match fault {
+                SupportFault::NoProtocol => f.write_str("S10 ReadOnly NoProtocol"),
+                SupportFault::NoMetadata => f.write_str("S10 ReadOnly NoMetadata"),
+                SupportFault::Feature { name } => write!(f, "S10 ReadOnly {name}"),
+                SupportFault::Partitioned => f.write_str("S10 ReadOnly Partitioned"),
+                SupportFault::ReaderVersion { n: _ } => f.write_str("S10 ReadOnly ReaderVersion"),
+                SupportFault::BadSchema { fault: _ } => f.write_str("S10 ReadOnly BadSchema"),
+            },
             AppendFault::BadRow { index, fault } => write!(f, "S7 BadRow {index} {fault}"),
             AppendFault::Stale { last } => write!(f, "S1 Stale {last}"),
+            AppendFault::StreamClosed => f.write_str("S2 StreamClosed"),
             AppendFault::Differs { name } => write!(f, "S3 Differs {name}"),
             AppendFault::Contended { version } => write!(f, "S4 Contended {version}"),
             AppendFault::Lost {
@@ -102,9 +113,21 @@ impl From<LogFault> for AppendFault {
     fn from(fault: LogFault) -> AppendFault {
         match fault {
             LogFault::BadLog { version } => AppendFault::BadLog { version },
-            LogFault::NotYet => AppendFault::NotYet,
             LogFault::Lost => AppendFault::Lost { version: None },
             LogFault::Memory => AppendFault::Memory,
+        }
+    }
+}
+
+impl From<SupportError> for AppendFault {
+    ghost from_gives = { λ error e. IsSupportFault error e };
+
+    ghost use Rattle.sink_core.specs.Refusals.{IsSupportFault};
+
+    fn from(error: SupportError) -> AppendFault {
+        match error {
+            SupportError::Memory => AppendFault::Memory,
+            SupportError::Fault(fault) => AppendFault::ReadOnly { fault },
         }
     }
 }
