@@ -39,6 +39,9 @@ fn tell_question(log: &mut Log, question: &str, out: &mut Vec<u8>) -> Result<(),
         return log.spoil(version, out);
     }
     log.end_commit(out)?;
+    if question == "missing" {
+        return log.skip();
+    }
     if let Some(version) = question.strip_prefix("again ") {
         return log.print_and_restore(version, out);
     }

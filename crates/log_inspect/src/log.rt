@@ -7,6 +7,7 @@ ghost use Rattle.delta_actions.specs.Printing.{IsPrintable};
 ghost use Rattle.log_inspect.specs.Logs.{IsOfLog};
 
 use crate::failure::Failure;
+use crate::reads::tell_read;
 use crate::spoiled::tell_spoiled;
 use delta_actions::{Action, ActionFault, read_commit};
 use delta_checkpoint::{
@@ -16,12 +17,14 @@ use delta_replay::{FileAction, Snapshot, SupportError, closes};
 use schema_tree::Schema;
 use std::alloc::Global;
 use std::io::Write;
+use table_log::{Version, version_of};
 
-/// A log's snapshot, and the commit that is begun.
+/// A log's snapshot, its versions one by one, and the commit that is begun.
 #[derive(Drop)]
 pub struct Log {
     alloc: Global,
     pub snapshot: Snapshot,
+    versions: Vec<Version>,
     commit: Vec<u8>,
 }
 
@@ -32,6 +35,7 @@ impl Log {
         Log {
             alloc,
             snapshot: Snapshot::new(alloc),
+            versions: Vec::new(alloc),
             commit: Vec::new(alloc),
         }
     }
@@ -51,6 +55,9 @@ impl Log {
         requires { IsOfLog self.old.snapshot }
         ensures { OnOk result (IsOfLog self.new.snapshot) }
     {
+        if !self.commit.is_empty() {
+            self.versions.push(version_of(self.alloc, &self.commit)?)?;
+        }
         let read = read_commit(self.alloc, &self.commit);
         self.commit.clear();
         match read {
@@ -64,6 +71,14 @@ impl Log {
                 Ok(())
             }
         }
+    }
+
+    /// The next version is missing.
+    pub fn skip(&mut self) -> Result<(), Failure>
+        ensures { self.new.snapshot ≡ self.old.snapshot }
+    {
+        self.versions.push(Version::Missing)?;
+        Ok(())
     }
 
     /// The snapshot takes the actions of a commit in.
@@ -150,7 +165,8 @@ impl Log {
     /// - `read` and `write`: the schema's text, or why the table isn't read or written;
     /// - `checkpoint V`: the name and the lines of that version's checkpoint;
     /// - `put`: whether a checkpoint is put, or why it isn't;
-    /// - `name NAME`: the version whose checkpoint has that name.
+    /// - `name NAME`: the version whose checkpoint has that name;
+    /// - `tail V`: what a read from that version on asks of the versions, of which each commit with a line is one.
     pub fn answer(&self, question: &str, out: &mut Vec<u8>) -> Result<(), Failure>
         requires { IsOfLog self.now.snapshot }
     {
@@ -173,6 +189,7 @@ impl Log {
             "write" => self.tell_schema(self.snapshot.supports_write(self.alloc), out)?,
             "put" => self.tell_put(out)?,
             "name" => self.tell_name(rest, out)?,
+            "tail" => tell_read(self.alloc, &self.versions, number_of(rest)?, out)?,
             _ => return Err(Failure::Misspelled),
         }
         Ok(())

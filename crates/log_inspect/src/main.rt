@@ -8,6 +8,7 @@
 mod cases;
 mod failure;
 mod log;
+mod reads;
 mod spoiled;
 
 use std::io;
