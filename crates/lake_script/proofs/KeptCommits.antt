@@ -13,7 +13,7 @@ use Rattle.delta_actions.specs.Names.{stream_domain}
 use Rattle.delta_replay.specs.Closes.{is_closed}
 use Rattle.delta_replay.specs.Keys as keys
 use Rattle.delta_replay.specs.Keys.{Key, the_protocol, the_meta_data, number_of, domain_of, is_of, actions_of, newest, kept, last_number}
-use Rattle.delta_replay.specs.Support.{feature, has_key_inside, writable}
+use Rattle.delta_replay.specs.Support.{feature, has_key_inside, readable, writable}
 use Rattle.lake_bytes.specs.Results.{◌>>=◌, refused_if}
 use Rattle.table_model.specs.Table.{Batch, Entry, creation, group, close, last, last_batch}
 use Rattle.table_model.proofs.Callers.{last_batch-append}
@@ -120,6 +120,12 @@ made_told : (schema : Tree) (rest : List Entry) (commits : List (List actions.En
 made_told schema rest [] made = absurd made
 made_told schema rest (commit ∷ commits) made =
     rw (newest-cons the_meta_data commit commits) (stays schema the_meta_data (IsTold schema) (told_on schema) (of_commit the_meta_data commit) rest commits (first_told schema commit made.0) made.1)
+
+-- A table of a schema is read.
+pub made_readable : (schema : Tree) (rest : List Entry) (commits : List (List actions.Entry)) → AreMade schema (creation ∷ rest) commits → readable commits ≡ Ok schema
+made_readable schema rest commits made =
+    let told = made_told schema rest commits made in
+    rw (made_protocol schema rest commits made, told.1, told.2, told.3) refl
 
 -- A table of a schema is written, unless a field has invariants.
 pub made_writable : (schema : Tree) (rest : List Entry) (commits : List (List actions.Entry)) → AreMade schema (creation ∷ rest) commits

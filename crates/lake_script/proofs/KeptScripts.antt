@@ -1,8 +1,10 @@
 -- What is known of single lines, put together.
-use Rattle.std.proofs.Common.{◌<◌, ◌^◌, length, Result}
+use Rattle.std.proofs.Common.{◌≡◌, ◌<◌, ◌^◌, [], length, map, Err, Result, refl}
 use Rattle.store_core.specs.Objects.{Objects}
 use Rattle.table_model.specs.Reads.{Answer, handed, beyond, bad_place}
-use Rattle.source_core.specs.Tailing.{Handed, Refusal}
+use Rattle.source_core.specs.Tailing.{Handed, Refusal, bad_log, schema_for}
+use Rattle.table_log.specs.Versions.{commit, versions_of}
+use Rattle.table_model.specs.declared.reading.Place.{Place}
 use Rattle.lake_script.specs.Scripts.{HoldsState, AnswersReads, ReadsOut}
 use Rattle.lake_script.specs.Tables.{State, nothing, table, entries_of}
 use Rattle.lake_script.proofs.Kept.{Keeps}
@@ -10,9 +12,10 @@ use Rattle.lake_script.proofs.KeptAppend.{append_told}
 use Rattle.lake_script.proofs.KeptCreate.{create_told}
 use Rattle.lake_script.proofs.KeptHistory.{history_told, history_of_nothing}
 use Rattle.lake_script.proofs.KeptHolds.{kept_holds}
-use Rattle.lake_script.proofs.KeptLog.{kept_log, log_of_nothing}
+use Rattle.lake_script.proofs.KeptLog.{made_of, are_made}
+use Rattle.lake_script.proofs.KeptVersions.{versions_kept, versions_of_nothing}
 use Rattle.lake_script.proofs.KeptRuns.{Given}
-use Rattle.lake_script.proofs.KeptTail.{IsTold, tail_told, tail_of_nothing, handed_told}
+use Rattle.lake_script.proofs.KeptTail.{IsTold, kept_plain, tail_told, tail_of_nothing, handed_told}
 use Rattle.lake_script.proofs.KeptTails.{GivenReads, IsRead, hand_out_the_log, hand_out_all, are_answered}
 
 pub lines_told : Given
@@ -31,12 +34,24 @@ read_told (handed rows next) said is = is
 read_told (beyond next) said is = is
 read_told (bad_place version) said is = is
 
+-- a store of nothing has no schema
+nothing_told : (place : Place) → schema_for (versions_of []) place ≡ Err (bad_log 0)
+unfolding schema_for
+nothing_told place = rw versions_of_nothing refl
+
 pub reads_told : GivenReads
 reads_told = record {
   handed_told = λ objects schema entries kept small.
-      let log = kept_log objects schema entries kept small in
-      (record { schema = schema; commits = log.0 }, log.2, λ max place. read_told _ _ (handed_told objects schema entries log.0 kept.kept log.1 max place));
-  log_of_nothing = log_of_nothing;
+      let commits = made_of objects schema 0 entries kept.kept in
+      let plain = kept_plain objects schema entries kept in
+      record {
+        told = plain.told;
+        versions = map commit commits;
+        log = versions_kept objects schema entries kept small;
+        goes_by = plain.goes_by;
+        answers = λ max place. read_told _ _ (handed_told objects schema entries commits kept.kept (are_made objects schema 0 entries kept.kept) plain max place);
+      };
+  nothing_told = nothing_told;
 }
 
 -- the store that keeps a table holds it

@@ -11,11 +11,12 @@ use Rattle.table_model.specs.Resumed.{reads_on, growth, beginning}
 use Rattle.table_model.specs.declared.reading.Place.{Place}
 use Rattle.table_model.proofs.Callers.{beginning_is_place, is_answered}
 use Rattle.table_model.proofs.Callers.{final_grows, log_from_beginning, onward_in_the_log, all_after_short}
-use Rattle.commit_core.specs.Log.{Log, Unreadable, log_of, bad_commit}
+use Rattle.table_log.specs.Versions.{Version, versions_of}
+use Rattle.source_core.specs.InForce.{Told}
 use Rattle.lake_bytes.specs.Results.{◌>>=◌, refused_as}
 use Rattle.lake_script.specs.Tables.{State, nothing, table, entries_of}
-use Rattle.source_core.specs.Tailing.{Handed, Refusal, unreadable, handed_by, beyond_log, bad_place as bad_place_told}
-use Rattle.source_core.specs.Tails.{Tails, read_by, rows_handed, place_after, with_earlier, tails, HandOutTheLog, HandOutAll, AreAnswered}
+use Rattle.source_core.specs.Tailing.{Handed, Refusal, bad_log, handed_by, read_by, schema_for, beyond_log, bad_place as bad_place_told}
+use Rattle.source_core.specs.Tails.{Tails, rows_handed, place_after, with_earlier, tails, HandOutTheLog, HandOutAll, AreAnswered}
 use Rattle.lake_script.proofs.Kept.{IsKept, Keeps}
 
 -- the store answers what the table answers
@@ -145,27 +146,31 @@ module _ (objects : Objects) (entries : List Entry) (reads : ReadsAs objects ent
 
 -- ---- over a store that keeps what a script made so far
 
--- where the log is read, each read is one over it
-pub reads_as : (objects : Objects) (entries : List Entry) (log : Log) → log_of objects ≡ Ok log → ((max : ℕ) (place : Place) → IsRead (handed_by objects log max place) (read max place entries)) → ReadsAs objects entries
-reads_as objects entries log is answers max place =
-    subst (λ (answered : Result Handed Refusal). IsRead answered (read max place entries)) (ap (λ (found : Result Log Unreadable). refused_as unreadable found >>= λ l. handed_by objects l max place) (sym is)) (answers max place)
+-- What is known of reads of a table's log: the schema that they go by, and that each answers what the table answers.
+pub record IsReadAs (objects : Objects) (entries : List Entry) : Type 0 where
+  pub told : Told
+  pub versions : List Version
+  pub log : versions_of objects ≡ versions
+  pub goes_by : (place : Place) → schema_for versions place ≡ Ok told
+  pub answers : (max : ℕ) (place : Place) → IsRead (handed_by objects told versions max place) (read max place entries)
+
+-- then each read over the objects does
+pub reads_as : (objects : Objects) (entries : List Entry) → IsReadAs objects entries → ReadsAs objects entries
+reads_as objects entries is max place = rw (is.log, is.goes_by place) (is.answers max place)
 
 -- what is known of single reads
 pub record GivenReads : Type 0 where
-  pub handed_told : (objects : Objects) (schema : Tree) (entries : List Entry) → IsKept objects schema entries → length entries < 2 ^ 32
-      → (log : Log) × (log_of objects ≡ Ok log) × ((max : ℕ) (place : Place) → IsRead (handed_by objects log max place) (read max place entries))
-  pub log_of_nothing : log_of [] ≡ Err (bad_commit 0)
+  pub handed_told : (objects : Objects) (schema : Tree) (entries : List Entry) → IsKept objects schema entries → length entries < 2 ^ 32 → IsReadAs objects entries
+  pub nothing_told : (place : Place) → schema_for (versions_of []) place ≡ Err (bad_log 0)
 
 module _ (given : GivenReads) where
   -- a store that keeps a table reads as it
   kept_reads : (objects : Objects) (schema : Tree) (entries : List Entry) → IsKept objects schema entries → length entries < 2 ^ 32 → ReadsAs objects entries
-  kept_reads objects schema entries kept small =
-      let told = given.handed_told objects schema entries kept small in
-      reads_as objects entries told.0 told.1 told.2
+  kept_reads objects schema entries kept small = reads_as objects entries (given.handed_told objects schema entries kept small)
 
   -- where nothing stands, a read is refused
-  nothing_read : (max : ℕ) (place : Place) → read_by [] max place ≡ Err (unreadable (bad_commit 0))
-  nothing_read max place = ap (λ (found : Result Log Unreadable). refused_as unreadable found >>= λ l. handed_by [] l max place) given.log_of_nothing
+  nothing_read : (max : ℕ) (place : Place) → read_by [] max place ≡ Err (bad_log 0)
+  nothing_read max place = rw (given.nothing_told place) refl
 
   -- so that reads hand out no rows
   nothing_handed : (limits : List ℕ) (place : Place) → (tails [] limits place).rows ≡ []

@@ -14,7 +14,8 @@ use Rattle.table_model.specs.Reads.{placed_rows, placed_files, placed_from, is_b
 use Rattle.table_model.specs.declared.reading.Place.{Place}
 use Rattle.table_store.specs.Groups.{new_files}
 use Rattle.source_core.specs.Tailing as tails
-use Rattle.source_core.specs.Tailing.{LogFile, rows_of, numbered, files_from}
+use Rattle.source_core.specs.Tailing.{LogFile, rows_of, numbered}
+use Rattle.source_core.proofs.LogFiles.{files_from}
 use Rattle.source_core.proofs.KeptTailWalk.{Found, file_of, rows_in, AreFound}
 
 -- ---- the files of a log and the rows of its table

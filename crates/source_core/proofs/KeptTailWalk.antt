@@ -14,7 +14,7 @@ use Rattle.table_model.specs.Reads as reads
 use Rattle.table_model.specs.Table.{last}
 use Rattle.table_model.specs.declared.reading.Place.{Place}
 use Rattle.table_model.proofs.Callers.{past}
-use Rattle.source_core.specs.Tailing.{LogFile, Refusal, Handed, rows_of, bad_place, behind, is_done, hand}
+use Rattle.source_core.specs.Tailing.{LogFile, Refusal, Handed, data_file, rows_of, bad_place, behind, is_done, hand}
 
 -- ---- rows with their places
 
@@ -194,7 +194,7 @@ within_none (f ∷ fs) = omega arith
 module _ (objects : Objects) (schema : Tree) (end : Place) where
   -- what is handed out of files that can be read
   pub walked : (fs : List Found) (most skip : ℕ) (rows : List Row) (next : Place) → AreFound objects schema fs → AreWithin skip fs
-      → Goes end most rows next (drop skip (rows_in fs)) (hand objects schema end most skip rows next (map file_of fs))
+      → Goes end most rows next (drop skip (rows_in fs)) (hand objects schema end most skip rows next (map data_file (map file_of fs)))
   unfolding hand
   walked [] most skip rows next found within = rw within (at_end end most rows next _ refl)
   walked (f ∷ fs) most skip rows next found within =
@@ -203,13 +203,13 @@ module _ (objects : Objects) (schema : Tree) (end : Place) where
         | inr on ↦
             let part = take most (drop skip f.rows) in
             let enough = le-ltb (length f.rows) skip within in
-            let step : hand objects schema end most skip rows next (file_of f ∷ map file_of fs) ≡ hand objects schema end (most - length part) 0 (rows ++ part) (behind (file_of f) skip part next) (map file_of fs) =
+            let step : hand objects schema end most skip rows next (map data_file (file_of f ∷ map file_of fs)) ≡ hand objects schema end (most - length part) 0 (rows ++ part) (behind (file_of f) skip part next) (map data_file (map file_of fs)) =
             rw (on, found.0, enough) refl in
             rw step (goes_on end f fs most skip rows next _ within (walked fs (most - length part) 0 (rows ++ part) (behind (file_of f) skip part next) found.1 (within_none fs)))
       ]
 
   -- a first file that has fewer rows than are to be passed over is the answer
-  pub row_missing : (f : Found) (fs : List Found) (most skip : ℕ) (next : Place) → AreFound objects schema (f ∷ fs) → length f.rows < skip → hand objects schema end most skip [] next (map file_of (f ∷ fs)) ≡ Err (bad_place f.version)
+  pub row_missing : (f : Found) (fs : List Found) (most skip : ℕ) (next : Place) → AreFound objects schema (f ∷ fs) → length f.rows < skip → hand objects schema end most skip [] next (map data_file (map file_of (f ∷ fs))) ≡ Err (bad_place f.version)
   unfolding hand
   row_missing f fs most skip next found past_it =
       let none : eqb skip 0 ≡ false = ne_eqb skip 0 (λ e. omega arith) in

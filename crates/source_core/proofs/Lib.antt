@@ -1,7 +1,9 @@
+pub mod Callers
 pub mod HandLemmas
+pub mod ItemLemmas
 pub mod KeptTailPlace
 pub mod KeptTailSpot
 pub mod KeptTailWalk
+pub mod LogFiles
 pub mod OffsetLemmas
-pub mod TailLemmas
-pub mod Callers
+pub mod SchemaLemmas

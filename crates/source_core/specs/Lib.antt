@@ -1,3 +1,4 @@
+pub mod InForce
 pub mod Offsets
 pub mod TailFaults
 pub mod TailViews

@@ -7,13 +7,7 @@ use Rattle.table_model.specs.Resumed.{beginning}
 use Rattle.row_core.specs.Rows.{Row}
 use Rattle.table_model.specs.Table.{Entry, rows}
 use Rattle.table_model.specs.declared.reading.Place.{Place}
-use Rattle.commit_core.specs.Log.{log_of}
-use Rattle.lake_bytes.specs.Results.{◌>>=◌, refused_as}
-use Rattle.source_core.specs.Tailing.{Refusal, Handed, unreadable, handed_by}
-
--- up to `max` rows of the table from a place on
-abbrev pub read_by : Objects → (max : ℕ) → Place → Result Handed Refusal
-read_by objects max place = refused_as unreadable (log_of objects) >>= λ log. handed_by objects log max place
+use Rattle.source_core.specs.Tailing.{Refusal, Handed, read_by}
 
 -- the rows of an answer: a read that is refused hands out none
 abbrev pub rows_handed : Result Handed Refusal → List Row

@@ -1,7 +1,9 @@
 //! Rows that are read from a table over a store, from one offset to the next.
 #![tactic(auto)]
 
+mod items;
 mod offsets;
+mod schemas;
 mod tail_fault;
 mod tailing;
 

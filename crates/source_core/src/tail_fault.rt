@@ -2,7 +2,7 @@
 ghost use Rattle.std.specs.Prelude.{Some};
 ghost use Rattle.source_core.specs.TailFaults.{refusal_text, refusal_view};
 
-use commit_core::LogFault;
+use delta_replay::{SupportError, SupportFault};
 use parquet_footer::FileFault;
 use std::alloc::{AllocError, AllocFailed};
 use std::fmt;
@@ -14,13 +14,27 @@ use thiserror::Error;
 /// know them.
 #[derive(Debug, Drop, Error)]
 pub enum TailFault {
-    /// A table whose log tells no schema that can be read.
-    NotYet,
     /// The offset's text is no offset.
     BadOffsetText,
+    /// The table isn't read, for what it has or lacks.
+    Unsupported {
+        fault: SupportFault,
+    },
     /// The offset is behind the version that comes next, which is this.
     BeyondLog {
         next: u64,
+    },
+    /// The offset is in front of a version that is gone; from this one on all stand.
+    VersionGone {
+        first: u64,
+    },
+    /// That version takes rows away.
+    RowsRemoved {
+        version: u64,
+    },
+    /// That version changes the schema.
+    SchemaChanged {
+        version: u64,
     },
     /// The offset is in no file of its version.
     BadPlace {
@@ -36,7 +50,7 @@ pub enum TailFault {
         file: u64,
         fault: FileFault,
     },
-    /// The commit of that version can't be read, or no commit has a schema.
+    /// The commit of that version can't be read, or isn't there.
     BadLog {
         version: u64,
     },
@@ -51,8 +65,11 @@ impl Display for TailFault {
 
     fn fmt<W: fmt::Write>(&self, f: &mut Formatter<W>) -> fmt::Result {
         match self {
-            TailFault::NotYet => f.write_str("N1 NotYet"),
             TailFault::BadOffsetText => f.write_str("O7 BadOffsetText"),
+            TailFault::Unsupported { fault } => write!(f, "O11 Unsupported {fault}"),
+            TailFault::VersionGone { first } => write!(f, "O1 VersionGone {first}"),
+            TailFault::RowsRemoved { version } => write!(f, "O3 RowsRemoved {version}"),
+            TailFault::SchemaChanged { version } => write!(f, "O4 SchemaChanged {version}"),
             TailFault::BeyondLog { next } => write!(f, "O2 BeyondLog {next}"),
             TailFault::BadPlace { version } => write!(f, "O10 BadPlace {version}"),
             TailFault::MissingFile { path } => write!(f, "O6 MissingFile {path}"),
@@ -103,17 +120,15 @@ impl From<StoreFault> for TailFault {
     }
 }
 
-impl From<LogFault> for TailFault {
-    ghost from_gives = { λ fault e. IsLogFault fault e };
+impl From<SupportError> for TailFault {
+    ghost from_gives = { λ error e. IsSupportFault error e };
 
-    ghost use Rattle.source_core.specs.TailFaults.{IsLogFault};
+    ghost use Rattle.source_core.specs.TailFaults.{IsSupportFault};
 
-    fn from(fault: LogFault) -> TailFault {
-        match fault {
-            LogFault::BadLog { version } => TailFault::BadLog { version },
-            LogFault::NotYet => TailFault::NotYet,
-            LogFault::Lost => TailFault::Lost,
-            LogFault::Memory => TailFault::Memory,
+    fn from(error: SupportError) -> TailFault {
+        match error {
+            SupportError::Memory => TailFault::Memory,
+            SupportError::Fault(fault) => TailFault::Unsupported { fault },
         }
     }
 }

@@ -42,3 +42,7 @@ returns-in_err-give-in-Asks-clause-cut_off g c = λ reliable.
 
 pub returns-in_ok-give-in-Asks-clause-behind : goal.returns-in_ok-give-in-Asks-clause-behind
 returns-in_ok-give-in-Asks-clause-behind g c = (reply_text c.grant-reply.result, c.in_ok-give-in-Asks.ensures.held, tt)
+
+pub returns-in_ok-give-in-Asks-clause-remembers : goal.returns-in_ok-give-in-Asks-clause-remembers
+returns-in_ok-give-in-Asks-clause-remembers g c = λ kept.
+    elim c.if-is_short.branch [ then-is_short w ↦ absurd (false≢true (sym kept ∙ w.is_short-is)) | else-is_short w ↦ let same = w.is_short-is in cc ]
