@@ -1,0 +1,2 @@
+pub mod LogLemmas
+pub mod PutLemmas
