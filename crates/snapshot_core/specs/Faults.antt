@@ -1,5 +1,5 @@
 -- Why no checkpoint is put and no snapshot is told, as far as the log says it.
-use Rattle.std.specs.Prelude.{◌≡◌, ℕ, List, Result, Ok, Err}
+use Rattle.std.specs.Prelude.{◌≡◌, ℕ, List, Result, Ok}
 use Rattle.lake_bytes.specs.Outcome.{Said, refuses, says_nothing, never_comes}
 use Rattle.lake_bytes.specs.Results.{◌>>=◌, refused_as}
 use Rattle.store_core.specs.Objects.{Objects}

@@ -18,23 +18,30 @@ use Rattle.snapshot_core.specs.declared.fault.SnapshotFault.TheVariants as fault
 abbrev pub most_bytes : ℕ
 most_bytes = 67_108_864
 
--- The bytes are a checkpoint of a log's newest version, where it has one that may be put: a line tells the version, and
--- behind it stands what the log leaves, in the order of a checkpoint.
-pub record IsNewestCheckpoint (objects : Objects) (version : ℕ) (bytes : List ℕ) : Type 0 where
+-- The id of the table of a log: that of its newest metadata.
+pub record IsTableId (log : List (List Entry)) (id : List ℕ) : Type 0 where
+  pub meta_data : MetaDataEntry
+  pub newest : meta_data_of log ≡ Some meta_data
+  pub is : id ≡ meta_data.id
+
+-- The bytes are the checkpoint of a log's newest version: a line tells the version, and behind it stands what the log
+-- leaves, in the order of a checkpoint.
+pub record IsNewestCheckpoint (log : List (List Entry)) (version : ℕ) (bytes : List ℕ) : Type 0 where
+  pub newest : suc version ≡ length log
+  pub checkpoint : IsCheckpoint bytes version log
+  pub ordered : (actions : List Entry) × ListsAll log actions × IsPrintedCommit bytes (checkpoint_metadata (record { version = version }) ∷ actions)
+
+-- What is put over these objects: the checkpoint of the newest version, if it may be put and isn't too large, under the
+-- name of that version for the table's id.
+pub record PutsCheckpoint (objects : Objects) (version : ℕ) (name bytes : List ℕ) : Type 0 where
   pub commits : List (List Entry)
   pub read : log_of objects ≡ Ok commits
   pub supported : checkpointable commits ≡ Ok tt
-  pub newest : suc version ≡ length commits
-  pub checkpoint : IsCheckpoint bytes version commits
-  pub ordered : (actions : List Entry) × ListsAll commits actions × IsPrintedCommit bytes (checkpoint_metadata (record { version = version }) ∷ actions)
-
--- The checkpoint that is put: it isn't too large, and its name is that of its version for the table's id.
-pub record PutsCheckpoint (objects : Objects) (version : ℕ) (name bytes : List ℕ) : Type 0 where
-  pub newest : IsNewestCheckpoint objects version bytes
+  pub id : List ℕ
+  pub of_table : IsTableId commits id
+  pub checkpoint : IsNewestCheckpoint commits version bytes
   pub fits : length bytes ≤ most_bytes
-  pub meta_data : MetaDataEntry
-  pub of_table : meta_data_of newest.commits ≡ Some meta_data
-  pub named : name ≡ checkpoint_name version meta_data.id
+  pub named : name ≡ checkpoint_name version id
   -- by its name it is found
   pub found : IsCheckpointName version name
 
@@ -57,9 +64,15 @@ pub record LosesPut (old new : Objects × Flight) : Type 0 where
 abbrev pub MayHavePut : Objects × Flight → Objects × Flight → Type 0
 MayHavePut old new = IsUntouched old new ⊎ LosesPut old new
 
--- the checkpoint of the newest version passes 64 MiB
-abbrev pub IsTooLarge : Objects → Type 0
-IsTooLarge objects = (version : ℕ) × (bytes : List ℕ) × IsNewestCheckpoint objects version bytes × (most_bytes < length bytes)
+-- The checkpoint of the newest version may be put, but passes 64 MiB.
+pub record IsTooLarge (objects : Objects) : Type 0 where
+  pub commits : List (List Entry)
+  pub read : log_of objects ≡ Ok commits
+  pub supported : checkpointable commits ≡ Ok tt
+  pub version : ℕ
+  pub bytes : List ℕ
+  pub checkpoint : IsNewestCheckpoint commits version bytes
+  pub large : most_bytes < length bytes
 
 -- What a fault says stands in the log: why it has no checkpoint that may be put, or that it is too large.
 abbrev pub IsRefusal : SnapshotFault → Objects → Type 0

@@ -31,7 +31,9 @@ pub(crate) fn settings_text(
     let reader = protocol.min_reader_version;
     let writer = protocol.min_writer_version;
     let schema = &meta_data.schema_string;
-    let text = format!(in alloc; "version {version}\nprotocol {reader} {writer}\nschema {schema}\n")?;
+    let text = format!(in alloc;
+        "version {version}\nprotocol {reader} {writer}\nschema {schema}\n"
+    )?;
     Ok(text.into_bytes())
 }
 
@@ -67,11 +69,7 @@ fn file_line(alloc: Global, file: &Add) -> Result<String, AllocError>
 }
 
 /// Adds the lines of applications' numbers.
-fn add_numbers(
-    text: &mut Vec<u8>,
-    alloc: Global,
-    numbers: Vec<&Txn>,
-) -> Result<(), AllocError>
+fn add_numbers(text: &mut Vec<u8>, alloc: Global, numbers: Vec<&Txn>) -> Result<(), AllocError>
     ensures { OnOk result (text.new.items
         ≡ text.old.items ++ flat_map number_line (map (λ t. txn_view t.now) numbers.entry.items)) }
 {
@@ -82,11 +80,7 @@ fn add_numbers(
 }
 
 /// Adds the lines of the applications whose streams are closed.
-fn add_closed(
-    text: &mut Vec<u8>,
-    alloc: Global,
-    applications: Vec<&str>,
-) -> Result<(), AllocError>
+fn add_closed(text: &mut Vec<u8>, alloc: Global, applications: Vec<&str>) -> Result<(), AllocError>
     ensures { OnOk result (text.new.items
         ≡ text.old.items ++ flat_map closed_line (map (λ t. t.now) applications.entry.items)) }
 {
@@ -97,11 +91,7 @@ fn add_closed(
 }
 
 /// Adds the lines of files.
-fn add_files(
-    text: &mut Vec<u8>,
-    alloc: Global,
-    files: Vec<&Add>,
-) -> Result<(), AllocError>
+fn add_files(text: &mut Vec<u8>, alloc: Global, files: Vec<&Add>) -> Result<(), AllocError>
     ensures { OnOk result (text.new.items
         ≡ text.old.items ++ flat_map file_line (map (λ a. add_view a.now) files.entry.items)) }
 {
