@@ -1,0 +1,24 @@
+-- What a put of the newest checkpoint leaves.
+use Rattle.std.proofs.Common.{◌≡◌, ℕ, List, Result, Ok, Err, IfOk, ap, ◌∙◌}
+use Rattle.std.specs.Prelude.{IfErr, OnOk}
+use Rattle.store_core.specs.Objects.{Objects, with_object}
+use Rattle.snapshot_core.specs.Taking.{HasPut, IsRefusal, PutsCheckpoint}
+use Rattle.snapshot_core.specs.declared.fault.SnapshotFault.{SnapshotFault}
+
+module _ (result : Result ℕ SnapshotFault) where
+  -- the checkpoint that was made has been put, over the objects that it was made of
+  pub has_put : (version : ℕ) (name bytes : List ℕ) (old before new : Objects) → before ≡ old → PutsCheckpoint old version name bytes → IfOk result (λ told. told ≡ version)
+      → OnOk result (new ≡ with_object before name bytes) → IfOk result (λ told. HasPut told old new)
+  has_put version name bytes old before new same puts is put = by_result result is put
+    where
+      by_result : (result : Result ℕ SnapshotFault) → IfOk result (λ told. told ≡ version) → OnOk result (new ≡ with_object before name bytes) → IfOk result (λ told. HasPut told old new)
+      by_result (Ok told) is put = rw is (record { name = name; bytes = bytes; puts = puts; put = put ∙ ap (λ (o : Objects). with_object o name bytes) same })
+      by_result (Err fault) is put = tt
+
+  -- what is said whatever the objects are is said of these
+  pub refused_here : (old : Objects) → IfErr result (λ fault. (objects : Objects) → IsRefusal fault objects) → IfErr result (λ fault. IsRefusal fault old)
+  refused_here old all = by_result result all
+    where
+      by_result : (result : Result ℕ SnapshotFault) → IfErr result (λ fault. (objects : Objects) → IsRefusal fault objects) → IfErr result (λ fault. IsRefusal fault old)
+      by_result (Ok told) all = tt
+      by_result (Err fault) all = all old

@@ -1,0 +1,63 @@
+-- Why no checkpoint is put and no snapshot is told, as far as the log says it.
+use Rattle.std.specs.Prelude.{◌≡◌, ℕ, List, Result, Ok}
+use Rattle.lake_bytes.specs.Outcome.{Said, refuses, says_nothing, never_comes}
+use Rattle.lake_bytes.specs.Results.{◌>>=◌, refused_as}
+use Rattle.store_core.specs.Objects.{Objects}
+use Rattle.store_core.specs.declared.fault.StoreFault.{StoreFault}
+use Rattle.store_core.specs.declared.fault.StoreFault.TheVariants as stores
+use Rattle.delta_actions.specs.Entry.{Entry}
+use Rattle.delta_replay.specs.Support as supports
+use Rattle.delta_replay.specs.Support.{Unsupported, checkpointable, readable}
+use Rattle.delta_replay.specs.declared.support.SupportError.{SupportError}
+use Rattle.delta_replay.specs.declared.support.SupportError.TheVariants as errors
+use Rattle.table_log.specs.Versions.{log_of}
+use Rattle.table_log.specs.declared.fault.LogFault.{LogFault}
+use Rattle.table_log.specs.declared.fault.LogFault.TheVariants as logs
+use Rattle.snapshot_core.specs.declared.fault.SnapshotFault.{SnapshotFault}
+use Rattle.snapshot_core.specs.declared.fault.SnapshotFault.TheVariants as faults
+
+-- Why a log gives no checkpoint or no snapshot.
+pub data Reason : Type 0 where
+  -- the commit of that version is missing or can't be read
+  bad_log : (version : ℕ) → Reason
+  -- what the table has or lacks
+  unsupported : Unsupported → Reason
+
+-- The commits of a log whose checkpoint is put, or the first reason why it isn't: the first version that has no commit
+-- that can be read, and what the table has or lacks.
+abbrev pub checked : Objects → Result (List (List Entry)) Reason
+checked objects = do
+  commits ← refused_as bad_log (log_of objects)
+  fine ← refused_as unsupported (checkpointable commits)
+  Ok commits
+
+-- the same of a log whose table is read
+abbrev pub readable_log : Objects → Result (List (List Entry)) Reason
+readable_log objects = do
+  commits ← refused_as bad_log (log_of objects)
+  schema ← refused_as unsupported (readable commits)
+  Ok commits
+
+-- What a fault says of a log. That a checkpoint is too large isn't said of one.
+abbrev pub says : SnapshotFault → Said Reason
+says (faults.BadLog version) = refuses (bad_log version)
+says (faults.Unsupported fault) = refuses (unsupported (supports.fault_of fault))
+says faults.TooLarge = never_comes
+says faults.Lost = says_nothing
+says faults.Memory = says_nothing
+
+-- a call of the store that has no answer
+abbrev pub IsUnanswered : StoreFault → SnapshotFault → Type 0
+IsUnanswered stores.Lost fault = fault ≡ faults.Lost
+IsUnanswered stores.Memory fault = fault ≡ faults.Memory
+
+-- a log that isn't loaded
+abbrev pub IsLogFault : LogFault → SnapshotFault → Type 0
+IsLogFault (logs.BadLog version) fault = fault ≡ faults.BadLog version
+IsLogFault logs.Lost fault = fault ≡ faults.Lost
+IsLogFault logs.Memory fault = fault ≡ faults.Memory
+
+-- a table that isn't read, or whose checkpoint isn't put
+abbrev pub IsSupportFault : SupportError → SnapshotFault → Type 0
+IsSupportFault (errors.Fault why) fault = fault ≡ faults.Unsupported why
+IsSupportFault errors.Memory fault = fault ≡ faults.Memory

@@ -1,0 +1,4 @@
+pub mod Faults
+pub mod FaultTexts
+pub mod Taking
+pub mod Telling

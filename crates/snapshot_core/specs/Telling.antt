@@ -1,0 +1,77 @@
+-- What a log leaves, as it is told: lines of text.
+use Rattle.std.specs.Prelude.{◌≡◌, ℕ, suc, List, [], ◌∷◌, ◌++◌, Some, Ok, codes, length}
+use Rattle.std.specs.Fmt.{decimal}
+use Rattle.std.specs.List.{flat_map}
+use Rattle.serde_json.specs.Data.{string}
+use Rattle.serde_json.specs.Written.{compact_text}
+use Rattle.schema_tree.specs.Tree.{Tree}
+use Rattle.store_core.specs.Objects.{Objects}
+use Rattle.delta_actions.specs.Entry.{Entry, AddEntry, MetaDataEntry, ProtocolEntry, TxnEntry, add, txn}
+use Rattle.delta_replay.specs.Keys.{file_of, number_of}
+use Rattle.delta_replay.specs.Lists.{ListsClosed, ListsEach}
+use Rattle.delta_replay.specs.Support.{meta_data_of, protocol_of, readable}
+use Rattle.table_log.specs.Versions.{log_of}
+
+-- a line is ended by a newline
+abbrev pub line_of : List ℕ → List ℕ
+line_of text = text ++ 10 ∷ []
+
+-- an application's id, as JSON
+abbrev pub id_text : List ℕ → List ℕ
+id_text application = compact_text (string application)
+
+abbrev pub version_line : ℕ → List ℕ
+version_line version = line_of (codes "version " ++ decimal version)
+
+-- the versions of a reader and of a writer
+abbrev pub protocol_line : ProtocolEntry → List ℕ
+protocol_line p = line_of (codes "protocol " ++ (decimal p.min_reader_version ++ (32 ∷ [] ++ decimal p.min_writer_version)))
+
+-- the schema's text, as the log has it
+abbrev pub schema_line : MetaDataEntry → List ℕ
+schema_line m = line_of (codes "schema " ++ m.schema_string)
+
+-- an application and the number that it has come to
+abbrev pub number_line : TxnEntry → List ℕ
+number_line t = line_of (codes "app " ++ (id_text t.app_id ++ (32 ∷ [] ++ decimal t.version)))
+
+-- an application whose stream is closed
+abbrev pub closed_line : (application : List ℕ) → List ℕ
+closed_line application = line_of (codes "closed " ++ id_text application)
+
+-- a file by its path, as the log has it, and its size
+abbrev pub path_line : (path : List ℕ) (size : ℕ) → List ℕ
+path_line path size = line_of (codes "file " ++ (path ++ (32 ∷ [] ++ decimal size)))
+
+abbrev pub file_line : AddEntry → List ℕ
+file_line a = path_line a.path.text a.size
+
+-- the version, the protocol and the schema
+abbrev pub settings_text : ℕ → ProtocolEntry → MetaDataEntry → List ℕ
+settings_text version p m = version_line version ++ (protocol_line p ++ schema_line m)
+
+-- Behind a front the text has a line for each application's number, each closed stream and each file of a log, each kind in
+-- the order of its keys' bytes.
+pub record TellsLists (log : List (List Entry)) (front text : List ℕ) : Type 0 where
+  pub numbers : List TxnEntry
+  pub closed : List (List ℕ)
+  pub files : List AddEntry
+  pub parts : text ≡ front ++ (flat_map number_line numbers ++ (flat_map closed_line closed ++ flat_map file_line files))
+  pub all_numbers : ListsEach log number_of txn (λ t. t.app_id) numbers
+  pub all_closed : ListsClosed log closed
+  pub all_files : ListsEach log file_of add (λ a. a.path.key) files
+
+-- The text tells what a log leaves whose table is read: its newest version, the protocol and the schema, and then the
+-- applications' numbers, the closed streams and the files.
+pub record TellsSnapshot (objects : Objects) (text : List ℕ) : Type 0 where
+  pub commits : List (List Entry)
+  pub read : log_of objects ≡ Ok commits
+  pub schema : Tree
+  pub supported : readable commits ≡ Ok schema
+  pub version : ℕ
+  pub newest : suc version ≡ length commits
+  pub protocol : ProtocolEntry
+  pub of_log : protocol_of commits ≡ Some protocol
+  pub meta_data : MetaDataEntry
+  pub of_table : meta_data_of commits ≡ Some meta_data
+  pub lists : TellsLists commits (settings_text version protocol meta_data) text
