@@ -43,8 +43,8 @@ pub struct Outcome {
 }
 
 impl Outcome {
-    /// Whether a growth was refused on the way, or a commit or a file would have passed 64 MiB. A
-    /// run that ends by itself may have met one: its lines that did are told so.
+    /// Whether a growth was refused on the way, or a commit or a file of a creation or an append would
+    /// have passed 64 MiB. A run that ends by itself may have met one: its lines that did are told so.
     pub fn short(&self) -> bool
         ensures { result ≡ fell_short self.now }
     {
@@ -195,8 +195,8 @@ pub fn run_text<S: Store, W: Write>(
     output: &mut Output<W>,
 ) -> Outcome
     requires { length text.now ≤ 2 ^ 30 }
-    // Where the run finishes, no growth was refused, no object passed 64 MiB and the store loses no
-    // call, what is written is what is told for the text, and the objects are what it leaves, for some
+    // Where the run finishes, no growth was refused, no object of a creation or an append passed 64 MiB
+    // and the store loses no call, what is written is what is told for the text, and the objects are what it leaves, for some
     // texts that the schemas of its lines are printed as. They are known to the last byte where no line
     // creates a table with a number in its metadata that has a fraction or an exponent, is `-0` or is
     // beyond 64 bits: then what is written is one text.
@@ -265,8 +265,8 @@ pub fn run<R: Read, W: Write, S: Store>(
     store: &mut S,
     restore: bool,
 ) -> Outcome
-    // Where the run finishes, no growth was refused, no object passed 64 MiB and the store loses no
-    // call, what is written is what is told for the text that is read, and the objects are what the
+    // Where the run finishes, no growth was refused, no object of a creation or an append passed 64 MiB
+    // and the store loses no call, what is written is what is told for the text that is read, and the objects are what the
     // text leaves, for some texts that the schemas of its lines are printed as. They are known to the
     // last byte where no line creates a table with a number in its metadata that has a fraction or an
     // exponent, is `-0` or is beyond 64 bits: then what is written is one text.
