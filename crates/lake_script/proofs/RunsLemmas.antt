@@ -1,8 +1,7 @@
 -- From one line's reply to what a whole script may be told.
-use Rattle.std.proofs.Common.{◌≡◌, ◌⊎◌, ℕ, ◌+◌, ◌∷◌, [], ◌++◌, List, Option, None, Some, IfSome, Result, Ok, Err, OnErr, true, false, inl, inr, refl, ap, subst, sym, ◌∙◌, append_assoc, append-nil}
+use Rattle.std.proofs.Common.{◌≡◌, ◌⊎◌, ℕ, ◌+◌, ◌∷◌, [], ◌++◌, List, Option, Result, Ok, Err, OnErr, true, false, inl, inr, refl, ap, subst, sym, ◌∙◌, append_assoc, append-nil}
 use Rattle.std.specs.Prelude.{⊤}
 use Rattle.std.specs.Io.KnownBytes.{Appends, append_known}
-use Rattle.store_core.specs.Calls.{put_told}
 use Rattle.store_core.specs.Objects.{Objects}
 use Rattle.serde_json.specs.Data.{Items}
 use Rattle.commit_core.specs.declared.fault.CreateFault.{CreateFault}
@@ -11,11 +10,9 @@ use Rattle.sink_core.specs.declared.refusal.AppendFault.{AppendFault}
 use Rattle.sink_core.specs.declared.refusal.AppendFault.TheVariants as appending
 use Rattle.sink_core.specs.Appending.{settled}
 use Rattle.sink_core.specs.Puts.{IsSaidBy}
-use Rattle.commit_core.specs.Texts.{line_of}
-use Rattle.lake_script.specs.declared.reply.Reply.TheVariants.{NotCreated, NotAppended, Put}
+use Rattle.lake_script.specs.declared.reply.Reply.TheVariants.{NotCreated, NotAppended}
 use Rattle.lake_script.specs.Lines.{append, Wish, create, task, reading_of}
 use Rattle.lake_script.specs.ReplyView.{reply_text, is_short}
-use Rattle.lake_script.specs.Replies.{put_word}
 use Rattle.lake_script.specs.Runs.{IsShort, IsWantOfMemory, MayLeave, Grants, IsCutOff, Replies, Runs, done, stops, goes_on, RunsInPart, waits, begins, follows, FallsShort, here, later, Tells, TellsFront, TellsShort}
 use Rattle.lake_script.specs.Streams.{StandsIn}
 use Rattle.lake_script.specs.Told.{is_bad, IsPrintedWish, reply_to_wish, left_by_wish}
@@ -26,11 +23,6 @@ pub granted_without_text : (objects : Objects) (wish : Wish) (reply : List ℕ) 
     → ((reply ≡ reply_to_wish objects wish []) × (after ≡ left_by_wish objects wish [])) ⊎ (IsWantOfMemory wish reply × MayLeave objects wish after) → Grants objects wish reply after
 granted_without_text objects wish reply after none (inl has) = inl ([], none, has.0, has.1)
 granted_without_text objects wish reply after none (inr wants) = inr wants
-
--- what a put is told, by what stood under the name
-pub put_said : (found : Option (List ℕ)) → reply_text (Put (put_told found)) ≡ line_of (put_word found)
-put_said None = refl
-put_said (Some bytes) = refl
 
 -- which faults are short
 pub creation_short : (fault : CreateFault) (objects : Objects) (id : List ℕ) (at : ℕ) (schema : List ℕ) → is_short (NotCreated fault) ≡ true
@@ -137,8 +129,3 @@ whole_front start whole old now new after t s =
 pub on_err : {T E : Type 0} (r : Result T E) (P : Type 0) → P → OnErr r P
 on_err (Ok x) P p = tt
 on_err (Err e) P p = p
-
--- what holds of any value holds of one that is known, if one is
-pub if_some : {T : Type 0} (known : Option T) (P : T → Type 0) → ((x : T) → P x) → IfSome known P
-if_some None P all = tt
-if_some (Some x) P all = all x
