@@ -1,17 +1,14 @@
 -- The log of a store that keeps a table: its schema, and commits of the actions that were made for its entries.
-use Rattle.std.proofs.Common.{◌≡◌, ℕ, zero, suc, ◌+◌, ◌<◌, ◌≤◌, ◌^◌, List, [], ◌∷◌, map, length, Option, Some, None, IsSome, option_map, Ok, Err, refl, sym, ap, ◌∙◌, add-one, arith}
+use Rattle.std.proofs.Common.{◌≡◌, ℕ, suc, ◌<◌, ◌^◌, List, [], ◌∷◌, map, length, Option, Some, None, IsSome, option_map, Ok, refl, ap, ◌∙◌, arith}
 use Rattle.schema_tree.specs.Tree.{Tree}
-use Rattle.store_core.specs.Objects.{Objects, object_at, names_of}
+use Rattle.store_core.specs.Objects.{Objects, object_at}
 use Rattle.delta_actions.specs.Entry as actions
 use Rattle.delta_actions.specs.Commit.{IsCommit}
 use Rattle.delta_actions.specs.Names as names
-use Rattle.table_model.specs.Table.{Entry, creation, group, close}
+use Rattle.table_model.specs.Table.{Entry}
 use Rattle.table_store.proofs.Callers.{commit_name-data_file_name, commit_name-once}
-use Rattle.sink_core.specs.Appending.{appending}
-use Rattle.commit_core.specs.Commits.{creation as created}
-use Rattle.table_log.specs.Names.{commit_name}
 use Rattle.table_log.specs.Versions.{all_of, commit_of}
-use Rattle.lake_script.proofs.Kept.{IsCreationMade, IsMade, KeptFrom, IsNamed, of_commit, of_file, IsKept}
+use Rattle.lake_script.proofs.Kept.{IsMade, KeptFrom, IsNamed, of_commit, of_file, IsKept}
 
 -- each of these commits has the actions that this program puts for the entry at its place
 abbrev pub AreMade : (schema : Tree) → List Entry → List (List actions.Entry) → Type 0
