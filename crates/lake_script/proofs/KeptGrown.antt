@@ -1,8 +1,9 @@
 -- However the lines of a script end, they leave a lawful store, where none puts another tool's commit.
-use Rattle.std.proofs.Common.{◌≡◌, ◌⊎◌, inl, inr, ℕ, suc, ◌+◌, ◌≤◌, ◌^◌, List, [], ◌∷◌, length, Result, Ok, Err, refl, sym, ap, subst, arith}
+use Rattle.std.proofs.Common.{◌≡◌, ◌⊎◌, inl, inr, ℕ, suc, ◌+◌, ◌≤◌, ◌^◌, List, [], ◌∷◌, length, Option, None, Some, IfSome, Result, Ok, Err, refl, sym, ap, subst, arith}
 use Rattle.std.specs.Prelude.{is_some}
 use Rattle.std.specs.Str.{IsUtf8}
 use Rattle.serde_json.specs.Data.{Items}
+use Rattle.delta_actions.specs.Commit.{lines_of}
 use Rattle.store_core.specs.Objects.{Objects, with_object}
 use Rattle.store_core.specs.ObjectLaws.{with_object_absent}
 use Rattle.table_store.specs.Holds.{IsLawfulStore}
@@ -107,3 +108,8 @@ pub part_is_lawful : (old : Objects) (lines : List (List ℕ)) (written : List �
 part_is_lawful old lines written new few empty here runs =
     let lawful = stays_lawful (0 + length lines) new (omega (arith, few)) (lines_stay 0 1 old lines written new (omega (arith, few)) here (bare empty) runs) in
     (lawful, lawful_log new lawful)
+
+-- Where a text isn't read, a store of nothing stays as it is, and lawful.
+pub unread_is_lawful : (known : Option (List ℕ)) (objects : Objects) → objects ≡ [] → IfSome known (λ text. ArePutHere (lines_of text) → IsLawfulStore objects × HasLawfulLog objects)
+unread_is_lawful None objects empty = tt
+unread_is_lawful (Some text) objects empty = λ here. part_is_lawful objects [] [] objects (omega arith) empty tt waits

@@ -12,7 +12,7 @@ use Rattle.lake_script.specs.Streams.{StandsIn}
 use Rattle.lake_script.specs.Told.{is_bad, UnlessBad, IsPrintedWish, IsPrintedLine, ArePrinted, ArePrintedInPart, reply_to_wish, left_by_wish, reply_to, left_by}
 use Rattle.lake_script.specs.Told as scripts
 
--- what a line puts is well made, and didn't pass 64 MiB
+-- what a line puts is well made, and didn't pass 64 MiB; another tool's commit may be anything
 abbrev pub IsSoundWish : Objects → Wish → (printed : List ℕ) → Type 0
 IsSoundWish objects (create id at schema) printed = CreatesWell at schema (commit_from id at schema printed) × (commit_from id at schema printed ≢ Err too_large)
 IsSoundWish objects (task (append application number at items)) printed = IsUtf8 application
