@@ -15,10 +15,11 @@ import hashlib
 import re
 import sys
 
+from log import Log
 from parquet_reader import ReadFault, read_file
 from parquet_writer import write_file
 from table import NotModelled, RowFault, Table
-from table import compact, json_value, row_of, schema_of, unsupported_column
+from table import commit_name, compact, json_value, row_of, schema_of, unsupported_column
 
 CRATES = Path(__file__).resolve().parents[2] / "crates"
 
@@ -86,6 +87,7 @@ class ScriptCase(NamedTuple):
     name: str
     directives: list[str]
     script: bytearray
+    objects: dict[str, bytes]
 
 
 def script_text(names: dict[str, bytes], text: str) -> bytes:
@@ -120,7 +122,7 @@ def script_cases(lines: list[str]) -> Iterator[ScriptCase]:
         if line.startswith("== "):
             if case is not None:
                 yield case
-            case = ScriptCase(line[3:], [], bytearray())
+            case = ScriptCase(line[3:], [], bytearray(), {})
         elif line.startswith(">> let "):
             name, _, rest = line.removeprefix(">> let ").partition(" ")
             names[name] = script_text(names, rest)
@@ -130,6 +132,10 @@ def script_cases(lines: list[str]) -> Iterator[ScriptCase]:
             times, _, rest = line.removeprefix(">> repeat ").partition(" ")
             parts = [script_text(names, part) for part in rest.split("#")]
             case.script.extend(repeated(parts, int(times)))
+        elif case is not None and line.startswith((">> object ", ">> commit ")):
+            word, name, text = (line.removeprefix(">> ") + " ").split(" ", 2)
+            name = commit_name(int(name)) if word == "commit" else name
+            case.objects.setdefault(name, script_text(names, text.removesuffix(" ")))
         elif case is not None and line.startswith(">> "):
             case.directives.append(line.removeprefix(">> "))
         elif case is not None:
@@ -153,12 +159,13 @@ def script_answer(case: ScriptCase) -> list[str]:
     for word in words:
         if word not in ("entries", "objects", "last"):
             raise NotModelled(f"the directive {word}")
-    table = Table()
     told: list[str] = []
     try:
         script = case.script.decode()
     except UnicodeDecodeError as error:
         raise NotModelled("a script that is no text") from error
+    is_plain = not case.objects and "\nforeign " not in "\n" + script
+    table = Table() if is_plain else Log(case.objects)
     for line in script.split("\n"):
         if line.strip(" \t\r") and not line.startswith("#"):
             told += table.answer(line)

@@ -2,7 +2,6 @@ pub mod CloseLemmas
 pub mod CommitLemmas
 pub mod CreationLemmas
 pub mod HistoryLemmas
-pub mod LogLemmas
 pub mod PieceLemmas
 pub mod PutLemmas
 pub mod AnswerLemmas

@@ -3,10 +3,8 @@
 
 mod creating;
 mod fault;
-mod logs;
 mod versions;
 
 pub use creating::create;
 pub use fault::CreateFault;
-pub use logs::{Log, LogFault, last_number, log_of};
 pub use versions::history;

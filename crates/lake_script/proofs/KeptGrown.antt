@@ -1,4 +1,4 @@
--- However the lines of a script end, they leave a lawful store.
+-- However the lines of a script end, they leave a lawful store, where none puts another tool's commit.
 use Rattle.std.proofs.Common.{◌≡◌, ◌⊎◌, inl, inr, ℕ, suc, ◌+◌, ◌≤◌, ◌^◌, List, [], ◌∷◌, length, Result, Ok, Err, refl, sym, ap, subst, arith}
 use Rattle.std.specs.Prelude.{is_some}
 use Rattle.std.specs.Str.{IsUtf8}
@@ -15,9 +15,10 @@ use Rattle.commit_core.specs.Creating as creations
 use Rattle.commit_core.specs.Creating.{commit_from, with_creation}
 use Rattle.sink_core.specs.Appending.{MayAppend}
 use Rattle.lake_script.specs.Growth.{MayPut}
-use Rattle.lake_script.specs.Lines.{append, Wish, create, task, Reading, skipped, bad, asks, reading_of}
+use Rattle.lake_script.specs.Lines.{append, Wish, create, task, foreign, Reading, skipped, bad, asks, reading_of}
 use Rattle.sink_core.specs.Refusals.{Refusal}
 use Rattle.lake_script.specs.Runs.{Replies, RunsInPart, waits, begins, follows}
+use Rattle.lake_script.specs.Told.{IsPutHere, ArePutHere}
 use Rattle.commit_core.specs.Creating.{CreatesWell}
 use Rattle.lake_script.proofs.KeptAppend.{step_of_nothing, nothing_is}
 use Rattle.lake_script.proofs.KeptCreate.{kept_creation, no_data_file, first_commit, left_table}
@@ -71,37 +72,38 @@ append_stays most objects application number at items new small utf8 (inr (well,
     by_put (inr whole) goes = subst (Stays (suc most)) (sym whole) goes.1
 
 -- what a line asks for
-put_stays : (most : ℕ) (old : Objects) (wish : Wish) (new : Objects) → most ≤ 2 ^ 31 → MayPut old wish new → Stays most old → Stays (suc most) new
-put_stays most old (create id at schema) new small (inl same) stays = rw same (still most old stays)
-put_stays most old (create id at schema) new small (inr (printed, put)) stays = rw put.1 (created_stays most old at schema (commit_from id at schema printed) put.0 stays)
-put_stays most old (task (append application number at items)) new small put stays = append_stays most old application number at items new small put.0 put.1 stays
-put_stays most old _ new small put stays = rw put (still most old stays)
+put_stays : (most : ℕ) (old : Objects) (wish : Wish) (new : Objects) → most ≤ 2 ^ 31 → IsPutHere (asks wish) → MayPut old wish new → Stays most old → Stays (suc most) new
+put_stays most old (create id at schema) new small here (inl same) stays = rw same (still most old stays)
+put_stays most old (create id at schema) new small here (inr (printed, put)) stays = rw put.1 (created_stays most old at schema (commit_from id at schema printed) put.0 stays)
+put_stays most old (task (append application number at items)) new small here put stays = append_stays most old application number at items new small put.0 put.1 stays
+put_stays most old (foreign version action) new small here put stays = absurd here
+put_stays most old _ new small here put stays = rw put (still most old stays)
 
 -- any line
-line_stays : (most number : ℕ) (old : Objects) (r : Reading) (reply : List ℕ) (new : Objects) → most ≤ 2 ^ 31 → Replies number old r reply new → Stays most old → Stays (suc most) new
-line_stays most number old skipped reply new small is stays = rw is.1 (still most old stays)
-line_stays most number old bad reply new small is stays = rw is.1 (still most old stays)
-line_stays most number old (asks wish) reply new small is stays = put_stays most old wish new small is.1 stays
+line_stays : (most number : ℕ) (old : Objects) (r : Reading) (reply : List ℕ) (new : Objects) → most ≤ 2 ^ 31 → IsPutHere r → Replies number old r reply new → Stays most old → Stays (suc most) new
+line_stays most number old skipped reply new small here is stays = rw is.1 (still most old stays)
+line_stays most number old bad reply new small here is stays = rw is.1 (still most old stays)
+line_stays most number old (asks wish) reply new small here is stays = put_stays most old wish new small here is.1 stays
 
 -- ---- lines
 
 -- behind lines there are as many entries more as lines, at most
-lines_stay : (most number : ℕ) (old : Objects) (lines : List (List ℕ)) (written : List ℕ) (new : Objects) → most + length lines ≤ 2 ^ 31 → Stays most old → RunsInPart number old lines written new
+lines_stay : (most number : ℕ) (old : Objects) (lines : List (List ℕ)) (written : List ℕ) (new : Objects) → most + length lines ≤ 2 ^ 31 → ArePutHere lines → Stays most old → RunsInPart number old lines written new
     → Stays (most + length lines) new
-lines_stay most number old lines written new small stays waits = more_room most (most + length lines) old (omega arith) stays
-lines_stay most number old (line ∷ lines) written new small stays (begins is) =
-    more_room (suc most) (most + length (line ∷ lines)) new (omega arith) (line_stays most number old (reading_of line) written new (omega (arith, small)) is stays)
-lines_stay most number old (line ∷ lines) written new small stays (follows reply rest after goes_on is others) =
-    let here = line_stays most number old (reading_of line) reply after (omega (arith, small)) is stays in
-    more_room (suc most + length lines) (most + length (line ∷ lines)) new (omega arith) (lines_stay (suc most) (number + 1) after lines rest new (omega (arith, small)) here others)
+lines_stay most number old lines written new small here stays waits = more_room most (most + length lines) old (omega arith) stays
+lines_stay most number old (line ∷ lines) written new small here stays (begins is) =
+    more_room (suc most) (most + length (line ∷ lines)) new (omega arith) (line_stays most number old (reading_of line) written new (omega (arith, small)) here.0 is stays)
+lines_stay most number old (line ∷ lines) written new small here stays (follows reply rest after goes_on is others) =
+    let first = line_stays most number old (reading_of line) reply after (omega (arith, small)) here.0 is stays in
+    more_room (suc most + length lines) (most + length (line ∷ lines)) new (omega arith) (lines_stay (suc most) (number + 1) after lines rest new (omega (arith, small)) here.1 first others)
 
 -- what stays is lawful
 stays_lawful : (most : ℕ) (objects : Objects) → most ≤ 2 ^ 31 → Stays most objects → IsLawfulStore objects
 stays_lawful most objects small (bare none) = subst IsLawfulStore (sym none) nothing_lawful
 stays_lawful most objects small (keeps schema entries kept files up) = kept_lawful objects schema entries kept (omega (arith, up, small))
 
--- Over a store of nothing, lines leave a lawful store, however many of them are answered.
-pub part_is_lawful : (old : Objects) (lines : List (List ℕ)) (written : List ℕ) (new : Objects) → length lines ≤ 2 ^ 31 → old ≡ [] → RunsInPart 1 old lines written new → IsLawfulStore new × HasLawfulLog new
-part_is_lawful old lines written new few empty runs =
-    let lawful = stays_lawful (0 + length lines) new (omega (arith, few)) (lines_stay 0 1 old lines written new (omega (arith, few)) (bare empty) runs) in
+-- Over a store of nothing, lines that put no other tool's commit leave a lawful store, however many of them are answered.
+pub part_is_lawful : (old : Objects) (lines : List (List ℕ)) (written : List ℕ) (new : Objects) → length lines ≤ 2 ^ 31 → old ≡ [] → ArePutHere lines → RunsInPart 1 old lines written new → IsLawfulStore new × HasLawfulLog new
+part_is_lawful old lines written new few empty here runs =
+    let lawful = stays_lawful (0 + length lines) new (omega (arith, few)) (lines_stay 0 1 old lines written new (omega (arith, few)) here (bare empty) runs) in
     (lawful, lawful_log new lawful)

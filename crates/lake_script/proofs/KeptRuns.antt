@@ -11,15 +11,15 @@ use Rattle.table_model.specs.declared.table.Appended.{Appended}
 use Rattle.table_model.specs.declared.table.Appended.TheVariants.{Committed, Already, Stale, Differs, StreamClosed}
 use Rattle.commit_core.specs.Creating as creations
 use Rattle.commit_core.specs.Histories.{history_of, bad_log}
-use Rattle.lake_script.specs.Lines.{Wish, create, task, history, show, hex, append, tail, Reading, skipped, bad, asks, reading_of}
+use Rattle.lake_script.specs.Lines.{Wish, create, task, history, show, hex, foreign, append, tail, Reading, skipped, bad, asks, reading_of}
 use Rattle.source_core.specs.Offsets.{offset_of}
 use Rattle.sink_core.specs.Refusals.{Refusal}
 use Rattle.lake_script.specs.Sound.{IsSoundWish, IsSound, AreSound}
 use Rattle.lake_script.specs.Tables as tables
-use Rattle.lake_script.specs.Tables.{State, nothing, table, entries_of, ShowsNoObject, IsOfTable, AreOfTable}
+use Rattle.lake_script.specs.Tables.{State, nothing, table, entries_of, AsksTable, IsOfTable, AreOfTable}
 use Rattle.source_core.specs.Tailing.{tailed}
 use Rattle.lake_script.specs.Told as told
-use Rattle.lake_script.specs.Told.{tailed_reply, is_bad, UnlessBad, ArePrinted}
+use Rattle.lake_script.specs.Told.{tailed_reply, is_bad, UnlessBad, ArePrinted, IsPutHere, ArePutHere}
 use Rattle.lake_script.proofs.Kept.{IsKept, Keeps}
 
 -- what is known of single lines
@@ -114,6 +114,18 @@ no_text : (line : List ℕ) (lines : List (List ℕ)) → ArePrinted (line ∷ l
 unfolding ArePrinted
 no_text line lines none = none
 
+-- ---- lines that put what this program makes
+
+-- a line that asks the table alone puts no other tool's commit
+wish_put_here : (wish : Wish) → AsksTable wish → IsPutHere (asks wish)
+wish_put_here (foreign version action) only = only
+wish_put_here _ only = tt
+
+put_here : (r : Reading) → IsOfTable r → IsPutHere r
+put_here skipped only = tt
+put_here bad only = tt
+put_here (asks wish) only = wish_put_here wish only
+
 -- ---- one line
 
 module _ (given : Given) where
@@ -129,7 +141,7 @@ module _ (given : Given) where
   history_state objects (table schema entries) keeps small = given.history_told objects schema entries keeps.0 small
 
   -- what a line asks for is told as by the table
-  wish_told : (objects : Objects) (state : State) (wish : Wish) (printed : List ℕ) → Keeps objects state → length (entries_of state) < 2 ^ 32 → IsSoundWish objects wish printed → ShowsNoObject wish
+  wish_told : (objects : Objects) (state : State) (wish : Wish) (printed : List ℕ) → Keeps objects state → length (entries_of state) < 2 ^ 32 → IsSoundWish objects wish printed → AsksTable wish
       → told.reply_to_wish objects wish printed ≡ tables.reply_to_wish state wish
   wish_told objects state (create id at schema) printed keeps small sound only = (given.create_told objects state id at schema printed keeps small sound).0
   wish_told objects state (task (append application number at items)) printed keeps small sound only = (given.append_told objects state application number at items printed keeps small sound).0
@@ -137,28 +149,30 @@ module _ (given : Given) where
   wish_told objects state history printed keeps small sound only = history_state objects state keeps small
   wish_told objects state (show version) printed keeps small sound only = absurd only
   wish_told objects state (hex name) printed keeps small sound only = absurd only
+  wish_told objects state (foreign version action) printed keeps small sound only = absurd only
   wish_told objects state _ printed keeps small sound only = refl
 
   -- behind it the store keeps the table behind it
-  wish_kept : (objects : Objects) (state : State) (wish : Wish) (printed : List ℕ) → Keeps objects state → length (entries_of state) < 2 ^ 32 → IsSoundWish objects wish printed
+  wish_kept : (objects : Objects) (state : State) (wish : Wish) (printed : List ℕ) → Keeps objects state → length (entries_of state) < 2 ^ 32 → IsSoundWish objects wish printed → IsPutHere (asks wish)
       → Keeps (told.left_by_wish objects wish printed) (tables.left_by_wish state wish)
-  wish_kept objects state (create id at schema) printed keeps small sound = (given.create_told objects state id at schema printed keeps small sound).1
-  wish_kept objects state (task (append application number at items)) printed keeps small sound = (given.append_told objects state application number at items printed keeps small sound).1
-  wish_kept objects state _ printed keeps small sound = keeps
+  wish_kept objects state (create id at schema) printed keeps small sound here = (given.create_told objects state id at schema printed keeps small sound).1
+  wish_kept objects state (task (append application number at items)) printed keeps small sound here = (given.append_told objects state application number at items printed keeps small sound).1
+  wish_kept objects state (foreign version action) printed keeps small sound here = absurd here
+  wish_kept objects state _ printed keeps small sound here = keeps
 
-  -- a line that shows no object is told what the table tells
+  -- a line that asks the table alone is told what the table tells
   pub line_told : (number : ℕ) (objects : Objects) (state : State) (r : Reading) (printed : List ℕ) → Keeps objects state → length (entries_of state) < 2 ^ 32 → IsSound objects r printed → IsOfTable r
       → told.reply_to number objects r printed ≡ tables.reply_to number state r
   line_told number objects state skipped printed keeps small sound only = refl
   line_told number objects state bad printed keeps small sound only = refl
   line_told number objects state (asks wish) printed keeps small sound only = wish_told objects state wish printed keeps small sound only
 
-  -- behind a line the store keeps the table behind it
-  pub line_kept : (objects : Objects) (state : State) (r : Reading) (printed : List ℕ) → Keeps objects state → length (entries_of state) < 2 ^ 32 → IsSound objects r printed
+  -- behind a line that puts no other tool's commit the store keeps the table behind it
+  pub line_kept : (objects : Objects) (state : State) (r : Reading) (printed : List ℕ) → Keeps objects state → length (entries_of state) < 2 ^ 32 → IsSound objects r printed → IsPutHere r
       → Keeps (told.left_by objects r printed) (tables.left_by state r)
-  line_kept objects state skipped printed keeps small sound = keeps
-  line_kept objects state bad printed keeps small sound = keeps
-  line_kept objects state (asks wish) printed keeps small sound = wish_kept objects state wish printed keeps small sound
+  line_kept objects state skipped printed keeps small sound here = keeps
+  line_kept objects state bad printed keeps small sound here = keeps
+  line_kept objects state (asks wish) printed keeps small sound here = wish_kept objects state wish printed keeps small sound here
 
   -- ---- several lines
 
@@ -173,7 +187,7 @@ module _ (given : Given) where
       let small : length (entries_of state) < 2 ^ 32 = omega arith in
       let here = first_sound line text lines texts objects sound in
       let same = line_told number objects state r text keeps small here only.0 in
-      let kept = line_kept objects state r text keeps small here in
+      let kept = line_kept objects state r text keeps small here (put_here r only.0) in
       let fewer : length (entries_of (tables.left_by state r)) + length lines ≤ 2 ^ 32 = omega (arith, left_by_one state r) in
       elim (cases_Bool (is_bad r)) [
         | inl ends ↦ rw (ends, same) refl
@@ -184,18 +198,18 @@ module _ (given : Given) where
 
   -- the store keeps the table that lines leave where it keeps one before them
   pub left_on : (objects : Objects) (state : State) (lines texts : List (List ℕ)) → Keeps objects state → length (entries_of state) + length lines ≤ 2 ^ 32
-      → ArePrinted lines texts → AreSound objects lines texts → Keeps (told.left_from objects lines texts) (tables.left_from state lines)
+      → ArePrinted lines texts → AreSound objects lines texts → ArePutHere lines → Keeps (told.left_from objects lines texts) (tables.left_from state lines)
   unfolding told.left_from tables.left_from
-  left_on objects state [] texts keeps few printed sound = keeps
-  left_on objects state (line ∷ lines) [] keeps few printed sound = absurd (no_text line lines printed)
-  left_on objects state (line ∷ lines) (text ∷ texts) keeps few printed sound =
+  left_on objects state [] texts keeps few printed sound here = keeps
+  left_on objects state (line ∷ lines) [] keeps few printed sound here = absurd (no_text line lines printed)
+  left_on objects state (line ∷ lines) (text ∷ texts) keeps few printed sound here =
       let r = reading_of line in
       let small : length (entries_of state) < 2 ^ 32 = omega arith in
-      let kept = line_kept objects state r text keeps small (first_sound line text lines texts objects sound) in
+      let kept = line_kept objects state r text keeps small (first_sound line text lines texts objects sound) here.0 in
       let fewer : length (entries_of (tables.left_by state r)) + length lines ≤ 2 ^ 32 = omega (arith, left_by_one state r) in
       elim (cases_Bool (is_bad r)) [
         | inl ends ↦ rw ends keeps
-        | inr on ↦ rw on (left_on (told.left_by objects r text) (tables.left_by state r) lines texts kept fewer (rest_printed line text lines texts printed on) (rest_sound line text lines texts objects sound on))
+        | inr on ↦ rw on (left_on (told.left_by objects r text) (tables.left_by state r) lines texts kept fewer (rest_printed line text lines texts printed on) (rest_sound line text lines texts objects sound on) here.1)
       ]
 
   -- ---- a whole script
@@ -204,6 +218,6 @@ module _ (given : Given) where
   pub told_by_tables : (lines texts : List (List ℕ)) → length lines ≤ 2 ^ 31 → ArePrinted lines texts → AreSound [] lines texts → AreOfTable lines → told.told_from 1 [] lines texts ≡ tables.told_from 1 nothing lines
   told_by_tables lines texts few printed sound only = told_on 1 [] nothing lines texts refl (omega arith) printed sound only
 
-  -- a script leaves a store that keeps the table that it leaves
-  pub left_is_kept : (lines texts : List (List ℕ)) → length lines ≤ 2 ^ 31 → ArePrinted lines texts → AreSound [] lines texts → Keeps (told.left_from [] lines texts) (tables.left_from nothing lines)
-  left_is_kept lines texts few printed sound = left_on [] nothing lines texts refl (omega arith) printed sound
+  -- a script without other tools' commits leaves a store that keeps the table that it leaves
+  pub left_is_kept : (lines texts : List (List ℕ)) → length lines ≤ 2 ^ 31 → ArePrinted lines texts → AreSound [] lines texts → ArePutHere lines → Keeps (told.left_from [] lines texts) (tables.left_from nothing lines)
+  left_is_kept lines texts few printed sound here = left_on [] nothing lines texts refl (omega arith) printed sound here

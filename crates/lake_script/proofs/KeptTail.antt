@@ -18,8 +18,9 @@ use Rattle.lake_bytes.specs.Results.{◌>>=◌}
 use Rattle.lake_script.specs.Tables as tables
 use Rattle.source_core.specs.Tailing as tails
 use Rattle.table_store.specs.Groups.{new_files}
-use Rattle.source_core.specs.InForce.{Told, told_at}
-use Rattle.source_core.specs.Tailing.{Refusal, Handed, data_file, removes_rows, rows_of, hand, handed_by, handed_text, schema_for, tailed}
+use Rattle.table_log.specs.InForce.{Told, told_at}
+use Rattle.table_log.specs.Reads.{removes_rows}
+use Rattle.source_core.specs.Tailing.{Refusal, Handed, data_file, rows_of, hand, handed_by, handed_text, schema_for, tailed}
 use Rattle.lake_script.specs.Told.{tailed_reply}
 use Rattle.lake_script.proofs.Kept.{FilesKept, IsMade, KeptFrom, IsKept}
 use Rattle.lake_script.proofs.KeptFile.{file_read}

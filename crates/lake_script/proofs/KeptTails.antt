@@ -12,7 +12,7 @@ use Rattle.table_model.specs.declared.reading.Place.{Place}
 use Rattle.table_model.proofs.Callers.{beginning_is_place, is_answered}
 use Rattle.table_model.proofs.Callers.{final_grows, log_from_beginning, onward_in_the_log, all_after_short}
 use Rattle.table_log.specs.Versions.{Version, versions_of}
-use Rattle.source_core.specs.InForce.{Told}
+use Rattle.table_log.specs.InForce.{Told}
 use Rattle.lake_bytes.specs.Results.{◌>>=◌, refused_as}
 use Rattle.lake_script.specs.Tables.{State, nothing, table, entries_of}
 use Rattle.source_core.specs.Tailing.{Handed, Refusal, bad_log, handed_by, read_by, schema_for, beyond_log, bad_place as bad_place_told}

@@ -28,6 +28,6 @@ script_told old new text before after short empty run =
     record {
       by_table = λ of_table.
           subst (Appends old new) (ap (λ objects. told objects text run.texts) empty ∙ told_by_tables lines_told lines run.texts few run.printed whole of_table) run.told;
-      holds = subst (λ objects. HoldsState objects (tables.left text)) is (kept_held _ (tables.left text) keeps small);
-      reads = subst (λ objects. ReadsOut objects (tables.left text)) is (kept_reads_out _ (tables.left text) keeps small);
+      holds = λ here. subst (λ objects. HoldsState objects (tables.left text)) is (kept_held _ (tables.left text) (keeps here) small);
+      reads = λ here. subst (λ objects. ReadsOut objects (tables.left text)) is (kept_reads_out _ (tables.left text) (keeps here) small);
     }

@@ -1,13 +1,16 @@
 -- What a line may put, however it ends: also where a growth is refused in the middle of it.
-use Rattle.std.specs.Prelude.{◌≡◌}
+use Rattle.std.specs.Prelude.{◌≡◌, ◌⊎◌}
 use Rattle.std.specs.Str.{IsUtf8}
-use Rattle.store_core.specs.Objects.{Objects}
+use Rattle.store_core.specs.Objects.{Objects, with_object}
 use Rattle.sink_core.specs.Appending.{settled, MayAppend}
 use Rattle.commit_core.specs.Creating.{MayCreate}
-use Rattle.lake_script.specs.Lines.{append, Wish, create, task}
+use Rattle.commit_core.specs.Texts.{line_of}
+use Rattle.table_log.specs.Names.{commit_name}
+use Rattle.lake_script.specs.Lines.{append, Wish, create, task, foreign}
 
 -- the objects that may stand behind what a line asks for; an application's id is text
 abbrev pub MayPut : Objects → Wish → Objects → Type 0
 MayPut old (create id at schema) new = MayCreate id at schema old new
 MayPut old (task (append application number at items)) new = IsUtf8 application × MayAppend application number at (settled old application number at items) old new
+MayPut old (foreign version action) new = (new ≡ old) ⊎ (new ≡ with_object old (commit_name version) (line_of action))
 MayPut old _ new = new ≡ old

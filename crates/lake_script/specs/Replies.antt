@@ -1,5 +1,5 @@
 -- The texts of replies.
-use Rattle.std.specs.Prelude.{ℕ, List, ◌++◌, codes}
+use Rattle.std.specs.Prelude.{ℕ, List, ◌++◌, Option, None, Some, codes}
 use Rattle.std.specs.Fmt.{decimal}
 use Rattle.commit_core.specs.Texts.{line_of}
 use Rattle.lake_script.specs.declared.faults.Fault.{Fault}
@@ -27,3 +27,8 @@ committed_at version = codes "Committed " ++ decimal version
 -- the reply where the application's last batch has that number, and stands already
 abbrev pub already : ℕ → List ℕ
 already number = codes "Already " ++ decimal number
+
+-- the reply to a commit that another tool puts, by what stood under its name
+abbrev pub put_word : Option (List ℕ) → List ℕ
+put_word None = codes "created"
+put_word (Some bytes) = codes "taken"

@@ -1,16 +1,17 @@
 -- The replies of the code, as texts.
-use Rattle.std.specs.Prelude.{ℕ, List, Bool, true, false, string_bytes}
+use Rattle.std.specs.Prelude.{ℕ, List, [], Bool, true, false, None, Some, string_bytes}
 use Rattle.store_core.specs.declared.fault.StoreFault.TheVariants as stores
+use Rattle.store_core.specs.declared.store.Put.TheVariants as puts
 use Rattle.store_core.specs.Texts as texts
 use Rattle.commit_core.specs.declared.fault.CreateFault.TheVariants as creating
 use Rattle.lake_script.specs.declared.reply.Reply.{Reply}
 use Rattle.sink_core.specs.declared.refusal.AppendFault.TheVariants as appending
-use Rattle.lake_script.specs.declared.reply.Reply.TheVariants.{Created, NotCreated, Appended, NotAppended, NotTailed, NoHistory, Refused, Unanswered, Bytes, Digits}
+use Rattle.lake_script.specs.declared.reply.Reply.TheVariants.{Created, NotCreated, Appended, NotAppended, NotTailed, NoHistory, Put, Refused, Unanswered, Bytes, Digits}
 use Rattle.sink_core.specs.declared.appending.Appended.TheVariants.{Committed, Already}
 use Rattle.source_core.specs.declared.tail_fault.TailFault.TheVariants as tailing
 use Rattle.commit_core.specs.Histories.{unanswered}
 use Rattle.sink_core.specs.Refusals.{refusal_text, refusal_view}
-use Rattle.lake_script.specs.Replies.{fault_text, created, committed_at, already}
+use Rattle.lake_script.specs.Replies.{fault_text, created, committed_at, already, put_word}
 use Rattle.commit_core.specs.Texts.{create_fault_text, refused, line_of}
 use Rattle.source_core.specs.TailFaults as tail_texts
 
@@ -23,6 +24,8 @@ reply_text (Appended (Already number)) = line_of (already number)
 reply_text (NotAppended fault) = line_of (refused (refusal_text (refusal_view fault)))
 reply_text (NotTailed fault) = line_of (refused (tail_texts.refusal_text (tail_texts.refusal_view fault)))
 reply_text (NoHistory fault) = line_of (refused (unanswered fault))
+reply_text (Put puts.Created) = line_of (put_word None)
+reply_text (Put puts.Exists) = line_of (put_word (Some []))
 reply_text (Refused fault) = line_of (refused (fault_text fault))
 reply_text (Unanswered fault) = line_of (refused (texts.fault_text fault))
 reply_text (Bytes bytes) = bytes.items

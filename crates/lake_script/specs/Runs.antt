@@ -9,7 +9,7 @@ use Rattle.commit_core.specs.declared.fault.CreateFault.TheVariants as create_fa
 use Rattle.sink_core.specs.Appending.{settled, MayHoldFile}
 use Rattle.lake_script.specs.Growth.{MayPut}
 use Rattle.commit_core.specs.Histories.{unanswered}
-use Rattle.lake_script.specs.Lines.{append, tail, Wish, create, task, history, show, hex, Reading, skipped, bad, asks, reading_of}
+use Rattle.lake_script.specs.Lines.{append, tail, Wish, create, task, history, show, hex, foreign, Reading, skipped, bad, asks, reading_of}
 use Rattle.sink_core.specs.Refusals.{refusal_text, memory, file_too_large}
 use Rattle.commit_core.specs.Texts.{create_fault_text, refused, line_of}
 use Rattle.lake_script.specs.Replies.{bad_line}
@@ -19,8 +19,8 @@ use Rattle.source_core.specs.Tailing as tails
 use Rattle.delta_actions.specs.Commit.{lines_of}
 use Rattle.lake_script.specs.Told.{is_bad, IsPrintedWish, reply_to_wish, left_by_wish}
 
--- the replies to lines that create a table, append a batch, show an object, read rows and tell the history, where a
--- growth was refused
+-- the replies to lines that create a table, append a batch, show or put an object, read rows and tell the history, where
+-- a growth was refused
 abbrev pub no_room_to_create : List ℕ
 no_room_to_create = line_of (refused (create_fault_text create_faults.Memory))
 
@@ -44,6 +44,7 @@ IsWantOfMemory (task (tail max offset)) reply = reply ≡ no_room_to_read
 IsWantOfMemory history reply = reply ≡ no_room_to_tell
 IsWantOfMemory (show version) reply = reply ≡ no_room_to_show
 IsWantOfMemory (hex name) reply = reply ≡ no_room_to_show
+IsWantOfMemory (foreign version action) reply = reply ≡ no_room_to_show
 IsWantOfMemory _ reply = ⊥
 
 -- the replies to lines that create a table and append a batch, where an object would pass 64 MiB

@@ -7,6 +7,7 @@ use Rattle.table_model.specs.Lawful.{IsLawful}
 use Rattle.lake_script.specs.Tables.{State, nothing, table, told, left, entries_of, AreOfTable}
 use Rattle.source_core.specs.Tails.{HandOutTheLog, HandOutAll, AreAnswered}
 use Rattle.delta_actions.specs.Commit.{lines_of}
+use Rattle.lake_script.specs.Told.{ArePutHere}
 
 -- the store holds the table that a script has made
 abbrev pub HoldsState : Objects → State → Type 0
@@ -25,9 +26,10 @@ pub record ReadsOut (objects : Objects) (state : State) : Type 0 where
   pub up_to : HandOutTheLog objects (entries_of state)
   pub all : HandOutAll objects (entries_of state)
 
--- What is written behind what was held is what the plain table tells, where no line shows an object; and the objects
--- hold the table that the lines leave. Reads over them that follow one another hand out its rows.
+-- What is written behind what was held is what the plain table tells, where no line shows an object or puts another tool's
+-- commit. Where none puts such a commit, the objects hold the table that the lines leave, and reads over them that follow
+-- one another hand out its rows.
 pub record IsScript (held written : Option (List ℕ)) (text : List ℕ) (objects : Objects) : Type 0 where
   pub by_table : AreOfTable (lines_of text) → Appends held written (told text)
-  pub holds : HoldsState objects (left text)
-  pub reads : ReadsOut objects (left text)
+  pub holds : ArePutHere (lines_of text) → HoldsState objects (left text)
+  pub reads : ArePutHere (lines_of text) → ReadsOut objects (left text)

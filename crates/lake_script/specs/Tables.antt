@@ -1,6 +1,6 @@
 -- What a script is told, by a plain table: a schema and a list of entries, one a version. No store, file or commit is
--- spoken of; a data file's name stands in one reply. Lines that show an object are none of a table's, so nothing is said
--- of them here (`AreOfTable`).
+-- spoken of; a data file's name stands in one reply. Lines that show an object or put another tool's commit are none of a
+-- table's, so nothing is said of them here (`AreOfTable`).
 use Rattle.std.specs.Prelude.{ℕ, suc, ◌+◌, List, [], ◌∷◌, ◌++◌, Option, None, Some, Result, Ok, Err, codes, if◌then◌else◌}
 use Rattle.std.specs.Fmt.{decimal}
 use Rattle.std.specs.List.{flat_map}
@@ -18,7 +18,7 @@ use Rattle.commit_core.specs.Creating as creations
 use Rattle.commit_core.specs.Creating.{table_exists, described}
 use Rattle.commit_core.specs.Histories.{close_told, number_told}
 use Rattle.commit_core.specs.Histories as histories
-use Rattle.lake_script.specs.Lines.{Wish, create, task, history, show, hex, append, tail, Reading, skipped, bad, asks, reading_of}
+use Rattle.lake_script.specs.Lines.{Wish, create, task, history, show, hex, foreign, append, tail, Reading, skipped, bad, asks, reading_of}
 use Rattle.source_core.specs.Offsets.{offset_of}
 use Rattle.sink_core.specs.Refusals as appends
 use Rattle.commit_core.specs.Texts as texts
@@ -168,18 +168,19 @@ left script = left_from nothing (lines_of script)
 
 -- ---- which lines are told by the table alone
 
--- a line doesn't show an object of the store
-abbrev pub ShowsNoObject : Wish → Type 0
-ShowsNoObject (show version) = ⊥
-ShowsNoObject (hex name) = ⊥
-ShowsNoObject _ = Unit {0}
+-- a line neither shows an object of the store nor puts another tool's commit
+abbrev pub AsksTable : Wish → Type 0
+AsksTable (show version) = ⊥
+AsksTable (hex name) = ⊥
+AsksTable (foreign version action) = ⊥
+AsksTable _ = Unit {0}
 
 abbrev pub IsOfTable : Reading → Type 0
 IsOfTable skipped = Unit {0}
 IsOfTable bad = Unit {0}
-IsOfTable (asks wish) = ShowsNoObject wish
+IsOfTable (asks wish) = AsksTable wish
 
--- no line shows an object of the store
+-- no line shows an object of the store or puts another tool's commit
 abbrev pub AreOfTable : List (List ℕ) → Type 0
 AreOfTable [] = Unit {0}
 AreOfTable (line ∷ lines) = IsOfTable (reading_of line) × AreOfTable lines

@@ -3,7 +3,7 @@
 use Rattle.std.specs.Prelude.{◌≡◌, ◌==◌, ◌+◌, ◌++◌, ℕ, Bool, true, false, List, [], ◌∷◌, Option, Some, None, Result, Ok, Err, ⊤, if◌then◌else◌}
 use Rattle.delta_actions.specs.Commit.{lines_of}
 use Rattle.hex.specs.Hex.{encode_lower}
-use Rattle.store_core.specs.Objects.{Objects, object_at}
+use Rattle.store_core.specs.Objects.{Objects, object_at, with_object}
 use Rattle.lake_script.specs.declared.engine.End.{End}
 use Rattle.lake_script.specs.declared.engine.End.TheVariants.{Done, BadLine, NotRead, NotWritten}
 use Rattle.lake_script.specs.declared.engine.Outcome.{Outcome}
@@ -15,9 +15,9 @@ use Rattle.table_log.specs.Names.{commit_name}
 use Rattle.commit_core.specs.Creating as creations
 use Rattle.commit_core.specs.Creating.{commit_from, created_by, with_creation, IsPrintedFor}
 use Rattle.commit_core.specs.Histories.{history_of}
-use Rattle.lake_script.specs.Lines.{append, tail, Wish, create, task, history, show, hex, Reading, skipped, bad, asks, reading_of}
+use Rattle.lake_script.specs.Lines.{append, tail, Wish, create, task, history, show, hex, foreign, Reading, skipped, bad, asks, reading_of}
 use Rattle.sink_core.specs.Refusals.{Refusal, refusal_text}
-use Rattle.lake_script.specs.Replies.{fault_text, created, committed_at, already, bad_line}
+use Rattle.lake_script.specs.Replies.{fault_text, created, committed_at, already, put_word, bad_line}
 use Rattle.commit_core.specs.Texts as texts
 use Rattle.commit_core.specs.Texts.{refused, line_of}
 use Rattle.source_core.specs.TailFaults as tail_texts
@@ -77,12 +77,14 @@ reply_to_wish objects (task (tail max offset)) printed = tailed_reply (tailed ob
 reply_to_wish objects history printed = history_of objects
 reply_to_wish objects (show version) printed = shown (object_at objects (commit_name version))
 reply_to_wish objects (hex name) printed = in_hex (object_at objects name)
+reply_to_wish objects (foreign version action) printed = line_of (put_word (object_at objects (commit_name version)))
 reply_to_wish objects _ printed = not_yet
 
 -- the objects that stand once a line has what it asks for
 abbrev pub left_by_wish : Objects → Wish → (printed : List ℕ) → Objects
 left_by_wish objects (create id at schema) printed = with_creation objects (commit_from id at schema printed)
 left_by_wish objects (task (append application number at rows)) printed = with_append objects (settled objects application number at rows)
+left_by_wish objects (foreign version action) printed = with_object objects (commit_name version) (line_of action)
 left_by_wish objects _ printed = objects
 
 -- the same three of a line as it is read, of that number
@@ -100,6 +102,16 @@ abbrev pub left_by : Objects → Reading → (printed : List ℕ) → Objects
 left_by objects skipped printed = objects
 left_by objects bad printed = objects
 left_by objects (asks wish) printed = left_by_wish objects wish printed
+
+-- a line doesn't put another tool's commit
+abbrev pub IsPutHere : Reading → Type 0
+IsPutHere (asks (foreign version action)) = ⊥
+IsPutHere _ = Unit {0}
+
+-- no line puts another tool's commit, so that what is put is this program's
+abbrev pub ArePutHere : List (List ℕ) → Type 0
+ArePutHere [] = Unit {0}
+ArePutHere (line ∷ lines) = IsPutHere (reading_of line) × ArePutHere lines
 
 -- a bad line ends a run
 abbrev pub is_bad : Reading → Bool

@@ -11,7 +11,7 @@ ghost use Rattle.lake_script.specs.Sound.{IsAnswered, IsRun, IsRunInPart};
 ghost use Rattle.lake_script.specs.Streams.{held, waiting, write_failed, unread, read_failed, StandsIn};
 ghost use Rattle.lake_script.specs.Tables.{told as told_by_table, left as table_left, AreOfTable};
 ghost use Rattle.delta_actions.specs.Commit.{lines_of};
-ghost use Rattle.lake_script.specs.Told.{lines_left, is_newline, is_bad, first_bad, Finishes, fell_short};
+ghost use Rattle.lake_script.specs.Told.{ArePutHere, lines_left, is_newline, is_bad, first_bad, Finishes, fell_short};
 
 use crate::inputs::{Input, InputError};
 use crate::outputs::{Output, OutputError};
@@ -209,13 +209,16 @@ pub fn run_text<S: Store, W: Write>(
     // A run that finishes is short only where a reply that is written tells so.
     ensures short { S.is_reliable store.old → fell_short result ≡ true → Finishes result.end
         (λ _. Tells (held W.contents output.old) (W.contents output.new.writer) (FallsShort 1 (S.objects store.old) (lines_of text.now))) }
-    // Over an empty store this is what the plain table tells, where no line shows an object; the store
-    // then holds the table that was told, and reads over it hand out its rows.
+    // Over an empty store this is what the plain table tells, where no line shows an object or puts
+    // another tool's commit; where none puts such a commit, the store then holds the table that was
+    // told, and reads over it hand out its rows.
     ensures script { S.is_reliable store.old → S.objects store.old ≡ [] → fell_short result ≡ false → Finishes result.end
         (λ _. IsScript (held W.contents output.old) (W.contents output.new.writer) text.now (S.objects store.new)) }
-    // Over an empty store that loses no call, the store that is left is lawful, and so is its log,
-    // however the run ends and whatever growth is refused on the way.
-    ensures lawful { S.is_reliable store.old → S.objects store.old ≡ [] → IsLawfulStore (S.objects store.new) × HasLawfulLog (S.objects store.new) }
+    // Over an empty store that loses no call, and where no line puts another tool's commit, the store
+    // that is left is lawful, and so is its log, however the run ends and whatever growth is refused on
+    // the way.
+    ensures lawful { S.is_reliable store.old → S.objects store.old ≡ [] → ArePutHere (lines_of text.now)
+        → IsLawfulStore (S.objects store.new) × HasLawfulLog (S.objects store.new) }
     ensures reliable { S.is_reliable store.old → S.is_reliable store.new }
     ensures nothing_waits { Finishes result.end (λ _. waiting output.new ≡ []) }
     // Over any store, one that loses calls too, what is written stands behind what was held.
@@ -271,23 +274,28 @@ pub fn run<R: Read, W: Write, S: Store>(
         → Finishes result.end (λ _. IfSome (unread R.remaining input.old) (λ text.
         IsRun (S.objects store.old) text (held W.contents output.old) (W.contents output.new.writer) (S.objects store.new))) }
 
-    // Over an empty store this is what the plain table tells, where no line shows an object.
+    // Over an empty store this is what the plain table tells, where no line shows an object or puts
+    // another tool's commit.
     ensures tables { S.is_reliable store.old → S.objects store.old ≡ [] → fell_short result ≡ false
         → Finishes result.end (λ _. IfSome (unread R.remaining input.old) (λ text. AreOfTable (lines_of text)
         → Appends (held W.contents output.old) (W.contents output.new.writer) (told_by_table text))) }
 
-    // The store then holds the table that was told.
+    // Where no line puts another tool's commit, the store then holds the table that was told.
     ensures holds { S.is_reliable store.old → S.objects store.old ≡ [] → fell_short result ≡ false
-        → Finishes result.end (λ _. IfSome (unread R.remaining input.old) (λ text. HoldsState (S.objects store.new) (table_left text))) }
+        → Finishes result.end (λ _. IfSome (unread R.remaining input.old) (λ text. ArePutHere (lines_of text)
+        → HoldsState (S.objects store.new) (table_left text))) }
 
-    // Over an empty store that loses no call, the store that is left is lawful, and so is its log,
-    // however the run ends and whatever growth is refused on the way.
-    ensures lawful { S.is_reliable store.old → S.objects store.old ≡ [] → IsLawfulStore (S.objects store.new) × HasLawfulLog (S.objects store.new) }
+    // Over an empty store that loses no call, and where no line of the text that is read puts another
+    // tool's commit, the store that is left is lawful, and so is its log, however the run ends and
+    // whatever growth is refused on the way.
+    ensures lawful { S.is_reliable store.old → S.objects store.old ≡ [] → IfSome (unread R.remaining input.old) (λ text. ArePutHere (lines_of text)
+        → IsLawfulStore (S.objects store.new) × HasLawfulLog (S.objects store.new)) }
 
     // Reads over that store, each from the place where the one before ended, are answered and hand out the table's
-    // rows, whatever their limits.
+    // rows, whatever their limits, where no line puts another tool's commit.
     ensures reads { S.is_reliable store.old → S.objects store.old ≡ [] → fell_short result ≡ false
-        → Finishes result.end (λ _. IfSome (unread R.remaining input.old) (λ text. ReadsOut (S.objects store.new) (table_left text))) }
+        → Finishes result.end (λ _. IfSome (unread R.remaining input.old) (λ text. ArePutHere (lines_of text)
+        → ReadsOut (S.objects store.new) (table_left text))) }
 
     // Where a growth was refused, each line has its reply and effect, or is told of want of memory
     // and leaves the objects as they were, but for a batch's file, which may stand.

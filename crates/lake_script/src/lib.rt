@@ -4,6 +4,7 @@
 mod engine;
 mod faults;
 mod fields;
+mod foreign;
 mod inputs;
 mod kind;
 mod line;

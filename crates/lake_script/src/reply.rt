@@ -6,7 +6,7 @@ ghost use Rattle.store_core.specs.Objects.{object_at};
 ghost use Rattle.table_log.specs.Names.{commit_name};
 ghost use Rattle.lake_script.specs.Growth.{MayPut};
 ghost use Rattle.commit_core.specs.Histories.{history_of};
-ghost use Rattle.lake_script.specs.Lines.{append, create, task, wish_view, IsTimely};
+ghost use Rattle.lake_script.specs.Lines.{append, create, foreign, task, wish_view, IsTimely};
 ghost use Rattle.lake_script.specs.ReplyView.{reply_text, is_short};
 ghost use Rattle.lake_script.specs.Runs.{Grants, IsShort, no_room_to_read, no_room_to_show, no_room_to_tell};
 ghost use Rattle.lake_script.specs.Sound.{IsGranted};
@@ -15,6 +15,7 @@ ghost use Rattle.source_core.specs.Tailing.{tailed};
 ghost use Rattle.lake_script.specs.Told.{shown, in_hex, tailed_reply};
 
 use crate::faults::{Fault, Refusal};
+use crate::foreign::put_line;
 use crate::line::{Job, Line};
 use crate::outputs::{Output, OutputError};
 use crate::showing::hex_of;
@@ -24,7 +25,7 @@ use sink_core::{AppendFault, Appended, append};
 use source_core::{TailFault, tail};
 use std::alloc::Global;
 use std::io::Write;
-use store_core::{Store, StoreFault};
+use store_core::{Put, Store, StoreFault};
 use table_log::commit_at;
 
 /// What a line is told.
@@ -42,6 +43,8 @@ pub enum Reply {
     NotTailed(TailFault),
     /// The store gave no answer, or no room was left, for the history.
     NoHistory(StoreFault),
+    /// Another tool's commit stands, or an object of its name stood already.
+    Put(Put),
     /// The program refuses.
     Refused(Fault),
     /// The store gave no answer.
@@ -88,6 +91,8 @@ impl Reply {
             Reply::NotTailed(fault) => output.say(Refusal(fault)),
             Reply::NoHistory(StoreFault::Lost) => output.say("refused K5 Lost"),
             Reply::NoHistory(StoreFault::Memory) => output.say("refused K6 Memory"),
+            Reply::Put(Put::Created) => output.say("created"),
+            Reply::Put(Put::Exists) => output.say("taken"),
             Reply::Refused(fault) => output.say(Refusal(*fault)),
             Reply::Unanswered(fault) => output.say(Refusal(*fault)),
             Reply::Bytes(bytes) => output.show(bytes.as_slice()),
@@ -190,6 +195,20 @@ fn show_in_hex<S: Store>(alloc: Global, store: &mut S, name: &str) -> Reply
     }
 }
 
+// The reply to a line that puts another tool's commit.
+fn put_foreign<S: Store>(alloc: Global, store: &mut S, version: u64, action: &str) -> Reply
+    ensures told { S.is_reliable store.old → Grants (S.objects store.old) (foreign version action.now) (reply_text result) (S.objects store.new) }
+    ensures whole { S.is_reliable store.old → is_short result ≡ false → IsGranted (S.objects store.old) (foreign version action.now) (reply_text result) (S.objects store.new) }
+    ensures grows { S.is_reliable store.old → MayPut (S.objects store.old) (foreign version action.now) (S.objects store.new) }
+    ensures short { is_short result ≡ true → IsShort (S.objects store.old) (foreign version action.now) (reply_text result) }
+    ensures reliable { S.is_reliable store.old → S.is_reliable store.new }
+{
+    match put_line(alloc, store, version, action) {
+        Ok(put) => Reply::Put(put),
+        Err(fault) => Reply::Unanswered(fault),
+    }
+}
+
 /// Does what a line asks for, and finds its reply.
 pub fn grant<S: Store>(alloc: Global, line: Line<'_>, store: &mut S) -> Reply
     requires { IsTimely (wish_view line) }
@@ -219,6 +238,7 @@ pub fn grant<S: Store>(alloc: Global, line: Line<'_>, store: &mut S) -> Reply
         Line::History => tell_history(alloc, store),
         Line::Show { version } => show(alloc, store, version),
         Line::Hex { name } => show_in_hex(alloc, store, name),
+        Line::Foreign { version, action } => put_foreign(alloc, store, version, action),
         _ => Reply::Refused(Fault::NotYet),
     }
 }

@@ -17,14 +17,14 @@ use delta_replay::{FileAction, Snapshot, SupportError, closes};
 use schema_tree::Schema;
 use std::alloc::Global;
 use std::io::Write;
-use table_log::{Version, version_of};
+use table_log::{Standing, version_of};
 
 /// A log's snapshot, its versions one by one, and the commit that is begun.
 #[derive(Drop)]
 pub struct Log {
     alloc: Global,
     pub snapshot: Snapshot,
-    versions: Vec<Version>,
+    kept: table_log::Log,
     commit: Vec<u8>,
 }
 
@@ -35,7 +35,10 @@ impl Log {
         Log {
             alloc,
             snapshot: Snapshot::new(alloc),
-            versions: Vec::new(alloc),
+            kept: table_log::Log {
+                standing: Vec::new(alloc),
+                next: 0,
+            },
             commit: Vec::new(alloc),
         }
     }
@@ -56,7 +59,10 @@ impl Log {
         ensures { OnOk result (IsOfLog self.new.snapshot) }
     {
         if !self.commit.is_empty() {
-            self.versions.push(version_of(self.alloc, &self.commit)?)?;
+            let found = version_of(self.alloc, &self.commit)?;
+            let version = self.kept.next;
+            self.kept.standing.push(Standing { version, found })?;
+            self.kept.next = version.saturating_add(1);
         }
         let read = read_commit(self.alloc, &self.commit);
         self.commit.clear();
@@ -77,7 +83,7 @@ impl Log {
     pub fn skip(&mut self) -> Result<(), Failure>
         ensures { self.new.snapshot ≡ self.old.snapshot }
     {
-        self.versions.push(Version::Missing)?;
+        self.kept.next = self.kept.next.saturating_add(1);
         Ok(())
     }
 
@@ -189,7 +195,7 @@ impl Log {
             "write" => self.tell_schema(self.snapshot.supports_write(self.alloc), out)?,
             "put" => self.tell_put(out)?,
             "name" => self.tell_name(rest, out)?,
-            "tail" => tell_read(self.alloc, &self.versions, number_of(rest)?, out)?,
+            "tail" => tell_read(self.alloc, &self.kept, number_of(rest)?, out)?,
             _ => return Err(Failure::Misspelled),
         }
         Ok(())

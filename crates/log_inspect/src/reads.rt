@@ -4,28 +4,26 @@ use crate::failure::Failure;
 use delta_replay::SupportError;
 use std::alloc::Global;
 use std::io::Write;
-use table_log::{Told, Version, changes_schema, first_standing, in_force, removes_rows, supported};
+use table_log::{
+    Log, Told, Version, changes_schema, first_standing, in_force, removes_rows, standing_at,
+    supported,
+};
 
 /// Adds what a read from a version on asks: the first version from which on none is missing; the schema of the commits
 /// in front of the first that is missing or can't be read, or why their table isn't read; the text of the schema in
 /// force; and a line for each version from there on that is missing, can't be read, takes rows away or changes the
 /// schema.
-pub fn tell_read(
-    alloc: Global,
-    versions: &[Version],
-    version: u64,
-    out: &mut Vec<u8>,
-) -> Result<(), Failure> {
-    writeln!(out, "first {}", first_standing(versions))?;
-    match supported(alloc, versions) {
+pub fn tell_read(alloc: Global, log: &Log, version: u64, out: &mut Vec<u8>) -> Result<(), Failure> {
+    writeln!(out, "first {}", first_standing(log))?;
+    match supported(alloc, log) {
         Ok(schema) => writeln!(out, "read {}", schema.to_text(alloc)?)?,
         Err(SupportError::Memory) => return Err(Failure::Memory),
         Err(SupportError::Fault(fault)) => writeln!(out, "refused {fault}")?,
     }
-    match in_force(alloc, version, versions)? {
+    match in_force(alloc, version, log)? {
         Some(told) => {
             writeln!(out, "in force {}", told.text)?;
-            tell_versions(alloc, &told, versions, version, out)
+            tell_versions(alloc, &told, log, version, out)
         }
         None => {
             writeln!(out, "no schema")?;
@@ -38,19 +36,15 @@ pub fn tell_read(
 fn tell_versions(
     alloc: Global,
     told: &Told<'_>,
-    versions: &[Version],
+    log: &Log,
     from: u64,
     out: &mut Vec<u8>,
 ) -> Result<(), Failure> {
-    for (at, found) in versions.iter().enumerate() {
-        let at = at as u64;
-        if at < from {
-            continue;
-        }
-        match found {
-            Version::Missing => writeln!(out, "missing {at}")?,
-            Version::Unreadable => writeln!(out, "unreadable {at}")?,
-            Version::Commit(actions) => {
+    for at in from..log.next {
+        match standing_at(log, at) {
+            None | Some(Version::Missing) => writeln!(out, "missing {at}")?,
+            Some(Version::Unreadable) => writeln!(out, "unreadable {at}")?,
+            Some(found @ Version::Commit(actions)) => {
                 if removes_rows(actions) {
                     writeln!(out, "removes {at}")?;
                 }

@@ -6,4 +6,3 @@ pub mod KeptTailSpot
 pub mod KeptTailWalk
 pub mod LogFiles
 pub mod OffsetLemmas
-pub mod SchemaLemmas

@@ -11,12 +11,13 @@ use Rattle.delta_replay.specs.Keys.{last}
 use Rattle.delta_replay.specs.Support.{readable}
 use Rattle.schema_tree.specs.Tree.{Tree}
 use Rattle.store_core.specs.Objects.{Objects}
+use Rattle.table_log.specs.InForce.{Told, in_force, told_at}
+use Rattle.table_log.specs.Reads.{first_from, first_standing, front, removes_rows}
 use Rattle.table_log.specs.Versions.{commit}
 use Rattle.table_model.specs.declared.reading.Place.{Place}
 use Rattle.table_store.specs.Groups.{new_files}
 use Rattle.lake_bytes.specs.Results.{◌>>=◌}
-use Rattle.source_core.specs.InForce.{Told, in_force, told_at}
-use Rattle.source_core.specs.Tailing.{LogFile, Item, data_file, numbered, removes_rows, fault_of, items_from, is_before, item_before, items_at, front, first_from, first_standing, unless_beyond, unless_gone, unless_no_file, unless_removed, actions_in, hand, handed_by, schema_for}
+use Rattle.source_core.specs.Tailing.{LogFile, Item, data_file, numbered, fault_of, items_from, is_before, item_before, items_at, unless_beyond, unless_gone, unless_no_file, unless_removed, actions_in, hand, handed_by, schema_for}
 
 -- ---- its files
 

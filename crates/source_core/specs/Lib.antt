@@ -1,4 +1,3 @@
-pub mod InForce
 pub mod Offsets
 pub mod TailFaults
 pub mod TailViews

@@ -3,7 +3,6 @@
 
 mod items;
 mod offsets;
-mod schemas;
 mod tail_fault;
 mod tailing;
 

@@ -12,21 +12,21 @@ returns-in-Ok-Some-clause-script g c = λ reliable empty whole.
     script_told _ _ _ _ _ c.requires empty (c.in-Ok-Some.ensures.whole reliable whole)
 
 pub returns-in-Ok-None-clause-lawful : goal.returns-in-Ok-None-clause-lawful
-returns-in-Ok-None-clause-lawful g c = λ reliable empty.
+returns-in-Ok-None-clause-lawful g c = λ reliable empty here.
     let told = c.in-Ok-None.ensures.tells reliable in
-    part_is_lawful _ _ told.0 _ (few_lines _ c.requires) empty (in_part 1 _ _ told.0 _ told.2)
+    part_is_lawful _ _ told.0 _ (few_lines _ c.requires) empty here (in_part 1 _ _ told.0 _ told.2)
 
 pub returns-in-Ok-Some-clause-lawful : goal.returns-in-Ok-Some-clause-lawful
-returns-in-Ok-Some-clause-lawful g c = λ reliable empty.
+returns-in-Ok-Some-clause-lawful g c = λ reliable empty here.
     let told = c.in-Ok-Some.ensures.tells reliable in
-    part_is_lawful _ _ told.0 _ (few_lines _ c.requires) empty (in_part 1 _ _ told.0 _ told.2)
+    part_is_lawful _ _ told.0 _ (few_lines _ c.requires) empty here (in_part 1 _ _ told.0 _ told.2)
 
 pub returns-then-is_short-clause-lawful : goal.returns-then-is_short-clause-lawful
-returns-then-is_short-clause-lawful g c = λ reliable empty.
+returns-then-is_short-clause-lawful g c = λ reliable empty here.
     let told = c.in-Err.ensures.front reliable in
-    part_is_lawful _ _ told.0 _ (few_lines _ c.requires) empty told.2
+    part_is_lawful _ _ told.0 _ (few_lines _ c.requires) empty here told.2
 
 pub returns-else-is_short-clause-lawful : goal.returns-else-is_short-clause-lawful
-returns-else-is_short-clause-lawful g c = λ reliable empty.
+returns-else-is_short-clause-lawful g c = λ reliable empty here.
     let told = c.in-Err.ensures.front reliable in
-    part_is_lawful _ _ told.0 _ (few_lines _ c.requires) empty told.2
+    part_is_lawful _ _ told.0 _ (few_lines _ c.requires) empty here told.2
