@@ -38,6 +38,12 @@ fn tell_question(log: &mut Log, question: &str, out: &mut Vec<u8>) -> Result<(),
     if let Some(version) = question.strip_prefix("spoil ") {
         return log.spoil(version, out);
     }
+    if let Some(name) = question.strip_prefix("object ") {
+        return log.put(name);
+    }
+    if question == "load" || question == "load restore" {
+        return log.load(question == "load restore", out);
+    }
     log.end_commit(out)?;
     if question == "missing" {
         return log.skip();

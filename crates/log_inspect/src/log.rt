@@ -9,6 +9,7 @@ ghost use Rattle.log_inspect.specs.Logs.{IsOfLog};
 use crate::failure::Failure;
 use crate::reads::tell_read;
 use crate::spoiled::tell_spoiled;
+use crate::stored::{put_object, tell_loaded};
 use delta_actions::{Action, ActionFault, read_commit};
 use delta_checkpoint::{
     CheckpointError, checkpoint_name, checkpoint_version, print_checkpoint, read_checkpoint,
@@ -17,15 +18,17 @@ use delta_replay::{FileAction, Snapshot, SupportError, closes};
 use schema_tree::Schema;
 use std::alloc::Global;
 use std::io::Write;
+use store_core::MemoryStore;
 use table_log::{Standing, version_of};
 
-/// A log's snapshot, its versions one by one, and the commit that is begun.
+/// A log's snapshot, its versions one by one, the commit that is begun, and a store beside them.
 #[derive(Drop)]
 pub struct Log {
     alloc: Global,
     pub snapshot: Snapshot,
     kept: table_log::Log,
     commit: Vec<u8>,
+    store: MemoryStore,
 }
 
 impl Log {
@@ -40,6 +43,7 @@ impl Log {
                 next: 0,
             },
             commit: Vec::new(alloc),
+            store: MemoryStore::new(alloc),
         }
     }
 
@@ -137,6 +141,24 @@ impl Log {
         tell_spoiled(self.alloc, &self.commit, version, out)?;
         self.commit.clear();
         Ok(())
+    }
+
+    /// Puts the lines that are begun under a name into the store, in place of a commit. The log stays.
+    pub fn put(&mut self, name: &str) -> Result<(), Failure>
+        ensures { self.new.snapshot ≡ self.old.snapshot }
+    {
+        let mut bytes = Vec::new(self.alloc);
+        bytes.extend_from_slice(&self.commit)?;
+        self.commit.clear();
+        put_object(&mut self.store, name, bytes)
+    }
+
+    /// Adds what the log of the store is loaded as, with `restore` from its newest checkpoint that reads well. The log
+    /// of the case stays.
+    pub fn load(&mut self, restore: bool, out: &mut Vec<u8>) -> Result<(), Failure>
+        ensures { self.new.snapshot ≡ self.old.snapshot }
+    {
+        tell_loaded(self.alloc, &mut self.store, restore, out)
     }
 
     /// Prints the checkpoint of a version, and goes on with the snapshot that is read from it.

@@ -10,6 +10,7 @@ mod failure;
 mod log;
 mod reads;
 mod spoiled;
+mod stored;
 
 use std::io;
 use std::io::{Read, Write};

@@ -1,2 +1,2 @@
 -- The lemmas that proofs of other crates may cite.
-pub use Rattle.snapshot_core.proofs.LogLemmas.{AreOfLog, of_log}
+pub use Rattle.snapshot_core.proofs.LogLemmas.{AreSeen, of_seen}

@@ -1,5 +1,5 @@
 -- Why no checkpoint is put and no snapshot is told, as far as the log says it.
-use Rattle.std.specs.Prelude.{◌≡◌, ℕ, List, Result, Ok}
+use Rattle.std.specs.Prelude.{◌≡◌, ℕ, Bool, List, Result, Ok}
 use Rattle.lake_bytes.specs.Outcome.{Said, refuses, says_nothing, never_comes}
 use Rattle.lake_bytes.specs.Results.{◌>>=◌, refused_as}
 use Rattle.store_core.specs.Objects.{Objects}
@@ -10,7 +10,7 @@ use Rattle.delta_replay.specs.Support as supports
 use Rattle.delta_replay.specs.Support.{Unsupported, checkpointable, readable}
 use Rattle.delta_replay.specs.declared.support.SupportError.{SupportError}
 use Rattle.delta_replay.specs.declared.support.SupportError.TheVariants as errors
-use Rattle.table_log.specs.Versions.{log_of}
+use Rattle.table_log.specs.Restoring.{seen}
 use Rattle.table_log.specs.declared.fault.LogFault.{LogFault}
 use Rattle.table_log.specs.declared.fault.LogFault.TheVariants as logs
 use Rattle.snapshot_core.specs.declared.fault.SnapshotFault.{SnapshotFault}
@@ -23,18 +23,18 @@ pub data Reason : Type 0 where
   -- what the table has or lacks
   unsupported : Unsupported → Reason
 
--- The commits of a log whose checkpoint is put, or the first reason why it isn't: the first version that has no commit
--- that can be read, and what the table has or lacks.
-abbrev pub checked : Objects → Result (List (List Entry)) Reason
-checked objects = do
-  commits ← refused_as bad_log (log_of objects)
+-- The commits that a log is seen as whose checkpoint is put, or the first reason why it isn't: the first version that has
+-- no commit that can be read, and what the table has or lacks.
+abbrev pub checked : (restore : Bool) → Objects → Result (List (List Entry)) Reason
+checked restore objects = do
+  commits ← refused_as bad_log (seen restore objects)
   fine ← refused_as unsupported (checkpointable commits)
   Ok commits
 
 -- the same of a log whose table is read
-abbrev pub readable_log : Objects → Result (List (List Entry)) Reason
-readable_log objects = do
-  commits ← refused_as bad_log (log_of objects)
+abbrev pub readable_log : (restore : Bool) → Objects → Result (List (List Entry)) Reason
+readable_log restore objects = do
+  commits ← refused_as bad_log (seen restore objects)
   schema ← refused_as unsupported (readable commits)
   Ok commits
 

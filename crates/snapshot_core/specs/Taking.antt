@@ -1,5 +1,5 @@
 -- What putting a checkpoint tells and leaves (Delta PROTOCOL.md, "Checkpoints").
-use Rattle.std.specs.Prelude.{◌≡◌, ◌≤◌, ◌<◌, ◌⊎◌, ◌∷◌, ℕ, suc, List, Some, Ok, length}
+use Rattle.std.specs.Prelude.{◌≡◌, ◌≤◌, ◌<◌, ◌⊎◌, ◌∷◌, ℕ, suc, Bool, List, Some, Ok, length}
 use Rattle.lake_bytes.specs.Outcome.{IsSaid}
 use Rattle.store_core.specs.Objects.{Objects, with_object}
 use Rattle.store_core.specs.Calls.{Flight, IsUntouched, MayHaveLanded}
@@ -9,7 +9,8 @@ use Rattle.delta_replay.specs.All.{ListsAll}
 use Rattle.delta_replay.specs.Support.{checkpointable, meta_data_of}
 use Rattle.delta_checkpoint.specs.Checkpoints.{IsCheckpoint}
 use Rattle.delta_checkpoint.specs.Names.{IsCheckpointName, checkpoint_name}
-use Rattle.table_log.specs.Versions.{log_of}
+use Rattle.table_log.specs.Counts.{commit_count}
+use Rattle.table_log.specs.Restoring.{seen}
 use Rattle.snapshot_core.specs.Faults.{checked, says}
 use Rattle.snapshot_core.specs.declared.fault.SnapshotFault.{SnapshotFault}
 use Rattle.snapshot_core.specs.declared.fault.SnapshotFault.TheVariants as faults
@@ -24,57 +25,57 @@ pub record IsTableId (log : List (List Entry)) (id : List ℕ) : Type 0 where
   pub newest : meta_data_of log ≡ Some meta_data
   pub is : id ≡ meta_data.id
 
--- The bytes are the checkpoint of a log's newest version: a line tells the version, and behind it stands what the log
--- leaves, in the order of a checkpoint.
-pub record IsNewestCheckpoint (log : List (List Entry)) (version : ℕ) (bytes : List ℕ) : Type 0 where
-  pub newest : suc version ≡ length log
+-- The bytes are the checkpoint of the newest version of a log, whose commits leave what these do: a line tells the version,
+-- and behind it stands what they leave, in the order of a checkpoint.
+pub record IsNewestCheckpoint (objects : Objects) (log : List (List Entry)) (version : ℕ) (bytes : List ℕ) : Type 0 where
+  pub newest : suc version ≡ commit_count objects
   pub checkpoint : IsCheckpoint bytes version log
   pub ordered : (actions : List Entry) × ListsAll log actions × IsPrintedCommit bytes (checkpoint_metadata (record { version = version }) ∷ actions)
 
 -- What is put over these objects: the checkpoint of the newest version, if it may be put and isn't too large, under the
 -- name of that version for the table's id.
-pub record PutsCheckpoint (objects : Objects) (version : ℕ) (name bytes : List ℕ) : Type 0 where
+pub record PutsCheckpoint (restore : Bool) (objects : Objects) (version : ℕ) (name bytes : List ℕ) : Type 0 where
   pub commits : List (List Entry)
-  pub read : log_of objects ≡ Ok commits
+  pub read : seen restore objects ≡ Ok commits
   pub supported : checkpointable commits ≡ Ok tt
   pub id : List ℕ
   pub of_table : IsTableId commits id
-  pub checkpoint : IsNewestCheckpoint commits version bytes
+  pub checkpoint : IsNewestCheckpoint objects commits version bytes
   pub fits : length bytes ≤ most_bytes
   pub named : name ≡ checkpoint_name version id
   -- by its name it is found
   pub found : IsCheckpointName version name
 
 -- The newest version's checkpoint was put: it stands where none of its name stood, and no other object changed.
-pub record HasPut (version : ℕ) (old new : Objects) : Type 0 where
+pub record HasPut (restore : Bool) (version : ℕ) (old new : Objects) : Type 0 where
   pub name : List ℕ
   pub bytes : List ℕ
-  pub puts : PutsCheckpoint old version name bytes
+  pub puts : PutsCheckpoint restore old version name bytes
   pub put : new ≡ with_object old name bytes
 
 -- The put of the newest version's checkpoint was lost: it may have taken effect, or may do so later, or never.
-pub record LosesPut (old new : Objects × Flight) : Type 0 where
+pub record LosesPut (restore : Bool) (old new : Objects × Flight) : Type 0 where
   pub version : ℕ
   pub name : List ℕ
   pub bytes : List ℕ
-  pub puts : PutsCheckpoint old.0 version name bytes
+  pub puts : PutsCheckpoint restore old.0 version name bytes
   pub put : MayHaveLanded name bytes old new
 
 -- a call was lost: before the put, or the put
-abbrev pub MayHavePut : Objects × Flight → Objects × Flight → Type 0
-MayHavePut old new = IsUntouched old new ⊎ LosesPut old new
+abbrev pub MayHavePut : (restore : Bool) → Objects × Flight → Objects × Flight → Type 0
+MayHavePut restore old new = IsUntouched old new ⊎ LosesPut restore old new
 
 -- The checkpoint of the newest version may be put, but passes 64 MiB.
-pub record IsTooLarge (objects : Objects) : Type 0 where
+pub record IsTooLarge (restore : Bool) (objects : Objects) : Type 0 where
   pub commits : List (List Entry)
-  pub read : log_of objects ≡ Ok commits
+  pub read : seen restore objects ≡ Ok commits
   pub supported : checkpointable commits ≡ Ok tt
   pub version : ℕ
   pub bytes : List ℕ
-  pub checkpoint : IsNewestCheckpoint commits version bytes
+  pub checkpoint : IsNewestCheckpoint objects commits version bytes
   pub large : most_bytes < length bytes
 
 -- What a fault says stands in the log: why it has no checkpoint that may be put, or that it is too large.
-abbrev pub IsRefusal : SnapshotFault → Objects → Type 0
-IsRefusal faults.TooLarge objects = IsTooLarge objects
-IsRefusal fault objects = IsSaid (says fault) (checked objects)
+abbrev pub IsRefusal : (restore : Bool) → SnapshotFault → Objects → Type 0
+IsRefusal restore faults.TooLarge objects = IsTooLarge restore objects
+IsRefusal restore fault objects = IsSaid (says fault) (checked restore objects)

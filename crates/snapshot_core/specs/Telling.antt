@@ -1,5 +1,5 @@
 -- What a log leaves, as it is told: lines of text.
-use Rattle.std.specs.Prelude.{◌≡◌, ℕ, suc, List, [], ◌∷◌, ◌++◌, Some, Ok, codes, length}
+use Rattle.std.specs.Prelude.{◌≡◌, ℕ, suc, Bool, List, [], ◌∷◌, ◌++◌, Some, Ok, codes}
 use Rattle.std.specs.Fmt.{decimal}
 use Rattle.std.specs.List.{flat_map}
 use Rattle.serde_json.specs.Data.{string}
@@ -10,7 +10,8 @@ use Rattle.delta_actions.specs.Entry.{Entry, AddEntry, MetaDataEntry, ProtocolEn
 use Rattle.delta_replay.specs.Keys.{file_of, number_of}
 use Rattle.delta_replay.specs.Lists.{ListsClosed, ListsEach}
 use Rattle.delta_replay.specs.Support.{meta_data_of, protocol_of, readable}
-use Rattle.table_log.specs.Versions.{log_of}
+use Rattle.table_log.specs.Counts.{commit_count}
+use Rattle.table_log.specs.Restoring.{seen}
 
 -- a line is ended by a newline
 abbrev pub line_of : List ℕ → List ℕ
@@ -63,13 +64,13 @@ pub record TellsLists (log : List (List Entry)) (front text : List ℕ) : Type 0
 
 -- The text tells what a log leaves whose table is read: its newest version, the protocol and the schema, and then the
 -- applications' numbers, the closed streams and the files.
-pub record TellsSnapshot (objects : Objects) (text : List ℕ) : Type 0 where
+pub record TellsSnapshot (restore : Bool) (objects : Objects) (text : List ℕ) : Type 0 where
   pub commits : List (List Entry)
-  pub read : log_of objects ≡ Ok commits
+  pub read : seen restore objects ≡ Ok commits
   pub schema : Tree
   pub supported : readable commits ≡ Ok schema
   pub version : ℕ
-  pub newest : suc version ≡ length commits
+  pub newest : suc version ≡ commit_count objects
   pub protocol : ProtocolEntry
   pub of_log : protocol_of commits ≡ Some protocol
   pub meta_data : MetaDataEntry
