@@ -1,6 +1,6 @@
 -- From one line to whole scripts: where a store keeps what a script made so far, each line is told what the plain table
 -- tells, and the store goes on to keep it.
-use Rattle.std.proofs.Common.{◌≡◌, ℕ, suc, ◌+◌, ◌<◌, ◌≤◌, ◌^◌, Bool, true, false, List, [], ◌∷◌, length, Result, Ok, Err, refl, ap, ◌∙◌, arith, inl, inr, length-append}
+use Rattle.std.proofs.Common.{◌≡◌, ℕ, suc, ◌+◌, ◌<◌, ◌≤◌, ◌^◌, Bool, true, false, List, [], ◌∷◌, ◌++◌, length, Result, Ok, Err, refl, sym, ap, ◌∙◌, append-nil, append_assoc, arith, inl, inr, length-append}
 use Rattle.std.proofs.lemmas.Bool.{cases_Bool}
 use Rattle.serde_json.specs.Data.{Items}
 use Rattle.schema_tree.specs.Tree.{Tree}
@@ -196,6 +196,27 @@ module _ (given : Given) where
             rw (on, same, behind) refl
       ]
 
+  -- lines begin as the plain table tells those in front of the first that doesn't ask it alone
+  pub told_in_front : (number : ℕ) (objects : Objects) (state : State) (front rest texts : List (List ℕ)) → Keeps objects state → length (entries_of state) + length front ≤ 2 ^ 32
+      → ArePrinted (front ++ rest) texts → AreSound objects (front ++ rest) texts → AreOfTable front → (more : List ℕ) × (told.told_from number objects (front ++ rest) texts ≡ tables.told_from number state front ++ more)
+  unfolding told.told_from tables.told_from
+  told_in_front number objects state [] rest texts keeps few printed sound only = (told.told_from number objects rest texts, refl)
+  told_in_front number objects state (line ∷ front) rest [] keeps few printed sound only = absurd (no_text line (front ++ rest) printed)
+  told_in_front number objects state (line ∷ front) rest (text ∷ texts) keeps few printed sound only =
+      let r = reading_of line in
+      let lines = front ++ rest in
+      let small : length (entries_of state) < 2 ^ 32 = omega arith in
+      let here = first_sound line text lines texts objects sound in
+      let same = line_told number objects state r text keeps small here only.0 in
+      let kept = line_kept objects state r text keeps small here (put_here r only.0) in
+      let fewer : length (entries_of (tables.left_by state r)) + length front ≤ 2 ^ 32 = omega (arith, left_by_one state r) in
+      elim (cases_Bool (is_bad r)) [
+        | inl ends ↦ ([], rw (ends, same) (sym (append-nil (tables.reply_to number state r ++ []))))
+        | inr on ↦
+            let behind = told_in_front (number + 1) (told.left_by objects r text) (tables.left_by state r) front rest texts kept fewer (rest_printed line text lines texts printed on) (rest_sound line text lines texts objects sound on) only.1 in
+            (behind.0, rw (on, same, behind.1) (sym (append_assoc (tables.reply_to number state r) (tables.told_from (number + 1) (tables.left_by state r) front) behind.0)))
+      ]
+
   -- the store keeps the table that lines leave where it keeps one before them
   pub left_on : (objects : Objects) (state : State) (lines texts : List (List ℕ)) → Keeps objects state → length (entries_of state) + length lines ≤ 2 ^ 32
       → ArePrinted lines texts → AreSound objects lines texts → ArePutHere lines → Keeps (told.left_from objects lines texts) (tables.left_from state lines)
@@ -217,6 +238,11 @@ module _ (given : Given) where
   -- a script is told what the plain table tells
   pub told_by_tables : (lines texts : List (List ℕ)) → length lines ≤ 2 ^ 31 → ArePrinted lines texts → AreSound [] lines texts → AreOfTable lines → told.told_from 1 [] lines texts ≡ tables.told_from 1 nothing lines
   told_by_tables lines texts few printed sound only = told_on 1 [] nothing lines texts refl (omega arith) printed sound only
+
+  -- and begins as the plain table tells its first lines that ask it alone
+  pub begins_by_tables : (front rest texts : List (List ℕ)) → length front ≤ 2 ^ 31 → ArePrinted (front ++ rest) texts → AreSound [] (front ++ rest) texts → AreOfTable front
+      → (more : List ℕ) × (told.told_from 1 [] (front ++ rest) texts ≡ tables.told_from 1 nothing front ++ more)
+  begins_by_tables front rest texts few printed sound only = told_in_front 1 [] nothing front rest texts refl (omega arith) printed sound only
 
   -- a script without other tools' commits leaves a store that keeps the table that it leaves
   pub left_is_kept : (lines texts : List (List ℕ)) → length lines ≤ 2 ^ 31 → ArePrinted lines texts → AreSound [] lines texts → ArePutHere lines → Keeps (told.left_from [] lines texts) (tables.left_from nothing lines)

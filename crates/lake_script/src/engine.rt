@@ -6,7 +6,7 @@ ghost use Rattle.lake_script.specs.Lines.{reading_of};
 ghost use Rattle.lake_script.specs.Runs.{FallsShort, IsCutOff, Replies, Runs, RunsInPart, Tells, TellsFront, TellsShort};
 ghost use Rattle.table_store.specs.Holds.{IsLawfulStore};
 ghost use Rattle.table_store.specs.LawfulLogs.{HasLawfulLog};
-ghost use Rattle.lake_script.specs.Scripts.{HoldsState, IsScript, ReadsOut};
+ghost use Rattle.lake_script.specs.Scripts.{BeginsByTable, HoldsState, IsScript, ReadsOut};
 ghost use Rattle.lake_script.specs.Sound.{IsAnswered, IsRun, IsRunInPart};
 ghost use Rattle.lake_script.specs.Streams.{held, waiting, write_failed, unread, read_failed, StandsIn};
 ghost use Rattle.lake_script.specs.Tables.{told as told_by_table, left as table_left, AreOfTable};
@@ -279,6 +279,12 @@ pub fn run<R: Read, W: Write, S: Store>(
     ensures tables { S.is_reliable store.old → S.objects store.old ≡ [] → fell_short result ≡ false
         → Finishes result.end (λ _. IfSome (unread R.remaining input.old) (λ text. AreOfTable (lines_of text)
         → Appends (held W.contents output.old) (W.contents output.new.writer) (told_by_table text))) }
+
+    // What is written begins with what the plain table tells for the lines in front of the first that
+    // shows an object or puts another tool's commit.
+    ensures begins { S.is_reliable store.old → S.objects store.old ≡ [] → fell_short result ≡ false
+        → Finishes result.end (λ _. IfSome (unread R.remaining input.old)
+        (λ text. BeginsByTable (held W.contents output.old) (W.contents output.new.writer) text)) }
 
     // Where no line puts another tool's commit, the store then holds the table that was told.
     ensures holds { S.is_reliable store.old → S.objects store.old ≡ [] → fell_short result ≡ false
