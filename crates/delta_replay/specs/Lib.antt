@@ -1,5 +1,6 @@
 pub mod All
 pub mod Closes
+pub mod Keyed
 pub mod Keys
 pub mod Lists
 pub mod Places

@@ -7,6 +7,7 @@ mod closing;
 mod features;
 mod keeping;
 mod kept;
+mod keyed;
 mod lists;
 mod newest;
 mod places;

@@ -35,12 +35,12 @@ fn title(alloc: Global, action: &Action) -> Result<String, AllocError> {
         Action::Protocol(_) => "protocol",
         Action::MetaData(_) => "metaData",
         Action::Add(add) => {
-            let key = add.path.key();
+            let key = add.path.key(alloc)?;
             return format!(in alloc; "add of {key}");
         }
         Action::Txn(_) => "txn",
         Action::Remove(remove) => {
-            let key = remove.path.key();
+            let key = remove.path.key(alloc)?;
             return format!(in alloc; "remove of {key}");
         }
         Action::DomainMetadata(_) => "domainMetadata",

@@ -1,5 +1,4 @@
-use Rattle.std.proofs.Common.{◌≡◌, string_bytes, sym, ap, subst, ◌∙◌}
-use Rattle.std.specs.Option.{option_map_or}
+use Rattle.std.proofs.Common.{◌≡◌, sym, ap, subst, ◌∙◌}
 use Rattle.std.specs.Str.{IsUtf8}
 use Rattle.percent_encoding.specs.Percent.{percent_decode}
 use Rattle.percent_encoding.specs.Iter.{decoded_bytes}
@@ -14,5 +13,4 @@ returns-in-Err-Utf8 c =
 pub returns : goal.returns
 returns c =
     let decoded : decoded_bytes c.percent_decode.result ≡ percent_decode c.args.text.now = c.percent_decode.ensures.bytes ∙ ap percent_decode c.as_bytes.ensures.value in
-    let key : option_map_or (λ k. string_bytes k) c.in_ok-key-in-Ok.key c.args.text.now ≡ percent_decode c.args.text.now = c.in_ok-key-in-Ok.ensures ∙ c.in-Ok.ensures.value ∙ decoded in
-    rw c.in_ok-text.ensures.ok (sym (path_is c.args.text.now (option_map_or (λ k. string_bytes k) c.in_ok-key-in-Ok.key c.args.text.now) (subst IsUtf8 decoded c.in-Ok.ensures.ok_only_if_utf8) key))
+    rw c.in_ok-text.ensures.ok (sym (path_is c.args.text.now (subst IsUtf8 decoded c.in-Ok.ensures.ok_only_if_utf8)))
