@@ -157,14 +157,15 @@ def script_answer(case: ScriptCase) -> list[str]:
     """What is told of a case: the replies, how it ended, and the table that is left."""
     words = [directive.partition(" ")[0] for directive in case.directives]
     for word in words:
-        if word not in ("entries", "objects", "last"):
+        if word not in ("entries", "objects", "last", "replays"):
             raise NotModelled(f"the directive {word}")
     told: list[str] = []
     try:
         script = case.script.decode()
     except UnicodeDecodeError as error:
         raise NotModelled("a script that is no text") from error
-    is_plain = not case.objects and "\nforeign " not in "\n" + script
+    of_log = re.search("^(foreign |checkpoint$|snapshot$)", script, re.MULTILINE)
+    is_plain = not case.objects and of_log is None
     table = Table() if is_plain else Log(case.objects)
     for line in script.split("\n"):
         if line.strip(" \t\r") and not line.startswith("#"):

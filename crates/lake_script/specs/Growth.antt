@@ -1,16 +1,22 @@
 -- What a line may put, however it ends: also where a growth is refused in the middle of it.
-use Rattle.std.specs.Prelude.{◌≡◌, ◌⊎◌}
+use Rattle.std.specs.Prelude.{◌≡◌, ◌⊎◌, ℕ, false}
 use Rattle.std.specs.Str.{IsUtf8}
 use Rattle.store_core.specs.Objects.{Objects, with_object}
 use Rattle.sink_core.specs.Appending.{settled, MayAppend}
 use Rattle.commit_core.specs.Creating.{MayCreate}
 use Rattle.commit_core.specs.Texts.{line_of}
 use Rattle.table_log.specs.Names.{commit_name}
-use Rattle.lake_script.specs.Lines.{append, Wish, create, task, foreign}
+use Rattle.snapshot_core.specs.Taking.{HasPut}
+use Rattle.lake_script.specs.Lines.{append, checkpoint, Wish, create, task, foreign}
+
+-- the checkpoint of the newest version was put, or nothing
+abbrev pub MayPutCheckpoint : Objects → Objects → Type 0
+MayPutCheckpoint old new = (new ≡ old) ⊎ ((version : ℕ) × HasPut false version old new)
 
 -- the objects that may stand behind what a line asks for; an application's id is text
 abbrev pub MayPut : Objects → Wish → Objects → Type 0
 MayPut old (create id at schema) new = MayCreate id at schema old new
 MayPut old (task (append application number at items)) new = IsUtf8 application × MayAppend application number at (settled old application number at items) old new
+MayPut old (task checkpoint) new = MayPutCheckpoint old new
 MayPut old (foreign version action) new = (new ≡ old) ⊎ (new ≡ with_object old (commit_name version) (line_of action))
 MayPut old _ new = new ≡ old

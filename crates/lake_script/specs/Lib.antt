@@ -1,3 +1,4 @@
+pub mod Checkpoints
 pub mod Fields
 pub mod Growth
 pub mod Lines

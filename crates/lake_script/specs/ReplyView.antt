@@ -6,9 +6,12 @@ use Rattle.store_core.specs.Texts as texts
 use Rattle.commit_core.specs.declared.fault.CreateFault.TheVariants as creating
 use Rattle.lake_script.specs.declared.reply.Reply.{Reply}
 use Rattle.sink_core.specs.declared.refusal.AppendFault.TheVariants as appending
-use Rattle.lake_script.specs.declared.reply.Reply.TheVariants.{Created, NotCreated, Appended, NotAppended, NotTailed, NoHistory, Put, Refused, Unanswered, Bytes, Digits}
+use Rattle.lake_script.specs.declared.reply.Reply.TheVariants.{Created, NotCreated, Appended, NotAppended, NotTailed, Checkpointed, NoSnapshot, NoHistory, Put, Refused, Unanswered, Bytes, Digits}
 use Rattle.sink_core.specs.declared.appending.Appended.TheVariants.{Committed, Already}
 use Rattle.source_core.specs.declared.tail_fault.TailFault.TheVariants as tailing
+use Rattle.snapshot_core.specs.FaultTexts as snapshots
+use Rattle.snapshot_core.specs.declared.fault.SnapshotFault.TheVariants as snapshot_faults
+use Rattle.lake_script.specs.Checkpoints.{checkpointed_at}
 use Rattle.commit_core.specs.Histories.{unanswered}
 use Rattle.sink_core.specs.Refusals.{refusal_text, refusal_view}
 use Rattle.lake_script.specs.Replies.{fault_text, created, committed_at, already, put_word}
@@ -23,6 +26,8 @@ reply_text (Appended (Committed version)) = line_of (committed_at version)
 reply_text (Appended (Already number)) = line_of (already number)
 reply_text (NotAppended fault) = line_of (refused (refusal_text (refusal_view fault)))
 reply_text (NotTailed fault) = line_of (refused (tail_texts.refusal_text (tail_texts.refusal_view fault)))
+reply_text (Checkpointed version) = line_of (checkpointed_at version)
+reply_text (NoSnapshot fault) = line_of (refused (snapshots.fault_text fault))
 reply_text (NoHistory fault) = line_of (refused (unanswered fault))
 reply_text (Put puts.Created) = line_of (put_word None)
 reply_text (Put puts.Exists) = line_of (put_word (Some []))
@@ -38,6 +43,8 @@ is_short (NotCreated creating.TooLarge) = true
 is_short (NotAppended appending.Memory) = true
 is_short (NotAppended appending.FileTooLarge) = true
 is_short (NotTailed tailing.Memory) = true
+is_short (NoSnapshot snapshot_faults.Memory) = true
+is_short (NoSnapshot snapshot_faults.TooLarge) = true
 is_short (NoHistory stores.Memory) = true
 is_short (Unanswered stores.Memory) = true
 is_short _ = false

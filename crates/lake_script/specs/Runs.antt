@@ -9,7 +9,9 @@ use Rattle.commit_core.specs.declared.fault.CreateFault.TheVariants as create_fa
 use Rattle.sink_core.specs.Appending.{settled, MayHoldFile}
 use Rattle.lake_script.specs.Growth.{MayPut}
 use Rattle.commit_core.specs.Histories.{unanswered}
-use Rattle.lake_script.specs.Lines.{append, tail, Wish, create, task, history, show, hex, foreign, Reading, skipped, bad, asks, reading_of}
+use Rattle.snapshot_core.specs.Taking as checkpoints
+use Rattle.lake_script.specs.Checkpoints.{not_put_text, too_large}
+use Rattle.lake_script.specs.Lines.{append, checkpoint, tail, Wish, create, task, history, show, hex, snapshot, foreign, Reading, skipped, bad, asks, reading_of}
 use Rattle.sink_core.specs.Refusals.{refusal_text, memory, file_too_large}
 use Rattle.commit_core.specs.Texts.{create_fault_text, refused, line_of}
 use Rattle.lake_script.specs.Replies.{bad_line}
@@ -19,8 +21,8 @@ use Rattle.source_core.specs.Tailing as tails
 use Rattle.delta_actions.specs.Commit.{lines_of}
 use Rattle.lake_script.specs.Told.{is_bad, IsPrintedWish, reply_to_wish, left_by_wish}
 
--- the replies to lines that create a table, append a batch, show or put an object, read rows and tell the history, where
--- a growth was refused
+-- the replies to lines that create a table, append a batch, show or put an object, read rows, and put a checkpoint or tell
+-- the snapshot or the history, where a growth was refused
 abbrev pub no_room_to_create : List ℕ
 no_room_to_create = line_of (refused (create_fault_text create_faults.Memory))
 
@@ -41,6 +43,8 @@ abbrev pub IsWantOfMemory : Wish → List ℕ → Type 0
 IsWantOfMemory (create id at schema) reply = reply ≡ no_room_to_create
 IsWantOfMemory (task (append application number at rows)) reply = reply ≡ no_room_to_append
 IsWantOfMemory (task (tail max offset)) reply = reply ≡ no_room_to_read
+IsWantOfMemory (task checkpoint) reply = reply ≡ no_room_to_tell
+IsWantOfMemory snapshot reply = reply ≡ no_room_to_tell
 IsWantOfMemory history reply = reply ≡ no_room_to_tell
 IsWantOfMemory (show version) reply = reply ≡ no_room_to_show
 IsWantOfMemory (hex name) reply = reply ≡ no_room_to_show
@@ -54,11 +58,16 @@ too_large_to_create = line_of (refused (create_fault_text create_faults.TooLarge
 abbrev pub too_large_to_append : List ℕ
 too_large_to_append = line_of (refused (refusal_text file_too_large))
 
+abbrev pub too_large_to_checkpoint : List ℕ
+too_large_to_checkpoint = line_of (refused (not_put_text too_large))
+
 -- the reply to a line over these objects whose object would pass 64 MiB: the text to a creation, which is told so for
--- nothing else; the text to an append, and the file of its batch would pass them
+-- nothing else; the text to an append, and the file of its batch would pass them; or that to a checkpoint, and its bytes
+-- would
 abbrev pub IsTooLarge : Objects → Wish → List ℕ → Type 0
 IsTooLarge objects (create id at schema) reply = reply ≡ too_large_to_create
 IsTooLarge objects (task (append application number at rows)) reply = (reply ≡ too_large_to_append) × (settled objects application number at rows ≡ Err file_too_large)
+IsTooLarge objects (task checkpoint) reply = (reply ≡ too_large_to_checkpoint) × checkpoints.IsTooLarge false objects
 IsTooLarge objects _ reply = ⊥
 
 -- the reply to a line over these objects tells that a growth was refused, or that an object would pass 64 MiB
@@ -70,9 +79,9 @@ abbrev pub MayLeave : Objects → Wish → Objects → Type 0
 MayLeave objects (task (append application number at rows)) after = MayHoldFile objects (settled objects application number at rows) after
 MayLeave objects _ after = after ≡ objects
 
--- a line has what it asks for, its schema printed as some text
+-- a line has what it asks for, with some text beside it
 abbrev pub Has : Objects → Wish → List ℕ → Objects → Type 0
-Has objects wish reply after = (printed : List ℕ) × IsPrintedWish wish printed × (reply ≡ reply_to_wish objects wish printed) × (after ≡ left_by_wish objects wish printed)
+Has objects wish reply after = (printed : List ℕ) × IsPrintedWish objects wish printed × (reply ≡ reply_to_wish objects wish printed) × (after ≡ left_by_wish objects wish printed)
 
 -- a line has what it asks for, or is told of want of memory and leaves the objects as they were, but for a batch's file
 abbrev pub Grants : Objects → Wish → List ℕ → Objects → Type 0

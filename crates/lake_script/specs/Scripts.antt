@@ -27,13 +27,13 @@ pub record ReadsOut (objects : Objects) (state : State) : Type 0 where
   pub all : HandOutAll objects (entries_of state)
 
 -- What is written behind what was held begins with what the plain table tells for the lines in front of the first that
--- shows an object or puts another tool's commit.
+-- shows an object, tells the snapshot or puts another tool's commit.
 abbrev pub BeginsByTable : (held written : Option (List ℕ)) (text : List ℕ) → Type 0
 BeginsByTable held written text =
     (front rest : List (List ℕ)) → lines_of text ≡ front ++ rest → AreOfTable front → (more : List ℕ) × Appends held written (told_from 1 nothing front ++ more)
 
--- What is written behind what was held is what the plain table tells, where no line shows an object or puts another tool's
--- commit, and begins with that in any case. Where none puts such a commit, the objects hold the table that the lines leave,
+-- What is written behind what was held is what the plain table tells, where no line shows an object, tells the snapshot or
+-- puts another tool's commit, and begins with that in any case. Where none puts such a commit, the objects hold the table that the lines leave,
 -- and reads over them that follow one another hand out its rows.
 pub record IsScript (held written : Option (List ℕ)) (text : List ℕ) (objects : Objects) : Type 0 where
   pub by_table : AreOfTable (lines_of text) → Appends held written (told text)

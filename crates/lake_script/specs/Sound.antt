@@ -1,12 +1,14 @@
 -- What lines put is well made, and none of it passed 64 MiB: from this the laws on whole scripts go on.
-use Rattle.std.specs.Prelude.{◌≡◌, ◌≢◌, ℕ, List, [], ◌∷◌, Option, Err}
+use Rattle.std.specs.Prelude.{◌≡◌, ◌≢◌, ℕ, false, List, [], ◌∷◌, Option, Err}
 use Rattle.std.specs.Io.KnownBytes.{Appends}
 use Rattle.std.specs.Str.{IsUtf8}
 use Rattle.delta_actions.specs.Commit.{lines_of}
 use Rattle.store_core.specs.Objects.{Objects}
 use Rattle.sink_core.specs.Appending.{settled, PutsWell}
-use Rattle.commit_core.specs.Creating.{too_large, commit_from, CreatesWell}
-use Rattle.lake_script.specs.Lines.{append, Wish, create, task, Reading, skipped, bad, asks, reading_of}
+use Rattle.commit_core.specs.Creating as creating
+use Rattle.commit_core.specs.Creating.{commit_from, CreatesWell}
+use Rattle.lake_script.specs.Checkpoints.{checkpoint_by, too_large}
+use Rattle.lake_script.specs.Lines.{append, checkpoint, Wish, create, task, Reading, skipped, bad, asks, reading_of}
 use Rattle.sink_core.specs.Refusals.{file_too_large}
 use Rattle.lake_script.specs.Streams.{StandsIn}
 use Rattle.lake_script.specs.Told.{is_bad, UnlessBad, IsPrintedWish, IsPrintedLine, ArePrinted, ArePrintedInPart, reply_to_wish, left_by_wish, reply_to, left_by}
@@ -14,15 +16,16 @@ use Rattle.lake_script.specs.Told as scripts
 
 -- what a line puts is well made, and didn't pass 64 MiB; another tool's commit may be anything
 abbrev pub IsSoundWish : Objects → Wish → (printed : List ℕ) → Type 0
-IsSoundWish objects (create id at schema) printed = CreatesWell at schema (commit_from id at schema printed) × (commit_from id at schema printed ≢ Err too_large)
+IsSoundWish objects (create id at schema) printed = CreatesWell at schema (commit_from id at schema printed) × (commit_from id at schema printed ≢ Err creating.too_large)
 IsSoundWish objects (task (append application number at items)) printed = IsUtf8 application
     × PutsWell application number at (settled objects application number at items) × (settled objects application number at items ≢ Err file_too_large)
+IsSoundWish objects (task checkpoint) printed = checkpoint_by objects printed ≢ Err too_large
 IsSoundWish objects _ printed = Unit {0}
 
--- A line is told what it asks for, leaves what it is to leave, and what it puts is well made, its schema printed as a text.
+-- A line is told what it asks for, leaves what it is to leave, and what it puts is well made, with a text beside it.
 pub record IsGranted (objects : Objects) (wish : Wish) (reply : List ℕ) (after : Objects) : Type 0 where
   pub text : List ℕ
-  pub printed : IsPrintedWish wish text
+  pub printed : IsPrintedWish objects wish text
   pub told : reply ≡ reply_to_wish objects wish text
   pub left : after ≡ left_by_wish objects wish text
   pub sound : IsSoundWish objects wish text
@@ -36,7 +39,7 @@ IsSound objects (asks wish) printed = IsSoundWish objects wish printed
 -- the same of a line of that number, behind whose reply the output holds `new`
 pub record IsAnswered (number : ℕ) (objects : Objects) (reading : Reading) (old new : Option (List ℕ)) (after : Objects) : Type 0 where
   pub text : List ℕ
-  pub printed : IsPrintedLine reading text
+  pub printed : IsPrintedLine objects reading text
   pub told : Appends old new (reply_to number objects reading text)
   pub left : after ≡ left_by objects reading text
   pub sound : IsSound objects reading text
@@ -49,10 +52,10 @@ AreSound objects (line ∷ lines) (printed ∷ texts) =
     IsSound objects (reading_of line) printed × UnlessBad (is_bad (reading_of line)) (AreSound (left_by objects (reading_of line) printed) lines texts)
 
 -- A script is told what it asks for, and leaves what it is to leave; what it puts is well made. One text is meant for each
--- line in all of it: what its schema was printed as.
+-- line in all of it: what its schema was printed as, its checkpoint's bytes or its snapshot's text.
 pub record IsRun (objects : Objects) (script : List ℕ) (old new : Option (List ℕ)) (after : Objects) : Type 0 where
   pub texts : List (List ℕ)
-  pub printed : ArePrinted (lines_of script) texts
+  pub printed : ArePrinted objects (lines_of script) texts
   pub told : Appends old new (scripts.told objects script texts)
   pub left : after ≡ scripts.left objects script texts
   pub sound : AreSound objects (lines_of script) texts
@@ -60,5 +63,5 @@ pub record IsRun (objects : Objects) (script : List ℕ) (old new : Option (List
 -- What is written is a front of what some first lines of a script are told.
 pub record IsRunInPart (objects : Objects) (script : List ℕ) (old new : Option (List ℕ)) : Type 0 where
   pub texts : List (List ℕ)
-  pub printed : ArePrintedInPart (lines_of script) texts
+  pub printed : ArePrintedInPart objects (lines_of script) texts
   pub stands : StandsIn old new (scripts.told objects script texts)

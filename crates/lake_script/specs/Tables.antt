@@ -1,7 +1,7 @@
 -- What a script is told, by a plain table: a schema and a list of entries, one a version. No store, file or commit is
--- spoken of; a data file's name stands in one reply. Lines that show an object or put another tool's commit are none of a
--- table's, so nothing is said of them here (`AreOfTable`).
-use Rattle.std.specs.Prelude.{ℕ, suc, ◌+◌, List, [], ◌∷◌, ◌++◌, Option, None, Some, Result, Ok, Err, codes, if◌then◌else◌}
+-- spoken of; a data file's name stands in one reply. A checkpoint changes no entry. Lines that show an object, tell the
+-- snapshot or put another tool's commit are none of a table's, so nothing is said of them here (`AreOfTable`).
+use Rattle.std.specs.Prelude.{ℕ, suc, ◌+◌, ◌-◌, List, length, [], ◌∷◌, ◌++◌, Option, None, Some, Result, Ok, Err, codes, if◌then◌else◌}
 use Rattle.std.specs.Fmt.{decimal}
 use Rattle.std.specs.List.{flat_map}
 use Rattle.serde_json.specs.Data.{Items}
@@ -18,7 +18,9 @@ use Rattle.commit_core.specs.Creating as creations
 use Rattle.commit_core.specs.Creating.{table_exists, described}
 use Rattle.commit_core.specs.Histories.{close_told, number_told}
 use Rattle.commit_core.specs.Histories as histories
-use Rattle.lake_script.specs.Lines.{Wish, create, task, history, show, hex, foreign, append, tail, Reading, skipped, bad, asks, reading_of}
+use Rattle.snapshot_core.specs.Faults.{bad_log, unsupported}
+use Rattle.lake_script.specs.Checkpoints.{by_log, checkpointed_at, not_put_text}
+use Rattle.lake_script.specs.Lines.{Wish, create, task, history, show, hex, snapshot, foreign, append, checkpoint, tail, Reading, skipped, bad, asks, reading_of}
 use Rattle.source_core.specs.Offsets.{offset_of}
 use Rattle.sink_core.specs.Refusals as appends
 use Rattle.commit_core.specs.Texts as texts
@@ -118,6 +120,16 @@ abbrev pub history_reply : State → List ℕ
 history_reply nothing = histories.bad_log 0
 history_reply (table schema entries) = history_from 0 entries
 
+-- ---- checkpoint
+
+-- a table of a schema with invariants has none; otherwise that of its newest version
+abbrev pub checkpoint_reply : State → List ℕ
+checkpoint_reply nothing = line_of (refused (not_put_text (by_log (bad_log 0))))
+checkpoint_reply (table schema entries) =
+    if has_key_inside (codes "delta.invariants") schema
+    then line_of (refused (not_put_text (by_log (unsupported (feature (codes "invariants"))))))
+    else line_of (checkpointed_at (length entries - 1))
+
 -- ---- lines
 
 -- the reply to what a line asks for; a line that isn't there yet is told so
@@ -125,6 +137,7 @@ abbrev pub reply_to_wish : State → Wish → List ℕ
 reply_to_wish state (create id at schema) = created_reply (creating state (described id schema))
 reply_to_wish state (task (append application number at items)) = appended_reply state (batch_in state application number items)
 reply_to_wish state (task (tail max offset)) = tail_reply state max (offset_of offset)
+reply_to_wish state (task checkpoint) = checkpoint_reply state
 reply_to_wish state history = history_reply state
 reply_to_wish state _ = not_yet
 
@@ -168,8 +181,9 @@ left script = left_from nothing (lines_of script)
 
 -- ---- which lines are told by the table alone
 
--- a line neither shows an object of the store nor puts another tool's commit
+-- a line neither shows an object of the store, nor tells its snapshot, nor puts another tool's commit
 abbrev pub AsksTable : Wish → Type 0
+AsksTable snapshot = ⊥
 AsksTable (show version) = ⊥
 AsksTable (hex name) = ⊥
 AsksTable (foreign version action) = ⊥
@@ -180,7 +194,7 @@ IsOfTable skipped = Unit {0}
 IsOfTable bad = Unit {0}
 IsOfTable (asks wish) = AsksTable wish
 
--- no line shows an object of the store or puts another tool's commit
+-- no line shows an object of the store, tells its snapshot or puts another tool's commit
 abbrev pub AreOfTable : List (List ℕ) → Type 0
 AreOfTable [] = Unit {0}
 AreOfTable (line ∷ lines) = IsOfTable (reading_of line) × AreOfTable lines

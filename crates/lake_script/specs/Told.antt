@@ -1,5 +1,6 @@
--- What a script is told. Where a line creates a table, its schema is printed as some text, which stands beside the line: no
--- other line looks at the text that stands beside it.
+-- What a script is told. Beside a line that creates a table stands the text that its schema is printed as, beside one that
+-- puts a checkpoint its bytes, and beside one that tells a snapshot its text: no other line looks at the text that stands
+-- beside it.
 use Rattle.std.specs.Prelude.{◌≡◌, ◌==◌, ◌+◌, ◌++◌, ℕ, Bool, true, false, List, [], ◌∷◌, Option, Some, None, Result, Ok, Err, ⊤, if◌then◌else◌}
 use Rattle.delta_actions.specs.Commit.{lines_of}
 use Rattle.hex.specs.Hex.{encode_lower}
@@ -15,7 +16,9 @@ use Rattle.table_log.specs.Names.{commit_name}
 use Rattle.commit_core.specs.Creating as creations
 use Rattle.commit_core.specs.Creating.{commit_from, created_by, with_creation, IsPrintedFor}
 use Rattle.commit_core.specs.Histories.{history_of}
-use Rattle.lake_script.specs.Lines.{append, tail, Wish, create, task, history, show, hex, foreign, Reading, skipped, bad, asks, reading_of}
+use Rattle.snapshot_core.specs.Faults.{readable_log}
+use Rattle.lake_script.specs.Checkpoints.{checkpoint_by, checkpoint_reply, snapshot_reply, with_checkpoint, IsItsCheckpoint, IsItsSnapshot}
+use Rattle.lake_script.specs.Lines.{append, checkpoint, tail, Wish, create, task, history, show, hex, snapshot, foreign, Reading, skipped, bad, asks, reading_of}
 use Rattle.sink_core.specs.Refusals.{Refusal, refusal_text}
 use Rattle.lake_script.specs.Replies.{fault_text, created, committed_at, already, put_word, bad_line}
 use Rattle.commit_core.specs.Texts as texts
@@ -64,16 +67,21 @@ in_hex (Some bytes) = line_of (encode_lower bytes)
 abbrev pub not_yet : List ℕ
 not_yet = line_of (refused (fault_text NotYet))
 
--- the text is one that the schema of a line that creates a table is printed as
-abbrev pub IsPrintedWish : Wish → (printed : List ℕ) → Type 0
-IsPrintedWish (create id at schema) printed = IsPrintedFor id schema printed
-IsPrintedWish _ printed = Unit {0}
+-- the text is one that the schema of a line that creates a table is printed as, the bytes of the checkpoint that a line
+-- puts, or the text of the snapshot that a line tells, over these objects
+abbrev pub IsPrintedWish : Objects → Wish → (printed : List ℕ) → Type 0
+IsPrintedWish objects (create id at schema) printed = IsPrintedFor id schema printed
+IsPrintedWish objects (task checkpoint) printed = IsItsCheckpoint objects printed
+IsPrintedWish objects snapshot printed = IsItsSnapshot objects printed
+IsPrintedWish objects _ printed = Unit {0}
 
 -- the reply to what a line asks for, over the objects that stand
 abbrev pub reply_to_wish : Objects → Wish → (printed : List ℕ) → List ℕ
 reply_to_wish objects (create id at schema) printed = created_reply (created_by objects id at schema printed)
 reply_to_wish objects (task (append application number at rows)) printed = appended_reply (appended_by objects application number at rows)
 reply_to_wish objects (task (tail max offset)) printed = tailed_reply (tailed objects max offset)
+reply_to_wish objects (task checkpoint) printed = checkpoint_reply (checkpoint_by objects printed)
+reply_to_wish objects snapshot printed = snapshot_reply (readable_log false objects) printed
 reply_to_wish objects history printed = history_of objects
 reply_to_wish objects (show version) printed = shown (object_at objects (commit_name version))
 reply_to_wish objects (hex name) printed = in_hex (object_at objects name)
@@ -84,14 +92,15 @@ reply_to_wish objects _ printed = not_yet
 abbrev pub left_by_wish : Objects → Wish → (printed : List ℕ) → Objects
 left_by_wish objects (create id at schema) printed = with_creation objects (commit_from id at schema printed)
 left_by_wish objects (task (append application number at rows)) printed = with_append objects (settled objects application number at rows)
+left_by_wish objects (task checkpoint) printed = with_checkpoint objects printed (checkpoint_by objects printed)
 left_by_wish objects (foreign version action) printed = with_object objects (commit_name version) (line_of action)
 left_by_wish objects _ printed = objects
 
 -- the same three of a line as it is read, of that number
-abbrev pub IsPrintedLine : Reading → (printed : List ℕ) → Type 0
-IsPrintedLine skipped printed = Unit {0}
-IsPrintedLine bad printed = Unit {0}
-IsPrintedLine (asks wish) printed = IsPrintedWish wish printed
+abbrev pub IsPrintedLine : Objects → Reading → (printed : List ℕ) → Type 0
+IsPrintedLine objects skipped printed = Unit {0}
+IsPrintedLine objects bad printed = Unit {0}
+IsPrintedLine objects (asks wish) printed = IsPrintedWish objects wish printed
 
 abbrev pub reply_to : ℕ → Objects → Reading → (printed : List ℕ) → List ℕ
 reply_to number objects skipped printed = []
@@ -124,17 +133,19 @@ abbrev pub UnlessBad : Bool → Type 0 → Type 0
 UnlessBad true Holds = Unit {0}
 UnlessBad false Holds = Holds
 
--- One text stands beside each of these lines, up to the first bad one, and is one that its schema is printed as.
-unfoldable pub ArePrinted : (lines texts : List (List ℕ)) → Type 0
-ArePrinted [] texts = Unit {0}
-ArePrinted (line ∷ lines) [] = ⊥
-ArePrinted (line ∷ lines) (printed ∷ texts) = IsPrintedLine (reading_of line) printed × UnlessBad (is_bad (reading_of line)) (ArePrinted lines texts)
+-- One text stands beside each of these lines, up to the first bad one, and is one of its own over the objects in front of it.
+unfoldable pub ArePrinted : Objects → (lines texts : List (List ℕ)) → Type 0
+ArePrinted objects [] texts = Unit {0}
+ArePrinted objects (line ∷ lines) [] = ⊥
+ArePrinted objects (line ∷ lines) (printed ∷ texts) =
+    IsPrintedLine objects (reading_of line) printed × UnlessBad (is_bad (reading_of line)) (ArePrinted (left_by objects (reading_of line) printed) lines texts)
 
 -- The same of some first lines, as many as there are texts.
-unfoldable pub ArePrintedInPart : (lines texts : List (List ℕ)) → Type 0
-ArePrintedInPart [] texts = Unit {0}
-ArePrintedInPart (line ∷ lines) [] = Unit {0}
-ArePrintedInPart (line ∷ lines) (printed ∷ texts) = IsPrintedLine (reading_of line) printed × UnlessBad (is_bad (reading_of line)) (ArePrintedInPart lines texts)
+unfoldable pub ArePrintedInPart : Objects → (lines texts : List (List ℕ)) → Type 0
+ArePrintedInPart objects [] texts = Unit {0}
+ArePrintedInPart objects (line ∷ lines) [] = Unit {0}
+ArePrintedInPart objects (line ∷ lines) (printed ∷ texts) =
+    IsPrintedLine objects (reading_of line) printed × UnlessBad (is_bad (reading_of line)) (ArePrintedInPart (left_by objects (reading_of line) printed) lines texts)
 
 -- What is told for these lines, of which the first has that number; nothing is told behind a bad line, nor for a line
 -- beside which no text stands.
@@ -166,9 +177,9 @@ told objects script texts = told_from 1 objects (lines_of script) texts
 abbrev pub left : Objects → (script : List ℕ) (texts : List (List ℕ)) → Objects
 left objects script texts = left_from objects (lines_of script) texts
 
--- this is told for a script over these objects, its schemas printed as some texts
+-- this is told for a script over these objects, with some texts beside its lines
 abbrev pub IsTold : Objects → (script written : List ℕ) → Type 0
-IsTold objects script written = (texts : List (List ℕ)) × ArePrinted (lines_of script) texts × (written ≡ told objects script texts)
+IsTold objects script written = (texts : List (List ℕ)) × ArePrinted objects (lines_of script) texts × (written ≡ told objects script texts)
 
 -- the number of a script's first bad line, if it has one
 abbrev pub first_bad : List ℕ → Option ℕ

@@ -6,9 +6,9 @@ ghost use Rattle.store_core.specs.Objects.{object_at};
 ghost use Rattle.table_log.specs.Names.{commit_name};
 ghost use Rattle.lake_script.specs.Growth.{MayPut};
 ghost use Rattle.commit_core.specs.Histories.{history_of};
-ghost use Rattle.lake_script.specs.Lines.{append, create, foreign, task, wish_view, IsTimely};
+ghost use Rattle.lake_script.specs.Lines.{append, checkpoint, create, foreign, snapshot, task, wish_view, IsTimely};
 ghost use Rattle.lake_script.specs.ReplyView.{reply_text, is_short};
-ghost use Rattle.lake_script.specs.Runs.{Grants, IsShort, no_room_to_read, no_room_to_show, no_room_to_tell};
+ghost use Rattle.lake_script.specs.Runs.{Grants, Has, IsShort, no_room_to_read, no_room_to_show, no_room_to_tell};
 ghost use Rattle.lake_script.specs.Sound.{IsGranted};
 ghost use Rattle.lake_script.specs.Streams.{held, write_failed, StandsIn};
 ghost use Rattle.source_core.specs.Tailing.{tailed};
@@ -22,6 +22,7 @@ use crate::showing::hex_of;
 use commit_core::{CreateFault, create, history};
 use serde_json::Value;
 use sink_core::{AppendFault, Appended, append};
+use snapshot_core::{SnapshotFault, checkpoint};
 use source_core::{TailFault, tail};
 use std::alloc::Global;
 use std::io::Write;
@@ -41,6 +42,10 @@ pub enum Reply {
     NotAppended(AppendFault),
     /// Nothing was handed out.
     NotTailed(TailFault),
+    /// The checkpoint of that version stands.
+    Checkpointed(u64),
+    /// No checkpoint was put, or no snapshot told.
+    NoSnapshot(SnapshotFault),
     /// The store gave no answer, or no room was left, for the history.
     NoHistory(StoreFault),
     /// Another tool's commit stands, or an object of its name stood already.
@@ -65,6 +70,7 @@ impl Reply {
             Reply::NotCreated(CreateFault::Memory | CreateFault::TooLarge)
                 | Reply::NotAppended(AppendFault::Memory | AppendFault::FileTooLarge)
                 | Reply::NotTailed(TailFault::Memory)
+                | Reply::NoSnapshot(SnapshotFault::Memory | SnapshotFault::TooLarge)
                 | Reply::NoHistory(StoreFault::Memory)
                 | Reply::Unanswered(StoreFault::Memory)
         )
@@ -89,6 +95,8 @@ impl Reply {
             }
             Reply::NotAppended(fault) => output.say(Refusal(fault)),
             Reply::NotTailed(fault) => output.say(Refusal(fault)),
+            Reply::Checkpointed(version) => output.say(format_args!("Checkpointed {version}")),
+            Reply::NoSnapshot(fault) => output.say(Refusal(fault)),
             Reply::NoHistory(StoreFault::Lost) => output.say("refused K5 Lost"),
             Reply::NoHistory(StoreFault::Memory) => output.say("refused K6 Memory"),
             Reply::Put(Put::Created) => output.say("created"),
@@ -149,6 +157,34 @@ fn read<S: Store>(alloc: Global, store: &mut S, max: u64, offset: &str) -> Reply
     match tail(alloc, store, max, offset) {
         Ok(text) => Reply::Bytes(text),
         Err(fault) => Reply::NotTailed(fault),
+    }
+}
+
+// The reply to a line that puts a checkpoint.
+fn take_checkpoint<S: Store>(alloc: Global, store: &mut S) -> Reply
+    ensures told { S.is_reliable store.old → Grants (S.objects store.old) (task checkpoint) (reply_text result) (S.objects store.new) }
+    ensures whole { S.is_reliable store.old → is_short result ≡ false → IsGranted (S.objects store.old) (task checkpoint) (reply_text result) (S.objects store.new) }
+    ensures grows { S.is_reliable store.old → MayPut (S.objects store.old) (task checkpoint) (S.objects store.new) }
+    ensures short { is_short result ≡ true → IsShort (S.objects store.old) (task checkpoint) (reply_text result) }
+    ensures reliable { S.is_reliable store.old → S.is_reliable store.new }
+{
+    match checkpoint(alloc, store, false) {
+        Ok(version) => Reply::Checkpointed(version),
+        Err(fault) => Reply::NoSnapshot(fault),
+    }
+}
+
+// The reply to a line that asks for the snapshot.
+fn tell_snapshot<S: Store>(alloc: Global, store: &mut S) -> Reply
+    ensures told { S.is_reliable store.old → is_short result ≡ false
+        → Has (S.objects store.old) snapshot (reply_text result) (S.objects store.old) }
+    ensures wants { is_short result ≡ true → reply_text result ≡ no_room_to_tell }
+    ensures untouched { S.objects store.new ≡ S.objects store.old }
+    ensures reliable { S.is_reliable store.old → S.is_reliable store.new }
+{
+    match snapshot_core::snapshot(alloc, store, false) {
+        Ok(text) => Reply::Bytes(text),
+        Err(fault) => Reply::NoSnapshot(fault),
     }
 }
 
@@ -235,6 +271,8 @@ pub fn grant<S: Store>(alloc: Global, line: Line<'_>, store: &mut S) -> Reply
             },
         ) => append_batch(alloc, store, application, number, at, rows),
         Line::Job(Job::Tail { max, offset }) => read(alloc, store, max, offset),
+        Line::Job(Job::Checkpoint) => take_checkpoint(alloc, store),
+        Line::Snapshot => tell_snapshot(alloc, store),
         Line::History => tell_history(alloc, store),
         Line::Show { version } => show(alloc, store, version),
         Line::Hex { name } => show_in_hex(alloc, store, name),

@@ -6,12 +6,13 @@ use Rattle.serde_json.specs.Data.{string}
 use Rattle.serde_json.specs.Written.{compact_text}
 use Rattle.schema_tree.specs.Tree.{Tree}
 use Rattle.store_core.specs.Objects.{Objects}
-use Rattle.delta_actions.specs.Entry.{Entry, AddEntry, MetaDataEntry, ProtocolEntry, TxnEntry, add, txn}
+use Rattle.delta_actions.specs.Entry.{Entry, AddEntry, ProtocolEntry, TxnEntry, add, txn}
 use Rattle.delta_replay.specs.Keys.{file_of, number_of}
 use Rattle.delta_replay.specs.Lists.{ListsClosed, ListsEach}
-use Rattle.delta_replay.specs.Support.{meta_data_of, protocol_of, readable}
+use Rattle.delta_replay.specs.Support.{protocol_of, readable}
 use Rattle.table_log.specs.Counts.{commit_count}
 use Rattle.table_log.specs.Restoring.{seen}
+use Rattle.commit_core.specs.Creating.{IsPrinted}
 
 -- a line is ended by a newline
 abbrev pub line_of : List ℕ → List ℕ
@@ -28,9 +29,9 @@ version_line version = line_of (codes "version " ++ decimal version)
 abbrev pub protocol_line : ProtocolEntry → List ℕ
 protocol_line p = line_of (codes "protocol " ++ (decimal p.min_reader_version ++ (32 ∷ [] ++ decimal p.min_writer_version)))
 
--- the schema's text, as the log has it
-abbrev pub schema_line : MetaDataEntry → List ℕ
-schema_line m = line_of (codes "schema " ++ m.schema_string)
+-- the text that the schema is printed as
+abbrev pub schema_line : List ℕ → List ℕ
+schema_line text = line_of (codes "schema " ++ text)
 
 -- an application and the number that it has come to
 abbrev pub number_line : TxnEntry → List ℕ
@@ -48,8 +49,8 @@ abbrev pub file_line : AddEntry → List ℕ
 file_line a = path_line a.path.text a.size
 
 -- the version, the protocol and the schema
-abbrev pub settings_text : ℕ → ProtocolEntry → MetaDataEntry → List ℕ
-settings_text version p m = version_line version ++ (protocol_line p ++ schema_line m)
+abbrev pub settings_text : ℕ → ProtocolEntry → (schema : List ℕ) → List ℕ
+settings_text version p schema = version_line version ++ (protocol_line p ++ schema_line schema)
 
 -- Behind a front the text has a line for each application's number, each closed stream and each file of a log, each kind in
 -- the order of its keys' bytes.
@@ -73,6 +74,6 @@ pub record TellsSnapshot (restore : Bool) (objects : Objects) (text : List ℕ) 
   pub newest : suc version ≡ commit_count objects
   pub protocol : ProtocolEntry
   pub of_log : protocol_of commits ≡ Some protocol
-  pub meta_data : MetaDataEntry
-  pub of_table : meta_data_of commits ≡ Some meta_data
-  pub lists : TellsLists commits (settings_text version protocol meta_data) text
+  pub schema_text : List ℕ
+  pub printed : IsPrinted schema schema_text
+  pub lists : TellsLists commits (settings_text version protocol schema_text) text

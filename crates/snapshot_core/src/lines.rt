@@ -2,11 +2,11 @@
 
 ghost use Rattle.std.specs.Prelude.{◌≡◌, ◌++◌, List, IfOk, OnOk, map, string_bytes};
 ghost use Rattle.std.specs.List.{flat_map};
-ghost use Rattle.delta_actions.specs.Entry.{Entry, add_view, meta_data_view, protocol_view, txn_view};
+ghost use Rattle.delta_actions.specs.Entry.{Entry, add_view, protocol_view, txn_view};
 ghost use Rattle.delta_replay.specs.Snapshots.{IsSnapshotOf};
 ghost use Rattle.snapshot_core.specs.Telling.{TellsLists, closed_line, file_line, id_text, number_line, path_line, settings_text};
 
-use delta_actions::{Add, MetaData, Protocol, Txn};
+use delta_actions::{Add, Protocol, Txn};
 use delta_replay::Snapshot;
 use serde_json::Value;
 use std::alloc::{AllocError, Global};
@@ -23,14 +23,12 @@ pub(crate) fn settings_text(
     alloc: Global,
     version: u64,
     protocol: &Protocol,
-    meta_data: &MetaData,
+    schema: &str,
 ) -> Result<Vec<u8>, AllocError>
-    ensures { IfOk result (λ text. text.items
-        ≡ settings_text version (protocol_view protocol.now) (meta_data_view meta_data.now)) }
+    ensures { IfOk result (λ text. text.items ≡ settings_text version (protocol_view protocol.now) schema.now) }
 {
     let reader = protocol.min_reader_version;
     let writer = protocol.min_writer_version;
-    let schema = &meta_data.schema_string;
     let text = format!(in alloc;
         "version {version}\nprotocol {reader} {writer}\nschema {schema}\n"
     )?;
