@@ -9,6 +9,7 @@ use Rattle.delta_actions.specs.Entry as actions
 use Rattle.delta_actions.specs.Commit.{IsCommit}
 use Rattle.parquet_rows.specs.File.{KeepsLimits}
 use Rattle.delta_actions.specs.Names.{commit_name, data_file_name}
+use Rattle.delta_checkpoint.specs.Names.{IsCheckpointName}
 use Rattle.table_store.specs.Schema as data_files
 use Rattle.table_model.specs.Table.{Batch, Entry, creation, group, close, batches_of, batches}
 use Rattle.table_model.specs.Lawful.{IsLawful}
@@ -71,12 +72,13 @@ KeptFrom objects schema version [] = Unit {0}
 KeptFrom objects schema version (entry ∷ entries) = Stands objects (commit_name version) (IsCommitMade schema entry)
     × FilesKept objects schema entry × KeptFrom objects schema (suc version) entries
 
--- the name is that of a version's commit, or of a data file
+-- the name is that of a version's commit, of a data file, or of a checkpoint
 pub data IsNamed (entries : List Entry) (name : List ℕ) : Type 0 where
   of_commit : (version : ℕ) → version < length entries → name ≡ commit_name version → IsNamed entries name
   of_file : (application : List ℕ) (number : ℕ) → name ≡ data_file_name application number → IsNamed entries name
+  of_checkpoint : (version : ℕ) → IsCheckpointName version name → IsNamed entries name
 
--- The store keeps the table of this schema with these entries. Data files may stand that are no batch's.
+-- The store keeps the table of this schema with these entries. Data files may stand that are no batch's, and checkpoints.
 pub record IsKept (objects : Objects) (schema : Tree) (entries : List Entry) : Type 0 where
   pub kept : KeptFrom objects schema 0 entries
   pub rest : List Entry
@@ -93,7 +95,7 @@ IsOwn entries name = (b : Batch) × Contains (batches entries) b × (name ≡ da
 abbrev pub HasNoOther : Objects → List Entry → Type 0
 HasNoOther objects entries = (application : List ℕ) (number : ℕ) → IsSome (object_at objects (data_file_name application number)) → IsOwn entries (data_file_name application number)
 
--- The store keeps what a script has made so far, and nothing else.
+-- The store keeps what a script has made so far, and nothing else but checkpoints.
 abbrev pub Keeps : Objects → State → Type 0
 Keeps objects nothing = objects ≡ []
 Keeps objects (table schema entries) = IsKept objects schema entries × HasNoOther objects entries

@@ -13,7 +13,7 @@ use Rattle.delta_actions.specs.Names.{stream_domain}
 use Rattle.delta_replay.specs.Closes.{is_closed}
 use Rattle.delta_replay.specs.Keys as keys
 use Rattle.delta_replay.specs.Keys.{Key, the_protocol, the_meta_data, number_of, domain_of, is_of, actions_of, newest, kept, last_number}
-use Rattle.delta_replay.specs.Support.{feature, has_key_inside, readable, writable}
+use Rattle.delta_replay.specs.Support.{checkpointable, feature, has_key_inside, meta_data_of, readable, writable}
 use Rattle.lake_bytes.specs.Results.{◌>>=◌, refused_if}
 use Rattle.table_model.specs.Table.{Batch, Entry, creation, group, close, last, last_batch}
 use Rattle.table_model.proofs.Callers.{last_batch-append}
@@ -133,6 +133,23 @@ pub made_writable : (schema : Tree) (rest : List Entry) (commits : List (List ac
 made_writable schema rest commits made =
     let told = made_told schema rest commits made in
     rw (made_protocol schema rest commits made, told.1, told.2, told.3) refl
+
+-- Its checkpoint is put, unless a field has invariants.
+pub made_checkpointable : (schema : Tree) (rest : List Entry) (commits : List (List actions.Entry)) → AreMade schema (creation ∷ rest) commits
+    → checkpointable commits ≡ refused_if (has_key_inside (codes "delta.invariants") schema) (feature (codes "invariants"))
+made_checkpointable schema rest commits made =
+    let told = made_told schema rest commits made in
+    rw (made_protocol schema rest commits made, told.1, told.2, told.3) (by_fields (has_key_inside (codes "delta.invariants") schema))
+  where
+    by_fields : (barred : Bool) → ((refused_if barred (feature (codes "invariants")) >>= λ plain. Ok schema) >>= λ (schema : Tree). refused_if false (feature (codes "v2Checkpoint"))) ≡ refused_if barred (feature (codes "invariants"))
+    by_fields true = refl
+    by_fields false = refl
+
+-- It has a metadata.
+pub made_meta_data : (schema : Tree) (rest : List Entry) (commits : List (List actions.Entry)) → AreMade schema (creation ∷ rest) commits → (metadata : MetaDataEntry) × (meta_data_of commits ≡ Some metadata)
+made_meta_data schema rest commits made =
+    let told = made_told schema rest commits made in
+    (told.0, rw told.1 refl)
 
 -- ---- closed streams
 

@@ -1,5 +1,5 @@
 -- However the lines of a script end, they leave a lawful store, where none puts another tool's commit.
-use Rattle.std.proofs.Common.{◌≡◌, ◌⊎◌, inl, inr, ℕ, suc, ◌+◌, ◌≤◌, ◌^◌, List, [], ◌∷◌, length, Option, None, Some, IfSome, Result, Ok, Err, refl, sym, ap, subst, arith}
+use Rattle.std.proofs.Common.{◌≡◌, ◌⊎◌, inl, inr, ℕ, suc, ◌+◌, ◌≤◌, ◌^◌, List, [], ◌∷◌, length, Option, None, Some, IfSome, Result, Ok, Err, false, refl, sym, ap, subst, ◌∙◌, arith}
 use Rattle.std.specs.Prelude.{is_some}
 use Rattle.std.specs.Str.{IsUtf8}
 use Rattle.serde_json.specs.Data.{Items}
@@ -16,7 +16,9 @@ use Rattle.commit_core.specs.Creating as creations
 use Rattle.commit_core.specs.Creating.{commit_from, with_creation}
 use Rattle.sink_core.specs.Appending.{MayAppend}
 use Rattle.lake_script.specs.Growth.{MayPut}
-use Rattle.lake_script.specs.Lines.{append, Wish, create, task, foreign, Reading, skipped, bad, asks, reading_of}
+use Rattle.table_log.specs.Restoring.{seen}
+use Rattle.snapshot_core.specs.Taking.{HasPut}
+use Rattle.lake_script.specs.Lines.{append, checkpoint, Wish, create, task, foreign, Reading, skipped, bad, asks, reading_of}
 use Rattle.sink_core.specs.Refusals.{Refusal}
 use Rattle.lake_script.specs.Runs.{Replies, RunsInPart, waits, begins, follows}
 use Rattle.lake_script.specs.Told.{IsPutHere, ArePutHere}
@@ -25,6 +27,8 @@ use Rattle.lake_script.proofs.KeptAppend.{step_of_nothing, nothing_is}
 use Rattle.lake_script.proofs.KeptCreate.{kept_creation, no_data_file, first_commit, left_table}
 use Rattle.lake_script.proofs.KeptHolds.{kept_lawful, nothing_lawful}
 use Rattle.lake_script.proofs.KeptNames.{same_name}
+use Rattle.lake_script.proofs.KeptPuts.{kept_checkpoint, same_files}
+use Rattle.lake_script.proofs.KeptVersions.{log_of_nothing}
 use Rattle.lake_script.proofs.KeptStep.{Stays, bare, keeps, GoesOn, append_goes_on}
 
 -- ---- a line
@@ -72,11 +76,25 @@ append_stays most objects application number at items new small utf8 (inr (well,
     by_put (inl alone) goes = subst (Stays (suc most)) (sym alone) goes.0
     by_put (inr whole) goes = subst (Stays (suc most)) (sym whole) goes.1
 
+-- a checkpoint
+checkpoint_stays : (most : ℕ) (objects new : Objects) (version : ℕ) → HasPut false version objects new → Stays most objects → Stays (suc most) new
+unfolding seen
+checkpoint_stays most objects new version put (bare none) =
+    let read : seen false [] ≡ Ok put.puts.commits = subst (λ (o : Objects). seen false o ≡ Ok put.puts.commits) none put.puts.read in
+    let wrong : Err 0 ≡ Ok put.puts.commits = sym log_of_nothing ∙ read in
+    absurd cc
+checkpoint_stays most objects new version put (keeps schema entries kept files few) =
+    let named = put.puts.found in
+    rw put.put (keeps schema entries (kept_checkpoint objects version put.name put.bytes named schema entries kept)
+    (λ application number found stands. files application number found (sym (same_files objects version put.name put.bytes named application number) ∙ stands)) (omega (arith, few)))
+
 -- what a line asks for
 put_stays : (most : ℕ) (old : Objects) (wish : Wish) (new : Objects) → most ≤ 2 ^ 31 → IsPutHere (asks wish) → MayPut old wish new → Stays most old → Stays (suc most) new
 put_stays most old (create id at schema) new small here (inl same) stays = rw same (still most old stays)
 put_stays most old (create id at schema) new small here (inr (printed, put)) stays = rw put.1 (created_stays most old at schema (commit_from id at schema printed) put.0 stays)
 put_stays most old (task (append application number at items)) new small here put stays = append_stays most old application number at items new small put.0 put.1 stays
+put_stays most old (task checkpoint) new small here (inl same) stays = rw same (still most old stays)
+put_stays most old (task checkpoint) new small here (inr (version, put)) stays = checkpoint_stays most old new version put stays
 put_stays most old (foreign version action) new small here put stays = absurd here
 put_stays most old _ new small here put stays = rw put (still most old stays)
 

@@ -1,14 +1,17 @@
 -- The log of a store that keeps a table: its schema, and commits of the actions that were made for its entries.
-use Rattle.std.proofs.Common.{◌≡◌, ℕ, suc, ◌<◌, ◌^◌, List, [], ◌∷◌, map, length, Option, Some, None, IsSome, option_map, Ok, refl, ap, ◌∙◌, arith}
+use Rattle.std.proofs.Common.{◌≡◌, ℕ, suc, ◌+◌, ◌<◌, ◌≤◌, ◌^◌, List, [], ◌∷◌, codes, map, length, Option, Some, None, IsSome, option_map, Ok, refl, ap, ◌∙◌, length-append, arith}
 use Rattle.schema_tree.specs.Tree.{Tree}
 use Rattle.store_core.specs.Objects.{Objects, object_at}
 use Rattle.delta_actions.specs.Entry as actions
 use Rattle.delta_actions.specs.Commit.{IsCommit}
 use Rattle.delta_actions.specs.Names as names
+use Rattle.delta_checkpoint.specs.Names.{IsCheckpointName}
+use Rattle.delta_checkpoint.proofs.Places.{name_long}
+use Rattle.delta_checkpoint.proofs.TwentyDigits.{twenty_digits_long}
 use Rattle.table_model.specs.Table.{Entry}
 use Rattle.table_store.proofs.Callers.{commit_name-data_file_name, commit_name-once}
 use Rattle.table_log.specs.Versions.{all_of, commit_of}
-use Rattle.lake_script.proofs.Kept.{IsMade, KeptFrom, IsNamed, of_commit, of_file, IsKept}
+use Rattle.lake_script.proofs.Kept.{IsMade, KeptFrom, IsNamed, of_commit, of_file, of_checkpoint, IsKept}
 
 -- each of these commits has the actions that this program puts for the entry at its place
 abbrev pub AreMade : (schema : Tree) → List Entry → List (List actions.Entry) → Type 0
@@ -43,12 +46,21 @@ none_stands : (found : Option (List ℕ)) → (IsSome found → ⊥) → found �
 none_stands None never = refl
 none_stands (Some bytes) never = absurd (never refl)
 
+-- a commit's name isn't a checkpoint's, which is longer
+no_checkpoint : (version other : ℕ) → version ≤ 999_999_999_999 → IsCheckpointName other (names.commit_name version) → ⊥
+no_checkpoint version other small named =
+    let digits : length (names.twenty_digits version) ≡ 20 = twenty_digits_long version small in
+    let short : length (names.commit_name version) ≡ 11 + (length (names.twenty_digits version) + 5) = ap (λ (n : ℕ). 11 + n) (length-append (names.twenty_digits version) (codes ".json")) in
+    let long : length (names.commit_name version) ≡ 84 = ap (λ (name : List ℕ). length name) named.is ∙ name_long other named.small named.id named.hyphenated in
+    omega (arith, digits, short, long)
+
 -- the name of a commit that is one of the table's is that of a version below its end
-pub named_below : (entries : List Entry) (version : ℕ) → version < 10 ^ 63 → IsNamed entries (names.commit_name version) → version < length entries
+pub named_below : (entries : List Entry) (version : ℕ) → version ≤ 999_999_999_999 → IsNamed entries (names.commit_name version) → version < length entries
 named_below entries version small (of_commit other low same) =
-    let one : version ≡ other = commit_name-once version other small same in
+    let one : version ≡ other = commit_name-once version other (omega (arith, small)) same in
     omega arith
 named_below entries version small (of_file application number same) = absurd (commit_name-data_file_name version application number same)
+named_below entries version small (of_checkpoint other named) = absurd (no_checkpoint version other small named)
 
 -- so that of the version that comes next isn't one
 not_named : (entries : List Entry) → length entries < 2 ^ 32 → IsNamed entries (names.commit_name (length entries)) → ⊥

@@ -1,5 +1,5 @@
 -- What the puts of a batch leave of a store that keeps a table.
-use Rattle.std.proofs.Common.{◌≡◌, ℕ, suc, ◌+◌, ◌≤◌, Bool, true, false, List, [], ◌∷◌, ◌++◌, length, Option, Some, None, IsSome, refl, sym, ap, subst, ◌∙◌, arith, length-append}
+use Rattle.std.proofs.Common.{◌≡◌, ◌≢◌, ℕ, suc, ◌+◌, ◌≤◌, Bool, true, false, List, [], ◌∷◌, ◌++◌, length, get_or, Option, Some, None, IsSome, refl, sym, ap, subst, ◌∙◌, arith, length-append}
 use Rattle.std.specs.Prelude.{bytes_eq, is_some, unwrap_or}
 use Rattle.std.specs.declared.cmp.Ordering.{Ordering}
 use Rattle.std.specs.declared.cmp.Ordering.TheVariants.{Less, Equal, Greater}
@@ -13,12 +13,13 @@ use Rattle.schema_tree.specs.Tree.{Tree}
 use Rattle.store_core.specs.Objects.{Objects, name_order, object_at, names_of, with_object}
 use Rattle.store_core.specs.ObjectLaws.{with_object_absent, with_object_stands, object_at-with_object_same, object_at-with_object_other, object_at-with_object_kept}
 use Rattle.delta_actions.specs.Names.{commit_name, data_file_name}
+use Rattle.delta_checkpoint.specs.Names.{IsCheckpointName}
 use Rattle.table_store.specs.Holds.{Stands}
 use Rattle.table_model.specs.Lawful.{IsLawful}
 use Rattle.table_model.specs.Table.{Batch, Entry, group, batches_of, batches}
 use Rattle.table_model.proofs.Callers.{batches-append}
 use Rattle.table_store.proofs.Callers.{commit_name-data_file_name}
-use Rattle.lake_script.proofs.Kept.{IsFileOf, FileKept, FilesKept, IsCommitMade, KeptFrom, IsNamed, of_commit, of_file, IsKept, IsOwn, HasNoOther}
+use Rattle.lake_script.proofs.Kept.{IsFileOf, FileKept, FilesKept, IsCommitMade, KeptFrom, IsNamed, of_commit, of_file, of_checkpoint, IsKept, IsOwn, HasNoOther}
 use Rattle.lake_script.proofs.KeptNames.{first_in}
 
 -- ---- what stood still stands
@@ -110,12 +111,37 @@ kept_file objects schema entries application number file kept =
       many = omega (arith, kept.many, names_kept objects name file);
     }
 
+-- ---- one checkpoint more
+
+-- no data file has the name of a checkpoint
+no_data_file : (version : ℕ) (name : List ℕ) (application : List ℕ) (number : ℕ) → IsCheckpointName version name → data_file_name application number ≢ name
+no_data_file version name application number named same =
+    let first : 112 ≡ 95 = ap (λ (text : List ℕ). get_or text 0 0) (same ∙ named.is) in
+    omega (arith, first)
+
+module _ (objects : Objects) (version : ℕ) (name bytes : List ℕ) (checkpoint : IsCheckpointName version name) where
+  -- A checkpoint that is put changes nothing of the table that is kept.
+  pub kept_checkpoint : (schema : Tree) (entries : List Entry) → IsKept objects schema entries → IsKept (with_object objects name bytes) schema entries
+  kept_checkpoint schema entries kept = record {
+    kept = KeptFrom-put objects name bytes schema 0 entries kept.kept;
+    rest = kept.rest;
+    begins = kept.begins;
+    lawful = kept.lawful;
+    named = named_put objects name bytes (IsNamed entries) kept.named (of_checkpoint version checkpoint);
+    many = omega (arith, kept.many, names_kept objects name bytes);
+  }
+
+  -- the data files stay as they are
+  pub same_files : (application : List ℕ) (number : ℕ) → object_at (with_object objects name bytes) (data_file_name application number) ≡ object_at objects (data_file_name application number)
+  same_files application number = object_at-with_object_other objects name bytes (data_file_name application number) (no_data_file version name application number checkpoint)
+
 -- ---- one batch more
 
 -- a name of a table is one of a table with an entry more
 named_more : (entries : List Entry) (b : Batch) (name : List ℕ) → IsNamed entries name → IsNamed (entries ++ group (b ∷ []) ∷ []) name
 named_more entries b name (of_commit version lt is) = of_commit version (omega (arith, lt, length-append entries (group (b ∷ []) ∷ []))) is
 named_more entries b name (of_file application number is) = of_file application number is
+named_more entries b name (of_checkpoint version is) = of_checkpoint version is
 
 -- Where a batch's file stands, the next version's commit, put under a free name, is one entry more.
 pub kept_commit : (objects : Objects) (schema : Tree) (entries : List Entry) (b : Batch) (commit : List ℕ) → IsKept objects schema entries → IsLawful (entries ++ group (b ∷ []) ∷ [])

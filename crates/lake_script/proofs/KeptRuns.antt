@@ -11,7 +11,7 @@ use Rattle.table_model.specs.declared.table.Appended.{Appended}
 use Rattle.table_model.specs.declared.table.Appended.TheVariants.{Committed, Already, Stale, Differs, StreamClosed}
 use Rattle.commit_core.specs.Creating as creations
 use Rattle.commit_core.specs.Histories.{history_of, bad_log}
-use Rattle.lake_script.specs.Lines.{Wish, create, task, history, show, hex, foreign, append, tail, Reading, skipped, bad, asks, reading_of}
+use Rattle.lake_script.specs.Lines.{Wish, create, task, history, show, hex, snapshot, foreign, append, checkpoint, tail, Reading, skipped, bad, asks, reading_of}
 use Rattle.source_core.specs.Offsets.{offset_of}
 use Rattle.sink_core.specs.Refusals.{Refusal}
 use Rattle.lake_script.specs.Sound.{IsSoundWish, IsSound, AreSound}
@@ -32,6 +32,9 @@ pub record Given : Type 0 where
       → IsSoundWish objects (task (append application number at items)) printed
       → (told.reply_to_wish objects (task (append application number at items)) printed ≡ tables.reply_to_wish state (task (append application number at items)))
       × Keeps (told.left_by_wish objects (task (append application number at items)) printed) (tables.left_by_wish state (task (append application number at items)))
+  pub checkpoint_told : (objects : Objects) (state : State) (printed : List ℕ) → Keeps objects state → length (entries_of state) < 2 ^ 32 → IsSoundWish objects (task checkpoint) printed
+      → (told.reply_to_wish objects (task checkpoint) printed ≡ tables.reply_to_wish state (task checkpoint))
+      × Keeps (told.left_by_wish objects (task checkpoint) printed) (tables.left_by_wish state (task checkpoint))
   pub tail_told : (objects : Objects) (schema : Tree) (entries : List Entry) → IsKept objects schema entries → length entries < 2 ^ 32 → (max : ℕ) (offset : List ℕ)
       → tailed_reply (tailed objects max offset) ≡ tables.tail_reply (table schema entries) max (offset_of offset)
   pub tail_of_nothing : (max : ℕ) (offset : List ℕ) → tailed_reply (tailed [] max offset) ≡ tables.tail_reply nothing max (offset_of offset)
@@ -92,27 +95,26 @@ unless_bad : (b : Bool) (Holds : Type 0) → UnlessBad b Holds → b ≡ false �
 unless_bad true Holds h is = absurd cc
 unless_bad false Holds h is = h
 
-module _ (line printed : List ℕ) (lines texts : List (List ℕ)) where
+module _ (line printed : List ℕ) (lines texts : List (List ℕ)) (objects : Objects) where
   -- the texts behind the first are those of the lines behind it, where it isn't bad
-  rest_printed : ArePrinted (line ∷ lines) (printed ∷ texts) → is_bad (reading_of line) ≡ false → ArePrinted lines texts
+  rest_printed : ArePrinted objects (line ∷ lines) (printed ∷ texts) → is_bad (reading_of line) ≡ false → ArePrinted (told.left_by objects (reading_of line) printed) lines texts
   unfolding ArePrinted
-  rest_printed all on = unless_bad (is_bad (reading_of line)) (ArePrinted lines texts) all.1 on
+  rest_printed all on = unless_bad (is_bad (reading_of line)) (ArePrinted (told.left_by objects (reading_of line) printed) lines texts) all.1 on
 
-  module _ (objects : Objects) where
-    -- the first line is sound
-    first_sound : AreSound objects (line ∷ lines) (printed ∷ texts) → IsSound objects (reading_of line) printed
-    unfolding AreSound
-    first_sound sound = sound.0
+  -- the first line is sound
+  first_sound : AreSound objects (line ∷ lines) (printed ∷ texts) → IsSound objects (reading_of line) printed
+  unfolding AreSound
+  first_sound sound = sound.0
 
-    -- those behind it are, where it isn't bad
-    rest_sound : AreSound objects (line ∷ lines) (printed ∷ texts) → is_bad (reading_of line) ≡ false → AreSound (told.left_by objects (reading_of line) printed) lines texts
-    unfolding AreSound
-    rest_sound sound on = unless_bad (is_bad (reading_of line)) (AreSound (told.left_by objects (reading_of line) printed) lines texts) sound.1 on
+  -- those behind it are, where it isn't bad
+  rest_sound : AreSound objects (line ∷ lines) (printed ∷ texts) → is_bad (reading_of line) ≡ false → AreSound (told.left_by objects (reading_of line) printed) lines texts
+  unfolding AreSound
+  rest_sound sound on = unless_bad (is_bad (reading_of line)) (AreSound (told.left_by objects (reading_of line) printed) lines texts) sound.1 on
 
 -- beside a line a text stands
-no_text : (line : List ℕ) (lines : List (List ℕ)) → ArePrinted (line ∷ lines) [] → ⊥
+no_text : (objects : Objects) (line : List ℕ) (lines : List (List ℕ)) → ArePrinted objects (line ∷ lines) [] → ⊥
 unfolding ArePrinted
-no_text line lines none = none
+no_text objects line lines none = none
 
 -- ---- lines that put what this program makes
 
@@ -145,8 +147,10 @@ module _ (given : Given) where
       → told.reply_to_wish objects wish printed ≡ tables.reply_to_wish state wish
   wish_told objects state (create id at schema) printed keeps small sound only = (given.create_told objects state id at schema printed keeps small sound).0
   wish_told objects state (task (append application number at items)) printed keeps small sound only = (given.append_told objects state application number at items printed keeps small sound).0
+  wish_told objects state (task checkpoint) printed keeps small sound only = (given.checkpoint_told objects state printed keeps small sound).0
   wish_told objects state (task (tail max offset)) printed keeps small sound only = tail_state objects state keeps small max offset
   wish_told objects state history printed keeps small sound only = history_state objects state keeps small
+  wish_told objects state snapshot printed keeps small sound only = absurd only
   wish_told objects state (show version) printed keeps small sound only = absurd only
   wish_told objects state (hex name) printed keeps small sound only = absurd only
   wish_told objects state (foreign version action) printed keeps small sound only = absurd only
@@ -157,6 +161,7 @@ module _ (given : Given) where
       → Keeps (told.left_by_wish objects wish printed) (tables.left_by_wish state wish)
   wish_kept objects state (create id at schema) printed keeps small sound here = (given.create_told objects state id at schema printed keeps small sound).1
   wish_kept objects state (task (append application number at items)) printed keeps small sound here = (given.append_told objects state application number at items printed keeps small sound).1
+  wish_kept objects state (task checkpoint) printed keeps small sound here = (given.checkpoint_told objects state printed keeps small sound).1
   wish_kept objects state (foreign version action) printed keeps small sound here = absurd here
   wish_kept objects state _ printed keeps small sound here = keeps
 
@@ -178,10 +183,10 @@ module _ (given : Given) where
 
   -- what lines are told where the store keeps a table
   pub told_on : (number : ℕ) (objects : Objects) (state : State) (lines texts : List (List ℕ)) → Keeps objects state → length (entries_of state) + length lines ≤ 2 ^ 32
-      → ArePrinted lines texts → AreSound objects lines texts → AreOfTable lines → told.told_from number objects lines texts ≡ tables.told_from number state lines
+      → ArePrinted objects lines texts → AreSound objects lines texts → AreOfTable lines → told.told_from number objects lines texts ≡ tables.told_from number state lines
   unfolding told.told_from tables.told_from
   told_on number objects state [] texts keeps few printed sound only = refl
-  told_on number objects state (line ∷ lines) [] keeps few printed sound only = absurd (no_text line lines printed)
+  told_on number objects state (line ∷ lines) [] keeps few printed sound only = absurd (no_text objects line lines printed)
   told_on number objects state (line ∷ lines) (text ∷ texts) keeps few printed sound only =
       let r = reading_of line in
       let small : length (entries_of state) < 2 ^ 32 = omega arith in
@@ -192,16 +197,16 @@ module _ (given : Given) where
       elim (cases_Bool (is_bad r)) [
         | inl ends ↦ rw (ends, same) refl
         | inr on ↦
-            let behind = told_on (number + 1) (told.left_by objects r text) (tables.left_by state r) lines texts kept fewer (rest_printed line text lines texts printed on) (rest_sound line text lines texts objects sound on) only.1 in
+            let behind = told_on (number + 1) (told.left_by objects r text) (tables.left_by state r) lines texts kept fewer (rest_printed line text lines texts objects printed on) (rest_sound line text lines texts objects sound on) only.1 in
             rw (on, same, behind) refl
       ]
 
   -- lines begin as the plain table tells those in front of the first that doesn't ask it alone
   pub told_in_front : (number : ℕ) (objects : Objects) (state : State) (front rest texts : List (List ℕ)) → Keeps objects state → length (entries_of state) + length front ≤ 2 ^ 32
-      → ArePrinted (front ++ rest) texts → AreSound objects (front ++ rest) texts → AreOfTable front → (more : List ℕ) × (told.told_from number objects (front ++ rest) texts ≡ tables.told_from number state front ++ more)
+      → ArePrinted objects (front ++ rest) texts → AreSound objects (front ++ rest) texts → AreOfTable front → (more : List ℕ) × (told.told_from number objects (front ++ rest) texts ≡ tables.told_from number state front ++ more)
   unfolding told.told_from tables.told_from
   told_in_front number objects state [] rest texts keeps few printed sound only = (told.told_from number objects rest texts, refl)
-  told_in_front number objects state (line ∷ front) rest [] keeps few printed sound only = absurd (no_text line (front ++ rest) printed)
+  told_in_front number objects state (line ∷ front) rest [] keeps few printed sound only = absurd (no_text objects line (front ++ rest) printed)
   told_in_front number objects state (line ∷ front) rest (text ∷ texts) keeps few printed sound only =
       let r = reading_of line in
       let lines = front ++ rest in
@@ -213,16 +218,16 @@ module _ (given : Given) where
       elim (cases_Bool (is_bad r)) [
         | inl ends ↦ ([], rw (ends, same) (sym (append-nil (tables.reply_to number state r ++ []))))
         | inr on ↦
-            let behind = told_in_front (number + 1) (told.left_by objects r text) (tables.left_by state r) front rest texts kept fewer (rest_printed line text lines texts printed on) (rest_sound line text lines texts objects sound on) only.1 in
+            let behind = told_in_front (number + 1) (told.left_by objects r text) (tables.left_by state r) front rest texts kept fewer (rest_printed line text lines texts objects printed on) (rest_sound line text lines texts objects sound on) only.1 in
             (behind.0, rw (on, same, behind.1) (sym (append_assoc (tables.reply_to number state r) (tables.told_from (number + 1) (tables.left_by state r) front) behind.0)))
       ]
 
   -- the store keeps the table that lines leave where it keeps one before them
   pub left_on : (objects : Objects) (state : State) (lines texts : List (List ℕ)) → Keeps objects state → length (entries_of state) + length lines ≤ 2 ^ 32
-      → ArePrinted lines texts → AreSound objects lines texts → ArePutHere lines → Keeps (told.left_from objects lines texts) (tables.left_from state lines)
+      → ArePrinted objects lines texts → AreSound objects lines texts → ArePutHere lines → Keeps (told.left_from objects lines texts) (tables.left_from state lines)
   unfolding told.left_from tables.left_from
   left_on objects state [] texts keeps few printed sound here = keeps
-  left_on objects state (line ∷ lines) [] keeps few printed sound here = absurd (no_text line lines printed)
+  left_on objects state (line ∷ lines) [] keeps few printed sound here = absurd (no_text objects line lines printed)
   left_on objects state (line ∷ lines) (text ∷ texts) keeps few printed sound here =
       let r = reading_of line in
       let small : length (entries_of state) < 2 ^ 32 = omega arith in
@@ -230,20 +235,20 @@ module _ (given : Given) where
       let fewer : length (entries_of (tables.left_by state r)) + length lines ≤ 2 ^ 32 = omega (arith, left_by_one state r) in
       elim (cases_Bool (is_bad r)) [
         | inl ends ↦ rw ends keeps
-        | inr on ↦ rw on (left_on (told.left_by objects r text) (tables.left_by state r) lines texts kept fewer (rest_printed line text lines texts printed on) (rest_sound line text lines texts objects sound on) here.1)
+        | inr on ↦ rw on (left_on (told.left_by objects r text) (tables.left_by state r) lines texts kept fewer (rest_printed line text lines texts objects printed on) (rest_sound line text lines texts objects sound on) here.1)
       ]
 
   -- ---- a whole script
 
   -- a script is told what the plain table tells
-  pub told_by_tables : (lines texts : List (List ℕ)) → length lines ≤ 2 ^ 31 → ArePrinted lines texts → AreSound [] lines texts → AreOfTable lines → told.told_from 1 [] lines texts ≡ tables.told_from 1 nothing lines
+  pub told_by_tables : (lines texts : List (List ℕ)) → length lines ≤ 2 ^ 31 → ArePrinted [] lines texts → AreSound [] lines texts → AreOfTable lines → told.told_from 1 [] lines texts ≡ tables.told_from 1 nothing lines
   told_by_tables lines texts few printed sound only = told_on 1 [] nothing lines texts refl (omega arith) printed sound only
 
   -- and begins as the plain table tells its first lines that ask it alone
-  pub begins_by_tables : (front rest texts : List (List ℕ)) → length front ≤ 2 ^ 31 → ArePrinted (front ++ rest) texts → AreSound [] (front ++ rest) texts → AreOfTable front
+  pub begins_by_tables : (front rest texts : List (List ℕ)) → length front ≤ 2 ^ 31 → ArePrinted [] (front ++ rest) texts → AreSound [] (front ++ rest) texts → AreOfTable front
       → (more : List ℕ) × (told.told_from 1 [] (front ++ rest) texts ≡ tables.told_from 1 nothing front ++ more)
   begins_by_tables front rest texts few printed sound only = told_in_front 1 [] nothing front rest texts refl (omega arith) printed sound only
 
   -- a script without other tools' commits leaves a store that keeps the table that it leaves
-  pub left_is_kept : (lines texts : List (List ℕ)) → length lines ≤ 2 ^ 31 → ArePrinted lines texts → AreSound [] lines texts → ArePutHere lines → Keeps (told.left_from [] lines texts) (tables.left_from nothing lines)
+  pub left_is_kept : (lines texts : List (List ℕ)) → length lines ≤ 2 ^ 31 → ArePrinted [] lines texts → AreSound [] lines texts → ArePutHere lines → Keeps (told.left_from [] lines texts) (tables.left_from nothing lines)
   left_is_kept lines texts few printed sound here = left_on [] nothing lines texts refl (omega arith) printed sound here

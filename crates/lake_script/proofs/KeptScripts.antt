@@ -9,6 +9,7 @@ use Rattle.lake_script.specs.Scripts.{HoldsState, AnswersReads, ReadsOut}
 use Rattle.lake_script.specs.Tables.{State, nothing, table, entries_of}
 use Rattle.lake_script.proofs.Kept.{Keeps}
 use Rattle.lake_script.proofs.KeptAppend.{append_told}
+use Rattle.lake_script.proofs.KeptCheckpoint.{checkpoint_told}
 use Rattle.lake_script.proofs.KeptCreate.{create_told}
 use Rattle.lake_script.proofs.KeptHistory.{history_told, history_of_nothing}
 use Rattle.lake_script.proofs.KeptHolds.{kept_holds}
@@ -22,6 +23,7 @@ pub lines_told : Given
 lines_told = record {
   create_told = λ objects state id at schema printed keeps small sound. create_told objects state id at schema printed keeps sound;
   append_told = append_told;
+  checkpoint_told = checkpoint_told;
   tail_told = tail_told;
   tail_of_nothing = tail_of_nothing;
   history_told = history_told;

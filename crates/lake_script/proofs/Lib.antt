@@ -1,5 +1,7 @@
+pub mod CheckpointLemmas
 pub mod Kept
 pub mod KeptAppend
+pub mod KeptCheckpoint
 pub mod KeptCommits
 pub mod KeptCreate
 pub mod KeptFile

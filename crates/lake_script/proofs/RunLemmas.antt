@@ -28,8 +28,8 @@ pub record SoFar (start : Objects) (script : List ℕ) (old now : Option (List �
   pub front : List ℕ
   pub texts : List (List ℕ) → List (List ℕ)
   pub added : Appends old now front
-  pub printed : (rest : List (List ℕ)) → ArePrinted lines rest → ArePrinted (lines_of script) (texts rest)
-  pub in_part : (rest : List (List ℕ)) → ArePrintedInPart lines rest → ArePrintedInPart (lines_of script) (texts rest)
+  pub printed : (rest : List (List ℕ)) → ArePrinted objects lines rest → ArePrinted start (lines_of script) (texts rest)
+  pub in_part : (rest : List (List ℕ)) → ArePrintedInPart objects lines rest → ArePrintedInPart start (lines_of script) (texts rest)
   pub told : (rest : List (List ℕ)) → told_from 1 start (lines_of script) (texts rest) ≡ front ++ told_from number objects lines rest
   pub left : (rest : List (List ℕ)) → left_from start (lines_of script) (texts rest) ≡ left_from objects lines rest
   pub sound : (rest : List (List ℕ)) → AreSound objects lines rest → AreSound start (lines_of script) (texts rest)
@@ -53,10 +53,10 @@ unfolding told_from
 told_nothing number objects [] = refl
 told_nothing number objects (line ∷ lines) = refl
 
-none_printed : (lines : List (List ℕ)) → ArePrintedInPart lines []
+none_printed : (objects : Objects) (lines : List (List ℕ)) → ArePrintedInPart objects lines []
 unfolding ArePrintedInPart
-none_printed [] = tt
-none_printed (line ∷ lines) = tt
+none_printed objects [] = tt
+none_printed objects (line ∷ lines) = tt
 
 -- a bad line leaves the objects as they are
 left_by_bad : (objects : Objects) (r : Reading) (printed : List ℕ) → is_bad r ≡ true → left_by objects r printed ≡ objects
@@ -69,7 +69,7 @@ module _ (start : Objects) (script : List ℕ) (old now new : Option (List ℕ))
   pub cut_off : SoFar start script old now number objects lines → StandsIn now new [] → IsRunInPart start script old new
   cut_off so_far stands = record {
     texts = so_far.texts [];
-    printed = so_far.in_part [] (none_printed lines);
+    printed = so_far.in_part [] (none_printed objects lines);
     stands = stands_in_whole old now new [] _ (record {
       front = so_far.front;
       added = so_far.added;
@@ -88,8 +88,8 @@ module _ (start : Objects) (script : List ℕ) (old now new : Option (List ℕ))
         front = so_far.front ++ reply_to number objects (reading_of line) here.text;
         texts = λ rest. so_far.texts (here.text ∷ rest);
         added = said;
-        printed = λ rest all. so_far.printed (here.text ∷ rest) (here.printed, subst (λ is. UnlessBad is (ArePrinted lines rest)) (sym goes_on) all);
-        in_part = λ rest all. so_far.in_part (here.text ∷ rest) (here.printed, subst (λ is. UnlessBad is (ArePrintedInPart lines rest)) (sym goes_on) all);
+        printed = λ rest all. so_far.printed (here.text ∷ rest) (here.printed, subst (λ is. UnlessBad is (ArePrinted (left_by objects (reading_of line) here.text) lines rest)) (sym goes_on) all);
+        in_part = λ rest all. so_far.in_part (here.text ∷ rest) (here.printed, subst (λ is. UnlessBad is (ArePrintedInPart (left_by objects (reading_of line) here.text) lines rest)) (sym goes_on) all);
         told = λ rest.
             so_far.told (here.text ∷ rest) ∙ ap (λ u. so_far.front ++ (reply_to number objects (reading_of line) here.text ++ u)) (cond-false _ _ _ goes_on)
             ∙ sym (append_assoc so_far.front _ _);
@@ -107,7 +107,7 @@ module _ (start : Objects) (script : List ℕ) (old now new : Option (List ℕ))
       unfolding ArePrinted AreSound told_from left_from
       so_far_stops = record {
         texts = so_far.texts (here.text ∷ []);
-        printed = so_far.printed (here.text ∷ []) (here.printed, subst (λ is. UnlessBad is (ArePrinted lines [])) (sym ends) tt);
+        printed = so_far.printed (here.text ∷ []) (here.printed, subst (λ is. UnlessBad is (ArePrinted (left_by objects (reading_of line) here.text) lines [])) (sym ends) tt);
         told =
             let last = ap (λ u. reply_to number objects (reading_of line) here.text ++ u) (cond-true (is_bad (reading_of line)) [] (told_from (number + 1) (left_by objects (reading_of line) here.text) lines []) ends) ∙ append-nil _ in
             subst (λ u. Appends old new u) (sym (so_far.told (here.text ∷ []) ∙ ap (λ u. so_far.front ++ u) last)) said;
@@ -133,12 +133,13 @@ unless_too true P Q all holds = tt
 unless_too false P Q all holds = all holds
 
 -- texts that stand beside all lines stand beside the first of them
-printed_in_part : (lines texts : List (List ℕ)) → ArePrinted lines texts → ArePrintedInPart lines texts
+printed_in_part : (objects : Objects) (lines texts : List (List ℕ)) → ArePrinted objects lines texts → ArePrintedInPart objects lines texts
 unfolding ArePrinted ArePrintedInPart
-printed_in_part [] texts all = tt
-printed_in_part (line ∷ lines) [] all = absurd all
-printed_in_part (line ∷ lines) (text ∷ texts) all =
-    (all.0, unless_too (is_bad (reading_of line)) (ArePrinted lines texts) (ArePrintedInPart lines texts) (λ rest. printed_in_part lines texts rest) all.1)
+printed_in_part objects [] texts all = tt
+printed_in_part objects (line ∷ lines) [] all = absurd all
+printed_in_part objects (line ∷ lines) (text ∷ texts) all =
+    let behind = left_by objects (reading_of line) text in
+    (all.0, unless_too (is_bad (reading_of line)) (ArePrinted behind lines texts) (ArePrintedInPart behind lines texts) (λ rest. printed_in_part behind lines texts rest) all.1)
 
 module _ (start : Objects) (script : List ℕ) (old mid : Option (List ℕ)) (after : Objects) (run : IsRun start script old mid after) where
   -- what is told is written once nothing waits
@@ -159,7 +160,7 @@ module _ (start : Objects) (script : List ℕ) (old mid : Option (List ℕ)) (af
   pub run_cut_off : (new : Option (List ℕ)) → StandsIn mid new [] → IsRunInPart start script old new
   run_cut_off new stands = record {
     texts = run.texts;
-    printed = printed_in_part (lines_of script) run.texts run.printed;
+    printed = printed_in_part start (lines_of script) run.texts run.printed;
     stands = stands_in_whole old mid new [] _ (record { front = _; added = run.told; joins = append-nil _ }) stands;
   }
 

@@ -19,7 +19,7 @@ use Rattle.lake_script.specs.Told.{is_bad, IsPrintedWish, reply_to_wish, left_by
 use Rattle.lake_script.proofs.StreamLemmas.{Appends-both, nothing_known, Towards, stands_in_whole}
 
 -- a line that creates no table has what it asks for with any text
-pub granted_without_text : (objects : Objects) (wish : Wish) (reply : List ℕ) (after : Objects) → IsPrintedWish wish []
+pub granted_without_text : (objects : Objects) (wish : Wish) (reply : List ℕ) (after : Objects) → IsPrintedWish objects wish []
     → ((reply ≡ reply_to_wish objects wish []) × (after ≡ left_by_wish objects wish [])) ⊎ (IsWantOfMemory wish reply × MayLeave objects wish after) → Grants objects wish reply after
 granted_without_text objects wish reply after none (inl has) = inl ([], none, has.0, has.1)
 granted_without_text objects wish reply after none (inr wants) = inr wants

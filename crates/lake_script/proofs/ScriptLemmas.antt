@@ -26,16 +26,17 @@ script_told old new text before after short empty run =
     let lines = lines_of text in
     let few = few_lines text short in
     let whole = subst (λ objects. AreSound objects lines run.texts) empty run.sound in
+    let printed = subst (λ objects. ArePrinted objects lines run.texts) empty run.printed in
     let is = sym (run.left ∙ ap (λ objects. left objects text run.texts) empty) in
     let small = left_is_short lines few in
-    let keeps = left_is_kept lines_told lines run.texts few run.printed whole in
+    let keeps = left_is_kept lines_told lines run.texts few printed whole in
     record {
       by_table = λ of_table.
-          subst (Appends old new) (ap (λ objects. told objects text run.texts) empty ∙ told_by_tables lines_told lines run.texts few run.printed whole of_table) run.told;
+          subst (Appends old new) (ap (λ objects. told objects text run.texts) empty ∙ told_by_tables lines_told lines run.texts few printed whole of_table) run.told;
       begins = λ front rest split of_table.
-          let printed = subst (λ ls. ArePrinted ls run.texts) split run.printed in
+          let beside = subst (λ ls. ArePrinted [] ls run.texts) split printed in
           let sound = subst (λ ls. AreSound [] ls run.texts) split whole in
-          let begun = begins_by_tables lines_told front rest run.texts (front_few front rest lines split few) printed sound of_table in
+          let begun = begins_by_tables lines_told front rest run.texts (front_few front rest lines split few) beside sound of_table in
           let wrote = ap (λ objects. told objects text run.texts) empty ∙ (ap (λ ls. told_from 1 [] ls run.texts) split ∙ begun.1) in
           (begun.0, subst (Appends old new) wrote run.told);
       holds = λ here. subst (λ objects. HoldsState objects (tables.left text)) is (kept_held _ (tables.left text) (keeps here) small);

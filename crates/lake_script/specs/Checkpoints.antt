@@ -5,7 +5,7 @@ use Rattle.std.specs.Fmt.{decimal}
 use Rattle.lake_bytes.specs.Results.{◌>>=◌, refused_as, refused_if}
 use Rattle.store_core.specs.Objects.{Objects, with_object}
 use Rattle.delta_actions.specs.Entry.{Entry, MetaDataEntry}
-use Rattle.delta_checkpoint.specs.Names.{checkpoint_name}
+use Rattle.delta_checkpoint.specs.Names.{IsCheckpointName, checkpoint_name}
 use Rattle.delta_replay.specs.Support.{meta_data_of, no_meta_data}
 use Rattle.table_log.specs.Counts.{commit_count}
 use Rattle.commit_core.specs.Texts.{refused, line_of}
@@ -45,6 +45,12 @@ checkpoint_by objects bytes = do
 -- the bytes are those of the checkpoint of the newest version, where there may be one
 abbrev pub IsItsCheckpoint : Objects → (bytes : List ℕ) → Type 0
 IsItsCheckpoint objects bytes = IfOk (checked false objects) (λ commits. IsNewestCheckpoint objects commits (newest_version objects) bytes)
+
+-- Its name is found as that of its version's checkpoint, and its bytes don't pass 64 MiB.
+abbrev pub IsWellPut : Result Checkpoint NotPut → Type 0
+IsWellPut (Ok c) = IsCheckpointName c.version c.name
+IsWellPut (Err (by_log reason)) = Unit {0}
+IsWellPut (Err too_large) = ⊥
 
 -- the objects with a checkpoint, where one is put
 abbrev pub with_checkpoint : Objects → (bytes : List ℕ) → Result Checkpoint NotPut → Objects

@@ -1,13 +1,12 @@
 -- What lines put is well made, and none of it passed 64 MiB: from this the laws on whole scripts go on.
-use Rattle.std.specs.Prelude.{◌≡◌, ◌≢◌, ℕ, false, List, [], ◌∷◌, Option, Err}
+use Rattle.std.specs.Prelude.{◌≡◌, ◌≢◌, ℕ, List, [], ◌∷◌, Option, Err}
 use Rattle.std.specs.Io.KnownBytes.{Appends}
 use Rattle.std.specs.Str.{IsUtf8}
 use Rattle.delta_actions.specs.Commit.{lines_of}
 use Rattle.store_core.specs.Objects.{Objects}
 use Rattle.sink_core.specs.Appending.{settled, PutsWell}
-use Rattle.commit_core.specs.Creating as creating
-use Rattle.commit_core.specs.Creating.{commit_from, CreatesWell}
-use Rattle.lake_script.specs.Checkpoints.{checkpoint_by, too_large}
+use Rattle.commit_core.specs.Creating.{too_large, commit_from, CreatesWell}
+use Rattle.lake_script.specs.Checkpoints.{checkpoint_by, IsWellPut}
 use Rattle.lake_script.specs.Lines.{append, checkpoint, Wish, create, task, Reading, skipped, bad, asks, reading_of}
 use Rattle.sink_core.specs.Refusals.{file_too_large}
 use Rattle.lake_script.specs.Streams.{StandsIn}
@@ -16,10 +15,10 @@ use Rattle.lake_script.specs.Told as scripts
 
 -- what a line puts is well made, and didn't pass 64 MiB; another tool's commit may be anything
 abbrev pub IsSoundWish : Objects → Wish → (printed : List ℕ) → Type 0
-IsSoundWish objects (create id at schema) printed = CreatesWell at schema (commit_from id at schema printed) × (commit_from id at schema printed ≢ Err creating.too_large)
+IsSoundWish objects (create id at schema) printed = CreatesWell at schema (commit_from id at schema printed) × (commit_from id at schema printed ≢ Err too_large)
 IsSoundWish objects (task (append application number at items)) printed = IsUtf8 application
     × PutsWell application number at (settled objects application number at items) × (settled objects application number at items ≢ Err file_too_large)
-IsSoundWish objects (task checkpoint) printed = checkpoint_by objects printed ≢ Err too_large
+IsSoundWish objects (task checkpoint) printed = IsWellPut (checkpoint_by objects printed)
 IsSoundWish objects _ printed = Unit {0}
 
 -- A line is told what it asks for, leaves what it is to leave, and what it puts is well made, with a text beside it.

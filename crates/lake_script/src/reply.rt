@@ -8,7 +8,7 @@ ghost use Rattle.lake_script.specs.Growth.{MayPut};
 ghost use Rattle.commit_core.specs.Histories.{history_of};
 ghost use Rattle.lake_script.specs.Lines.{append, checkpoint, create, foreign, snapshot, task, wish_view, IsTimely};
 ghost use Rattle.lake_script.specs.ReplyView.{reply_text, is_short};
-ghost use Rattle.lake_script.specs.Runs.{Grants, Has, IsShort, no_room_to_read, no_room_to_show, no_room_to_tell};
+ghost use Rattle.lake_script.specs.Runs.{Grants, IsShort, no_room_to_read, no_room_to_show, no_room_to_tell};
 ghost use Rattle.lake_script.specs.Sound.{IsGranted};
 ghost use Rattle.lake_script.specs.Streams.{held, write_failed, StandsIn};
 ghost use Rattle.source_core.specs.Tailing.{tailed};
@@ -176,8 +176,8 @@ fn take_checkpoint<S: Store>(alloc: Global, store: &mut S) -> Reply
 
 // The reply to a line that asks for the snapshot.
 fn tell_snapshot<S: Store>(alloc: Global, store: &mut S) -> Reply
-    ensures told { S.is_reliable store.old → is_short result ≡ false
-        → Has (S.objects store.old) snapshot (reply_text result) (S.objects store.old) }
+    ensures told { S.is_reliable store.old → Grants (S.objects store.old) snapshot (reply_text result) (S.objects store.new) }
+    ensures whole { S.is_reliable store.old → is_short result ≡ false → IsGranted (S.objects store.old) snapshot (reply_text result) (S.objects store.new) }
     ensures wants { is_short result ≡ true → reply_text result ≡ no_room_to_tell }
     ensures untouched { S.objects store.new ≡ S.objects store.old }
     ensures reliable { S.is_reliable store.old → S.is_reliable store.new }
