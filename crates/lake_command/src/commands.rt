@@ -79,7 +79,8 @@ pub fn command<S: AsStr, R: Read, W: Write, E: Write>(
     ensures told { (c : Command) → Spells (map S.text words.now) c → result.status ≢ REFUSED → result.is_short ≡ false
         → IfSome (unread R.remaining input.old) (λ text.
         Tells (held W.contents output.old) (W.contents output.new.writer) (IsTold [] text)) }
-    // Where no line shows an object or puts another tool's commit, that is what the plain table tells.
+    // Where no line shows an object, tells the snapshot or puts another tool's commit, that is what the
+    // plain table tells.
     ensures tables { (c : Command) → Spells (map S.text words.now) c → result.status ≢ REFUSED → result.is_short ≡ false
         → IfSome (unread R.remaining input.old) (λ text. AreOfTable (lines_of text)
         → Appends (held W.contents output.old) (W.contents output.new.writer) (told_by_table text)) }

@@ -195,11 +195,12 @@ pub fn run_text<S: Store, W: Write>(
     output: &mut Output<W>,
 ) -> Outcome
     requires { length text.now ≤ 2 ^ 30 }
-    // Where the run finishes, no growth was refused, no object of a creation or an append passed 64 MiB
-    // and the store loses no call, what is written is what is told for the text, and the objects are what it leaves, for some
-    // texts that the schemas of its lines are printed as. They are known to the last byte where no line
-    // creates a table with a number in its metadata that has a fraction or an exponent, is `-0` or is
-    // beyond 64 bits: then what is written is one text.
+    // Where the run finishes, no growth was refused, no object of a creation, an append or a checkpoint
+    // passed 64 MiB and the store loses no call, what is written is what is told for the text, and the
+    // objects are what it leaves, for some texts that the schemas of its lines are printed as, its
+    // checkpoints and its snapshots. They are known to the last byte where no line creates a table with a
+    // number in its metadata that has a fraction or an exponent, is `-0` or is beyond 64 bits, or puts
+    // another tool's commit: then what is written is one text.
     ensures told { S.is_reliable store.old → fell_short result ≡ false → Finishes result.end
         (λ _. IsRun (S.objects store.old) text.now (held W.contents output.old) (W.contents output.new.writer) (S.objects store.new)) }
     // Where a growth was refused, each line has its reply and effect, or is told of want of memory
@@ -209,9 +210,9 @@ pub fn run_text<S: Store, W: Write>(
     // A run that finishes is short only where a reply that is written tells so.
     ensures short { S.is_reliable store.old → fell_short result ≡ true → Finishes result.end
         (λ _. Tells (held W.contents output.old) (W.contents output.new.writer) (FallsShort 1 (S.objects store.old) (lines_of text.now))) }
-    // Over an empty store this is what the plain table tells, where no line shows an object or puts
-    // another tool's commit; where none puts such a commit, the store then holds the table that was
-    // told, and reads over it hand out its rows.
+    // Over an empty store this is what the plain table tells, where no line shows an object, tells the
+    // snapshot or puts another tool's commit; where none puts such a commit, the store then holds the
+    // table that was told, and reads over it hand out its rows.
     ensures script { S.is_reliable store.old → S.objects store.old ≡ [] → fell_short result ≡ false → Finishes result.end
         (λ _. IsScript (held W.contents output.old) (W.contents output.new.writer) text.now (S.objects store.new)) }
     // Over an empty store that loses no call, and where no line puts another tool's commit, the store
@@ -252,8 +253,8 @@ pub fn run_text<S: Store, W: Write>(
 }
 
 /// Runs a script over a store: reads its input to the end, then answers each line, up to the first
-/// bad one. Each append, read and history replays the log from version 0, whether `restore` is true
-/// or not, since there are no checkpoints yet.
+/// bad one. Each line that reads the log replays it from version 0, whether `restore` is true or not,
+/// since none reads it from a checkpoint yet.
 ///
 /// Time is linear in the input, the objects that are put, compared and shown and the data files that
 /// rows are handed out of, and for each line that replays the log in the log's bytes and the names of
@@ -265,23 +266,24 @@ pub fn run<R: Read, W: Write, S: Store>(
     store: &mut S,
     restore: bool,
 ) -> Outcome
-    // Where the run finishes, no growth was refused, no object of a creation or an append passed 64 MiB
-    // and the store loses no call, what is written is what is told for the text that is read, and the objects are what the
-    // text leaves, for some texts that the schemas of its lines are printed as. They are known to the
-    // last byte where no line creates a table with a number in its metadata that has a fraction or an
-    // exponent, is `-0` or is beyond 64 bits: then what is written is one text.
+    // Where the run finishes, no growth was refused, no object of a creation, an append or a checkpoint
+    // passed 64 MiB and the store loses no call, what is written is what is told for the text that is
+    // read, and the objects are what the text leaves, for some texts that the schemas of its lines are
+    // printed as, its checkpoints and its snapshots. They are known to the last byte where no line creates
+    // a table with a number in its metadata that has a fraction or an exponent, is `-0` or is beyond 64
+    // bits, or puts another tool's commit: then what is written is one text.
     ensures told { S.is_reliable store.old → fell_short result ≡ false
         → Finishes result.end (λ _. IfSome (unread R.remaining input.old) (λ text.
         IsRun (S.objects store.old) text (held W.contents output.old) (W.contents output.new.writer) (S.objects store.new))) }
 
-    // Over an empty store this is what the plain table tells, where no line shows an object or puts
-    // another tool's commit.
+    // Over an empty store this is what the plain table tells, where no line shows an object, tells the
+    // snapshot or puts another tool's commit.
     ensures tables { S.is_reliable store.old → S.objects store.old ≡ [] → fell_short result ≡ false
         → Finishes result.end (λ _. IfSome (unread R.remaining input.old) (λ text. AreOfTable (lines_of text)
         → Appends (held W.contents output.old) (W.contents output.new.writer) (told_by_table text))) }
 
     // What is written begins with what the plain table tells for the lines in front of the first that
-    // shows an object or puts another tool's commit.
+    // shows an object, tells the snapshot or puts another tool's commit.
     ensures begins { S.is_reliable store.old → S.objects store.old ≡ [] → fell_short result ≡ false
         → Finishes result.end (λ _. IfSome (unread R.remaining input.old)
         (λ text. BeginsByTable (held W.contents output.old) (W.contents output.new.writer) text)) }

@@ -6,7 +6,7 @@ ghost use Rattle.store_core.specs.Objects.{object_at};
 ghost use Rattle.table_log.specs.Names.{commit_name};
 ghost use Rattle.lake_script.specs.Growth.{MayPut};
 ghost use Rattle.commit_core.specs.Histories.{history_of};
-ghost use Rattle.lake_script.specs.Lines.{append, checkpoint, create, foreign, snapshot, task, wish_view, IsTimely};
+ghost use Rattle.lake_script.specs.Lines.{append, checkpoint, create, foreign, snapshot, task, task_view, wish_view, IsTimely, IsTimelyTask};
 ghost use Rattle.lake_script.specs.ReplyView.{reply_text, is_short};
 ghost use Rattle.lake_script.specs.Runs.{Grants, IsShort, no_room_to_read, no_room_to_show, no_room_to_tell};
 ghost use Rattle.lake_script.specs.Sound.{IsGranted};
@@ -245,6 +245,29 @@ fn put_foreign<S: Store>(alloc: Global, store: &mut S, version: u64, action: &st
     }
 }
 
+// Does what a job asks for, and finds its reply.
+fn grant_job<S: Store>(alloc: Global, job: Job<'_>, store: &mut S) -> Reply
+    requires { IsTimelyTask (task_view job) }
+    ensures whole { S.is_reliable store.old → is_short result ≡ false
+        → IsGranted (S.objects store.old) (task (task_view job.entry)) (reply_text result) (S.objects store.new) }
+    ensures told { S.is_reliable store.old → Grants (S.objects store.old) (task (task_view job.entry)) (reply_text result) (S.objects store.new) }
+    ensures grows { S.is_reliable store.old → MayPut (S.objects store.old) (task (task_view job.entry)) (S.objects store.new) }
+    ensures short { is_short result ≡ true → IsShort (S.objects store.old) (task (task_view job.entry)) (reply_text result) }
+    ensures reliable { S.is_reliable store.old → S.is_reliable store.new }
+{
+    match job {
+        Job::Append {
+            application,
+            number,
+            at,
+            ref rows,
+        } => append_batch(alloc, store, application, number, at, rows),
+        Job::Tail { max, offset } => read(alloc, store, max, offset),
+        Job::Checkpoint => take_checkpoint(alloc, store),
+        Job::Close { .. } => Reply::Refused(Fault::NotYet),
+    }
+}
+
 /// Does what a line asks for, and finds its reply.
 pub fn grant<S: Store>(alloc: Global, line: Line<'_>, store: &mut S) -> Reply
     requires { IsTimely (wish_view line) }
@@ -262,16 +285,7 @@ pub fn grant<S: Store>(alloc: Global, line: Line<'_>, store: &mut S) -> Reply
 {
     match line {
         Line::Create { id, at, schema } => create_table(alloc, store, id, at, schema),
-        Line::Job(
-            Job::Append {
-                application,
-                number,
-                at,
-                ref rows,
-            },
-        ) => append_batch(alloc, store, application, number, at, rows),
-        Line::Job(Job::Tail { max, offset }) => read(alloc, store, max, offset),
-        Line::Job(Job::Checkpoint) => take_checkpoint(alloc, store),
+        Line::Job(job) => grant_job(alloc, job, store),
         Line::Snapshot => tell_snapshot(alloc, store),
         Line::History => tell_history(alloc, store),
         Line::Show { version } => show(alloc, store, version),
