@@ -26,7 +26,6 @@ use Rattle.lake_script.proofs.KeptVersions.{count_kept, log_kept, log_of_nothing
 
 -- a store of nothing has no checkpoint
 over_nothing : (bytes : List ℕ) → checkpoint_by [] bytes ≡ Err (by_log (bad_log 0))
-unfolding seen
 over_nothing bytes = rw log_of_nothing refl
 
 -- a checkpoint that is put is no data file
@@ -49,7 +48,6 @@ module _ (objects : Objects) (schema : Tree) (entries : List Entry) (keeps : Kee
       refused_if over too_large >>= λ fits. checkpoint_of (length entries - 1) (meta_data_of found)
 
   put_is : checkpoint_by objects bytes ≡ put_by (has_key_inside (codes "delta.invariants") schema) (nat_lt most_bytes (length bytes))
-  unfolding seen
   put_is = rw (log_kept objects schema entries keeps.0 few, made_checkpointable schema keeps.0.rest commits made, count_kept objects schema entries keeps.0 few) refl
 
   -- what it is told, and what is kept behind it

@@ -4,6 +4,7 @@ use Rattle.std.specs.Prelude.{is_some}
 use Rattle.std.specs.Str.{IsUtf8}
 use Rattle.serde_json.specs.Data.{Items}
 use Rattle.delta_actions.specs.Commit.{lines_of}
+use Rattle.delta_actions.specs.Entry.{Entry}
 use Rattle.store_core.specs.Objects.{Objects, with_object}
 use Rattle.store_core.specs.ObjectLaws.{with_object_absent}
 use Rattle.table_store.specs.Holds.{IsLawfulStore}
@@ -76,13 +77,18 @@ append_stays most objects application number at items new small utf8 (inr (well,
     by_put (inl alone) goes = subst (Stays (suc most)) (sym alone) goes.0
     by_put (inr whole) goes = subst (Stays (suc most)) (sym whole) goes.1
 
+-- what can't be read isn't read
+not_read : (commits : List (List Entry)) (version : ℕ) (read : Result (List (List Entry)) ℕ) → read ≡ Err version → read ≡ Ok commits → ⊥
+not_read commits version (Ok found) wrong is = absurd cc
+not_read commits version (Err first) wrong is = absurd cc
+
+-- a store of nothing has no log that is read
+no_log : (commits : List (List Entry)) → seen false [] ≡ Ok commits → ⊥
+no_log commits is = not_read commits 0 (seen false []) log_of_nothing is
+
 -- a checkpoint
 checkpoint_stays : (most : ℕ) (objects new : Objects) (version : ℕ) → HasPut false version objects new → Stays most objects → Stays (suc most) new
-unfolding seen
-checkpoint_stays most objects new version put (bare none) =
-    let read : seen false [] ≡ Ok put.puts.commits = subst (λ (o : Objects). seen false o ≡ Ok put.puts.commits) none put.puts.read in
-    let wrong : Err 0 ≡ Ok put.puts.commits = sym log_of_nothing ∙ read in
-    absurd cc
+checkpoint_stays most objects new version put (bare none) = absurd (no_log put.puts.commits (subst (λ (o : Objects). seen false o ≡ Ok put.puts.commits) none put.puts.read))
 checkpoint_stays most objects new version put (keeps schema entries kept files few) =
     let named = put.puts.found in
     rw put.put (keeps schema entries (kept_checkpoint objects version put.name put.bytes named schema entries kept)

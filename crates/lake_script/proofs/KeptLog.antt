@@ -1,5 +1,5 @@
 -- The log of a store that keeps a table: its schema, and commits of the actions that were made for its entries.
-use Rattle.std.proofs.Common.{◌≡◌, ℕ, suc, ◌+◌, ◌<◌, ◌≤◌, ◌^◌, List, [], ◌∷◌, codes, map, length, Option, Some, None, IsSome, option_map, Ok, refl, ap, ◌∙◌, length-append, arith}
+use Rattle.std.proofs.Common.{◌≡◌, ℕ, suc, ◌+◌, ◌<◌, ◌≤◌, ◌^◌, List, [], ◌∷◌, ◌++◌, codes, map, length, Option, Some, None, IsSome, option_map, Ok, refl, ap, ◌∙◌, length-append, arith}
 use Rattle.schema_tree.specs.Tree.{Tree}
 use Rattle.store_core.specs.Objects.{Objects, object_at}
 use Rattle.delta_actions.specs.Entry as actions
@@ -50,9 +50,9 @@ none_stands (Some bytes) never = absurd (never refl)
 no_checkpoint : (version other : ℕ) → version ≤ 999_999_999_999 → IsCheckpointName other (names.commit_name version) → ⊥
 no_checkpoint version other small named =
     let digits : length (names.twenty_digits version) ≡ 20 = twenty_digits_long version small in
-    let short : length (names.commit_name version) ≡ 11 + (length (names.twenty_digits version) + 5) = ap (λ (n : ℕ). 11 + n) (length-append (names.twenty_digits version) (codes ".json")) in
+    let whole : length (names.twenty_digits version ++ codes ".json") ≡ length (names.twenty_digits version) + 5 = length-append (names.twenty_digits version) (codes ".json") in
     let long : length (names.commit_name version) ≡ 84 = ap (λ (name : List ℕ). length name) named.is ∙ name_long other named.small named.id named.hyphenated in
-    omega (arith, digits, short, long)
+    omega (arith, digits, whole, long)
 
 -- the name of a commit that is one of the table's is that of a version below its end
 pub named_below : (entries : List Entry) (version : ℕ) → version ≤ 999_999_999_999 → IsNamed entries (names.commit_name version) → version < length entries
