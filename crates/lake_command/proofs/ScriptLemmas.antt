@@ -1,18 +1,19 @@
 -- What a command writes, from what its script's run tells.
 use Rattle.std.proofs.Common.{◌≡◌, ◌≢◌, ℕ, List, [], Option, Some, None, IfSome, refl, subst, ap}
 use Rattle.std.specs.Io.KnownBytes.{Appends}
+use Rattle.delta_actions.specs.Commit.{lines_of}
 use Rattle.store_core.specs.Objects.{Objects}
 use Rattle.lake_script.specs.declared.engine.End.{End}
 use Rattle.lake_script.specs.declared.engine.End.TheVariants.{Done, BadLine, NotRead, NotWritten}
 use Rattle.lake_script.specs.Runs.{Tells}
 use Rattle.lake_script.specs.Sound.{IsRun}
-use Rattle.lake_script.specs.Told.{IsTold, told, Finishes}
+use Rattle.lake_script.specs.Told.{ArePrinted, IsTold, told, Finishes}
 use Rattle.lake_command.specs.Status.{status_of}
 
 -- what is written over nothing is what the script is told
 tells_of_run : (old new : Option (List ℕ)) (text : List ℕ) (before after : Objects) → before ≡ [] → IsRun before text old new after → Tells old new (IsTold [] text)
 tells_of_run old new text before after empty run =
-    (told [] text run.texts, subst (λ u. Appends old new u) (ap (λ objects. told objects text run.texts) empty) run.told, (run.texts, run.printed, refl))
+    (told [] text run.texts, subst (λ u. Appends old new u) (ap (λ objects. told objects text run.texts) empty) run.told, (run.texts, subst (λ objects. ArePrinted objects (lines_of text) run.texts) empty run.printed, refl))
 
 -- the same of a run that isn't refused, where its text is known
 pub told_of_run : (end : End) (input old new : Option (List ℕ)) (before after : Objects) → status_of end ≢ 1 → Finishes end (λ _. IfSome input (λ text. IsRun before text old new after)) → before ≡ []

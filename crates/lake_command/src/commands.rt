@@ -75,7 +75,7 @@ pub fn command<S: AsStr, R: Read, W: Write, E: Write>(
     err: &mut E,
 ) -> Exit
     // A script that isn't refused writes what it is told, for some texts that the schemas of its lines
-    // are printed as; the lines that met a refused growth are told so.
+    // are printed as, its checkpoints and its snapshots; the lines that met a refused growth are told so.
     ensures told { (c : Command) → Spells (map S.text words.now) c → result.status ≢ REFUSED → result.is_short ≡ false
         → IfSome (unread R.remaining input.old) (λ text.
         Tells (held W.contents output.old) (W.contents output.new.writer) (IsTold [] text)) }
