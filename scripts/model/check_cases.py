@@ -157,7 +157,7 @@ def script_answer(case: ScriptCase) -> list[str]:
     """What is told of a case: the replies, how it ended, and the table that is left."""
     words = [directive.partition(" ")[0] for directive in case.directives]
     for word in words:
-        if word not in ("entries", "objects", "last"):
+        if word not in ("entries", "objects", "last", "replays"):
             raise NotModelled(f"the directive {word}")
     told: list[str] = []
     try:

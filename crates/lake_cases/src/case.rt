@@ -17,6 +17,8 @@ pub struct Case {
     pub words: Option<Vec<String>>,
     /// Whether the script is one of the plain table.
     pub is_plain: bool,
+    /// Whether logs are read from version 0, without a checkpoint.
+    pub replays: bool,
     pub input: Manner,
     pub output: Manner,
     /// Whether the output takes no more bytes where it would fail.
@@ -39,6 +41,7 @@ impl Case {
             store: Flaky::new(MemoryStore::new(alloc), Vec::new(alloc)),
             words: None,
             is_plain: false,
+            replays: false,
             input: SOUND,
             output: SOUND,
             is_full: false,
@@ -57,6 +60,7 @@ impl Case {
     ///   (the answer is), and past them every call passes;
     /// - `words WORD ..` runs the command of these words, with the script on its standard input;
     /// - `plain` runs the script over the plain table, as `plain.rt` says;
+    /// - `replays`: logs are read from version 0, without a checkpoint;
     /// - `input by N`, `output by N`: a call moves N bytes at most; `input breaks N`, `output breaks N`: calls fail
     ///   behind N bytes; `output ends N`: behind N bytes it takes no more; `output sticks`: a flush fails;
     /// - `last N` tells just the last N lines, and of the others the count and the SHA-256;
@@ -78,6 +82,7 @@ impl Case {
             "meets" => self.store.turns = turns_of(alloc, rest)?,
             "words" => self.words = Some(words_of(alloc, rest)?),
             "plain" => self.is_plain = true,
+            "replays" => self.replays = true,
             "input" | "output" => self.hinder(directive)?,
             "last" => self.last = Some(number(rest)?),
             "objects" => self.tells_objects = true,

@@ -50,7 +50,8 @@ fn run_script(alloc: Global, case: &mut Case, told: &mut Vec<u8>) -> Outcome {
     };
     let mut input = Input::new(source);
     let mut output = Output::new(alloc, sink);
-    run(alloc, &mut input, &mut output, &mut case.store, true)
+    let restore = !case.replays;
+    run(alloc, &mut input, &mut output, &mut case.store, restore)
 }
 
 // Runs the command of a case, and adds what it writes, its exit status, and what it tells on standard error.

@@ -38,7 +38,7 @@ use Rattle.lake_script.proofs.KeptLog.{made_of, are_made, none_behind}
 use Rattle.lake_script.proofs.KeptNames.{same_name, same_file_name, batch_stands, no_file}
 use Rattle.lake_script.proofs.KeptPuts.{kept_more, no_other_more}
 use Rattle.lake_script.proofs.KeptRequest.{asked, unless_invariant, request_is}
-use Rattle.lake_script.proofs.KeptVersions.{log_kept, log_of_nothing}
+use Rattle.lake_script.proofs.KeptVersions.{count_kept, log_kept, log_of_nothing}
 
 -- what an append does agrees with the batch that is handed in at the plain table
 abbrev Agrees : (objects : Objects) (schema : Tree) (entries : List Entry) (number : ℕ) → Result Step Refusal → Result model.Batch Refusal → Type 0
@@ -208,12 +208,12 @@ step_behind objects schema entries application number at items fine barred takes
 
 -- that is what an append does over the objects
 pub step_is : (objects : Objects) (schema : Tree) (entries : List Entry) (application : List ℕ) (number at : ℕ) (items : Items) → IsKept objects schema entries → length entries < 2 ^ 32
-    → settled objects application number at items
+    → settled false objects application number at items
     ≡ step_behind objects schema entries application number at items (checked application number (count items)) (has_key_inside (codes "delta.invariants") schema) (takes_rows schema)
 unfolding request_of
 step_is objects schema entries application number at items kept few =
     let commits = made_of objects schema 0 entries kept.kept in
-    rw (log_kept objects schema entries kept few, request_is schema entries kept.rest commits application number items kept.begins (are_made objects schema 0 entries kept.kept)) refl
+    rw (log_kept objects schema entries kept few, count_kept objects schema entries kept few, request_is (length entries) schema entries kept.rest commits application number items kept.begins (are_made objects schema 0 entries kept.kept)) refl
 
 -- where a table is kept, the answer is the plain table's
 table_agrees : (objects : Objects) (schema : Tree) (entries : List Entry) (application : List ℕ) (number at : ℕ) (items : Items) (fine : Result (Unit {0}) Refusal) (barred : Bool) (takes : Result (Unit {0}) Refusal)
@@ -237,7 +237,7 @@ abbrev pub step_of_nothing : (application : List ℕ) (number at : ℕ) → Resu
 step_of_nothing application number at fine = ◌>>=◌ {B = Request} fine (λ passed. Err (bad_log 0)) >>= step_of [] application number at
 
 -- that is what an append does where nothing stands
-pub nothing_is : (application : List ℕ) (number at : ℕ) (items : Items) → settled [] application number at items ≡ step_of_nothing application number at (checked application number (count items))
+pub nothing_is : (application : List ℕ) (number at : ℕ) (items : Items) → settled false [] application number at items ≡ step_of_nothing application number at (checked application number (count items))
 unfolding request_of
 nothing_is application number at items = rw log_of_nothing refl
 
@@ -256,7 +256,7 @@ append_told objects nothing application number at items printed keeps few sound 
     rw (keeps, nothing_is application number at items) (nothing_agrees application number at (checked application number (count items)))
 append_told objects (table schema entries) application number at items printed keeps few sound =
     let is = step_is objects schema entries application number at items keeps.0 few in
-    let step_sound : IsSoundStep application number at (settled objects application number at items) = (sound.1, sound.2) in
+    let step_sound : IsSoundStep application number at (settled false objects application number at items) = (sound.1, sound.2) in
     let barred = has_key_inside (codes "delta.invariants") schema in
     let told = table_agrees objects schema entries application number at items (checked application number (count items)) barred (takes_rows schema) keeps few sound.0 refl (rw is at step_sound) in
     rw is told

@@ -64,16 +64,16 @@ append_over_nothing most application number at (Err why) = (bare refl, bare refl
 
 -- an append
 append_stays : (most : ℕ) (objects : Objects) (application : List ℕ) (number at : ℕ) (items : Items) (new : Objects) → most ≤ 2 ^ 31 → IsUtf8 application
-    → MayAppend application number at (settled objects application number at items) objects new → Stays most objects → Stays (suc most) new
+    → MayAppend application number at (settled false objects application number at items) objects new → Stays most objects → Stays (suc most) new
 append_stays most objects application number at items new small utf8 (inl same) stays = rw same (still most objects stays)
 append_stays most objects application number at items new small utf8 (inr (well, put)) stays = by_put put (goes stays)
   where
-    goes : Stays most objects → GoesOn (suc most) objects (settled objects application number at items)
+    goes : Stays most objects → GoesOn (suc most) objects (settled false objects application number at items)
     goes (bare none) = rw (none, nothing_is application number at items) (append_over_nothing most application number at (checked application number (count items)))
     goes (keeps schema entries kept files up) = append_goes_on objects schema entries kept files (omega (arith, up, small)) most up application number at items utf8 well
 
-    by_put : (new ≡ with_file_alone objects (settled objects application number at items)) ⊎ (new ≡ with_append objects (settled objects application number at items))
-        → GoesOn (suc most) objects (settled objects application number at items) → Stays (suc most) new
+    by_put : (new ≡ with_file_alone objects (settled false objects application number at items)) ⊎ (new ≡ with_append objects (settled false objects application number at items))
+        → GoesOn (suc most) objects (settled false objects application number at items) → Stays (suc most) new
     by_put (inl alone) goes = subst (Stays (suc most)) (sym alone) goes.0
     by_put (inr whole) goes = subst (Stays (suc most)) (sym whole) goes.1
 

@@ -1,5 +1,5 @@
 -- What is asked of a table that is kept.
-use Rattle.std.proofs.Common.{◌≡◌, ℕ, ◌&&◌, Bool, true, false, not, List, ◌∷◌, length, Option, Result, Ok, Err, refl, subst}
+use Rattle.std.proofs.Common.{◌≡◌, ℕ, ◌&&◌, Bool, true, false, not, List, ◌∷◌, Option, Result, Ok, Err, refl, subst}
 use Rattle.std.specs.Prelude.{codes, option_map}
 use Rattle.serde_json.specs.Data.{Items}
 use Rattle.schema_tree.specs.Tree.{Tree}
@@ -12,7 +12,7 @@ use Rattle.sink_core.specs.Refusals.{Refusal, read_only, stream_closed}
 use Rattle.sink_core.specs.RowsIn.{rows_from, takes_rows}
 use Rattle.lake_bytes.specs.Results.{◌>>=◌, refused_if, refused_as}
 use Rattle.lake_script.proofs.KeptCommits.{made_writable, made_last, made_open}
-use Rattle.lake_script.proofs.KeptLog.{AreMade, made_length}
+use Rattle.lake_script.proofs.KeptLog.{AreMade}
 
 -- what is asked of a table
 abbrev pub asked : (version : ℕ) (schema : Tree) (rows : List Row) (repeats : Bool) → Request
@@ -33,13 +33,13 @@ goes_on_open version schema rows true = refl
 goes_on_open version schema rows false = refl
 
 -- the request behind the commits that were made for a table's entries
-pub request_is : (schema : Tree) (entries rest : List Entry) (commits : List (List actions.Entry)) (application : List ℕ) (number : ℕ) (items : Items) → entries ≡ creation ∷ rest → AreMade schema entries commits
-    → request_behind commits application number items
+pub request_is : (next : ℕ) (schema : Tree) (entries rest : List Entry) (commits : List (List actions.Entry)) (application : List ℕ) (number : ℕ) (items : Items) → entries ≡ creation ∷ rest → AreMade schema entries commits
+    → request_behind next commits application number items
     ≡ (unless_invariant (has_key_inside (codes "delta.invariants") schema) >>= λ plain. takes_rows schema >>= λ supported. rows_from 0 schema items >>= λ rows. is_repeat number (option_map (λ (b : Batch). b.number) (last_batch application entries)) >>= λ repeats.
-    Ok (asked (length entries) schema rows repeats))
+    Ok (asked next schema rows repeats))
 unfolding request_behind
-request_is schema entries rest commits application number items begins made =
-    rw (made_writable schema rest commits (subst (λ (es : List Entry). AreMade schema es commits) begins made), made_length schema entries commits made, made_last schema application entries commits made, made_open schema application entries commits made)
+request_is next schema entries rest commits application number items begins made =
+    rw (made_writable schema rest commits (subst (λ (es : List Entry). AreMade schema es commits) begins made), made_last schema application entries commits made, made_open schema application entries commits made)
     (by_fields (has_key_inside (codes "delta.invariants") schema))
   where
     last : Option ℕ
@@ -47,8 +47,8 @@ request_is schema entries rest commits application number items begins made =
 
     by_fields : (barred : Bool)
         → (refused_as read_only (refused_if barred (feature (codes "invariants")) >>= λ plain. Ok schema) >>= λ (schema : Tree). takes_rows schema >>= λ supported. rows_from 0 schema items >>= λ rows.
-        is_repeat number last >>= λ repeats. refused_if (not repeats && false) stream_closed >>= λ goes_on. Ok (asked (length entries) schema rows repeats))
-        ≡ (unless_invariant barred >>= λ plain. takes_rows schema >>= λ supported. rows_from 0 schema items >>= λ rows. is_repeat number last >>= λ repeats. Ok (asked (length entries) schema rows repeats))
+        is_repeat number last >>= λ repeats. refused_if (not repeats && false) stream_closed >>= λ goes_on. Ok (asked next schema rows repeats))
+        ≡ (unless_invariant barred >>= λ plain. takes_rows schema >>= λ supported. rows_from 0 schema items >>= λ rows. is_repeat number last >>= λ repeats. Ok (asked next schema rows repeats))
     by_fields true = refl
     by_fields false =
-        same_behind (takes_rows schema) _ _ (λ supported. same_behind (rows_from 0 schema items) _ _ (λ rows. same_behind (is_repeat number last) _ _ (λ repeats. goes_on_open (length entries) schema rows repeats)))
+        same_behind (takes_rows schema) _ _ (λ supported. same_behind (rows_from 0 schema items) _ _ (λ rows. same_behind (is_repeat number last) _ _ (λ repeats. goes_on_open next schema rows repeats)))

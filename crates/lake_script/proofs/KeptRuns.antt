@@ -36,8 +36,8 @@ pub record Given : Type 0 where
       → (told.reply_to_wish objects (task checkpoint) printed ≡ tables.reply_to_wish state (task checkpoint))
       × Keeps (told.left_by_wish objects (task checkpoint) printed) (tables.left_by_wish state (task checkpoint))
   pub tail_told : (objects : Objects) (schema : Tree) (entries : List Entry) → IsKept objects schema entries → length entries < 2 ^ 32 → (max : ℕ) (offset : List ℕ)
-      → tailed_reply (tailed objects max offset) ≡ tables.tail_reply (table schema entries) max (offset_of offset)
-  pub tail_of_nothing : (max : ℕ) (offset : List ℕ) → tailed_reply (tailed [] max offset) ≡ tables.tail_reply nothing max (offset_of offset)
+      → tailed_reply (tailed false objects max offset) ≡ tables.tail_reply (table schema entries) max (offset_of offset)
+  pub tail_of_nothing : (max : ℕ) (offset : List ℕ) → tailed_reply (tailed false [] max offset) ≡ tables.tail_reply nothing max (offset_of offset)
   pub history_told : (objects : Objects) (schema : Tree) (entries : List Entry) → IsKept objects schema entries → length entries < 2 ^ 32 → history_of objects ≡ tables.history_from 0 entries
   pub history_of_nothing : history_of [] ≡ bad_log 0
 
@@ -133,8 +133,8 @@ put_here (asks wish) only = wish_put_here wish only
 module _ (given : Given) where
   -- a read is told what the table tells, also where there is none
   tail_state : (objects : Objects) (state : State) → Keeps objects state → length (entries_of state) < 2 ^ 32 → (max : ℕ) (offset : List ℕ)
-      → tailed_reply (tailed objects max offset) ≡ tables.tail_reply state max (offset_of offset)
-  tail_state objects nothing keeps small max offset = ap (λ (o : Objects). tailed_reply (tailed o max offset)) keeps ∙ given.tail_of_nothing max offset
+      → tailed_reply (tailed false objects max offset) ≡ tables.tail_reply state max (offset_of offset)
+  tail_state objects nothing keeps small max offset = ap (λ (o : Objects). tailed_reply (tailed false o max offset)) keeps ∙ given.tail_of_nothing max offset
   tail_state objects (table schema entries) keeps small max offset = given.tail_told objects schema entries keeps.0 small max offset
 
   -- so is the history

@@ -182,7 +182,7 @@ module _ (objects : Objects) (schema : Tree) (entries : List Entry) (kept : IsKe
 
 -- An append over a table that is kept leaves one that is kept, however far it comes.
 pub append_goes_on : (objects : Objects) (schema : Tree) (entries : List Entry) → IsKept objects schema entries → AreFiles objects schema → length entries < 2 ^ 32 → (most : ℕ) → length entries ≤ most
-    → (application : List ℕ) (number at : ℕ) (items : Items) → IsUtf8 application → PutsWell application number at (settled objects application number at items) → GoesOn (suc most) objects (settled objects application number at items)
+    → (application : List ℕ) (number at : ℕ) (items : Items) → IsUtf8 application → PutsWell application number at (settled false objects application number at items) → GoesOn (suc most) objects (settled false objects application number at items)
 append_goes_on objects schema entries kept files few most up application number at items utf8 well =
     let is = step_is objects schema entries application number at items kept few in
     rw is (by_tests (checked application number (count items)) (has_key_inside (codes "delta.invariants") schema) (takes_rows schema) refl (rw is at well))

@@ -100,7 +100,7 @@ pub record IsPlain (schema : Tree) (commits : List (List actions.Entry)) : Type 
   pub told : Told
   pub is_schema : told.schema ≡ schema
   pub keeps : KeepsRows commits
-  pub goes_by : (place : Place) → schema_for (map commit commits) place ≡ Ok told
+  pub goes_by : (place : Place) → schema_for None (map commit commits) place ≡ Ok told
 
 -- so it is with a table that begins with its creation
 plain_log : (schema : Tree) (rest : List Entry) (commits : List (List actions.Entry)) → NoCreation rest → AreMade schema (creation ∷ rest) commits → IsPlain schema commits
@@ -216,7 +216,7 @@ text_told schema (bad_place version) said told = rw told refl
 module _ (objects : Objects) (max : ℕ) (offset : List ℕ) where
   -- a read from an offset on that can be read, by what is handed out
   tail_from : (schema : Tree) (entries : List Entry) (commits : List (List actions.Entry)) (plain : IsPlain schema commits) (place : Option Place) → offset_of offset ≡ place → versions_of objects ≡ map commit commits
-      → ((at : Place) → IsTold (read max at entries) (handed_by objects plain.told (map commit commits) max at)) → tailed_reply (tailed objects max offset) ≡ tables.tail_reply (tables.table schema entries) max place
+      → ((at : Place) → IsTold (read max at entries) (handed_by objects plain.told (map commit commits) max at)) → tailed_reply (tailed false objects max offset) ≡ tables.tail_reply (tables.table schema entries) max place
   unfolding tailed
   tail_from schema entries commits plain None is log told = rw is refl
   tail_from schema entries commits plain (Some place) is log told =
@@ -224,14 +224,14 @@ module _ (objects : Objects) (max : ℕ) (offset : List ℕ) where
       (text_told plain.told.schema (read max place entries) (handed_by objects plain.told (map commit commits) max place) (told place) ∙ ap (λ (t : Tree). tables.read_text t (read max place entries)) plain.is_schema)
 
   -- the same over no objects
-  tail_of_none : (place : Option Place) → offset_of offset ≡ place → tailed_reply (tailed [] max offset) ≡ tables.tail_reply tables.nothing max place
+  tail_of_none : (place : Option Place) → offset_of offset ≡ place → tailed_reply (tailed false [] max offset) ≡ tables.tail_reply tables.nothing max place
   unfolding tailed schema_for
   tail_of_none None is = rw is refl
   tail_of_none (Some place) is = rw (is, versions_of_nothing) refl
 
 -- Over a store that keeps a table a read is told what the table tells.
 pub tail_told : (objects : Objects) (schema : Tree) (entries : List Entry) → IsKept objects schema entries → length entries < 2 ^ 32 → (max : ℕ) (offset : List ℕ)
-    → tailed_reply (tailed objects max offset) ≡ tables.tail_reply (tables.table schema entries) max (offset_of offset)
+    → tailed_reply (tailed false objects max offset) ≡ tables.tail_reply (tables.table schema entries) max (offset_of offset)
 tail_told objects schema entries kept few max offset =
     let commits = made_of objects schema 0 entries kept.kept in
     let plain = kept_plain objects schema entries kept in
@@ -239,5 +239,5 @@ tail_told objects schema entries kept few max offset =
     (λ place. handed_told objects schema entries commits kept.kept (are_made objects schema 0 entries kept.kept) plain max place)
 
 -- A read of nothing is told that there is no table.
-pub tail_of_nothing : (max : ℕ) (offset : List ℕ) → tailed_reply (tailed [] max offset) ≡ tables.tail_reply tables.nothing max (offset_of offset)
+pub tail_of_nothing : (max : ℕ) (offset : List ℕ) → tailed_reply (tailed false [] max offset) ≡ tables.tail_reply tables.nothing max (offset_of offset)
 tail_of_nothing max offset = tail_of_none [] max offset (offset_of offset) refl

@@ -1,5 +1,5 @@
 -- Where a store keeps a table, reads one after another hand out the table's rows.
-use Rattle.std.proofs.Common.{◌≡◌, ℕ, ◌<◌, ◌^◌, true, List, [], ◌∷◌, ◌++◌, length, map, take, Result, Ok, Err, IsOk, refl, sym, ap, subst, ◌∙◌, arith}
+use Rattle.std.proofs.Common.{◌≡◌, ℕ, ◌<◌, ◌^◌, true, false, List, [], ◌∷◌, ◌++◌, length, map, take, None, Result, Ok, Err, IsOk, refl, sym, ap, subst, ◌∙◌, arith}
 use Rattle.std.proofs.lemmas.List.{append-nil, map-append, take_all}
 use Rattle.schema_tree.specs.Tree.{Tree}
 use Rattle.store_core.specs.Objects.{Objects}
@@ -26,7 +26,7 @@ IsRead answered (bad_place version) = answered ≡ Err (bad_place_told version)
 
 -- each read over the objects answers what the table answers
 abbrev pub ReadsAs : Objects → List Entry → Type 0
-ReadsAs objects entries = (max : ℕ) (place : Place) → IsRead (read_by objects max place) (read max place entries)
+ReadsAs objects entries = (max : ℕ) (place : Place) → IsRead (read_by false objects max place) (read max place entries)
 
 -- ---- one read
 
@@ -84,7 +84,7 @@ module _ (objects : Objects) (entries : List Entry) (reads : ReadsAs objects ent
   unfolding tails
   all_same [] place = record { rows = refl; next = refl }
   all_same (max ∷ limits) place =
-      let answered = read_by objects max place in
+      let answered = read_by false objects max place in
       let answer = read max place entries in
       let later : AreSame (tails objects limits (place_after place answered)) (reads_on (still limits) (resumed.next_after place answer) entries) =
       subst (λ (p : Place). AreSame (tails objects limits (place_after place answered)) (reads_on (still limits) p entries)) (next_as place answered answer (reads max place)) (all_same limits (place_after place answered)) in
@@ -123,7 +123,7 @@ module _ (objects : Objects) (entries : List Entry) (reads : ReadsAs objects ent
   reads_answered earlier max =
       let place = (tails objects earlier beginning).next in
       let h = hands_rows earlier max in
-      handed_is_answered (read_by objects max place) (read max place entries) h.out h.next (reads max place) h.is
+      handed_is_answered (read_by false objects max place) (read max place entries) h.out h.next (reads max place) h.is
 
   -- where it had less to hand out than its limit, the rows are all
   reads_all : HandOutAll objects entries
@@ -136,8 +136,8 @@ module _ (objects : Objects) (entries : List Entry) (reads : ReadsAs objects ent
       let table_then : said.final ++ [] ≡ entries = append-nil said.final ∙ final_still earlier beginning entries in
       let is : read max said.next (said.final ++ []) ≡ handed h.out h.next =
       ap (λ (es : List Entry). read max said.next es) table_then ∙ ap (λ (p : Place). read max p entries) (sym (all_same earlier beginning).next) ∙ h.is in
-      let rows_are : rows_handed (read_by objects max place) ≡ h.out = rows_as (read_by objects max place) (read max place entries) (reads max place) ∙ ap resumed.rows_of h.is in
-      let as_many : length h.out ≡ length (rows_handed (read_by objects max place)) = ap (λ (rs : List Row). length rs) (sym rows_are) in
+      let rows_are : rows_handed (read_by false objects max place) ≡ h.out = rows_as (read_by false objects max place) (read max place entries) (reads max place) ∙ ap resumed.rows_of h.is in
+      let as_many : length h.out ≡ length (rows_handed (read_by false objects max place)) = ap (λ (rs : List Row). length rs) (sym rows_are) in
       let less : length h.out < max = omega (arith, short, as_many) in
       let final : whole.final ≡ entries = ap (λ (r : List (ℕ × List Entry)). (reads_on r beginning entries).final) (sym joined) ∙ final_still (earlier ++ max ∷ []) beginning entries in
       (all_same (earlier ++ max ∷ []) beginning).rows ∙ ap (λ (r : List (ℕ × List Entry)). (reads_on r beginning entries).out) joined
@@ -150,7 +150,7 @@ pub record IsReadAs (objects : Objects) (entries : List Entry) : Type 0 where
   pub told : Told
   pub versions : List Version
   pub log : versions_of objects ≡ versions
-  pub goes_by : (place : Place) → schema_for versions place ≡ Ok told
+  pub goes_by : (place : Place) → schema_for None versions place ≡ Ok told
   pub answers : (max : ℕ) (place : Place) → IsRead (handed_by objects told versions max place) (read max place entries)
 
 -- then each read over the objects does
@@ -160,7 +160,7 @@ reads_as objects entries is max place = rw (is.log, is.goes_by place) (is.answer
 -- what is known of single reads
 pub record GivenReads : Type 0 where
   pub handed_told : (objects : Objects) (schema : Tree) (entries : List Entry) → IsKept objects schema entries → length entries < 2 ^ 32 → IsReadAs objects entries
-  pub nothing_told : (place : Place) → schema_for (versions_of []) place ≡ Err (bad_log 0)
+  pub nothing_told : (place : Place) → schema_for None (versions_of []) place ≡ Err (bad_log 0)
 
 module _ (given : GivenReads) where
   -- a store that keeps a table reads as it
@@ -168,7 +168,7 @@ module _ (given : GivenReads) where
   kept_reads objects schema entries kept small = reads_as objects entries (given.handed_told objects schema entries kept small)
 
   -- where nothing stands, a read is refused
-  nothing_read : (max : ℕ) (place : Place) → read_by [] max place ≡ Err (bad_log 0)
+  nothing_read : (max : ℕ) (place : Place) → read_by false [] max place ≡ Err (bad_log 0)
   nothing_read max place = rw (given.nothing_told place) refl
 
   -- so that reads hand out no rows

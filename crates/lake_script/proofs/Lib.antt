@@ -1,3 +1,4 @@
+pub mod Callers
 pub mod CheckpointLemmas
 pub mod Kept
 pub mod KeptAppend
@@ -21,8 +22,10 @@ pub mod KeptVersions
 pub mod LineLemmas
 pub mod Moments
 pub mod Numbers
+pub mod RestoredLemmas
 pub mod RunLemmas
 pub mod RunsLemmas
 pub mod ScriptLemmas
+pub mod SoundPuts
 pub mod StreamLemmas
 pub mod Texts

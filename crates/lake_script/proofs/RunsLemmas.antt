@@ -32,7 +32,7 @@ creation_short creating.TooLarge objects id at schema h = inr refl
 creation_short _ objects id at schema h = cc
 
 pub append_short : (fault : AppendFault) (objects : Objects) (application : List ℕ) (number at : ℕ) (items : Items) → is_short (NotAppended fault) ≡ true
-    → IsSaidBy (settled objects application number at items) fault → IsShort objects (task (append application number at items)) (reply_text (NotAppended fault))
+    → IsSaidBy (settled false objects application number at items) fault → IsShort objects (task (append application number at items)) (reply_text (NotAppended fault))
 append_short appending.Memory objects application number at items h said = inl refl
 append_short appending.FileTooLarge objects application number at items h said = inr (refl, said)
 append_short _ objects application number at items h said = cc

@@ -1,5 +1,6 @@
 -- What lines that put a checkpoint and that tell a snapshot are told and leave. The bytes of a checkpoint, and the text of a
--- snapshot, stand beside the line. The log is read as a whole.
+-- snapshot, stand beside the line. What the log says, all its commits say: that it may be read from a checkpoint doesn't
+-- show.
 use Rattle.std.specs.Prelude.{ℕ, ◌-◌, List, ◌++◌, length, false, nat_lt, Option, None, Some, Result, Ok, Err, IfOk, codes}
 use Rattle.std.specs.Fmt.{decimal}
 use Rattle.lake_bytes.specs.Results.{◌>>=◌, refused_as, refused_if}

@@ -16,7 +16,7 @@ MayPutCheckpoint old new = (new ≡ old) ⊎ ((version : ℕ) × HasPut false ve
 -- the objects that may stand behind what a line asks for; an application's id is text
 abbrev pub MayPut : Objects → Wish → Objects → Type 0
 MayPut old (create id at schema) new = MayCreate id at schema old new
-MayPut old (task (append application number at items)) new = IsUtf8 application × MayAppend application number at (settled old application number at items) old new
+MayPut old (task (append application number at items)) new = IsUtf8 application × MayAppend application number at (settled false old application number at items) old new
 MayPut old (task checkpoint) new = MayPutCheckpoint old new
 MayPut old (foreign version action) new = (new ≡ old) ⊎ (new ≡ with_object old (commit_name version) (line_of action))
 MayPut old _ new = new ≡ old

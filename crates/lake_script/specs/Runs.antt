@@ -66,7 +66,7 @@ too_large_to_checkpoint = line_of (refused (not_put_text too_large))
 -- would
 abbrev pub IsTooLarge : Objects → Wish → List ℕ → Type 0
 IsTooLarge objects (create id at schema) reply = reply ≡ too_large_to_create
-IsTooLarge objects (task (append application number at rows)) reply = (reply ≡ too_large_to_append) × (settled objects application number at rows ≡ Err file_too_large)
+IsTooLarge objects (task (append application number at rows)) reply = (reply ≡ too_large_to_append) × (settled false objects application number at rows ≡ Err file_too_large)
 IsTooLarge objects (task checkpoint) reply = (reply ≡ too_large_to_checkpoint) × checkpoints.IsTooLarge false objects
 IsTooLarge objects _ reply = ⊥
 
@@ -76,7 +76,7 @@ IsShort objects wish reply = IsWantOfMemory wish reply ⊎ IsTooLarge objects wi
 
 -- the objects behind a line whose growth was refused: as they were, or with the file of the batch that it appends
 abbrev pub MayLeave : Objects → Wish → Objects → Type 0
-MayLeave objects (task (append application number at rows)) after = MayHoldFile objects (settled objects application number at rows) after
+MayLeave objects (task (append application number at rows)) after = MayHoldFile objects (settled false objects application number at rows) after
 MayLeave objects _ after = after ≡ objects
 
 -- a line has what it asks for, with some text beside it

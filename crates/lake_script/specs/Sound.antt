@@ -1,5 +1,5 @@
 -- What lines put is well made, and none of it passed 64 MiB: from this the laws on whole scripts go on.
-use Rattle.std.specs.Prelude.{◌≡◌, ◌≢◌, ℕ, List, [], ◌∷◌, Option, Err}
+use Rattle.std.specs.Prelude.{◌≡◌, ◌≢◌, ℕ, List, [], ◌∷◌, Option, Err, false}
 use Rattle.std.specs.Io.KnownBytes.{Appends}
 use Rattle.std.specs.Str.{IsUtf8}
 use Rattle.delta_actions.specs.Commit.{lines_of}
@@ -17,7 +17,7 @@ use Rattle.lake_script.specs.Told as scripts
 abbrev pub IsSoundWish : Objects → Wish → (printed : List ℕ) → Type 0
 IsSoundWish objects (create id at schema) printed = CreatesWell at schema (commit_from id at schema printed) × (commit_from id at schema printed ≢ Err too_large)
 IsSoundWish objects (task (append application number at items)) printed = IsUtf8 application
-    × PutsWell application number at (settled objects application number at items) × (settled objects application number at items ≢ Err file_too_large)
+    × PutsWell application number at (settled false objects application number at items) × (settled false objects application number at items ≢ Err file_too_large)
 IsSoundWish objects (task checkpoint) printed = IsWellPut (checkpoint_by objects printed)
 IsSoundWish objects _ printed = Unit {0}
 

@@ -1,6 +1,6 @@
 -- What a script is told. Beside a line that creates a table stands the text that its schema is printed as, beside one that
 -- puts a checkpoint its bytes, and beside one that tells a snapshot its text: no other line looks at the text that stands
--- beside it.
+-- beside it. All is told by the whole log: that a log may be read from a checkpoint doesn't show.
 use Rattle.std.specs.Prelude.{◌≡◌, ◌==◌, ◌+◌, ◌++◌, ℕ, Bool, true, false, List, [], ◌∷◌, Option, Some, None, Result, Ok, Err, ⊤, if◌then◌else◌}
 use Rattle.delta_actions.specs.Commit.{lines_of}
 use Rattle.hex.specs.Hex.{encode_lower}
@@ -78,8 +78,8 @@ IsPrintedWish objects _ printed = Unit {0}
 -- the reply to what a line asks for, over the objects that stand
 abbrev pub reply_to_wish : Objects → Wish → (printed : List ℕ) → List ℕ
 reply_to_wish objects (create id at schema) printed = created_reply (created_by objects id at schema printed)
-reply_to_wish objects (task (append application number at rows)) printed = appended_reply (appended_by objects application number at rows)
-reply_to_wish objects (task (tail max offset)) printed = tailed_reply (tailed objects max offset)
+reply_to_wish objects (task (append application number at rows)) printed = appended_reply (appended_by false objects application number at rows)
+reply_to_wish objects (task (tail max offset)) printed = tailed_reply (tailed false objects max offset)
 reply_to_wish objects (task checkpoint) printed = checkpoint_reply (checkpoint_by objects printed)
 reply_to_wish objects snapshot printed = snapshot_reply (readable_log false objects) printed
 reply_to_wish objects history printed = history_of objects
@@ -91,7 +91,7 @@ reply_to_wish objects _ printed = not_yet
 -- the objects that stand once a line has what it asks for
 abbrev pub left_by_wish : Objects → Wish → (printed : List ℕ) → Objects
 left_by_wish objects (create id at schema) printed = with_creation objects (commit_from id at schema printed)
-left_by_wish objects (task (append application number at rows)) printed = with_append objects (settled objects application number at rows)
+left_by_wish objects (task (append application number at rows)) printed = with_append objects (settled false objects application number at rows)
 left_by_wish objects (task checkpoint) printed = with_checkpoint objects printed (checkpoint_by objects printed)
 left_by_wish objects (foreign version action) printed = with_object objects (commit_name version) (line_of action)
 left_by_wish objects _ printed = objects

@@ -11,6 +11,7 @@ ghost use Rattle.lake_script.specs.Sound.{IsAnswered, IsRun, IsRunInPart};
 ghost use Rattle.lake_script.specs.Streams.{held, waiting, write_failed, unread, read_failed, StandsIn};
 ghost use Rattle.lake_script.specs.Tables.{told as told_by_table, left as table_left, AreOfTable};
 ghost use Rattle.delta_actions.specs.Commit.{lines_of};
+ghost use Rattle.table_log.specs.Restoring.{HasSoundCheckpoints, RestoresWell};
 ghost use Rattle.lake_script.specs.Told.{ArePutHere, lines_left, is_newline, is_bad, first_bad, Finishes, fell_short};
 
 use crate::inputs::{Input, InputError};
@@ -77,15 +78,17 @@ fn answer<S: Store, W: Write>(
     store: &mut S,
     output: &mut Output<W>,
     is_short: &mut bool,
+    restore: bool,
 ) -> Result<bool, OutputError>
-    ensures whole { S.is_reliable store.old → is_short.new ≡ false → OnOk result (IsAnswered number (S.objects store.old) (reading_of line.now)
+    ensures whole { S.is_reliable store.old → RestoresWell restore (S.objects store.old) → is_short.new ≡ false → OnOk result (IsAnswered number (S.objects store.old) (reading_of line.now)
         (held W.contents output.old) (held W.contents output.new) (S.objects store.new)) }
-    ensures tells { S.is_reliable store.old → OnOk result (Tells (held W.contents output.old) (held W.contents output.new)
+    ensures tells { S.is_reliable store.old → RestoresWell restore (S.objects store.old) → OnOk result (Tells (held W.contents output.old) (held W.contents output.new)
         (λ reply. Replies number (S.objects store.old) (reading_of line.now) reply (S.objects store.new))) }
-    ensures short { S.is_reliable store.old → is_short.old ≡ false → is_short.new ≡ true → OnOk result (Tells (held W.contents output.old) (held W.contents output.new)
+    ensures short { S.is_reliable store.old → RestoresWell restore (S.objects store.old) → is_short.old ≡ false → is_short.new ≡ true → OnOk result (Tells (held W.contents output.old) (held W.contents output.new)
         (λ reply. Replies number (S.objects store.old) (reading_of line.now) reply (S.objects store.new) × TellsShort (S.objects store.old) (reading_of line.now) reply)) }
-    ensures cut_off { S.is_reliable store.old → OnErr result (IsCutOff number (S.objects store.old) (reading_of line.now) (S.objects store.new)) }
+    ensures cut_off { S.is_reliable store.old → RestoresWell restore (S.objects store.old) → OnErr result (IsCutOff number (S.objects store.old) (reading_of line.now) (S.objects store.new)) }
     ensures reliable { S.is_reliable store.old → S.is_reliable store.new }
+    ensures restores { S.is_reliable store.old → HasSoundCheckpoints (S.objects store.old) → HasSoundCheckpoints (S.objects store.new) }
     ensures remembers { is_short.new ≡ false → is_short.old ≡ false }
     ensures goes_on { IfOk result (λ goes_on. goes_on ≡ not (is_bad (reading_of line.now))) }
     ensures stands { OnErr result (StandsIn (held W.contents output.old) (W.contents output.new.writer) []) }
@@ -101,7 +104,7 @@ fn answer<S: Store, W: Write>(
             Ok(false)
         }
         Reading::Asks(line) => {
-            let reply = grant(alloc, line, store);
+            let reply = grant(alloc, line, store, restore);
             if reply.is_short() {
                 *is_short = true;
             }
@@ -119,19 +122,21 @@ fn answer_all<S: Store, W: Write>(
     store: &mut S,
     output: &mut Output<W>,
     is_short: &mut bool,
+    restore: bool,
 ) -> Result<Option<u64>, OutputError>
     requires { length text.now ≤ 2 ^ 30 }
-    ensures whole { S.is_reliable store.old → is_short.new ≡ false → OnOk result (IsRun (S.objects store.old) text.now
+    ensures whole { S.is_reliable store.old → RestoresWell restore (S.objects store.old) → is_short.new ≡ false → OnOk result (IsRun (S.objects store.old) text.now
         (held W.contents output.old) (held W.contents output.new) (S.objects store.new)) }
-    ensures tells { S.is_reliable store.old → OnOk result (Tells (held W.contents output.old) (held W.contents output.new)
+    ensures tells { S.is_reliable store.old → RestoresWell restore (S.objects store.old) → OnOk result (Tells (held W.contents output.old) (held W.contents output.new)
         (λ written. Runs 1 (S.objects store.old) (lines_of text.now) written (S.objects store.new))) }
-    ensures short { S.is_reliable store.old → is_short.old ≡ false → is_short.new ≡ true → OnOk result (Tells (held W.contents output.old) (held W.contents output.new)
+    ensures short { S.is_reliable store.old → RestoresWell restore (S.objects store.old) → is_short.old ≡ false → is_short.new ≡ true → OnOk result (Tells (held W.contents output.old) (held W.contents output.new)
         (FallsShort 1 (S.objects store.old) (lines_of text.now))) }
     ensures reliable { S.is_reliable store.old → S.is_reliable store.new }
+    ensures restores { S.is_reliable store.old → HasSoundCheckpoints (S.objects store.old) → HasSoundCheckpoints (S.objects store.new) }
     ensures bad { IfOk result (λ bad. bad ≡ first_bad text.now) }
-    ensures stands { S.is_reliable store.old → is_short.new ≡ false
+    ensures stands { S.is_reliable store.old → RestoresWell restore (S.objects store.old) → is_short.new ≡ false
         → OnErr result (IsRunInPart (S.objects store.old) text.now (held W.contents output.old) (W.contents output.new.writer)) }
-    ensures front { S.is_reliable store.old → OnErr result (TellsFront (held W.contents output.old) (W.contents output.new.writer)
+    ensures front { S.is_reliable store.old → RestoresWell restore (S.objects store.old) → OnErr result (TellsFront (held W.contents output.old) (W.contents output.new.writer)
         (λ written. RunsInPart 1 (S.objects store.old) (lines_of text.now) written (S.objects store.new))) }
     ensures behind { OnOk result (Tells (held W.contents output.old) (held W.contents output.new) (λ written. ⊤)) }
     ensures unbroken { OnOk result (write_failed output.new ≡ write_failed output.old) }
@@ -142,7 +147,7 @@ fn answer_all<S: Store, W: Write>(
     let mut rest = Some(text);
     while let Some(text) = rest {
         let (line, after) = first_line(text);
-        if !answer(alloc, number, line, store, output, is_short)? {
+        if !answer(alloc, number, line, store, output, is_short, restore)? {
             return Ok(Some(number));
         }
         number += 1;
@@ -158,61 +163,68 @@ fn answer_and_flush<S: Store, W: Write>(
     store: &mut S,
     output: &mut Output<W>,
     is_short: &mut bool,
+    restore: bool,
 ) -> Result<Option<u64>, OutputError>
     requires { length text.now ≤ 2 ^ 30 }
-    ensures whole { S.is_reliable store.old → is_short.new ≡ false → OnOk result (IsRun (S.objects store.old) text.now
+    ensures whole { S.is_reliable store.old → RestoresWell restore (S.objects store.old) → is_short.new ≡ false → OnOk result (IsRun (S.objects store.old) text.now
         (held W.contents output.old) (W.contents output.new.writer) (S.objects store.new)) }
-    ensures tells { S.is_reliable store.old → OnOk result (Tells (held W.contents output.old) (W.contents output.new.writer)
+    ensures tells { S.is_reliable store.old → RestoresWell restore (S.objects store.old) → OnOk result (Tells (held W.contents output.old) (W.contents output.new.writer)
         (λ written. Runs 1 (S.objects store.old) (lines_of text.now) written (S.objects store.new))) }
-    ensures short { S.is_reliable store.old → is_short.old ≡ false → is_short.new ≡ true → OnOk result (Tells (held W.contents output.old) (W.contents output.new.writer)
+    ensures short { S.is_reliable store.old → RestoresWell restore (S.objects store.old) → is_short.old ≡ false → is_short.new ≡ true → OnOk result (Tells (held W.contents output.old) (W.contents output.new.writer)
         (FallsShort 1 (S.objects store.old) (lines_of text.now))) }
     ensures reliable { S.is_reliable store.old → S.is_reliable store.new }
+    ensures restores { S.is_reliable store.old → HasSoundCheckpoints (S.objects store.old) → HasSoundCheckpoints (S.objects store.new) }
     ensures through { OnOk result (waiting output.new ≡ []) }
     ensures bad { IfOk result (λ bad. bad ≡ first_bad text.now) }
-    ensures stands { S.is_reliable store.old → is_short.new ≡ false
+    ensures stands { S.is_reliable store.old → RestoresWell restore (S.objects store.old) → is_short.new ≡ false
         → OnErr result (IsRunInPart (S.objects store.old) text.now (held W.contents output.old) (W.contents output.new.writer)) }
-    ensures front { S.is_reliable store.old → OnErr result (TellsFront (held W.contents output.old) (W.contents output.new.writer)
+    ensures front { S.is_reliable store.old → RestoresWell restore (S.objects store.old) → OnErr result (TellsFront (held W.contents output.old) (W.contents output.new.writer)
         (λ written. RunsInPart 1 (S.objects store.old) (lines_of text.now) written (S.objects store.new))) }
     ensures behind { OnOk result (Tells (held W.contents output.old) (W.contents output.new.writer) (λ written. ⊤)) }
     ensures unbroken { OnOk result (write_failed output.new ≡ write_failed output.old) }
     ensures broken { result ≡ Err OutputError.Broken → write_failed output.new ≡ true }
 {
-    let bad = answer_all(alloc, text, store, output, is_short)?;
+    let bad = answer_all(alloc, text, store, output, is_short, restore)?;
     output.flush()?;
     Ok(bad)
 }
 
 /// Runs a script that is given as text, of at most 1 GiB, over a store: answers each of its lines, up
-/// to the first bad one, and writes what waits then. It never ends as [`End::NotRead`].
+/// to the first bad one, and writes what waits then. It never ends as [`End::NotRead`]. With `restore`
+/// appends, reads, checkpoints and snapshots read the log from its newest checkpoint that reads well,
+/// and otherwise from version 0.
 ///
 /// Time is linear in the text, the objects that are put, compared and shown and the data files that
-/// rows are handed out of, and for each line that replays the log in the log's bytes and the names of
-/// the store, but for the store's own; many replies go in one write.
+/// rows are handed out of, and for each line that reads the log in the bytes of the checkpoint and the
+/// commits that are read and the names of the store, but for the store's own; many replies go in one
+/// write.
 pub fn run_text<S: Store, W: Write>(
     alloc: Global,
     text: &[u8],
     store: &mut S,
     output: &mut Output<W>,
+    restore: bool,
 ) -> Outcome
     requires { length text.now ≤ 2 ^ 30 }
-    // Where the run finishes, no growth was refused, no object of a creation, an append or a checkpoint
-    // passed 64 MiB and the store loses no call, what is written is what is told for the text, and the
-    // objects are what it leaves, for some texts that the schemas of its lines are printed as, its
-    // checkpoints and its snapshots. They are known to the last byte where no line creates a table with a
-    // number in its metadata that has a fraction or an exponent, is `-0` or is beyond 64 bits, or puts
-    // another tool's commit: then what is written is one text.
-    ensures told { S.is_reliable store.old → fell_short result ≡ false → Finishes result.end
+    // Where the run finishes, no growth was refused, no object of the product's passed 64 MiB, the store
+    // loses no call and, with `restore`, each checkpoint that stands and reads well is one of the log, what
+    // is written is what is told for the text, and the objects are what it leaves, for some texts that the
+    // schemas of its lines are printed as, its checkpoints and its snapshots. They are known to the last
+    // byte where no line creates a table with a number in its metadata that has a fraction or an exponent,
+    // is `-0` or is beyond 64 bits, or puts another tool's commit: then what is written is one text. What
+    // is told is told by all commits, so with `restore` and without it is the same.
+    ensures told { S.is_reliable store.old → RestoresWell restore (S.objects store.old) → fell_short result ≡ false → Finishes result.end
         (λ _. IsRun (S.objects store.old) text.now (held W.contents output.old) (W.contents output.new.writer) (S.objects store.new)) }
     // Where a growth was refused, each line has its reply and effect, or is told of want of memory
     // and leaves the objects as they were, but for a batch's file, which may stand.
-    ensures tells { S.is_reliable store.old → Finishes result.end (λ _. Tells (held W.contents output.old) (W.contents output.new.writer)
+    ensures tells { S.is_reliable store.old → RestoresWell restore (S.objects store.old) → Finishes result.end (λ _. Tells (held W.contents output.old) (W.contents output.new.writer)
         (λ written. Runs 1 (S.objects store.old) (lines_of text.now) written (S.objects store.new))) }
     // A run that finishes is short only where a reply that is written tells so.
-    ensures short { S.is_reliable store.old → fell_short result ≡ true → Finishes result.end
+    ensures short { S.is_reliable store.old → RestoresWell restore (S.objects store.old) → fell_short result ≡ true → Finishes result.end
         (λ _. Tells (held W.contents output.old) (W.contents output.new.writer) (FallsShort 1 (S.objects store.old) (lines_of text.now))) }
     // Over an empty store this is what the plain table tells, where no line shows an object, tells the
-    // snapshot or puts another tool's commit; where none puts such a commit, the store then holds the
-    // table that was told, and reads over it hand out its rows.
+    // snapshot or puts another tool's commit; where none puts such a commit, the store then holds the table that was
+    // told, and reads over it hand out its rows.
     ensures script { S.is_reliable store.old → S.objects store.old ≡ [] → fell_short result ≡ false → Finishes result.end
         (λ _. IsScript (held W.contents output.old) (W.contents output.new.writer) text.now (S.objects store.new)) }
     // Over an empty store that loses no call, and where no line puts another tool's commit, the store
@@ -221,22 +233,23 @@ pub fn run_text<S: Store, W: Write>(
     ensures lawful { S.is_reliable store.old → S.objects store.old ≡ [] → ArePutHere (lines_of text.now)
         → IsLawfulStore (S.objects store.new) × HasLawfulLog (S.objects store.new) }
     ensures reliable { S.is_reliable store.old → S.is_reliable store.new }
+    ensures restores { S.is_reliable store.old → HasSoundCheckpoints (S.objects store.old) → HasSoundCheckpoints (S.objects store.new) }
     ensures nothing_waits { Finishes result.end (λ _. waiting output.new ≡ []) }
     // Over any store, one that loses calls too, what is written stands behind what was held.
     ensures behind { Finishes result.end (λ _. Tells (held W.contents output.old) (W.contents output.new.writer) (λ written. ⊤)) }
     ensures finished { Finishes result.end (λ bad. (bad ≡ first_bad text.now) × (write_failed output.new ≡ write_failed output.old)) }
-    ensures stands { S.is_reliable store.old → fell_short result ≡ false → result.end ≡ End.NotWritten
+    ensures stands { S.is_reliable store.old → RestoresWell restore (S.objects store.old) → fell_short result ≡ false → result.end ≡ End.NotWritten
         → IsRunInPart (S.objects store.old) text.now (held W.contents output.old) (W.contents output.new.writer) }
     // Where a reply can't be given, this holds of some first lines, and what is written is a front
     // of their replies.
-    ensures front { S.is_reliable store.old → result.end ≡ End.NotWritten
+    ensures front { S.is_reliable store.old → RestoresWell restore (S.objects store.old) → result.end ≡ End.NotWritten
         → TellsFront (held W.contents output.old) (W.contents output.new.writer)
         (λ written. RunsInPart 1 (S.objects store.old) (lines_of text.now) written (S.objects store.new)) }
     ensures not_written { result.end ≡ End.NotWritten → (write_failed output.new ≡ true) ⊎ (fell_short result ≡ true) }
     ensures read { result.end ≢ End.NotRead }
 {
     let mut is_short = false;
-    match answer_and_flush(alloc, text, store, output, &mut is_short) {
+    match answer_and_flush(alloc, text, store, output, &mut is_short, restore) {
         Ok(None) => Outcome {
             end: End::Done,
             is_short,
@@ -253,12 +266,14 @@ pub fn run_text<S: Store, W: Write>(
 }
 
 /// Runs a script over a store: reads its input to the end, then answers each line, up to the first
-/// bad one. Each line that reads the log replays it from version 0, whether `restore` is true or not,
-/// since none reads it from a checkpoint yet.
+/// bad one. With `restore` appends, reads, checkpoints and snapshots read the log from its newest
+/// checkpoint that reads well, and otherwise from version 0; where each checkpoint that stands is one
+/// of the log, what is told is the same.
 ///
 /// Time is linear in the input, the objects that are put, compared and shown and the data files that
-/// rows are handed out of, and for each line that replays the log in the log's bytes and the names of
-/// the store, but for the store's own; many replies go in one write.
+/// rows are handed out of, and for each line that reads the log in the bytes of the checkpoint and the
+/// commits that are read and the names of the store, but for the store's own; many replies go in one
+/// write.
 pub fn run<R: Read, W: Write, S: Store>(
     alloc: Global,
     input: &mut Input<R>,
@@ -266,13 +281,15 @@ pub fn run<R: Read, W: Write, S: Store>(
     store: &mut S,
     restore: bool,
 ) -> Outcome
-    // Where the run finishes, no growth was refused, no object of a creation, an append or a checkpoint
-    // passed 64 MiB and the store loses no call, what is written is what is told for the text that is
-    // read, and the objects are what the text leaves, for some texts that the schemas of its lines are
-    // printed as, its checkpoints and its snapshots. They are known to the last byte where no line creates
-    // a table with a number in its metadata that has a fraction or an exponent, is `-0` or is beyond 64
-    // bits, or puts another tool's commit: then what is written is one text.
-    ensures told { S.is_reliable store.old → fell_short result ≡ false
+    // Where the run finishes, no growth was refused, no object of the product's passed 64 MiB, the store
+    // loses no call and, with `restore`, each checkpoint that stands and reads well is one of the log, what
+    // is written is what is told for the text that is read, and the objects are what the text leaves, for
+    // some texts that the schemas of its lines are printed as, its checkpoints and its snapshots. They are
+    // known to the last byte where no line creates a table with a number in its metadata that has a
+    // fraction or an exponent, is `-0` or is beyond 64 bits, or puts another tool's commit: then what is
+    // written is one text. What is told is told by all commits, so with `restore` and without it is the
+    // same.
+    ensures told { S.is_reliable store.old → RestoresWell restore (S.objects store.old) → fell_short result ≡ false
         → Finishes result.end (λ _. IfSome (unread R.remaining input.old) (λ text.
         IsRun (S.objects store.old) text (held W.contents output.old) (W.contents output.new.writer) (S.objects store.new))) }
 
@@ -307,26 +324,28 @@ pub fn run<R: Read, W: Write, S: Store>(
 
     // Where a growth was refused, each line has its reply and effect, or is told of want of memory
     // and leaves the objects as they were, but for a batch's file, which may stand.
-    ensures tells { S.is_reliable store.old → Finishes result.end (λ _. IfSome (unread R.remaining input.old) (λ text.
+    ensures tells { S.is_reliable store.old → RestoresWell restore (S.objects store.old) → Finishes result.end (λ _. IfSome (unread R.remaining input.old) (λ text.
         Tells (held W.contents output.old) (W.contents output.new.writer)
         (λ written. Runs 1 (S.objects store.old) (lines_of text) written (S.objects store.new)))) }
     // A run that finishes is short only where a reply that is written tells so.
-    ensures short { S.is_reliable store.old → fell_short result ≡ true → Finishes result.end (λ _. IfSome (unread R.remaining input.old) (λ text.
+    ensures short { S.is_reliable store.old → RestoresWell restore (S.objects store.old) → fell_short result ≡ true → Finishes result.end (λ _. IfSome (unread R.remaining input.old) (λ text.
         Tells (held W.contents output.old) (W.contents output.new.writer) (FallsShort 1 (S.objects store.old) (lines_of text)))) }
     // Where a reply can't be given, this holds of some first lines, and what is written is a front
     // of their replies.
-    ensures front { S.is_reliable store.old → result.end ≡ End.NotWritten → IfSome (unread R.remaining input.old) (λ text.
+    ensures front { S.is_reliable store.old → RestoresWell restore (S.objects store.old) → result.end ≡ End.NotWritten → IfSome (unread R.remaining input.old) (λ text.
         TellsFront (held W.contents output.old) (W.contents output.new.writer)
         (λ written. RunsInPart 1 (S.objects store.old) (lines_of text) written (S.objects store.new))) }
 
     // Nothing waits in the output when it is done.
     ensures nothing_waits { Finishes result.end (λ _. waiting output.new ≡ []) }
 
-    // A store that loses no call goes on to lose none.
+    // A store that loses no call goes on to lose none, and where its checkpoints were those of the log,
+    // they are so still.
     ensures reliable { S.is_reliable store.old → S.is_reliable store.new }
+    ensures restores { S.is_reliable store.old → HasSoundCheckpoints (S.objects store.old) → HasSoundCheckpoints (S.objects store.new) }
 
     ensures bad { Finishes result.end (λ bad. IfSome (unread R.remaining input.old) (λ text. bad ≡ first_bad text)) }
-    ensures stands { S.is_reliable store.old → fell_short result ≡ false → result.end ≡ End.NotWritten
+    ensures stands { S.is_reliable store.old → RestoresWell restore (S.objects store.old) → fell_short result ≡ false → result.end ≡ End.NotWritten
         → IfSome (unread R.remaining input.old)
         (λ text. IsRunInPart (S.objects store.old) text (held W.contents output.old) (W.contents output.new.writer)) }
     ensures nothing { result.end ≡ End.NotRead → (output.new ≡ output.old) × (store.new ≡ store.old) }
@@ -339,9 +358,8 @@ pub fn run<R: Read, W: Write, S: Store>(
     ensures not_written { result.end ≡ End.NotWritten → (write_failed output.new ≡ true) ⊎ (fell_short result ≡ true) }
     ensures broken_output { Finishes result.end (λ _. write_failed output.new ≡ write_failed output.old) }
 {
-    let _ = restore;
     match input.read_to_end(alloc) {
-        Ok(text) => run_text(alloc, text.as_slice(), store, output),
+        Ok(text) => run_text(alloc, text.as_slice(), store, output, restore),
         Err(error) => Outcome {
             end: End::NotRead,
             is_short: error == InputError::Memory,

@@ -4,6 +4,7 @@ ghost use Rattle.std.specs.Io.KnownBytes.{Appends};
 ghost use Rattle.serde_json.specs.View.{items_view};
 ghost use Rattle.store_core.specs.Objects.{object_at};
 ghost use Rattle.table_log.specs.Names.{commit_name};
+ghost use Rattle.table_log.specs.Restoring.{HasSoundCheckpoints, RestoresWell};
 ghost use Rattle.lake_script.specs.Growth.{MayPut};
 ghost use Rattle.commit_core.specs.Histories.{history_of};
 ghost use Rattle.lake_script.specs.Lines.{append, checkpoint, create, foreign, snapshot, task, task_view, wish_view, IsTimely, IsTimelyTask};
@@ -132,57 +133,58 @@ fn append_batch<S: Store>(
     number: u64,
     at: u64,
     rows: &[Value],
+    restore: bool,
 ) -> Reply
     requires { at < 2 ^ 63 }
-    ensures told { S.is_reliable store.old → Grants (S.objects store.old) (task (append application.now number at (items_view rows.now))) (reply_text result) (S.objects store.new) }
-    ensures whole { S.is_reliable store.old → is_short result ≡ false → IsGranted (S.objects store.old) (task (append application.now number at (items_view rows.now))) (reply_text result) (S.objects store.new) }
-    ensures grows { S.is_reliable store.old → MayPut (S.objects store.old) (task (append application.now number at (items_view rows.now))) (S.objects store.new) }
-    ensures short { is_short result ≡ true → IsShort (S.objects store.old) (task (append application.now number at (items_view rows.now))) (reply_text result) }
+    ensures told { S.is_reliable store.old → RestoresWell restore (S.objects store.old) → Grants (S.objects store.old) (task (append application.now number at (items_view rows.now))) (reply_text result) (S.objects store.new) }
+    ensures whole { S.is_reliable store.old → RestoresWell restore (S.objects store.old) → is_short result ≡ false → IsGranted (S.objects store.old) (task (append application.now number at (items_view rows.now))) (reply_text result) (S.objects store.new) }
+    ensures grows { S.is_reliable store.old → RestoresWell restore (S.objects store.old) → MayPut (S.objects store.old) (task (append application.now number at (items_view rows.now))) (S.objects store.new) }
+    ensures short { RestoresWell restore (S.objects store.old) → is_short result ≡ true → IsShort (S.objects store.old) (task (append application.now number at (items_view rows.now))) (reply_text result) }
     ensures reliable { S.is_reliable store.old → S.is_reliable store.new }
 {
-    match append(alloc, store, application, number, at, rows) {
+    match append(alloc, store, application, number, at, rows, restore) {
         Ok(answer) => Reply::Appended(answer),
         Err(fault) => Reply::NotAppended(fault),
     }
 }
 
 // The reply to a line that reads from an offset on.
-fn read<S: Store>(alloc: Global, store: &mut S, max: u64, offset: &str) -> Reply
-    ensures told { S.is_reliable store.old → is_short result ≡ false
-        → reply_text result ≡ tailed_reply (tailed (S.objects store.old) max offset.now) }
+fn read<S: Store>(alloc: Global, store: &mut S, max: u64, offset: &str, restore: bool) -> Reply
+    ensures told { S.is_reliable store.old → RestoresWell restore (S.objects store.old) → is_short result ≡ false
+        → reply_text result ≡ tailed_reply (tailed false (S.objects store.old) max offset.now) }
     ensures wants { is_short result ≡ true → reply_text result ≡ no_room_to_read }
     ensures untouched { S.objects store.new ≡ S.objects store.old }
     ensures reliable { S.is_reliable store.old → S.is_reliable store.new }
 {
-    match tail(alloc, store, max, offset) {
+    match tail(alloc, store, max, offset, restore) {
         Ok(text) => Reply::Bytes(text),
         Err(fault) => Reply::NotTailed(fault),
     }
 }
 
 // The reply to a line that puts a checkpoint.
-fn take_checkpoint<S: Store>(alloc: Global, store: &mut S) -> Reply
-    ensures told { S.is_reliable store.old → Grants (S.objects store.old) (task checkpoint) (reply_text result) (S.objects store.new) }
-    ensures whole { S.is_reliable store.old → is_short result ≡ false → IsGranted (S.objects store.old) (task checkpoint) (reply_text result) (S.objects store.new) }
-    ensures grows { S.is_reliable store.old → MayPut (S.objects store.old) (task checkpoint) (S.objects store.new) }
-    ensures short { is_short result ≡ true → IsShort (S.objects store.old) (task checkpoint) (reply_text result) }
+fn take_checkpoint<S: Store>(alloc: Global, store: &mut S, restore: bool) -> Reply
+    ensures told { S.is_reliable store.old → RestoresWell restore (S.objects store.old) → Grants (S.objects store.old) (task checkpoint) (reply_text result) (S.objects store.new) }
+    ensures whole { S.is_reliable store.old → RestoresWell restore (S.objects store.old) → is_short result ≡ false → IsGranted (S.objects store.old) (task checkpoint) (reply_text result) (S.objects store.new) }
+    ensures grows { S.is_reliable store.old → RestoresWell restore (S.objects store.old) → MayPut (S.objects store.old) (task checkpoint) (S.objects store.new) }
+    ensures short { RestoresWell restore (S.objects store.old) → is_short result ≡ true → IsShort (S.objects store.old) (task checkpoint) (reply_text result) }
     ensures reliable { S.is_reliable store.old → S.is_reliable store.new }
 {
-    match checkpoint(alloc, store, false) {
+    match checkpoint(alloc, store, restore) {
         Ok(version) => Reply::Checkpointed(version),
         Err(fault) => Reply::NoSnapshot(fault),
     }
 }
 
 // The reply to a line that asks for the snapshot.
-fn tell_snapshot<S: Store>(alloc: Global, store: &mut S) -> Reply
-    ensures told { S.is_reliable store.old → Grants (S.objects store.old) snapshot (reply_text result) (S.objects store.new) }
-    ensures whole { S.is_reliable store.old → is_short result ≡ false → IsGranted (S.objects store.old) snapshot (reply_text result) (S.objects store.new) }
-    ensures wants { is_short result ≡ true → reply_text result ≡ no_room_to_tell }
+fn tell_snapshot<S: Store>(alloc: Global, store: &mut S, restore: bool) -> Reply
+    ensures told { S.is_reliable store.old → RestoresWell restore (S.objects store.old) → Grants (S.objects store.old) snapshot (reply_text result) (S.objects store.new) }
+    ensures whole { S.is_reliable store.old → RestoresWell restore (S.objects store.old) → is_short result ≡ false → IsGranted (S.objects store.old) snapshot (reply_text result) (S.objects store.new) }
+    ensures wants { RestoresWell restore (S.objects store.old) → is_short result ≡ true → reply_text result ≡ no_room_to_tell }
     ensures untouched { S.objects store.new ≡ S.objects store.old }
     ensures reliable { S.is_reliable store.old → S.is_reliable store.new }
 {
-    match snapshot_core::snapshot(alloc, store, false) {
+    match snapshot_core::snapshot(alloc, store, restore) {
         Ok(text) => Reply::Bytes(text),
         Err(fault) => Reply::NoSnapshot(fault),
     }
@@ -246,13 +248,13 @@ fn put_foreign<S: Store>(alloc: Global, store: &mut S, version: u64, action: &st
 }
 
 // Does what a job asks for, and finds its reply.
-fn grant_job<S: Store>(alloc: Global, job: Job<'_>, store: &mut S) -> Reply
+fn grant_job<S: Store>(alloc: Global, job: Job<'_>, store: &mut S, restore: bool) -> Reply
     requires { IsTimelyTask (task_view job) }
-    ensures whole { S.is_reliable store.old → is_short result ≡ false
+    ensures whole { S.is_reliable store.old → RestoresWell restore (S.objects store.old) → is_short result ≡ false
         → IsGranted (S.objects store.old) (task (task_view job.entry)) (reply_text result) (S.objects store.new) }
-    ensures told { S.is_reliable store.old → Grants (S.objects store.old) (task (task_view job.entry)) (reply_text result) (S.objects store.new) }
-    ensures grows { S.is_reliable store.old → MayPut (S.objects store.old) (task (task_view job.entry)) (S.objects store.new) }
-    ensures short { is_short result ≡ true → IsShort (S.objects store.old) (task (task_view job.entry)) (reply_text result) }
+    ensures told { S.is_reliable store.old → RestoresWell restore (S.objects store.old) → Grants (S.objects store.old) (task (task_view job.entry)) (reply_text result) (S.objects store.new) }
+    ensures grows { S.is_reliable store.old → RestoresWell restore (S.objects store.old) → MayPut (S.objects store.old) (task (task_view job.entry)) (S.objects store.new) }
+    ensures short { RestoresWell restore (S.objects store.old) → is_short result ≡ true → IsShort (S.objects store.old) (task (task_view job.entry)) (reply_text result) }
     ensures reliable { S.is_reliable store.old → S.is_reliable store.new }
 {
     match job {
@@ -261,32 +263,33 @@ fn grant_job<S: Store>(alloc: Global, job: Job<'_>, store: &mut S) -> Reply
             number,
             at,
             ref rows,
-        } => append_batch(alloc, store, application, number, at, rows),
-        Job::Tail { max, offset } => read(alloc, store, max, offset),
-        Job::Checkpoint => take_checkpoint(alloc, store),
+        } => append_batch(alloc, store, application, number, at, rows, restore),
+        Job::Tail { max, offset } => read(alloc, store, max, offset, restore),
+        Job::Checkpoint => take_checkpoint(alloc, store, restore),
         Job::Close { .. } => Reply::Refused(Fault::NotYet),
     }
 }
 
 /// Does what a line asks for, and finds its reply.
-pub fn grant<S: Store>(alloc: Global, line: Line<'_>, store: &mut S) -> Reply
+pub fn grant<S: Store>(alloc: Global, line: Line<'_>, store: &mut S, restore: bool) -> Reply
     requires { IsTimely (wish_view line) }
     // What was asked for is told and done, and what was put is well made.
-    ensures whole { S.is_reliable store.old → is_short result ≡ false
+    ensures whole { S.is_reliable store.old → RestoresWell restore (S.objects store.old) → is_short result ≡ false
         → IsGranted (S.objects store.old) (wish_view line.entry) (reply_text result) (S.objects store.new) }
     // The line has its reply and effect, or is told of want of memory and leaves the objects as they
     // were, but for a batch's file.
-    ensures told { S.is_reliable store.old → Grants (S.objects store.old) (wish_view line.entry) (reply_text result) (S.objects store.new) }
+    ensures told { S.is_reliable store.old → RestoresWell restore (S.objects store.old) → Grants (S.objects store.old) (wish_view line.entry) (reply_text result) (S.objects store.new) }
     // However it ends, what it puts is well made.
-    ensures grows { S.is_reliable store.old → MayPut (S.objects store.old) (wish_view line.entry) (S.objects store.new) }
+    ensures grows { S.is_reliable store.old → RestoresWell restore (S.objects store.old) → MayPut (S.objects store.old) (wish_view line.entry) (S.objects store.new) }
     // A reply is short only where it tells so.
-    ensures short { is_short result ≡ true → IsShort (S.objects store.old) (wish_view line.entry) (reply_text result) }
+    ensures short { RestoresWell restore (S.objects store.old) → is_short result ≡ true → IsShort (S.objects store.old) (wish_view line.entry) (reply_text result) }
     ensures reliable { S.is_reliable store.old → S.is_reliable store.new }
+    ensures restores { S.is_reliable store.old → HasSoundCheckpoints (S.objects store.old) → HasSoundCheckpoints (S.objects store.new) }
 {
     match line {
         Line::Create { id, at, schema } => create_table(alloc, store, id, at, schema),
-        Line::Job(job) => grant_job(alloc, job, store),
-        Line::Snapshot => tell_snapshot(alloc, store),
+        Line::Job(job) => grant_job(alloc, job, store, restore),
+        Line::Snapshot => tell_snapshot(alloc, store, restore),
         Line::History => tell_history(alloc, store),
         Line::Show { version } => show(alloc, store, version),
         Line::Hex { name } => show_in_hex(alloc, store, name),

@@ -39,6 +39,7 @@ impl Log {
             alloc,
             snapshot: Snapshot::new(alloc),
             kept: table_log::Log {
+                start: None,
                 standing: Vec::new(alloc),
                 next: 0,
             },

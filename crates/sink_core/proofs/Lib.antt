@@ -1,7 +1,9 @@
 pub mod AppendLemmas
+pub mod Callers
 pub mod CommittedLemmas
 pub mod FileLemmas
 pub mod LogEnd
 pub mod RefusalLemmas
 pub mod RequestLemmas
+pub mod RestoredAppends
 pub mod RowLemmas

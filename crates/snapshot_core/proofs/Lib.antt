@@ -1,3 +1,4 @@
 pub mod Callers
 pub mod LogLemmas
 pub mod PutLemmas
+pub mod RestoredLaws

@@ -12,7 +12,7 @@ use Rattle.delta_replay.specs.Lists.{ListsClosed, ListsEach}
 use Rattle.delta_replay.specs.Support.{protocol_of, readable}
 use Rattle.table_log.specs.Counts.{commit_count}
 use Rattle.table_log.specs.Restoring.{seen}
-use Rattle.commit_core.specs.Creating.{IsPrinted}
+use Rattle.table_log.specs.SchemaTexts.{IsPrinted}
 
 -- a line is ended by a newline
 abbrev pub line_of : List ℕ → List ℕ

@@ -5,4 +5,8 @@ pub mod KeptTailPlace
 pub mod KeptTailSpot
 pub mod KeptTailWalk
 pub mod LogFiles
+pub mod LookedReads
+pub mod LookedSchemas
 pub mod OffsetLemmas
+pub mod PlaceLemmas
+pub mod RestoredReads

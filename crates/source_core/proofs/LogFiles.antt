@@ -147,6 +147,6 @@ first_in_force told version actions commits tells none = rw (tells, none_told co
 
 -- So a read goes by the first commit's schema, where the table is read.
 pub plain_schema_for : (told : Told) (schema : Tree) (place : Place) (actions : List Entry) (commits : List (List Entry)) → readable (actions ∷ commits) ≡ Ok schema → told_at (commit actions) ≡ Some told → TellNone commits
-    → schema_for (map commit (actions ∷ commits)) place ≡ Ok told
+    → schema_for None (map commit (actions ∷ commits)) place ≡ Ok told
 unfolding schema_for
 plain_schema_for told schema place actions commits reads tells none = rw (plain_front commits, reads, tells, none_told commits none place.version) refl

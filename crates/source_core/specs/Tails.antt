@@ -1,6 +1,6 @@
 -- What reads hand out that follow one another over objects that stay as they are: each begins where the one before
--- ended.
-use Rattle.std.specs.Prelude.{◌≡◌, ℕ, ◌<◌, List, [], ◌∷◌, ◌++◌, length, take, Result, Ok, Err, IsOk}
+-- ended. They are told by all commits; where checkpoints are sound, a read from a checkpoint hands out the same.
+use Rattle.std.specs.Prelude.{◌≡◌, ℕ, ◌<◌, false, List, [], ◌∷◌, ◌++◌, length, take, Result, Ok, Err, IsOk}
 use Rattle.store_core.specs.Objects.{Objects}
 use Rattle.table_model.specs.Reads.{position}
 use Rattle.table_model.specs.Resumed.{beginning}
@@ -32,7 +32,7 @@ with_earlier before later = record { rows = before ++ later.rows; next = later.n
 -- before ended.
 unfoldable pub tails : Objects → List ℕ → Place → Tails
 tails objects [] place = record { rows = []; next = place }
-tails objects (max ∷ limits) place = with_earlier (rows_handed (read_by objects max place)) (tails objects limits (place_after place (read_by objects max place)))
+tails objects (max ∷ limits) place = with_earlier (rows_handed (read_by false objects max place)) (tails objects limits (place_after place (read_by false objects max place)))
 
 -- ---- laws on tails
 
@@ -46,9 +46,9 @@ HandOutTheLog objects entries = (limits : List ℕ) →
 -- Where the last read handed out fewer rows than its limit, they hand out all rows.
 abbrev pub HandOutAll : Objects → List Entry → Type 0
 HandOutAll objects entries = (earlier : List ℕ) (max : ℕ) →
-    length (rows_handed (read_by objects max (tails objects earlier beginning).next)) < max →
+    length (rows_handed (read_by false objects max (tails objects earlier beginning).next)) < max →
     (tails objects (earlier ++ max ∷ []) beginning).rows ≡ rows entries
 
 -- None of them is refused.
 abbrev pub AreAnswered : Objects → Type 0
-AreAnswered objects = (earlier : List ℕ) (max : ℕ) → IsOk (read_by objects max (tails objects earlier beginning).next)
+AreAnswered objects = (earlier : List ℕ) (max : ℕ) → IsOk (read_by false objects max (tails objects earlier beginning).next)

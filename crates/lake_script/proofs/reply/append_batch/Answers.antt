@@ -1,22 +1,85 @@
-use Rattle.std.proofs.Common.{rules, ◌≡◌, ◌⊎◌, []}
+use Rattle.std.proofs.Common.{rules, ◌≡◌, ◌≢◌, false, inl, Err, ap, subst, ◌∙◌, sym}
+use Rattle.std.specs.Str.{IsUtf8}
+use Rattle.lake_bytes.specs.Outcome.{IsSaid}
 use Rattle.serde_json.specs.View.{items_view}
-use Rattle.lake_script.specs.Lines.{append, task}
-use Rattle.lake_script.specs.ReplyView.{reply_text}
-use Rattle.lake_script.specs.Runs.{IsWantOfMemory, MayLeave}
-use Rattle.lake_script.specs.Told.{reply_to_wish, left_by_wish}
-use Rattle.lake_script.specs.declared.reply.Reply.TheVariants.{NotAppended}
-use Rattle.lake_script.proofs.RunsLemmas.{append_short, granted_without_text}
+use Rattle.sink_core.specs.Appending.{with_append, MayAppend, MayHoldFile, PutsWell}
+use Rattle.sink_core.specs.Puts.{IsSaidBy}
+use Rattle.sink_core.specs.Refusals.{refusal_view, says}
+use Rattle.sink_core.proofs.Callers.{appended_alike, settled_alike}
+use Rattle.lake_script.proofs.RestoredLemmas.{append_granted, append_refusal_granted, append_refusal_told, has_append, kept_memory}
+use Rattle.lake_script.proofs.RunsLemmas.{append_short}
 use Rattle.lake_script.proofs.reply.append_batch.Goals as goal
 
-pub returns-in-Err-clause-told : goal.returns-in-Err-clause-told
-returns-in-Err-clause-told g c = λ reliable.
-    let wish = task (append c.args.application.now c.args.number c.args.at (items_view c.args.rows.now)) in
+pub returns-in-Ok-clause-told : goal.returns-in-Ok-clause-told
+returns-in-Ok-clause-told g c = λ reliable well.
     let objects = g.S.Store.objects c.args.store.now in
     let after = g.S.Store.objects c.append.new.store in
-    let reply = reply_text (NotAppended c.in-Err.fault) in
-    let is : ((reply ≡ reply_to_wish objects wish []) × (after ≡ left_by_wish objects wish [])) ⊎ (IsWantOfMemory wish reply × MayLeave objects wish after) = search rules in
-    granted_without_text objects wish reply after tt is
+    let items = items_view c.args.rows.now in
+    let said = appended_alike c.args.restore objects well c.args.application.now c.args.number c.args.at items in
+    let step = settled_alike c.args.restore objects well c.args.application.now c.args.number c.args.at items in
+    has_append objects c.args.application.now c.args.number c.args.at items after (c.in-Ok.ensures.left reliable (λ wrong. cc) ∙ ap (with_append objects) step) c.in-Ok.answer (sym said ∙ c.in-Ok.ensures.told reliable)
+
+pub returns-in-Ok-clause-whole : goal.returns-in-Ok-clause-whole
+returns-in-Ok-clause-whole g c = λ reliable well enough.
+    let objects = g.S.Store.objects c.args.store.now in
+    let after = g.S.Store.objects c.append.new.store in
+    let application = c.args.application.now in
+    let items = items_view c.args.rows.now in
+    let said = appended_alike c.args.restore objects well application c.args.number c.args.at items in
+    let step = settled_alike c.args.restore objects well application c.args.number c.args.at items in
+    let text : IsUtf8 application = search rules in
+    let made = subst (PutsWell application c.args.number c.args.at) step (c.in-Ok.ensures.well_put reliable (λ wrong. cc)) in
+    append_granted objects application c.args.number c.args.at items after (c.in-Ok.ensures.left reliable (λ wrong. cc) ∙ ap (with_append objects) step) text made c.in-Ok.answer (sym said ∙ c.in-Ok.ensures.told reliable)
+
+pub returns-in-Ok-clause-grows : goal.returns-in-Ok-clause-grows
+returns-in-Ok-clause-grows g c = λ reliable well.
+    let objects = g.S.Store.objects c.args.store.now in
+    let application = c.args.application.now in
+    let step = settled_alike c.args.restore objects well application c.args.number c.args.at (items_view c.args.rows.now) in
+    let text : IsUtf8 application = search rules in
+    (text, subst (λ step. MayAppend application c.args.number c.args.at step objects (g.S.Store.objects c.append.new.store)) step c.in-Ok.ensures.grows)
+
+pub returns-in-Err-clause-told : goal.returns-in-Err-clause-told
+returns-in-Err-clause-told g c = λ reliable well.
+    let objects = g.S.Store.objects c.args.store.now in
+    let after = g.S.Store.objects c.append.new.store in
+    let application = c.args.application.now in
+    let items = items_view c.args.rows.now in
+    let fault = c.in-Err.fault in
+    let said = appended_alike c.args.restore objects well application c.args.number c.args.at items in
+    let step = settled_alike c.args.restore objects well application c.args.number c.args.at items in
+    append_refusal_told objects application c.args.number c.args.at items after fault
+    (subst (IsSaid (says (refusal_view fault))) said (c.in-Err.ensures.told reliable))
+    (λ other. c.in-Err.ensures.left reliable (λ wrong. other cc) ∙ ap (with_append objects) step)
+    (λ memory. subst (λ step. MayHoldFile objects step after) step (c.in-Err.ensures.short reliable (ap Err memory)))
+    (λ version lost. c.in-Err.ensures.never_lost reliable version (ap Err lost))
+
+pub returns-in-Err-clause-whole : goal.returns-in-Err-clause-whole
+returns-in-Err-clause-whole g c = λ reliable well enough.
+    let objects = g.S.Store.objects c.args.store.now in
+    let after = g.S.Store.objects c.append.new.store in
+    let application = c.args.application.now in
+    let items = items_view c.args.rows.now in
+    let fault = c.in-Err.fault in
+    let said = appended_alike c.args.restore objects well application c.args.number c.args.at items in
+    let step = settled_alike c.args.restore objects well application c.args.number c.args.at items in
+    let text : IsUtf8 application = search rules in
+    let made = subst (PutsWell application c.args.number c.args.at) step (c.in-Err.ensures.well_put reliable (λ wrong. kept_memory fault enough cc)) in
+    append_refusal_granted objects application c.args.number c.args.at items after (c.in-Err.ensures.left reliable (λ wrong. kept_memory fault enough cc) ∙ ap (with_append objects) step) text made fault
+    (subst (IsSaid (says (refusal_view fault))) said (c.in-Err.ensures.told reliable)) enough (λ version lost. c.in-Err.ensures.never_lost reliable version (ap Err lost))
+
+pub returns-in-Err-clause-grows : goal.returns-in-Err-clause-grows
+returns-in-Err-clause-grows g c = λ reliable well.
+    let objects = g.S.Store.objects c.args.store.now in
+    let application = c.args.application.now in
+    let step = settled_alike c.args.restore objects well application c.args.number c.args.at (items_view c.args.rows.now) in
+    let text : IsUtf8 application = search rules in
+    (text, subst (λ step. MayAppend application c.args.number c.args.at step objects (g.S.Store.objects c.append.new.store)) step c.in-Err.ensures.grows)
 
 pub returns-in-Err-clause-short : goal.returns-in-Err-clause-short
-returns-in-Err-clause-short g c = λ short.
-    append_short c.in-Err.fault (g.S.Store.objects c.args.store.now) c.args.application.now c.args.number c.args.at (items_view c.args.rows.now) short c.in-Err.ensures.refusals
+returns-in-Err-clause-short g c = λ well short.
+    let objects = g.S.Store.objects c.args.store.now in
+    let application = c.args.application.now in
+    let items = items_view c.args.rows.now in
+    let step = settled_alike c.args.restore objects well application c.args.number c.args.at items in
+    append_short c.in-Err.fault objects application c.args.number c.args.at items short (subst (λ step. IsSaidBy step c.in-Err.fault) step c.in-Err.ensures.refusals)

@@ -1,0 +1,2 @@
+-- The lemmas that proofs of other crates may cite.
+pub use Rattle.lake_script.proofs.RestoredLemmas.{well_of_empty}

@@ -1,0 +1,114 @@
+-- Of a log that is read from sound checkpoints what is told and left is what all its commits say.
+use Rattle.std.proofs.Common.{◌≡◌, ◌≢◌, ℕ, Bool, true, false, List, [], Option, Result, Ok, Err, inl, inr, refl, sym, ap, subst, ◌∙◌}
+use Rattle.std.specs.Str.{IsUtf8}
+use Rattle.serde_json.specs.Data.{Items}
+use Rattle.lake_bytes.specs.Outcome.{IsSaid}
+use Rattle.lake_bytes.specs.Results.{◌>>=◌}
+use Rattle.store_core.specs.Objects.{Objects}
+use Rattle.table_log.specs.Restoring.{HasSoundCheckpoints, RestoresWell}
+use Rattle.commit_core.specs.Texts.{refused, line_of}
+use Rattle.sink_core.specs.Appending.{Step, appended_by, answered, settled, with_append, MayHoldFile, PutsWell}
+use Rattle.sink_core.specs.Refusals.{Refusal, refusal_text, refusal_view, says, file_too_large}
+use Rattle.sink_core.specs.declared.appending.Appended.{Appended}
+use Rattle.sink_core.specs.declared.appending.Appended.TheVariants.{Committed, Already}
+use Rattle.sink_core.specs.declared.refusal.AppendFault.{AppendFault}
+use Rattle.sink_core.specs.declared.refusal.AppendFault.TheVariants as faults
+use Rattle.lake_script.specs.declared.reply.Reply.TheVariants as replies
+use Rattle.lake_script.specs.declared.reply.Reply.TheVariants.{NotAppended}
+use Rattle.lake_script.specs.Lines.{append, task}
+use Rattle.lake_script.specs.ReplyView.{reply_text, is_short}
+use Rattle.lake_script.specs.Runs.{Grants}
+use Rattle.lake_script.specs.Sound.{IsGranted}
+use Rattle.lake_script.specs.Told.{appended_reply}
+use Rattle.table_log.proofs.Callers.{sound_empty}
+
+-- in an empty store no checkpoint stands
+pub well_of_empty : (restore : Bool) (objects : Objects) → objects ≡ [] → RestoresWell restore objects
+well_of_empty restore objects empty = λ is. subst HasSoundCheckpoints (sym empty) sound_empty
+
+-- where checkpoints go on to be sound, a log goes on to be read from them
+pub still_well : (restore : Bool) (old new : Objects) → RestoresWell restore old → (HasSoundCheckpoints old → HasSoundCheckpoints new) → RestoresWell restore new
+still_well restore old new well sound = λ is. sound (well is)
+
+-- ---- an append
+
+-- what the code answers is told
+answer_text : (answer : Appended) → reply_text (replies.Appended answer) ≡ appended_reply (Ok answer)
+answer_text (Committed version) = refl
+answer_text (Already number) = refl
+
+-- an append that is answered has no file that is too large, and one that has is told so
+not_large : (step : Result Step Refusal) (objects : Objects) (number : ℕ) (answer : Appended) → (step >>= answered objects number) ≡ Ok answer → step ≢ Err file_too_large
+not_large (Ok step) objects number answer told = λ wrong. cc
+not_large (Err refusal) objects number answer told = absurd cc
+
+large_told : (step : Result Step Refusal) (objects : Objects) (number : ℕ) → step ≡ Err file_too_large → (step >>= answered objects number) ≡ Err file_too_large
+large_told (Ok step) objects number large = absurd cc
+large_told (Err refusal) objects number large = let is : refusal ≡ file_too_large = cc in ap Err is
+
+-- a refusal that isn't short isn't for want of memory
+pub kept_memory : (fault : AppendFault) → is_short (NotAppended fault) ≡ false → fault ≢ faults.Memory
+kept_memory faults.Memory enough = absurd cc
+kept_memory _ enough = λ wrong. cc
+
+module _ (objects : Objects) (application : List ℕ) (number at : ℕ) (items : Items) (after : Objects) where
+  module _ (left : after ≡ with_append objects (settled false objects application number at items)) (text : IsUtf8 application) (made : PutsWell application number at (settled false objects application number at items)) where
+    -- a batch that is appended, or stands already, is told so
+    pub append_granted : (answer : Appended) → appended_by false objects application number at items ≡ Ok answer → IsGranted objects (task (append application number at items)) (reply_text (replies.Appended answer)) after
+    append_granted answer told = record {
+      text = [];
+      printed = tt;
+      told = answer_text answer ∙ ap appended_reply (sym told);
+      left = left;
+      sound = (text, made, not_large (settled false objects application number at items) objects number answer told);
+    }
+
+    -- so is a refusal
+    refused_granted : (refusal : Refusal) → appended_by false objects application number at items ≡ Err refusal → refusal ≢ file_too_large → IsGranted objects (task (append application number at items)) (line_of (refused (refusal_text refusal))) after
+    refused_granted refusal told small = record {
+      text = [];
+      printed = tt;
+      told = ap appended_reply (sym told);
+      left = left;
+      sound = (text, made, λ large. small (let is = sym told ∙ large_told (settled false objects application number at items) objects number large in cc));
+    }
+
+    -- each that isn't short
+    pub append_refusal_granted : (fault : AppendFault) → IsSaid (says (refusal_view fault)) (appended_by false objects application number at items) → is_short (NotAppended fault) ≡ false → ((version : Option ℕ) → fault ≢ faults.Lost version)
+        → IsGranted objects (task (append application number at items)) (reply_text (NotAppended fault)) after
+    append_refusal_granted faults.BadApp said enough kept = refused_granted _ said (λ wrong. cc)
+    append_refusal_granted faults.TooLarge said enough kept = refused_granted _ said (λ wrong. cc)
+    append_refusal_granted faults.FileTooLarge said enough kept = absurd cc
+    append_refusal_granted (faults.BadLog version) said enough kept = refused_granted _ said (λ wrong. cc)
+    append_refusal_granted (faults.ReadOnly fault) said enough kept = refused_granted _ said (λ wrong. cc)
+    append_refusal_granted (faults.BadRow index fault) said enough kept = refused_granted _ said (λ wrong. cc)
+    append_refusal_granted (faults.Stale last) said enough kept = refused_granted _ said (λ wrong. cc)
+    append_refusal_granted faults.StreamClosed said enough kept = refused_granted _ said (λ wrong. cc)
+    append_refusal_granted (faults.Differs name) said enough kept = refused_granted _ said (λ wrong. cc)
+    append_refusal_granted (faults.Contended version) said enough kept = refused_granted _ said (λ wrong. cc)
+    append_refusal_granted (faults.Lost version) said enough kept = absurd (kept version refl)
+    append_refusal_granted faults.Memory said enough kept = absurd cc
+
+  module _ (left : after ≡ with_append objects (settled false objects application number at items)) where
+    pub has_append : (answer : Appended) → appended_by false objects application number at items ≡ Ok answer → Grants objects (task (append application number at items)) (reply_text (replies.Appended answer)) after
+    has_append answer told = inl ([], tt, answer_text answer ∙ ap appended_reply (sym told), left)
+
+    has_refused : (refusal : Refusal) → appended_by false objects application number at items ≡ Err refusal → Grants objects (task (append application number at items)) (line_of (refused (refusal_text refusal))) after
+    has_refused refusal told = inl ([], tt, ap appended_reply (sym told), left)
+
+  -- an append that is refused is told so, or of want of memory
+  pub append_refusal_told : (fault : AppendFault) → IsSaid (says (refusal_view fault)) (appended_by false objects application number at items) → (fault ≢ faults.Memory → after ≡ with_append objects (settled false objects application number at items))
+      → (fault ≡ faults.Memory → MayHoldFile objects (settled false objects application number at items) after) → ((version : Option ℕ) → fault ≢ faults.Lost version)
+      → Grants objects (task (append application number at items)) (reply_text (NotAppended fault)) after
+  append_refusal_told faults.BadApp said left short kept = has_refused (left (λ wrong. cc)) _ said
+  append_refusal_told faults.TooLarge said left short kept = has_refused (left (λ wrong. cc)) _ said
+  append_refusal_told faults.FileTooLarge said left short kept = has_refused (left (λ wrong. cc)) _ said
+  append_refusal_told (faults.BadLog version) said left short kept = has_refused (left (λ wrong. cc)) _ said
+  append_refusal_told (faults.ReadOnly fault) said left short kept = has_refused (left (λ wrong. cc)) _ said
+  append_refusal_told (faults.BadRow index fault) said left short kept = has_refused (left (λ wrong. cc)) _ said
+  append_refusal_told (faults.Stale last) said left short kept = has_refused (left (λ wrong. cc)) _ said
+  append_refusal_told faults.StreamClosed said left short kept = has_refused (left (λ wrong. cc)) _ said
+  append_refusal_told (faults.Differs name) said left short kept = has_refused (left (λ wrong. cc)) _ said
+  append_refusal_told (faults.Contended version) said left short kept = has_refused (left (λ wrong. cc)) _ said
+  append_refusal_told (faults.Lost version) said left short kept = absurd (kept version refl)
+  append_refusal_told faults.Memory said left short kept = inr (refl, short refl)

@@ -1,0 +1,94 @@
+-- What a line puts leaves each checkpoint that reads well one of the log's commits.
+use Rattle.std.proofs.Common.{◌≡◌, ◌⊎◌, inl, inr, ℕ, List, None, Bool, true, false, Result, Ok, Err, refl, sym, ap, subst, ◌∙◌, if◌then◌else◌}
+use Rattle.serde_json.specs.Data.{Items}
+use Rattle.lake_bytes.specs.Results.{◌>>=◌}
+use Rattle.store_core.specs.Objects.{Objects, with_object}
+use Rattle.table_log.specs.Names.{commit_name}
+use Rattle.table_log.specs.Restoring.{HasSoundCheckpoints, checkpoint_version}
+use Rattle.commit_core.specs.Creating as creations
+use Rattle.commit_core.specs.Creating.{with_creation, commit_from}
+use Rattle.sink_core.specs.Appending.{Batch, Request, Step, puts, stands, batch_of, file_name, file_or_refusal, fitting, new_step, repeated_step, request_of, settled, step_of, unless_other, where_same, with_append, with_file_alone, MayAppend}
+use Rattle.sink_core.specs.Refusals.{Refusal}
+use Rattle.lake_script.specs.Growth.{MayPut}
+use Rattle.lake_script.specs.Lines.{append, checkpoint, Wish, create, task, foreign}
+use Rattle.snapshot_core.proofs.Callers.{put_sound}
+use Rattle.table_log.proofs.Callers.{commit_is_none, data_file_is_none, sound_beside}
+use Rattle.lake_script.proofs.KeptNames.{same_file_name}
+
+-- a creation
+created_sound : (objects : Objects) (commit : Result (List ℕ) creations.Refusal) → HasSoundCheckpoints objects → HasSoundCheckpoints (with_creation objects commit)
+created_sound objects (Ok bytes) sound = sound_beside objects (commit_name 0) bytes (commit_is_none 0) sound
+created_sound objects (Err refusal) sound = sound
+
+-- ---- an append puts its batch's file under the batch's own name
+
+-- a step that puts a batch has that name
+abbrev HasName : List ℕ → Result Step Refusal → Type 0
+HasName name (Ok (puts batch)) = batch.name ≡ name
+HasName name (Ok stands) = Unit {0}
+HasName name (Err refusal) = Unit {0}
+
+fitted : (name : List ℕ) (batch : Batch) (fits : Result (Unit {0}) Refusal) → batch.name ≡ name → HasName name (fits >>= λ fine. Ok (puts batch))
+fitted name batch (Ok fine) is = is
+fitted name batch (Err refusal) is = tt
+
+by_batch : (objects : Objects) (name : List ℕ) (made : Result Batch Refusal) → ((batch : Batch) → made ≡ Ok batch → batch.name ≡ name) → HasName name (made >>= fitting objects)
+by_batch objects name (Ok batch) all = fitted name batch (unless_other batch.schema batch.rows batch.name _) (all batch refl)
+by_batch objects name (Err refusal) all = tt
+
+made_named : (name : List ℕ) (small : Result (Unit {0}) Refusal) (file : Result (List ℕ) Refusal) (make : List ℕ → Batch) → ((bytes : List ℕ) → (make bytes).name ≡ name) → (batch : Batch)
+    → (small >>= λ fine. file >>= λ bytes. Ok (make bytes)) ≡ Ok batch → batch.name ≡ name
+made_named name (Err refusal) file make all batch is = cc
+made_named name (Ok fine) (Err refusal) make all batch is = cc
+made_named name (Ok fine) (Ok bytes) make all batch is = let same : make bytes ≡ batch = cc in ap (λ b. b.name) (sym same) ∙ all bytes
+
+batch_named : (request : Request) (application : List ℕ) (number at : ℕ) (batch : Batch) → batch_of request application number at ≡ Ok batch → batch.name ≡ file_name application number
+unfolding batch_of
+batch_named request application number at batch is = made_named (file_name application number) _ _ _ (λ bytes. refl) batch is
+
+repeated_named : (name : List ℕ) (same : Result (Unit {0}) Refusal) → HasName name (same >>= λ fine. Ok stands)
+repeated_named name (Ok fine) = tt
+repeated_named name (Err refusal) = tt
+
+chosen : (name : List ℕ) (repeats : Bool) (one other : Result Step Refusal) → HasName name one → HasName name other → HasName name (if repeats then one else other)
+chosen name true one other is was = is
+chosen name false one other is was = was
+
+settled_by : (objects : Objects) (application : List ℕ) (number at : ℕ) (request : Result Request Refusal) → HasName (file_name application number) (request >>= step_of objects application number at)
+settled_by objects application number at (Ok request) =
+    chosen (file_name application number) request.repeats (repeated_step objects request application number) (new_step objects request application number at)
+    (repeated_named _ (where_same request.schema request.rows (file_name application number) _))
+    (by_batch objects (file_name application number) (batch_of request application number at) (batch_named request application number at))
+settled_by objects application number at (Err refusal) = tt
+
+no_checkpoint : (application : List ℕ) (number : ℕ) (name : List ℕ) → name ≡ file_name application number → checkpoint_version name ≡ None
+no_checkpoint application number name is = ap checkpoint_version (is ∙ same_file_name application number) ∙ data_file_is_none application number
+
+file_sound : (objects : Objects) (application : List ℕ) (number : ℕ) (step : Result Step Refusal) → HasName (file_name application number) step → HasSoundCheckpoints objects → HasSoundCheckpoints (with_file_alone objects step)
+file_sound objects application number (Ok (puts batch)) named sound = sound_beside objects batch.name batch.file (no_checkpoint application number batch.name named) sound
+file_sound objects application number (Ok stands) named sound = sound
+file_sound objects application number (Err refusal) named sound = sound
+
+append_sound : (objects : Objects) (application : List ℕ) (number : ℕ) (step : Result Step Refusal) → HasName (file_name application number) step → HasSoundCheckpoints objects → HasSoundCheckpoints (with_append objects step)
+append_sound objects application number (Ok (puts batch)) named sound =
+    sound_beside (with_object objects batch.name batch.file) (commit_name batch.version) batch.commit (commit_is_none batch.version)
+    (sound_beside objects batch.name batch.file (no_checkpoint application number batch.name named) sound)
+append_sound objects application number (Ok stands) named sound = sound
+append_sound objects application number (Err refusal) named sound = sound
+
+by_append : (old new : Objects) (application : List ℕ) (number at : ℕ) (step : Result Step Refusal) → HasName (file_name application number) step → MayAppend application number at step old new → HasSoundCheckpoints old → HasSoundCheckpoints new
+by_append old new application number at step named (inl same) sound = subst HasSoundCheckpoints (sym same) sound
+by_append old new application number at step named (inr (well, inl alone)) sound = subst HasSoundCheckpoints (sym alone) (file_sound old application number step named sound)
+by_append old new application number at step named (inr (well, inr whole)) sound = subst HasSoundCheckpoints (sym whole) (append_sound old application number step named sound)
+
+-- what a line asks for
+pub puts_sound : (old : Objects) (wish : Wish) (new : Objects) → MayPut old wish new → HasSoundCheckpoints old → HasSoundCheckpoints new
+puts_sound old (create id at schema) new (inl same) sound = subst HasSoundCheckpoints (sym same) sound
+puts_sound old (create id at schema) new (inr (printed, put)) sound = subst HasSoundCheckpoints (sym put.1) (created_sound old (commit_from id at schema printed) sound)
+puts_sound old (task (append application number at items)) new put sound =
+    by_append old new application number at (settled false old application number at items) (settled_by old application number at (request_of false old application number items)) put.1 sound
+puts_sound old (task checkpoint) new (inl same) sound = subst HasSoundCheckpoints (sym same) sound
+puts_sound old (task checkpoint) new (inr (version, put)) sound = subst HasSoundCheckpoints (sym put.put) (put_sound old version put.name put.bytes put.puts sound)
+puts_sound old (foreign version action) new (inl same) sound = subst HasSoundCheckpoints (sym same) sound
+puts_sound old (foreign version action) new (inr put) sound = subst HasSoundCheckpoints (sym put) (sound_beside old (commit_name version) _ (commit_is_none version) sound)
+puts_sound old _ new same sound = subst HasSoundCheckpoints (sym same) sound

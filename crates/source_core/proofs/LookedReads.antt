@@ -1,0 +1,71 @@
+-- A read looks at no version before its place: it hands out the same where those count as missing.
+use Rattle.std.proofs.Common.{◌≡◌, ◌<◌, ◌≤◌, ◌+◌, ℕ, zero, suc, List, [], ◌∷◌, ◌++◌, map, Option, Some, None, refl, sym, ap, ◌∙◌, arith}
+use Rattle.std.specs.Prelude.{slice_get}
+use Rattle.std.proofs.lemmas.Bool.{le-ltb, lt-ltb}
+use Rattle.delta_actions.specs.Kinds.{Path}
+use Rattle.store_core.specs.Objects.{Objects}
+use Rattle.table_log.specs.FromCheckpoints.{from_version}
+use Rattle.table_log.specs.InForce.{Told}
+use Rattle.table_log.specs.Reads.{first_from}
+use Rattle.table_log.specs.Versions.{Version, missing, unreadable, commit}
+use Rattle.table_log.proofs.Callers.{length-from_version}
+use Rattle.table_model.specs.declared.reading.Place.{Place}
+use Rattle.source_core.specs.Tailing.{Item, Refusal, data_file, fault_of, handed_by, items_from, items_in, numbered, paths_in, unless_gone}
+use Rattle.source_core.proofs.ItemLemmas.{fault_passed, kept, kept_both}
+
+-- what stands at a place's version
+got_alike : (n at : ℕ) (versions : List Version) → n ≤ at → slice_get (from_version n versions) at ≡ slice_get versions at
+got_alike zero at versions le = refl
+got_alike (suc n) at [] le = refl
+got_alike (suc n) zero (found ∷ more) le = absurd (omega (arith, le))
+got_alike (suc n) (suc at) (found ∷ more) le = got_alike n at more (omega (arith, le))
+
+-- ---- the first version from which on none is missing
+
+module _ (place : Place) where
+  -- where it isn't behind the place, none is gone
+  none_gone : (at other from : ℕ) (versions : List Version) → at ≤ place.version → other ≤ place.version → unless_gone place (first_from at from versions) ≡ unless_gone place (first_from other from versions)
+  none_gone at other from [] le also = rw (le-ltb place.version at le, le-ltb place.version other also) refl
+  none_gone at other from (missing ∷ more) le also = refl
+  none_gone at other from (unreadable ∷ more) le also = none_gone at other (suc from) more le also
+  none_gone at other from (commit actions ∷ more) le also = none_gone at other (suc from) more le also
+
+  gone_alike : (n at from : ℕ) (versions : List Version) → at ≤ from → from + n ≤ place.version → unless_gone place (first_from at from (from_version n versions)) ≡ unless_gone place (first_from at from versions)
+  gone_alike zero at from versions le short = refl
+  gone_alike (suc n) at from [] le short = refl
+  gone_alike (suc n) at from (missing ∷ more) le short = gone_alike n (suc from) (suc from) more (omega arith) (omega (arith, short))
+  gone_alike (suc n) at from (unreadable ∷ more) le short =
+      gone_alike n (suc from) (suc from) more (omega arith) (omega (arith, short)) ∙ none_gone (suc from) at (suc from) more (omega (arith, short)) (omega (arith, le, short))
+  gone_alike (suc n) at from (commit actions ∷ more) le short =
+      gone_alike n (suc from) (suc from) more (omega arith) (omega (arith, short)) ∙ none_gone (suc from) at (suc from) more (omega (arith, short)) (omega (arith, le, short))
+
+-- ---- the items from a place on
+
+-- the files of an earlier version are passed over
+files_passed : (place : Place) (version file : ℕ) (paths : List Path) → version < place.version → kept place (map data_file (numbered version file paths)) ≡ []
+files_passed place version file [] below = refl
+files_passed place version file (path ∷ paths) below = rw (lt-ltb version place.version below) (files_passed place version (suc file) paths below)
+
+-- and so are all its items
+items_passed : (place : Place) (version : ℕ) (fault : Option Refusal) (paths : List Path) → version < place.version → kept place (items_in version fault paths) ≡ []
+items_passed place version (Some refusal) paths below = fault_passed place version refusal paths below
+items_passed place version None paths below = files_passed place version 0 paths below
+
+module _ (told : Told) (place : Place) where
+  first_passed : (version : ℕ) (found : Version) (others : List Item) → version < place.version → kept place (items_in version (fault_of told place version found) (paths_in found) ++ others) ≡ kept place others
+  first_passed version found others below =
+      kept_both place (items_in version (fault_of told place version found) (paths_in found)) others
+      ∙ ap (λ (front : List Item). front ++ kept place others) (items_passed place version (fault_of told place version found) (paths_in found) below)
+
+  items_alike : (n from : ℕ) (versions : List Version) → from + n ≤ place.version → kept place (items_from told place from (from_version n versions)) ≡ kept place (items_from told place from versions)
+  items_alike zero from versions short = refl
+  items_alike (suc n) from [] short = refl
+  items_alike (suc n) from (found ∷ more) short =
+      first_passed from missing (items_from told place (suc from) (from_version n more)) (omega (arith, short))
+      ∙ (items_alike n (suc from) more (omega (arith, short)) ∙ sym (first_passed from found (items_from told place (suc from) more) (omega (arith, short))))
+
+-- What is handed out is the same.
+pub handed_alike : (objects : Objects) (told : Told) (n : ℕ) (versions : List Version) (max : ℕ) (place : Place) → n ≤ place.version → handed_by objects told (from_version n versions) max place ≡ handed_by objects told versions max place
+unfolding handed_by
+handed_alike objects told n versions max place le =
+    rw (length-from_version n versions, gone_alike place n 0 0 versions (omega arith) (omega (arith, le)), got_alike n place.version versions le, items_alike told place n 0 versions (omega (arith, le))) refl
