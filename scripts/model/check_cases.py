@@ -166,7 +166,7 @@ def script_answer(case: ScriptCase) -> list[str]:
         raise NotModelled("a script that is no text") from error
     of_log = re.search("^(foreign |checkpoint$|snapshot$)", script, re.MULTILINE)
     is_plain = not case.objects and of_log is None
-    table = Table() if is_plain else Log(case.objects)
+    table = Table() if is_plain else Log(case.objects, "replays" not in words)
     for line in script.split("\n"):
         if line.strip(" \t\r") and not line.startswith("#"):
             told += table.answer(line)

@@ -5,11 +5,12 @@ By Delta's PROTOCOL.md ("V2 Spec", "Action Reconciliation") and the rules on nam
 """
 
 from collections.abc import Callable, Iterator
+from functools import lru_cache
 from typing import Any
 import re
 import uuid
 
-from actions import Action, closed_by, key_of, last_of
+from actions import Action, actions_of, closed_by, key_of, last_of
 from snapshot import Snapshot
 from table import compact
 
@@ -29,6 +30,15 @@ def checkpoint_name(version: int, table_id: str) -> str:
         space = uuid.UUID(int=0)
     own = uuid.uuid5(space, f"checkpoint {version}")
     return f"_delta_log/{version:020}.checkpoint.{own}.json"
+
+
+@lru_cache(maxsize=None)
+def checkpoint_in(content: bytes, version: int) -> list[Action] | None:
+    """The actions of a version's checkpoint, or None where its bytes aren't one that reads well."""
+    actions = actions_of(content) or []
+    told = [action.fields["version"] for action in actions if action.key == "checkpointMetadata"]
+    has_sidecar = any(action.key == "sidecar" for action in actions)
+    return None if set(told) != {version} or has_sidecar else actions
 
 
 def unput(snapshot: Snapshot) -> str | None:

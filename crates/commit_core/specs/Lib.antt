@@ -1,4 +1,5 @@
 pub mod Commits
 pub mod Creating
 pub mod Histories
+pub mod Sound
 pub mod Texts

@@ -1,5 +1,5 @@
--- However the lines of a script end, they leave a lawful store, where none puts another tool's commit.
-use Rattle.std.proofs.Common.{◌≡◌, ◌⊎◌, inl, inr, ℕ, suc, ◌+◌, ◌≤◌, ◌^◌, List, [], ◌∷◌, length, Option, None, Some, IfSome, Result, Ok, Err, false, refl, sym, ap, subst, ◌∙◌, arith}
+-- However the lines of a script end, they leave a sound store, where none puts another tool's commit.
+use Rattle.std.proofs.Common.{◌≡◌, ◌⊎◌, inl, inr, ℕ, suc, ◌+◌, ◌≤◌, ◌^◌, List, [], ◌∷◌, length, Option, None, Some, IfSome, Result, Ok, Err, Bool, true, false, refl, sym, ap, subst, ◌∙◌, arith}
 use Rattle.std.specs.Prelude.{is_some}
 use Rattle.std.specs.Str.{IsUtf8}
 use Rattle.serde_json.specs.Data.{Items}
@@ -7,17 +7,19 @@ use Rattle.delta_actions.specs.Commit.{lines_of}
 use Rattle.delta_actions.specs.Entry.{Entry}
 use Rattle.store_core.specs.Objects.{Objects, with_object}
 use Rattle.store_core.specs.ObjectLaws.{with_object_absent}
-use Rattle.table_store.specs.Holds.{IsLawfulStore}
+use Rattle.table_store.specs.Sound.{IsSound}
 use Rattle.table_store.specs.LawfulLogs.{HasLawfulLog}
 use Rattle.table_model.specs.Table.{creation}
 use Rattle.table_store.proofs.Callers.{lawful_log}
 use Rattle.sink_core.specs.Appending.{checked, count, settled, with_append, with_file_alone}
 use Rattle.table_log.specs.Names.{commit_name}
 use Rattle.commit_core.specs.Creating as creations
+use Rattle.commit_core.specs.Sound.{IsSoundStore}
 use Rattle.commit_core.specs.Creating.{commit_from, with_creation}
 use Rattle.sink_core.specs.Appending.{MayAppend}
 use Rattle.lake_script.specs.Growth.{MayPut}
-use Rattle.table_log.specs.Restoring.{seen}
+use Rattle.table_log.specs.Restoring.{AreCheckpointsSound, HasOnlySoundCheckpoints, seen}
+use Rattle.table_log.proofs.Callers.{sound_empty}
 use Rattle.snapshot_core.specs.Taking.{HasPut}
 use Rattle.lake_script.specs.Lines.{append, checkpoint, Wish, create, task, foreign, Reading, skipped, bad, asks, reading_of}
 use Rattle.sink_core.specs.Refusals.{Refusal}
@@ -26,7 +28,7 @@ use Rattle.lake_script.specs.Told.{IsPutHere, ArePutHere}
 use Rattle.commit_core.specs.Creating.{CreatesWell}
 use Rattle.lake_script.proofs.KeptAppend.{step_of_nothing, nothing_is}
 use Rattle.lake_script.proofs.KeptCreate.{kept_creation, no_data_file, first_commit, left_table}
-use Rattle.lake_script.proofs.KeptHolds.{kept_lawful, nothing_lawful}
+use Rattle.lake_script.proofs.KeptHolds.{kept_sound, nothing_sound}
 use Rattle.lake_script.proofs.KeptNames.{same_name}
 use Rattle.lake_script.proofs.KeptPuts.{kept_checkpoint, same_files}
 use Rattle.lake_script.proofs.KeptVersions.{log_of_nothing}
@@ -122,18 +124,23 @@ lines_stay most number old (line ∷ lines) written new small here stays (follow
     let first = line_stays most number old (reading_of line) reply after (omega (arith, small)) here.0 is stays in
     more_room (suc most + length lines) (most + length (line ∷ lines)) new (omega arith) (lines_stay (suc most) (number + 1) after lines rest new (omega (arith, small)) here.1 first others)
 
--- what stays is lawful
-stays_lawful : (most : ℕ) (objects : Objects) → most ≤ 2 ^ 31 → Stays most objects → IsLawfulStore objects
-stays_lawful most objects small (bare none) = subst IsLawfulStore (sym none) nothing_lawful
-stays_lawful most objects small (keeps schema entries kept files up) = kept_lawful objects schema entries kept (omega (arith, up, small))
+-- what stays is sound
+stays_sound : (most : ℕ) (objects : Objects) → most ≤ 2 ^ 31 → Stays most objects → IsSound objects
+stays_sound most objects small (bare none) = subst IsSound (sym none) nothing_sound
+stays_sound most objects small (keeps schema entries kept files up) = kept_sound objects schema entries kept (omega (arith, up, small))
 
--- Over a store of nothing, lines that put no other tool's commit leave a lawful store, however many of them are answered.
-pub part_is_lawful : (old : Objects) (lines : List (List ℕ)) (written : List ℕ) (new : Objects) → length lines ≤ 2 ^ 31 → old ≡ [] → ArePutHere lines → RunsInPart 1 old lines written new → IsLawfulStore new × HasLawfulLog new
-part_is_lawful old lines written new few empty here runs =
-    let lawful = stays_lawful (0 + length lines) new (omega (arith, few)) (lines_stay 0 1 old lines written new (omega (arith, few)) here (bare empty) runs) in
-    (lawful, lawful_log new lawful)
+-- where each checkpoint of an empty store is one of the log, so is each of the store that is left
+still_sound : (old new : Objects) → old ≡ [] → ((every : Bool) → AreCheckpointsSound every old → AreCheckpointsSound every new) → HasOnlySoundCheckpoints new
+still_sound old new empty keeps_sound = keeps_sound true (subst (AreCheckpointsSound true) (sym empty) (sound_empty true))
 
--- Where a text isn't read, a store of nothing stays as it is, and lawful.
-pub unread_is_lawful : (known : Option (List ℕ)) (objects : Objects) → objects ≡ [] → IfSome known (λ text. ArePutHere (lines_of text) → IsLawfulStore objects × HasLawfulLog objects)
-unread_is_lawful None objects empty = tt
-unread_is_lawful (Some text) objects empty = λ here. part_is_lawful objects [] [] objects (omega arith) empty tt waits
+-- Over a store of nothing, lines that put no other tool's commit leave a sound store, however many of them are answered.
+pub part_is_sound : (old : Objects) (lines : List (List ℕ)) (written : List ℕ) (new : Objects) → length lines ≤ 2 ^ 31 → old ≡ [] → ArePutHere lines → RunsInPart 1 old lines written new
+    → ((every : Bool) → AreCheckpointsSound every old → AreCheckpointsSound every new) → IsSoundStore new × HasLawfulLog new
+part_is_sound old lines written new few empty here runs keeps_sound =
+    let table = stays_sound (0 + length lines) new (omega (arith, few)) (lines_stay 0 1 old lines written new (omega (arith, few)) here (bare empty) runs) in
+    (record { table = table; checkpoints = still_sound old new empty keeps_sound }, lawful_log new (record { schema = table.schema; entries = table.entries; holds = table.holds; lawful = table.lawful }))
+
+-- Where a text isn't read, a store of nothing stays as it is, and sound.
+pub unread_is_sound : (known : Option (List ℕ)) (objects : Objects) → objects ≡ [] → IfSome known (λ text. ArePutHere (lines_of text) → IsSoundStore objects × HasLawfulLog objects)
+unread_is_sound None objects empty = tt
+unread_is_sound (Some text) objects empty = λ here. part_is_sound objects [] [] objects (omega arith) empty tt waits (λ every sound. sound)

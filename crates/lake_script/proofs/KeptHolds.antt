@@ -1,4 +1,4 @@
--- A store that keeps a table holds it, and so it is lawful.
+-- A store that keeps a table holds it, and is sound.
 use Rattle.std.proofs.Common.{◌≡◌, ℕ, suc, ◌+◌, ◌<◌, ◌^◌, List, [], ◌∷◌, ◌++◌, length, None, refl, ap, length-append, arith}
 use Rattle.std.specs.List.{AllByRecursion, Contains}
 use Rattle.schema_tree.specs.LongColumn.{one_long}
@@ -6,14 +6,15 @@ use Rattle.schema_tree.specs.Tree.{Tree}
 use Rattle.store_core.specs.Objects.{Objects, object_at}
 use Rattle.delta_actions.specs.Entry as actions
 use Rattle.table_store.specs.Commits.{beside_info, StandFor, IsCommitOf}
-use Rattle.table_store.specs.Holds.{FileStands, HoldsFrom, Holds, IsLawfulStore}
+use Rattle.table_store.specs.Holds.{FileStands, HoldsFrom, Holds}
+use Rattle.table_store.specs.Sound.{IsSound}
 use Rattle.table_model.specs.Lawful.{IsLawful}
 use Rattle.delta_actions.specs.Names.{commit_name}
 use Rattle.table_model.specs.Table.{Batch, Entry, creation, group, close, batches_of, closes_of, numbers_by}
 use Rattle.sink_core.specs.Appending.{appending}
 use Rattle.commit_core.specs.Commits.{creation as created}
 use Rattle.lake_script.proofs.Kept.{FileKept, IsMade, IsCommitMade, KeptFrom, IsKept}
-use Rattle.lake_script.proofs.KeptLog.{none_behind}
+use Rattle.lake_script.proofs.KeptLog.{none_behind, none_past}
 
 -- the actions that are made for an entry stand for it
 made_stands : (schema : Tree) (entry : Entry) (made : List actions.Entry) → IsMade schema entry made → StandFor schema entry (beside_info made)
@@ -54,9 +55,10 @@ holds_from objects schema version end (entry ∷ entries) kept is none =
 pub kept_holds : (objects : Objects) (schema : Tree) (entries : List Entry) → IsKept objects schema entries → length entries < 2 ^ 32 → Holds objects schema entries
 kept_holds objects schema entries kept few = holds_from objects schema 0 (length entries) entries kept.kept (omega arith) (none_behind objects schema entries kept few)
 
--- A store that keeps a table is lawful.
-pub kept_lawful : (objects : Objects) (schema : Tree) (entries : List Entry) → IsKept objects schema entries → length entries < 2 ^ 32 → IsLawfulStore objects
-kept_lawful objects schema entries kept few = record { schema = schema; entries = entries; holds = kept_holds objects schema entries kept few; lawful = kept.lawful }
+-- A store that keeps a table is sound.
+pub kept_sound : (objects : Objects) (schema : Tree) (entries : List Entry) → IsKept objects schema entries → length entries < 2 ^ 32 → IsSound objects
+kept_sound objects schema entries kept few =
+    record { schema = schema; entries = entries; holds = kept_holds objects schema entries kept few; lawful = kept.lawful; ends = none_past objects schema entries kept }
 
 -- where there is no entry no stream was closed
 no_close : (application : List ℕ) (before after : List Entry) (entry : Entry) → [] ≡ before ++ entry ∷ after → Contains (closes_of entry) application → numbers_by application (entry ∷ after) ≡ []
@@ -66,6 +68,6 @@ no_close application before after entry is closes = absurd (omega (arith, ap (λ
 no_entries_lawful : IsLawful []
 no_entries_lawful = record { begins = tt; groups = tt; rises = λ application. tt; closed = no_close }
 
--- A store of nothing is lawful: it holds no entry.
-pub nothing_lawful : IsLawfulStore []
-nothing_lawful = record { schema = one_long []; entries = []; holds = refl; lawful = no_entries_lawful }
+-- A store of nothing is sound: it holds no entry.
+pub nothing_sound : IsSound []
+nothing_sound = record { schema = one_long []; entries = []; holds = refl; lawful = no_entries_lawful; ends = λ version past small. refl }

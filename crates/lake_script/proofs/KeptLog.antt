@@ -62,14 +62,14 @@ named_below entries version small (of_commit other low same) =
 named_below entries version small (of_file application number same) = absurd (commit_name-data_file_name version application number same)
 named_below entries version small (of_checkpoint other named) = absurd (no_checkpoint version other small named)
 
--- so that of the version that comes next isn't one
-not_named : (entries : List Entry) → length entries < 2 ^ 32 → IsNamed entries (names.commit_name (length entries)) → ⊥
-not_named entries few named = omega (arith, named_below entries (length entries) (omega arith) named)
+-- No commit stands behind those of the entries,
+pub none_past : (objects : Objects) (schema : Tree) (entries : List Entry) → IsKept objects schema entries → (version : ℕ) → length entries ≤ version → version ≤ 999_999_999_999 → object_at objects (names.commit_name version) ≡ None
+none_past objects schema entries kept version past small =
+    none_stands (object_at objects (names.commit_name version)) (λ stands. omega (arith, past, named_below entries version small (kept.named (names.commit_name version) stands)))
 
--- no commit stands behind those of the entries
+-- so none of the version that comes next.
 pub none_behind : (objects : Objects) (schema : Tree) (entries : List Entry) → IsKept objects schema entries → length entries < 2 ^ 32 → object_at objects (names.commit_name (length entries)) ≡ None
-none_behind objects schema entries kept few =
-    none_stands (object_at objects (names.commit_name (length entries))) (λ stands. not_named entries few (kept.named (names.commit_name (length entries)) stands))
+none_behind objects schema entries kept few = none_past objects schema entries kept (length entries) (omega arith) (omega (arith, few))
 
 -- the actions of the commits that stand
 abbrev pub made_of : (objects : Objects) (schema : Tree) (version : ℕ) (entries : List Entry) → KeptFrom objects schema version entries → List (List actions.Entry)

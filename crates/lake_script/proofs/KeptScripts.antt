@@ -1,8 +1,9 @@
 -- What is known of single lines, put together.
-use Rattle.std.proofs.Common.{◌≡◌, ◌<◌, ◌^◌, [], length, map, None, Err, Result, refl}
+use Rattle.std.proofs.Common.{◌≡◌, ◌<◌, ◌^◌, [], length, map, Err, Result, refl}
 use Rattle.store_core.specs.Objects.{Objects}
 use Rattle.table_model.specs.Reads.{Answer, handed, beyond, bad_place}
 use Rattle.source_core.specs.Tailing.{Handed, Refusal, bad_log, schema_for}
+use Rattle.table_log.specs.FromCheckpoints.{no_start}
 use Rattle.table_log.specs.Versions.{commit, versions_of}
 use Rattle.table_model.specs.declared.reading.Place.{Place}
 use Rattle.lake_script.specs.Scripts.{HoldsState, AnswersReads, ReadsOut}
@@ -37,7 +38,7 @@ read_told (beyond next) said is = is
 read_told (bad_place version) said is = is
 
 -- a store of nothing has no schema
-nothing_told : (place : Place) → schema_for None (versions_of []) place ≡ Err (bad_log 0)
+nothing_told : (place : Place) → schema_for no_start (versions_of []) place ≡ Err (bad_log 0)
 unfolding schema_for
 nothing_told place = rw versions_of_nothing refl
 

@@ -18,6 +18,7 @@ use Rattle.lake_bytes.specs.Results.{◌>>=◌}
 use Rattle.lake_script.specs.Tables as tables
 use Rattle.source_core.specs.Tailing as tails
 use Rattle.table_store.specs.Groups.{new_files}
+use Rattle.table_log.specs.FromCheckpoints.{no_start}
 use Rattle.table_log.specs.InForce.{Told, told_at}
 use Rattle.table_log.specs.Reads.{removes_rows}
 use Rattle.source_core.specs.Tailing.{Refusal, Handed, data_file, rows_of, hand, handed_by, handed_text, schema_for, tailed}
@@ -100,7 +101,7 @@ pub record IsPlain (schema : Tree) (commits : List (List actions.Entry)) : Type 
   pub told : Told
   pub is_schema : told.schema ≡ schema
   pub keeps : KeepsRows commits
-  pub goes_by : (place : Place) → schema_for None (map commit commits) place ≡ Ok told
+  pub goes_by : (place : Place) → schema_for no_start (map commit commits) place ≡ Ok told
 
 -- so it is with a table that begins with its creation
 plain_log : (schema : Tree) (rest : List Entry) (commits : List (List actions.Entry)) → NoCreation rest → AreMade schema (creation ∷ rest) commits → IsPlain schema commits

@@ -1,5 +1,5 @@
 -- Where a store keeps a table, reads one after another hand out the table's rows.
-use Rattle.std.proofs.Common.{◌≡◌, ℕ, ◌<◌, ◌^◌, true, false, List, [], ◌∷◌, ◌++◌, length, map, take, None, Result, Ok, Err, IsOk, refl, sym, ap, subst, ◌∙◌, arith}
+use Rattle.std.proofs.Common.{◌≡◌, ℕ, ◌<◌, ◌^◌, true, false, List, [], ◌∷◌, ◌++◌, length, map, take, Result, Ok, Err, IsOk, refl, sym, ap, subst, ◌∙◌, arith}
 use Rattle.std.proofs.lemmas.List.{append-nil, map-append, take_all}
 use Rattle.schema_tree.specs.Tree.{Tree}
 use Rattle.store_core.specs.Objects.{Objects}
@@ -12,6 +12,7 @@ use Rattle.table_model.specs.declared.reading.Place.{Place}
 use Rattle.table_model.proofs.Callers.{beginning_is_place, is_answered}
 use Rattle.table_model.proofs.Callers.{final_grows, log_from_beginning, onward_in_the_log, all_after_short}
 use Rattle.table_log.specs.Versions.{Version, versions_of}
+use Rattle.table_log.specs.FromCheckpoints.{no_start}
 use Rattle.table_log.specs.InForce.{Told}
 use Rattle.lake_script.specs.Tables.{State, nothing, table, entries_of}
 use Rattle.source_core.specs.Tailing.{Handed, Refusal, bad_log, handed_by, read_by, schema_for, beyond_log, bad_place as bad_place_told}
@@ -150,7 +151,7 @@ pub record IsReadAs (objects : Objects) (entries : List Entry) : Type 0 where
   pub told : Told
   pub versions : List Version
   pub log : versions_of objects ≡ versions
-  pub goes_by : (place : Place) → schema_for None versions place ≡ Ok told
+  pub goes_by : (place : Place) → schema_for no_start versions place ≡ Ok told
   pub answers : (max : ℕ) (place : Place) → IsRead (handed_by objects told versions max place) (read max place entries)
 
 -- then each read over the objects does
@@ -160,7 +161,7 @@ reads_as objects entries is max place = rw (is.log, is.goes_by place) (is.answer
 -- what is known of single reads
 pub record GivenReads : Type 0 where
   pub handed_told : (objects : Objects) (schema : Tree) (entries : List Entry) → IsKept objects schema entries → length entries < 2 ^ 32 → IsReadAs objects entries
-  pub nothing_told : (place : Place) → schema_for None (versions_of []) place ≡ Err (bad_log 0)
+  pub nothing_told : (place : Place) → schema_for no_start (versions_of []) place ≡ Err (bad_log 0)
 
 module _ (given : GivenReads) where
   -- a store that keeps a table reads as it

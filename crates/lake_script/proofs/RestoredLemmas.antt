@@ -5,7 +5,7 @@ use Rattle.serde_json.specs.Data.{Items}
 use Rattle.lake_bytes.specs.Outcome.{IsSaid}
 use Rattle.lake_bytes.specs.Results.{◌>>=◌}
 use Rattle.store_core.specs.Objects.{Objects}
-use Rattle.table_log.specs.Restoring.{HasSoundCheckpoints, RestoresWell}
+use Rattle.table_log.specs.Restoring.{AreCheckpointsSound, HasSoundCheckpoints, RestoresWell}
 use Rattle.commit_core.specs.Texts.{refused, line_of}
 use Rattle.sink_core.specs.Appending.{Step, appended_by, answered, settled, with_append, MayHoldFile, PutsWell}
 use Rattle.sink_core.specs.Refusals.{Refusal, refusal_text, refusal_view, says, file_too_large}
@@ -24,11 +24,11 @@ use Rattle.table_log.proofs.Callers.{sound_empty}
 
 -- in an empty store no checkpoint stands
 pub well_of_empty : (restore : Bool) (objects : Objects) → objects ≡ [] → RestoresWell restore objects
-well_of_empty restore objects empty = λ is. subst HasSoundCheckpoints (sym empty) sound_empty
+well_of_empty restore objects empty = λ is. subst HasSoundCheckpoints (sym empty) (sound_empty false)
 
 -- where checkpoints go on to be sound, a log goes on to be read from them
-pub still_well : (restore : Bool) (old new : Objects) → RestoresWell restore old → (HasSoundCheckpoints old → HasSoundCheckpoints new) → RestoresWell restore new
-still_well restore old new well sound = λ is. sound (well is)
+pub still_well : (restore : Bool) (old new : Objects) → RestoresWell restore old → ((every : Bool) → AreCheckpointsSound every old → AreCheckpointsSound every new) → RestoresWell restore new
+still_well restore old new well sound = λ is. sound false (well is)
 
 -- ---- an append
 

@@ -1,10 +1,10 @@
--- What a line puts leaves each checkpoint that reads well one of the log's commits.
+-- What a line puts leaves each checkpoint one of the log's commits.
 use Rattle.std.proofs.Common.{◌≡◌, ◌⊎◌, inl, inr, ℕ, List, None, Bool, true, false, Result, Ok, Err, refl, sym, ap, subst, ◌∙◌, if◌then◌else◌}
 use Rattle.serde_json.specs.Data.{Items}
 use Rattle.lake_bytes.specs.Results.{◌>>=◌}
 use Rattle.store_core.specs.Objects.{Objects, with_object}
 use Rattle.table_log.specs.Names.{commit_name}
-use Rattle.table_log.specs.Restoring.{HasSoundCheckpoints, checkpoint_version}
+use Rattle.table_log.specs.Restoring.{AreCheckpointsSound, checkpoint_version}
 use Rattle.commit_core.specs.Creating as creations
 use Rattle.commit_core.specs.Creating.{with_creation, commit_from}
 use Rattle.sink_core.specs.Appending.{Batch, Request, Step, puts, stands, batch_of, file_name, file_or_refusal, fitting, new_step, repeated_step, request_of, settled, step_of, unless_other, where_same, with_append, with_file_alone, MayAppend}
@@ -16,9 +16,9 @@ use Rattle.table_log.proofs.Callers.{commit_is_none, data_file_is_none, sound_be
 use Rattle.lake_script.proofs.KeptNames.{same_file_name}
 
 -- a creation
-created_sound : (objects : Objects) (commit : Result (List ℕ) creations.Refusal) → HasSoundCheckpoints objects → HasSoundCheckpoints (with_creation objects commit)
-created_sound objects (Ok bytes) sound = sound_beside objects (commit_name 0) bytes (commit_is_none 0) sound
-created_sound objects (Err refusal) sound = sound
+created_sound : (every : Bool) (objects : Objects) (commit : Result (List ℕ) creations.Refusal) → AreCheckpointsSound every objects → AreCheckpointsSound every (with_creation objects commit)
+created_sound every objects (Ok bytes) sound = sound_beside objects (commit_name 0) bytes every (commit_is_none 0) sound
+created_sound every objects (Err refusal) sound = sound
 
 -- ---- an append puts its batch's file under the batch's own name
 
@@ -64,31 +64,31 @@ settled_by objects application number at (Err refusal) = tt
 no_checkpoint : (application : List ℕ) (number : ℕ) (name : List ℕ) → name ≡ file_name application number → checkpoint_version name ≡ None
 no_checkpoint application number name is = ap checkpoint_version (is ∙ same_file_name application number) ∙ data_file_is_none application number
 
-file_sound : (objects : Objects) (application : List ℕ) (number : ℕ) (step : Result Step Refusal) → HasName (file_name application number) step → HasSoundCheckpoints objects → HasSoundCheckpoints (with_file_alone objects step)
-file_sound objects application number (Ok (puts batch)) named sound = sound_beside objects batch.name batch.file (no_checkpoint application number batch.name named) sound
-file_sound objects application number (Ok stands) named sound = sound
-file_sound objects application number (Err refusal) named sound = sound
+file_sound : (every : Bool) (objects : Objects) (application : List ℕ) (number : ℕ) (step : Result Step Refusal) → HasName (file_name application number) step → AreCheckpointsSound every objects → AreCheckpointsSound every (with_file_alone objects step)
+file_sound every objects application number (Ok (puts batch)) named sound = sound_beside objects batch.name batch.file every (no_checkpoint application number batch.name named) sound
+file_sound every objects application number (Ok stands) named sound = sound
+file_sound every objects application number (Err refusal) named sound = sound
 
-append_sound : (objects : Objects) (application : List ℕ) (number : ℕ) (step : Result Step Refusal) → HasName (file_name application number) step → HasSoundCheckpoints objects → HasSoundCheckpoints (with_append objects step)
-append_sound objects application number (Ok (puts batch)) named sound =
-    sound_beside (with_object objects batch.name batch.file) (commit_name batch.version) batch.commit (commit_is_none batch.version)
-    (sound_beside objects batch.name batch.file (no_checkpoint application number batch.name named) sound)
-append_sound objects application number (Ok stands) named sound = sound
-append_sound objects application number (Err refusal) named sound = sound
+append_sound : (every : Bool) (objects : Objects) (application : List ℕ) (number : ℕ) (step : Result Step Refusal) → HasName (file_name application number) step → AreCheckpointsSound every objects → AreCheckpointsSound every (with_append objects step)
+append_sound every objects application number (Ok (puts batch)) named sound =
+    sound_beside (with_object objects batch.name batch.file) (commit_name batch.version) batch.commit every (commit_is_none batch.version)
+    (sound_beside objects batch.name batch.file every (no_checkpoint application number batch.name named) sound)
+append_sound every objects application number (Ok stands) named sound = sound
+append_sound every objects application number (Err refusal) named sound = sound
 
-by_append : (old new : Objects) (application : List ℕ) (number at : ℕ) (step : Result Step Refusal) → HasName (file_name application number) step → MayAppend application number at step old new → HasSoundCheckpoints old → HasSoundCheckpoints new
-by_append old new application number at step named (inl same) sound = subst HasSoundCheckpoints (sym same) sound
-by_append old new application number at step named (inr (well, inl alone)) sound = subst HasSoundCheckpoints (sym alone) (file_sound old application number step named sound)
-by_append old new application number at step named (inr (well, inr whole)) sound = subst HasSoundCheckpoints (sym whole) (append_sound old application number step named sound)
+by_append : (every : Bool) (old new : Objects) (application : List ℕ) (number at : ℕ) (step : Result Step Refusal) → HasName (file_name application number) step → MayAppend application number at step old new → AreCheckpointsSound every old → AreCheckpointsSound every new
+by_append every old new application number at step named (inl same) sound = subst (AreCheckpointsSound every) (sym same) sound
+by_append every old new application number at step named (inr (well, inl alone)) sound = subst (AreCheckpointsSound every) (sym alone) (file_sound every old application number step named sound)
+by_append every old new application number at step named (inr (well, inr whole)) sound = subst (AreCheckpointsSound every) (sym whole) (append_sound every old application number step named sound)
 
 -- what a line asks for
-pub puts_sound : (old : Objects) (wish : Wish) (new : Objects) → MayPut old wish new → HasSoundCheckpoints old → HasSoundCheckpoints new
-puts_sound old (create id at schema) new (inl same) sound = subst HasSoundCheckpoints (sym same) sound
-puts_sound old (create id at schema) new (inr (printed, put)) sound = subst HasSoundCheckpoints (sym put.1) (created_sound old (commit_from id at schema printed) sound)
-puts_sound old (task (append application number at items)) new put sound =
-    by_append old new application number at (settled false old application number at items) (settled_by old application number at (request_of false old application number items)) put.1 sound
-puts_sound old (task checkpoint) new (inl same) sound = subst HasSoundCheckpoints (sym same) sound
-puts_sound old (task checkpoint) new (inr (version, put)) sound = subst HasSoundCheckpoints (sym put.put) (put_sound old version put.name put.bytes put.puts sound)
-puts_sound old (foreign version action) new (inl same) sound = subst HasSoundCheckpoints (sym same) sound
-puts_sound old (foreign version action) new (inr put) sound = subst HasSoundCheckpoints (sym put) (sound_beside old (commit_name version) _ (commit_is_none version) sound)
-puts_sound old _ new same sound = subst HasSoundCheckpoints (sym same) sound
+pub puts_sound : (every : Bool) (old : Objects) (wish : Wish) (new : Objects) → MayPut old wish new → AreCheckpointsSound every old → AreCheckpointsSound every new
+puts_sound every old (create id at schema) new (inl same) sound = subst (AreCheckpointsSound every) (sym same) sound
+puts_sound every old (create id at schema) new (inr (printed, put)) sound = subst (AreCheckpointsSound every) (sym put.1) (created_sound every old (commit_from id at schema printed) sound)
+puts_sound every old (task (append application number at items)) new put sound =
+    by_append every old new application number at (settled false old application number at items) (settled_by old application number at (request_of false old application number items)) put.1 sound
+puts_sound every old (task checkpoint) new (inl same) sound = subst (AreCheckpointsSound every) (sym same) sound
+puts_sound every old (task checkpoint) new (inr (version, put)) sound = subst (AreCheckpointsSound every) (sym put.put) (put_sound every old version put.name put.bytes put.puts sound)
+puts_sound every old (foreign version action) new (inl same) sound = subst (AreCheckpointsSound every) (sym same) sound
+puts_sound every old (foreign version action) new (inr put) sound = subst (AreCheckpointsSound every) (sym put) (sound_beside old (commit_name version) _ every (commit_is_none version) sound)
+puts_sound every old _ new same sound = subst (AreCheckpointsSound every) (sym same) sound

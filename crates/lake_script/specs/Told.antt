@@ -192,6 +192,6 @@ Finishes (BadLine number) P = P (Some number)
 Finishes NotRead P = ⊤
 Finishes NotWritten P = ⊤
 
--- a growth was refused on the way of a run, or a commit or a file would have passed 64 MiB
+-- a growth was refused on the way of a run, or a commit, a data file or a checkpoint would have passed 64 MiB
 abbrev pub fell_short : Outcome → Bool
 fell_short outcome = outcome.is_short

@@ -1,17 +1,17 @@
 // The engine of `script`: it reads its input to the end, then answers line by line.
-ghost use Rattle.std.specs.Prelude.{◌≡◌, ◌≢◌, ◌+◌, ◌<◌, ◌≤◌, ◌^◌, [], ◌∷◌, ◌⊎◌, true, false, not, length, position, option_map, ⊤, OnOk, OnErr, IfOk, IfErr, IfSome};
+ghost use Rattle.std.specs.Prelude.{◌≡◌, ◌≢◌, ◌+◌, ◌<◌, ◌≤◌, ◌^◌, [], ◌∷◌, ◌⊎◌, Bool, true, false, not, length, position, option_map, ⊤, OnOk, OnErr, IfOk, IfErr, IfSome};
 ghost use Rattle.std.specs.Io.KnownBytes.{Appends};
+ghost use Rattle.commit_core.specs.Sound.{IsSoundStore};
 ghost use Rattle.lake_script.specs.declared.inputs.TheConstants.{MOST_BYTES, MOST_READS};
 ghost use Rattle.lake_script.specs.Lines.{reading_of};
 ghost use Rattle.lake_script.specs.Runs.{FallsShort, IsCutOff, Replies, Runs, RunsInPart, Tells, TellsFront, TellsShort};
-ghost use Rattle.table_store.specs.Holds.{IsLawfulStore};
 ghost use Rattle.table_store.specs.LawfulLogs.{HasLawfulLog};
 ghost use Rattle.lake_script.specs.Scripts.{BeginsByTable, HoldsState, IsScript, ReadsOut};
 ghost use Rattle.lake_script.specs.Sound.{IsAnswered, IsRun, IsRunInPart};
 ghost use Rattle.lake_script.specs.Streams.{held, waiting, write_failed, unread, read_failed, StandsIn};
 ghost use Rattle.lake_script.specs.Tables.{told as told_by_table, left as table_left, AreOfTable};
 ghost use Rattle.delta_actions.specs.Commit.{lines_of};
-ghost use Rattle.table_log.specs.Restoring.{HasSoundCheckpoints, RestoresWell};
+ghost use Rattle.table_log.specs.Restoring.{AreCheckpointsSound, RestoresWell};
 ghost use Rattle.lake_script.specs.Told.{ArePutHere, lines_left, is_newline, is_bad, first_bad, Finishes, fell_short};
 
 use crate::inputs::{Input, InputError};
@@ -44,8 +44,8 @@ pub struct Outcome {
 }
 
 impl Outcome {
-    /// Whether a growth was refused on the way, or a commit or a file of a creation or an append would
-    /// have passed 64 MiB. A run that ends by itself may have met one: its lines that did are told so.
+    /// Whether a growth was refused on the way, or a commit, a data file or a checkpoint would have
+    /// passed 64 MiB. A run that ends by itself may have met one: its lines that did are told so.
     pub fn short(&self) -> bool
         ensures { result ≡ fell_short self.now }
     {
@@ -88,7 +88,7 @@ fn answer<S: Store, W: Write>(
         (λ reply. Replies number (S.objects store.old) (reading_of line.now) reply (S.objects store.new) × TellsShort (S.objects store.old) (reading_of line.now) reply)) }
     ensures cut_off { S.is_reliable store.old → RestoresWell restore (S.objects store.old) → OnErr result (IsCutOff number (S.objects store.old) (reading_of line.now) (S.objects store.new)) }
     ensures reliable { S.is_reliable store.old → S.is_reliable store.new }
-    ensures restores { S.is_reliable store.old → HasSoundCheckpoints (S.objects store.old) → HasSoundCheckpoints (S.objects store.new) }
+    ensures restores { S.is_reliable store.old → (every : Bool) → AreCheckpointsSound every (S.objects store.old) → AreCheckpointsSound every (S.objects store.new) }
     ensures remembers { is_short.new ≡ false → is_short.old ≡ false }
     ensures goes_on { IfOk result (λ goes_on. goes_on ≡ not (is_bad (reading_of line.now))) }
     ensures stands { OnErr result (StandsIn (held W.contents output.old) (W.contents output.new.writer) []) }
@@ -132,7 +132,7 @@ fn answer_all<S: Store, W: Write>(
     ensures short { S.is_reliable store.old → RestoresWell restore (S.objects store.old) → is_short.old ≡ false → is_short.new ≡ true → OnOk result (Tells (held W.contents output.old) (held W.contents output.new)
         (FallsShort 1 (S.objects store.old) (lines_of text.now))) }
     ensures reliable { S.is_reliable store.old → S.is_reliable store.new }
-    ensures restores { S.is_reliable store.old → HasSoundCheckpoints (S.objects store.old) → HasSoundCheckpoints (S.objects store.new) }
+    ensures restores { S.is_reliable store.old → (every : Bool) → AreCheckpointsSound every (S.objects store.old) → AreCheckpointsSound every (S.objects store.new) }
     ensures bad { IfOk result (λ bad. bad ≡ first_bad text.now) }
     ensures stands { S.is_reliable store.old → RestoresWell restore (S.objects store.old) → is_short.new ≡ false
         → OnErr result (IsRunInPart (S.objects store.old) text.now (held W.contents output.old) (W.contents output.new.writer)) }
@@ -173,7 +173,7 @@ fn answer_and_flush<S: Store, W: Write>(
     ensures short { S.is_reliable store.old → RestoresWell restore (S.objects store.old) → is_short.old ≡ false → is_short.new ≡ true → OnOk result (Tells (held W.contents output.old) (W.contents output.new.writer)
         (FallsShort 1 (S.objects store.old) (lines_of text.now))) }
     ensures reliable { S.is_reliable store.old → S.is_reliable store.new }
-    ensures restores { S.is_reliable store.old → HasSoundCheckpoints (S.objects store.old) → HasSoundCheckpoints (S.objects store.new) }
+    ensures restores { S.is_reliable store.old → (every : Bool) → AreCheckpointsSound every (S.objects store.old) → AreCheckpointsSound every (S.objects store.new) }
     ensures through { OnOk result (waiting output.new ≡ []) }
     ensures bad { IfOk result (λ bad. bad ≡ first_bad text.now) }
     ensures stands { S.is_reliable store.old → RestoresWell restore (S.objects store.old) → is_short.new ≡ false
@@ -191,8 +191,8 @@ fn answer_and_flush<S: Store, W: Write>(
 
 /// Runs a script that is given as text, of at most 1 GiB, over a store: answers each of its lines, up
 /// to the first bad one, and writes what waits then. It never ends as [`End::NotRead`]. With `restore`
-/// appends, reads, checkpoints and snapshots read the log from its newest checkpoint that reads well,
-/// and otherwise from version 0.
+/// appends, reads, checkpoints and snapshots go by the log's checkpoints, and otherwise by its commits
+/// alone, from version 0.
 ///
 /// Time is linear in the text, the objects that are put, compared and shown and the data files that
 /// rows are handed out of, and for each line that reads the log in the bytes of the checkpoint and the
@@ -228,12 +228,12 @@ pub fn run_text<S: Store, W: Write>(
     ensures script { S.is_reliable store.old → S.objects store.old ≡ [] → fell_short result ≡ false → Finishes result.end
         (λ _. IsScript (held W.contents output.old) (W.contents output.new.writer) text.now (S.objects store.new)) }
     // Over an empty store that loses no call, and where no line puts another tool's commit, the store
-    // that is left is lawful, and so is its log, however the run ends and whatever growth is refused on
-    // the way.
+    // that is left is sound, and its log is lawful, however the run ends and whatever growth is refused
+    // on the way.
     ensures lawful { S.is_reliable store.old → S.objects store.old ≡ [] → ArePutHere (lines_of text.now)
-        → IsLawfulStore (S.objects store.new) × HasLawfulLog (S.objects store.new) }
+        → IsSoundStore (S.objects store.new) × HasLawfulLog (S.objects store.new) }
     ensures reliable { S.is_reliable store.old → S.is_reliable store.new }
-    ensures restores { S.is_reliable store.old → HasSoundCheckpoints (S.objects store.old) → HasSoundCheckpoints (S.objects store.new) }
+    ensures restores { S.is_reliable store.old → (every : Bool) → AreCheckpointsSound every (S.objects store.old) → AreCheckpointsSound every (S.objects store.new) }
     ensures nothing_waits { Finishes result.end (λ _. waiting output.new ≡ []) }
     // Over any store, one that loses calls too, what is written stands behind what was held.
     ensures behind { Finishes result.end (λ _. Tells (held W.contents output.old) (W.contents output.new.writer) (λ written. ⊤)) }
@@ -266,9 +266,9 @@ pub fn run_text<S: Store, W: Write>(
 }
 
 /// Runs a script over a store: reads its input to the end, then answers each line, up to the first
-/// bad one. With `restore` appends, reads, checkpoints and snapshots read the log from its newest
-/// checkpoint that reads well, and otherwise from version 0; where each checkpoint that stands is one
-/// of the log, what is told is the same.
+/// bad one. With `restore` appends, reads, checkpoints and snapshots go by the log's checkpoints, and
+/// otherwise by its commits alone, from version 0; where each checkpoint that stands and reads well is
+/// one of the log, what is told is the same.
 ///
 /// Time is linear in the input, the objects that are put, compared and shown and the data files that
 /// rows are handed out of, and for each line that reads the log in the bytes of the checkpoint and the
@@ -311,10 +311,10 @@ pub fn run<R: Read, W: Write, S: Store>(
         → HoldsState (S.objects store.new) (table_left text))) }
 
     // Over an empty store that loses no call, and where no line of the text that is read puts another
-    // tool's commit, the store that is left is lawful, and so is its log, however the run ends and
+    // tool's commit, the store that is left is sound, and its log is lawful, however the run ends and
     // whatever growth is refused on the way.
     ensures lawful { S.is_reliable store.old → S.objects store.old ≡ [] → IfSome (unread R.remaining input.old) (λ text. ArePutHere (lines_of text)
-        → IsLawfulStore (S.objects store.new) × HasLawfulLog (S.objects store.new)) }
+        → IsSoundStore (S.objects store.new) × HasLawfulLog (S.objects store.new)) }
 
     // Reads over that store, each from the place where the one before ended, are answered and hand out the table's
     // rows, whatever their limits, where no line puts another tool's commit.
@@ -339,10 +339,10 @@ pub fn run<R: Read, W: Write, S: Store>(
     // Nothing waits in the output when it is done.
     ensures nothing_waits { Finishes result.end (λ _. waiting output.new ≡ []) }
 
-    // A store that loses no call goes on to lose none, and where its checkpoints were those of the log,
-    // they are so still.
+    // A store that loses no call goes on to lose none, and where each checkpoint was one of the log, it is
+    // so still: of all objects under a checkpoint's name, or of those that read well.
     ensures reliable { S.is_reliable store.old → S.is_reliable store.new }
-    ensures restores { S.is_reliable store.old → HasSoundCheckpoints (S.objects store.old) → HasSoundCheckpoints (S.objects store.new) }
+    ensures restores { S.is_reliable store.old → (every : Bool) → AreCheckpointsSound every (S.objects store.old) → AreCheckpointsSound every (S.objects store.new) }
 
     ensures bad { Finishes result.end (λ bad. IfSome (unread R.remaining input.old) (λ text. bad ≡ first_bad text)) }
     ensures stands { S.is_reliable store.old → RestoresWell restore (S.objects store.old) → fell_short result ≡ false → result.end ≡ End.NotWritten

@@ -1,10 +1,10 @@
 // What a line is told, and how it is found.
-ghost use Rattle.std.specs.Prelude.{◌≡◌, ◌<◌, ◌^◌, [], false, OnOk, OnErr, true};
+ghost use Rattle.std.specs.Prelude.{◌≡◌, ◌<◌, ◌^◌, [], Bool, false, OnOk, OnErr, true};
 ghost use Rattle.std.specs.Io.KnownBytes.{Appends};
 ghost use Rattle.serde_json.specs.View.{items_view};
 ghost use Rattle.store_core.specs.Objects.{object_at};
 ghost use Rattle.table_log.specs.Names.{commit_name};
-ghost use Rattle.table_log.specs.Restoring.{HasSoundCheckpoints, RestoresWell};
+ghost use Rattle.table_log.specs.Restoring.{AreCheckpointsSound, RestoresWell};
 ghost use Rattle.lake_script.specs.Growth.{MayPut};
 ghost use Rattle.commit_core.specs.Histories.{history_of};
 ghost use Rattle.lake_script.specs.Lines.{append, checkpoint, create, foreign, snapshot, task, task_view, wish_view, IsTimely, IsTimelyTask};
@@ -43,7 +43,7 @@ pub enum Reply {
     NotAppended(AppendFault),
     /// Nothing was handed out.
     NotTailed(TailFault),
-    /// The checkpoint of that version stands.
+    /// An object under the name of that version's checkpoint stands.
     Checkpointed(u64),
     /// No checkpoint was put, or no snapshot told.
     NoSnapshot(SnapshotFault),
@@ -284,7 +284,7 @@ pub fn grant<S: Store>(alloc: Global, line: Line<'_>, store: &mut S, restore: bo
     // A reply is short only where it tells so.
     ensures short { RestoresWell restore (S.objects store.old) → is_short result ≡ true → IsShort (S.objects store.old) (wish_view line.entry) (reply_text result) }
     ensures reliable { S.is_reliable store.old → S.is_reliable store.new }
-    ensures restores { S.is_reliable store.old → HasSoundCheckpoints (S.objects store.old) → HasSoundCheckpoints (S.objects store.new) }
+    ensures restores { S.is_reliable store.old → (every : Bool) → AreCheckpointsSound every (S.objects store.old) → AreCheckpointsSound every (S.objects store.new) }
 {
     match line {
         Line::Create { id, at, schema } => create_table(alloc, store, id, at, schema),

@@ -40,6 +40,7 @@ impl Log {
             snapshot: Snapshot::new(alloc),
             kept: table_log::Log {
                 start: None,
+                schema: None,
                 standing: Vec::new(alloc),
                 next: 0,
             },

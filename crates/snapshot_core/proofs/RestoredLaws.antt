@@ -15,7 +15,7 @@ use Rattle.delta_replay.specs.Support.{Unsupported, checkpointable, readable}
 use Rattle.delta_replay.specs.Whole.{IsWhole}
 use Rattle.schema_tree.specs.Tree.{Tree}
 use Rattle.table_log.specs.Counts.{commit_count}
-use Rattle.table_log.specs.Restoring.{AreAlike, HasSoundCheckpoints, IsSoundCheckpoint, RestoresWell, seen}
+use Rattle.table_log.specs.Restoring.{AreAlike, AreCheckpointsSound, IsSoundCheckpoint, RestoresWell, seen}
 use Rattle.table_log.specs.Versions.{commits_in, log_of, versions_from}
 use Rattle.table_log.proofs.Callers.{own_checkpoint, same_values, seen_alike, sound_with, whole_log}
 use Rattle.snapshot_core.specs.Faults.{Reason, bad_log, checked, readable_log, says, unsupported}
@@ -204,11 +204,11 @@ module _ (restore : Bool) (objects : Objects) (well : RestoresWell restore objec
 -- ---- a put keeps checkpoints sound
 
 -- A checkpoint that is put is sound, and leaves the others so.
-pub put_sound : (objects : Objects) (version : ℕ) (name bytes : List ℕ) → PutsCheckpoint false objects version name bytes → HasSoundCheckpoints objects → HasSoundCheckpoints (with_object objects name bytes)
-put_sound objects version name bytes puts sound =
+pub put_sound : (every : Bool) (objects : Objects) (version : ℕ) (name bytes : List ℕ) → PutsCheckpoint false objects version name bytes → AreCheckpointsSound every objects → AreCheckpointsSound every (with_object objects name bytes)
+put_sound every objects version name bytes puts sound =
     let own : IsSoundCheckpoint objects version bytes = record {
       commits = puts.commits;
       stand = ap (λ (count : ℕ). commits_in 0 (versions_from count 0 objects)) puts.checkpoint.newest ∙ whole_log objects puts.commits puts.read;
       checkpoint = puts.checkpoint.checkpoint;
     } in
-    sound_with objects name bytes version (own_checkpoint version name puts.found) own sound
+    sound_with objects name bytes every version (own_checkpoint version name puts.found) own sound

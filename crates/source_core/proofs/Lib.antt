@@ -10,3 +10,4 @@ pub mod LookedSchemas
 pub mod OffsetLemmas
 pub mod PlaceLemmas
 pub mod RestoredReads
+pub mod TailLemmas

@@ -11,6 +11,7 @@ use Rattle.delta_replay.specs.Keys.{last}
 use Rattle.delta_replay.specs.Support.{readable}
 use Rattle.schema_tree.specs.Tree.{Tree}
 use Rattle.store_core.specs.Objects.{Objects}
+use Rattle.table_log.specs.FromCheckpoints.{no_start}
 use Rattle.table_log.specs.InForce.{Told, in_force, told_at}
 use Rattle.table_log.specs.Reads.{first_from, first_standing, front, removes_rows}
 use Rattle.table_log.specs.Versions.{commit}
@@ -147,6 +148,6 @@ first_in_force told version actions commits tells none = rw (tells, none_told co
 
 -- So a read goes by the first commit's schema, where the table is read.
 pub plain_schema_for : (told : Told) (schema : Tree) (place : Place) (actions : List Entry) (commits : List (List Entry)) → readable (actions ∷ commits) ≡ Ok schema → told_at (commit actions) ≡ Some told → TellNone commits
-    → schema_for None (map commit (actions ∷ commits)) place ≡ Ok told
+    → schema_for no_start (map commit (actions ∷ commits)) place ≡ Ok told
 unfolding schema_for
 plain_schema_for told schema place actions commits reads tells none = rw (plain_front commits, reads, tells, none_told commits none place.version) refl

@@ -1,27 +1,26 @@
 -- A read from a sound checkpoint on goes by the same schema as one of all versions.
 use Rattle.std.proofs.Common.{◌≡◌, ◌≤◌, ◌+◌, ◌-◌, ℕ, zero, suc, List, [], ◌∷◌, ◌++◌, length, map, take, drop, Bool, true, false, Option, Some, None, refl, sym, ap, ◌∙◌, arith}
-use Rattle.std.specs.Prelude.{◌&&◌, if◌then◌else◌, is_some, min, nat_le}
+use Rattle.std.specs.Prelude.{◌<◌}
 use Rattle.std.specs.List.{filter_map}
 use Rattle.std.specs.Option.{option_or}
-use Rattle.std.proofs.lemmas.Bool.Decides.{nat_tests}
+use Rattle.std.proofs.lemmas.List.Elements.{filter_map-append}
 use Rattle.std.proofs.lemmas.List.{append-nil, append_assoc, length-map, map-append, take-append-drop}
 use Rattle.delta_actions.specs.Entry.{Entry, MetaDataEntry}
 use Rattle.delta_actions.specs.In.{meta_data_in}
 use Rattle.delta_replay.specs.Keys.{Key, at, last}
 use Rattle.delta_replay.specs.Support.{meta_data_of, readable}
 use Rattle.delta_replay.proofs.NewestTold.{meta_data_grows}
-use Rattle.table_log.specs.FromCheckpoints.{first_read, from_version, front_behind, in_force_behind, looked_at, told_by}
+use Rattle.table_log.specs.FromCheckpoints.{from_version, front_behind}
 use Rattle.table_log.specs.InForce.{Told, first, in_force, in_force_from, told_at, told_of}
 use Rattle.table_log.specs.Reads.{front}
 use Rattle.table_log.specs.Restoring.{Restored}
 use Rattle.table_log.specs.Versions.{Version, missing, commit}
 use Rattle.table_log.proofs.Callers.{last_told, meta_data_in_one, newest_is, or_none, or_regroup, same_behind, same_values}
-use Rattle.table_model.specs.declared.reading.Place.{Place}
-use Rattle.source_core.specs.Tailing.{schema_for, unless_none}
+use Rattle.source_core.specs.Tailing.{unless_none}
 
 -- ---- versions before one count as missing
 
-none_alike : (n : ℕ) (versions : List Version) → unless_none (from_version n versions) ≡ unless_none versions
+pub none_alike : (n : ℕ) (versions : List Version) → unless_none (from_version n versions) ≡ unless_none versions
 none_alike zero versions = refl
 none_alike (suc n) [] = refl
 none_alike (suc n) (found ∷ more) = refl
@@ -61,6 +60,21 @@ front_both (actions ∷ commits) others = ap (λ (rest : List (List Entry)). act
 drop_front : (commits : List (List Entry)) (others : List Version) → drop (length commits) (map commit commits ++ others) ≡ others
 drop_front [] others = refl
 drop_front (actions ∷ commits) others = drop_front commits others
+
+-- the first of two parts
+take_front : (versions others : List Version) → take (length versions) (versions ++ others) ≡ versions
+take_front [] others = refl
+take_front (found ∷ versions) others = ap (λ (rest : List Version). found ∷ rest) (take_front versions others)
+
+take_within : (n : ℕ) (versions others : List Version) → n ≤ length versions → take n (versions ++ others) ≡ take n versions
+take_within zero versions others le = refl
+take_within (suc n) [] others le = absurd (omega (arith, le))
+take_within (suc n) (found ∷ versions) others le = ap (λ (rest : List Version). found ∷ rest) (take_within n versions others (omega (arith, le)))
+
+drop_within : (n : ℕ) (versions others : List Version) → n ≤ length versions → drop n (versions ++ others) ≡ drop n versions ++ others
+drop_within zero versions others le = refl
+drop_within (suc n) [] others le = absurd (omega (arith, le))
+drop_within (suc n) (found ∷ versions) others le = drop_within n versions others (omega (arith, le))
 
 -- ---- the newest schema that is told
 
@@ -147,29 +161,47 @@ some_told versions others told more is = by_last (last_in versions) refl
         let later : last_in others ≡ Some told = sym (or_none (last_in others)) ∙ (ap (option_or (last_in others)) (sym e) ∙ (sym (last_both versions others) ∙ is)) in
         by_first (filter_map told_at others) later
 
+-- and it is found among those, whatever follows
+first_enough : (versions others behind : List Version) (told : Told) → last_in (versions ++ others) ≡ Some told
+    → option_or (option_or (last_in versions) None) (first (filter_map told_at others)) ≡ option_or (option_or (last_in versions) None) (first (filter_map told_at (others ++ behind)))
+first_enough versions others behind told is = by_last (last_in versions) refl
+  where
+    by_first : (tell : List Told) → filter_map told_at others ≡ tell → last tell ≡ Some told → first (filter_map told_at others) ≡ first (filter_map told_at (others ++ behind))
+    by_first [] e none = absurd cc
+    by_first (own ∷ tell) e some = ap first e ∙ sym (ap first (filter_map-append told_at others behind ∙ ap (λ (tell : List Told). tell ++ filter_map told_at behind) e))
+
+    by_last : (found : Option Told) → last_in versions ≡ found → option_or (option_or found None) (first (filter_map told_at others)) ≡ option_or (option_or found None) (first (filter_map told_at (others ++ behind)))
+    by_last (Some own) e = refl
+    by_last None e =
+        let later : last_in others ≡ Some told = sym (or_none (last_in others)) ∙ (ap (option_or (last_in others)) (sym e) ∙ (sym (last_both versions others) ∙ is)) in
+        by_first (filter_map told_at others) refl later
+
 module _ (r : Restored) (commits : List (List Entry)) (behind : List Version) (long : length commits ≡ suc r.version) (same : (key : Key) → at key (r.actions ∷ []) ≡ at key commits) where
   abbrev versions : List Version
   versions = map commit commits ++ behind
 
+  as_many : length (map commit commits) ≡ suc r.version
+  as_many = length-map commits commit ∙ long
+
   -- what the checkpoint tells is the newest that the commits tell
-  own_told : (told : Told) → told_by r ≡ Some told → last_in (map commit commits) ≡ Some told
+  own_told : (told : Told) → told_at (commit r.actions) ≡ Some told → last_in (map commit commits) ≡ Some told
   own_told told is =
-      let one : told_of (meta_data_of commits) ≡ told_by r = ap told_of (sym (same_values (r.actions ∷ []) commits same).metadata ∙ meta_data_in_one r.actions) in
+      let one : told_of (meta_data_of commits) ≡ told_at (commit r.actions) = ap told_of (sym (same_values (r.actions ∷ []) commits same).metadata ∙ meta_data_in_one r.actions) in
       newest_told commits told (one ∙ is)
 
   -- behind a checkpoint of the version or an earlier one
-  force_later : (version n : ℕ) (told : Told) → told_by r ≡ Some told → r.version ≤ version → n ≤ suc r.version → in_force_from (Some told) version (from_version n versions) ≡ in_force version versions
+  pub force_later : (version n : ℕ) (told : Told) → told_at (commit r.actions) ≡ Some told → r.version ≤ version → n ≤ suc r.version → in_force_from (Some told) version (from_version n versions) ≡ in_force version versions
   force_later version n told is le short =
       let own = own_told told is in
-      let as_many : length (map commit commits) ≡ suc r.version = length-map commits commit ∙ long in
+      let many = as_many in
       let more = version - r.version in
-      let reaches : suc version ≡ length (map commit commits) + more = omega (arith, le, as_many) in
+      let reaches : suc version ≡ length (map commit commits) + more = omega (arith, le, many) in
       let rest = take more behind in
       let front : take (suc version) versions ≡ map commit commits ++ rest = ap (λ (m : ℕ). take m versions) reaches ∙ take_past (map commit commits) behind more in
       let all : last_in (take (suc version) versions) ≡ option_or (last_in rest) (Some told) =
       ap last_in front ∙ (last_both (map commit commits) rest ∙ ap (option_or (last_in rest)) own) in
       let left : take (suc version) (from_version n versions) ≡ from_version n (map commit commits) ++ rest =
-      take_alike n (suc version) versions ∙ (ap (from_version n) front ∙ both_alike n (map commit commits) rest (omega (arith, short, as_many))) in
+      take_alike n (suc version) versions ∙ (ap (from_version n) front ∙ both_alike n (map commit commits) rest (omega (arith, short, many))) in
       let part : option_or (last_in (from_version n (map commit commits))) (Some told) ≡ Some told =
       ap (option_or (last_in (from_version n (map commit commits)))) (sym own) ∙ (last_alike n (map commit commits) ∙ own) in
       let seen : option_or (last_in (take (suc version) (from_version n versions))) (Some told) ≡ option_or (last_in rest) (Some told) =
@@ -181,51 +213,26 @@ module _ (r : Restored) (commits : List (List Entry)) (behind : List Version) (l
       ∙ (some_first (last_in rest) told _ _ ∙ sym (ap (λ (o : Option Told). option_or o (first (filter_map told_at (drop (suc version) versions)))) whole))
 
   -- in front of one of a later version
-  force_earlier : (version : ℕ) → option_or (in_force version versions) (told_by r) ≡ in_force version versions
-  force_earlier version = by_told (told_by r) refl
-    where
-      by_told : (found : Option Told) → told_by r ≡ found → option_or (in_force version versions) found ≡ in_force version versions
-      by_told None is = or_none (in_force version versions)
-      by_told (Some told) is =
-          let parts : last_in (take (suc version) versions ++ drop (suc version) versions) ≡ option_or (last_in behind) (Some told) =
-          ap last_in (take-append-drop (suc version) versions) ∙ (last_both (map commit commits) behind ∙ ap (option_or (last_in behind)) (own_told told is)) in
-          by_behind (last_in behind) refl parts
-        where
-          by_behind : (found : Option Told) → last_in behind ≡ found → last_in (take (suc version) versions ++ drop (suc version) versions) ≡ option_or (last_in behind) (Some told) → option_or (in_force version versions) (Some told) ≡ in_force version versions
-          by_behind None e parts = some_told (take (suc version) versions) (drop (suc version) versions) told told (parts ∙ ap (λ (o : Option Told). option_or o (Some told)) e)
-          by_behind (Some own) e parts = some_told (take (suc version) versions) (drop (suc version) versions) own told (parts ∙ ap (λ (o : Option Told). option_or o (Some told)) e)
+  pub force_earlier : (version : ℕ) (told : Told) → told_at (commit r.actions) ≡ Some told → version < r.version → option_or (in_force version (take (suc r.version) versions)) (Some told) ≡ in_force version versions
+  force_earlier version told is lt =
+      let many = as_many in
+      let up : take (suc r.version) versions ≡ map commit commits = ap (λ (m : ℕ). take m versions) (sym many) ∙ take_front (map commit commits) behind in
+      let here = take (suc version) (map commit commits) in
+      let later = drop (suc version) (map commit commits) in
+      let short : suc version ≤ length (map commit commits) = omega (arith, many, lt) in
+      let front : take (suc version) versions ≡ here = take_within (suc version) (map commit commits) behind short in
+      let others : drop (suc version) versions ≡ later ++ behind = drop_within (suc version) (map commit commits) behind short in
+      let tells : last_in (here ++ later) ≡ Some told = ap last_in (take-append-drop (suc version) (map commit commits)) ∙ own_told told is in
+      ap (λ (found : List Version). option_or (in_force version found) (Some told)) up
+      ∙ (some_told here later told told tells
+      ∙ (first_enough here later behind told tells
+      ∙ sym (ap (λ (found : List Version). option_or (option_or (last_in found) None) (first (filter_map told_at (drop (suc version) versions)))) front
+      ∙ ap (λ (found : List Version). option_or (option_or (last_in here) None) (first (filter_map told_at found))) others)))
 
-  -- whichever it is
-  force_alike : (version : ℕ) → in_force_behind (Some r) version (looked_at version (Some r) versions) ≡ in_force version versions
-  force_alike version = by_order (nat_le r.version version) refl
-    where
-      by_told : (found : Option Told) → told_by r ≡ found → nat_le r.version version ≡ true
-          → in_force_from found version (from_version (if is_some found then min (suc r.version) version else 0) versions) ≡ in_force version versions
-      by_told None is le = refl
-      by_told (Some told) is le = force_later version (min (suc r.version) version) told is (grind (arith, nat_tests, le)) (grind (arith, nat_tests))
-
-      by_order : (b : Bool) → nat_le r.version version ≡ b → in_force_behind (Some r) version (looked_at version (Some r) versions) ≡ in_force version versions
-      by_order true e = rw e (by_told (told_by r) refl e)
-      by_order false e = rw e (force_earlier version)
-
-  -- no more versions are left out than the checkpoint tells
-  first_short : (version : ℕ) → first_read version (Some r) ≤ suc r.version
-  first_short version = by_test (nat_le r.version version && is_some (told_by r))
-    where
-      by_test : (b : Bool) → (if b then min (suc r.version) version else 0) ≤ suc r.version
-      by_test true = grind (arith, nat_tests)
-      by_test false = omega arith
-
-  -- the table is read alike
-  front_alike : (version : ℕ) → readable (front_behind (Some r) (looked_at version (Some r) versions)) ≡ readable (front versions)
-  front_alike version =
-      let left : drop (suc r.version) (looked_at version (Some r) versions) ≡ behind =
-      drop_alike (first_read version (Some r)) (suc r.version) versions (first_short version) ∙ (ap (λ (n : ℕ). drop n versions) (sym long) ∙ drop_front commits behind) in
+  -- The table is read alike, where no version behind the checkpoint is left out.
+  pub front_alike : (n : ℕ) → n ≤ suc r.version → readable (front_behind (Some r) (from_version n versions)) ≡ readable (front versions)
+  front_alike n short =
+      let left : drop (suc r.version) (from_version n versions) ≡ behind =
+      drop_alike n (suc r.version) versions short ∙ (ap (λ (m : ℕ). drop m versions) (sym long) ∙ drop_front commits behind) in
       ap (λ (rest : List Version). readable (r.actions ∷ front rest)) left
       ∙ ((same_values (r.actions ∷ front behind) (commits ++ front behind) (same_behind (r.actions ∷ []) commits (front behind) same)).read ∙ sym (ap readable (front_both commits behind)))
-
-  -- So a read goes by the same schema.
-  pub schema_alike : (place : Place) → schema_for (Some r) (looked_at place.version (Some r) versions) place ≡ schema_for None versions place
-  unfolding schema_for
-  schema_alike place =
-      rw (none_alike (first_read place.version (Some r)) versions, front_alike place.version, force_alike place.version) refl

@@ -1,25 +1,27 @@
 -- Where checkpoints are sound, a read from one on hands out what a read of all commits does.
 use Rattle.std.proofs.Common.{◌≡◌, ◌≤◌, ◌+◌, ℕ, zero, suc, List, [], ◌∷◌, ◌++◌, length, map, take, drop, Bool, true, false, Option, Some, None, refl, sym, ap, ◌∙◌, arith}
-use Rattle.std.specs.Prelude.{◌&&◌, Result, Ok, Err, if◌then◌else◌, is_some, min, nat_le}
+use Rattle.std.specs.Prelude.{◌&&◌, Result, Ok, Err, if◌then◌else◌, min, nat_le, option_and_then}
 use Rattle.std.specs.Option.{option_or}
 use Rattle.std.proofs.lemmas.Bool.Decides.{nat_tests}
 use Rattle.std.proofs.lemmas.List.{length-map, take-append-drop}
 use Rattle.delta_actions.specs.Entry.{Entry}
 use Rattle.delta_checkpoint.proofs.Restored.{checkpoint_leaves, one_commit}
 use Rattle.delta_replay.specs.Keys.{Key, at}
+use Rattle.delta_replay.specs.Support.{readable}
 use Rattle.lake_bytes.specs.Results.{◌>>=◌, or_refusal}
-use Rattle.store_core.specs.Objects.{Objects}
+use Rattle.store_core.specs.Objects.{Objects, names_of}
 use Rattle.table_log.specs.Counts.{commit_count}
-use Rattle.table_log.specs.FromCheckpoints.{first_read, looked_at, start_at, told_by}
-use Rattle.table_log.specs.InForce.{Told}
-use Rattle.table_log.specs.Restoring.{HasSoundCheckpoints, Restored, RestoresWell, restored}
+use Rattle.table_log.specs.FromCheckpoints.{CheckpointSchema, Start, first_behind, first_read, first_schema, from_version, front_behind, in_force_at, later_schema, looked_at, newest_schema, no_start, schema_below, schema_by, schema_upto, start_at}
+use Rattle.table_log.specs.InForce.{Told, in_force, in_force_from}
+use Rattle.table_log.specs.Reads.{front}
+use Rattle.table_log.specs.Restoring.{HasSoundCheckpoints, Restored, RestoresWell, checkpoint_in, checkpoint_version, restored}
 use Rattle.table_log.specs.Versions.{Version, missing, unreadable, commit, commits_in, version_at, versions_from, versions_of}
-use Rattle.table_log.proofs.Callers.{commit_is, newest_found, read_parts, versions_long}
+use Rattle.table_log.proofs.Callers.{IsCheckpointFound, SchemaParts, commit_is, found_parts, last_found, newest_found, read_parts, schema_parts, versions_long}
 use Rattle.table_model.specs.declared.reading.Place.{Place}
 use Rattle.source_core.specs.Offsets.{offset_of}
 use Rattle.source_core.specs.Tailing.{Handed, Refusal, bad_offset, handed_by, handed_text, read_by, schema_at, schema_for, tailed, versions_at}
 use Rattle.source_core.proofs.LookedReads.{handed_alike}
-use Rattle.source_core.proofs.LookedSchemas.{schema_alike}
+use Rattle.source_core.proofs.LookedSchemas.{force_earlier, force_later, front_alike, none_alike}
 
 -- ---- a log's first commits
 
@@ -53,11 +55,9 @@ record IsOfFirst (objects : Objects) (r : Restored) : Type 0 where
   same : (key : Key) → at key (r.actions ∷ []) ≡ at key commits
 
 -- a sound one is
-sound_found : (bound : ℕ) (objects : Objects) (r : Restored) → bound ≤ commit_count objects → HasSoundCheckpoints objects → restored bound objects ≡ Some r → IsOfFirst objects r
-sound_found bound objects r short well is =
-    let newest = newest_found bound objects r is in
-    let found = newest.1 in
-    let sound = well newest.0 r.version found.bytes r.actions found.told found.stands found.reads in
+sound_found : (bound : ℕ) (objects : Objects) (name : List ℕ) (r : Restored) → bound ≤ commit_count objects → HasSoundCheckpoints objects → IsCheckpointFound bound objects name r → IsOfFirst objects r
+sound_found bound objects name r short well found =
+    let sound = well name r.version found.bytes found.told found.stands (r.actions, found.reads) in
     let lines = commit_is found.bytes r.actions (read_parts found.bytes r.version r.actions found.reads).0 in
     let own : r.actions ≡ sound.checkpoint.actions = one_commit found.bytes r.actions sound.checkpoint.actions lines sound.checkpoint.lines in
     let read : versions_from (suc r.version) 0 objects ≡ map commit sound.commits = are_commits 0 (versions_from (suc r.version) 0 objects) sound.commits sound.stand in
@@ -70,34 +70,135 @@ sound_found bound objects r short well is =
       same = λ key. ap (λ (actions : List Entry). at key (actions ∷ [])) own ∙ checkpoint_leaves found.bytes r.version sound.commits sound.checkpoint key;
     }
 
--- and so is the one that a read goes by
-sound_start : (version : ℕ) (objects : Objects) (r : Restored) → HasSoundCheckpoints objects → start_at version objects ≡ Some r → IsOfFirst objects r
-unfolding start_at
-sound_start version objects r well is = by_first (restored (min (suc version) (commit_count objects)) objects) refl is
-  where
-    by_first : (one : Option Restored) → restored (min (suc version) (commit_count objects)) objects ≡ one → option_or one (restored (commit_count objects) objects) ≡ Some r → IsOfFirst objects r
-    by_first None none at = sound_found (commit_count objects) objects r (omega arith) well at
-    by_first (Some own) some at = sound_found (min (suc version) (commit_count objects)) objects r (grind (arith, nat_tests)) well (some ∙ at)
+-- A schema is that of such a checkpoint.
+record IsOfOne (objects : Objects) (s : CheckpointSchema) : Type 0 where
+  r : Restored
+  first : IsOfFirst objects r
+  tells : schema_by r ≡ Some s
+
+module _ (objects : Objects) (well : HasSoundCheckpoints objects) where
+  -- the newest checkpoint, and each that tells a schema
+  sound_newest : (r : Restored) → restored (commit_count objects) objects ≡ Some r → IsOfFirst objects r
+  sound_newest r is =
+      let found = newest_found (commit_count objects) objects r is in
+      sound_found (commit_count objects) objects found.0 r (omega arith) well found.1
+
+  sound_schema : (bound : ℕ) (name : List ℕ) (s : CheckpointSchema) → bound ≤ commit_count objects → schema_below bound objects name ≡ Some s → IsOfOne objects s
+  sound_schema bound name s short is = by_found (checkpoint_in bound objects name) refl is
+    where
+      by_found : (found : Option Restored) → checkpoint_in bound objects name ≡ found → option_and_then schema_by found ≡ Some s → IsOfOne objects s
+      by_found None e at = absurd cc
+      by_found (Some r) e at = record { r = r; first = sound_found bound objects name r short well (found_parts bound objects name r e); tells = at }
+
+  sound_upto : (version : ℕ) (s : CheckpointSchema) → schema_upto version objects ≡ Some s → IsOfOne objects s
+  unfolding newest_schema
+  sound_upto version s is =
+      let found = last_found (schema_below (min (suc version) (commit_count objects)) objects) (names_of objects) s is in
+      sound_schema (min (suc version) (commit_count objects)) found.0 s (grind (arith, nat_tests)) found.1
+
+  sound_start : (version : ℕ) (s : CheckpointSchema) → (start_at version objects).schema ≡ Some s → IsOfOne objects s
+  sound_start version s is = by_own (schema_upto version objects) refl is
+    where
+      by_later : (one : Option CheckpointSchema) → option_and_then (λ (first : CheckpointSchema). schema_upto first.version objects) one ≡ Some s → IsOfOne objects s
+      by_later None at = absurd cc
+      by_later (Some first) at = sound_upto first.version s at
+
+      by_own : (one : Option CheckpointSchema) → schema_upto version objects ≡ one → option_or one (later_schema version objects) ≡ Some s → IsOfOne objects s
+      by_own None e at = by_later (first_schema version objects) at
+      by_own (Some own) e at = sound_upto version s (e ∙ at)
 
 -- ---- reads
 
 -- no version from its own on is left out
-first_before : (version : ℕ) (start : Option Restored) → first_read version start ≤ version
-first_before version None = omega arith
-first_before version (Some r) = by_test (nat_le r.version version && is_some (told_by r))
+first_before : (version : ℕ) (start : Start) → first_read version start ≤ version
+first_before version start = by_parts start.newest start.schema
   where
-    by_test : (b : Bool) → (if b then min (suc r.version) version else 0) ≤ version
+    by_test : (v n : ℕ) (b : Bool) → nat_le v version ≡ b → (if b then min n v else 0) ≤ version
+    by_test v n true e = grind (arith, nat_tests, e)
+    by_test v n false e = omega arith
+
+    by_parts : (newest : Option Restored) (schema : Option CheckpointSchema) → first_behind version newest schema ≤ version
+    by_parts None schema = omega arith
+    by_parts (Some r) None = omega arith
+    by_parts (Some r) (Some s) = by_test s.version (suc r.version) (nat_le s.version version) refl
+
+-- nor one behind the newest checkpoint
+first_short : (version : ℕ) (r : Restored) (schema : Option CheckpointSchema) → first_behind version (Some r) schema ≤ suc r.version
+first_short version r None = omega arith
+first_short version r (Some s) = by_test (nat_le s.version version)
+  where
+    by_test : (b : Bool) → (if b then min (suc r.version) s.version else 0) ≤ suc r.version
     by_test true = grind (arith, nat_tests)
     by_test false = omega arith
 
+module _ (objects : Objects) (version : ℕ) where
+  abbrev all : List Version
+  all = versions_of objects
+
+  -- the table is read alike
+  same_front : (newest : Option Restored) (schema : Option CheckpointSchema) → ((r : Restored) → newest ≡ Some r → IsOfFirst objects r)
+      → readable (front_behind newest (from_version (first_behind version newest schema) all)) ≡ readable (front all)
+  same_front None schema sound = refl
+  same_front (Some r) schema sound =
+      let is = sound r refl in
+      ap (λ (versions : List Version). readable (front_behind (Some r) (from_version (first_behind version (Some r) schema) versions))) is.whole
+      ∙ (front_alike r is.commits is.behind is.long is.same (first_behind version (Some r) schema) (first_short version r schema) ∙ sym (ap (λ (versions : List Version). readable (front versions)) is.whole))
+
+  -- no more is left out than the checkpoint tells
+  first_told : (newest : Option Restored) (s : CheckpointSchema) → first_behind version newest (Some s) ≤ s.version
+  first_told None s = omega arith
+  first_told (Some r) s = by_test (nat_le s.version version)
+    where
+      by_test : (b : Bool) → (if b then min (suc r.version) s.version else 0) ≤ s.version
+      by_test true = grind (arith, nat_tests)
+      by_test false = omega arith
+
+  -- and nothing in front of one of a later version
+  first_all : (newest : Option Restored) (s : CheckpointSchema) → nat_le s.version version ≡ false → first_behind version newest (Some s) ≡ 0
+  first_all None s later = refl
+  first_all (Some r) s later = ap (λ (b : Bool). if b then min (suc r.version) s.version else 0) later
+
+  -- the schema in force is the same
+  same_force : (newest : Option Restored) (schema : Option CheckpointSchema) → ((s : CheckpointSchema) → schema ≡ Some s → IsOfOne objects s)
+      → in_force_at version schema (from_version (first_behind version newest schema) all) ≡ in_force version all
+  same_force None None sound = refl
+  same_force (Some r) None sound = refl
+  same_force newest (Some s) sound = by_order (nat_le s.version version) refl
+    where
+      one : IsOfOne objects s
+      one = sound s refl
+
+      is : IsOfFirst objects one.r
+      is = one.first
+
+      own : SchemaParts one.r s
+      own = schema_parts one.r s one.tells
+
+      by_order : (b : Bool) → nat_le s.version version ≡ b → in_force_at version (Some s) (from_version (first_behind version newest (Some s)) all) ≡ in_force version all
+      by_order true e =
+          let n = first_behind version newest (Some s) in
+          let short = first_told newest s in
+          let at = own.version in
+          rw e
+          (ap (λ (told : Option Told). in_force_from told version (from_version n all)) own.reads
+          ∙ (ap (λ (versions : List Version). in_force_from (Some own.told) version (from_version n versions)) is.whole
+          ∙ (force_later one.r is.commits is.behind is.long is.same version n own.told own.tells (grind (arith, nat_tests, e, at)) (omega (arith, short, at))
+          ∙ sym (ap (in_force version) is.whole))))
+      by_order false e =
+          let at = own.version in
+          rw (first_all newest s e, e)
+          (ap (λ (told : Option Told). option_or (in_force version (take (suc s.version) all)) told) own.reads
+          ∙ (ap (λ (v : ℕ). option_or (in_force version (take (suc v) all)) (Some own.told)) at
+          ∙ (ap (λ (versions : List Version). option_or (in_force version (take (suc one.r.version) versions)) (Some own.told)) is.whole
+          ∙ (force_earlier one.r is.commits is.behind is.long is.same version own.told own.tells (grind (arith, nat_tests, e, at))
+          ∙ sym (ap (in_force version) is.whole)))))
+
 -- a read goes by the same schema
-same_schema : (objects : Objects) (place : Place) (start : Option Restored) → ((r : Restored) → start ≡ Some r → IsOfFirst objects r)
-    → schema_for start (looked_at place.version start (versions_of objects)) place ≡ schema_for None (versions_of objects) place
-same_schema objects place None sound = refl
-same_schema objects place (Some r) sound =
-    let is = sound r refl in
-    ap (λ (versions : List Version). schema_for (Some r) (looked_at place.version (Some r) versions) place) is.whole
-    ∙ (schema_alike r is.commits is.behind is.long is.same place ∙ sym (ap (λ (versions : List Version). schema_for None versions place) is.whole))
+same_schema : (objects : Objects) (place : Place) (start : Start) → ((r : Restored) → start.newest ≡ Some r → IsOfFirst objects r) → ((s : CheckpointSchema) → start.schema ≡ Some s → IsOfOne objects s)
+    → schema_for start (looked_at place.version start (versions_of objects)) place ≡ schema_for no_start (versions_of objects) place
+unfolding schema_for
+same_schema objects place start newest schema =
+    rw (none_alike (first_read place.version start) (versions_of objects), same_front objects place.version start.newest start.schema newest, same_force objects place.version start.newest start.schema schema) refl
 
 -- what follows is the same, where it is for each that was read
 onward : {A B : Type 0} (read : Result A Refusal) (f g : A → Result B Refusal) → ((x : A) → f x ≡ g x) → (read >>= f) ≡ (read >>= g)
@@ -110,7 +211,7 @@ module _ (objects : Objects) (well : HasSoundCheckpoints objects) (place : Place
       ≡ (schema_at false objects place >>= λ told. handed_by objects told (versions_at false objects place) max place >>= f told)
   both_alike max f =
       ap (λ (read : Result Told Refusal). read >>= λ told. handed_by objects told (versions_at true objects place) max place >>= f told)
-      (same_schema objects place (start_at place.version objects) (λ r is. sound_start place.version objects r well is))
+      (same_schema objects place (start_at place.version objects) (sound_newest objects well) (sound_start objects well place.version))
       ∙ onward (schema_at false objects place) _ _
       (λ told. ap (λ (handed : Result Handed Refusal). handed >>= f told)
       (handed_alike objects told (first_read place.version (start_at place.version objects)) (versions_of objects) max place (first_before place.version (start_at place.version objects))))
@@ -118,7 +219,7 @@ module _ (objects : Objects) (well : HasSoundCheckpoints objects) (place : Place
   rows_alike : (max : ℕ) → read_by true objects max place ≡ read_by false objects max place
   rows_alike max =
       ap (λ (read : Result Told Refusal). read >>= λ told. handed_by objects told (versions_at true objects place) max place)
-      (same_schema objects place (start_at place.version objects) (λ r is. sound_start place.version objects r well is))
+      (same_schema objects place (start_at place.version objects) (sound_newest objects well) (sound_start objects well place.version))
       ∙ onward (schema_at false objects place) _ _
       (λ told. handed_alike objects told (first_read place.version (start_at place.version objects)) (versions_of objects) max place (first_before place.version (start_at place.version objects)))
 

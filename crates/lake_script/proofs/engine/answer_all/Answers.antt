@@ -21,7 +21,7 @@ loop-rest-init g c = record {
   short = λ reliable well before short. let wrong : false ≡ true = sym before ∙ short in cc;
   behind = ([], Appends-none _, tt);
   reliable = λ reliable. reliable;
-  restores = λ reliable sound. sound;
+  restores = λ reliable every sound. sound;
   found = refl;
   unbroken = refl;
   counted = search rules;
@@ -89,7 +89,7 @@ loop-rest-preserved g c =
           ];
       behind = tells_on _ _ _ c.loop-rest.invariant.behind c.in_ok-answer.ensures.behind;
       reliable = λ reliable. c.in_ok-answer.ensures.reliable (c.loop-rest.invariant.reliable reliable);
-      restores = λ reliable sound. c.in_ok-answer.ensures.restores (c.loop-rest.invariant.reliable reliable) (c.loop-rest.invariant.restores reliable sound);
+      restores = λ reliable every sound. c.in_ok-answer.ensures.restores (c.loop-rest.invariant.reliable reliable) every (c.loop-rest.invariant.restores reliable every sound);
       found = sym (first_bad_next _ _ _ goes_on) ∙ (ap (first_bad_from c.loop-rest.number) (sym here) ∙ c.loop-rest.invariant.found);
       unbroken = c.in_ok-answer.ensures.unbroken ∙ c.loop-rest.invariant.unbroken;
       counted =
@@ -131,7 +131,7 @@ pub returns-then-not-branch-clause-behind : goal.returns-then-not-branch-clause-
 returns-then-not-branch-clause-behind g c = tells_on _ _ _ c.loop-rest.invariant.behind c.in_ok-answer.ensures.behind
 
 pub returns-in_err-answer-clause-restores : goal.returns-in_err-answer-clause-restores
-returns-in_err-answer-clause-restores g c = λ reliable sound. c.in_err-answer.ensures.restores (c.loop-rest.invariant.reliable reliable) (c.loop-rest.invariant.restores reliable sound)
+returns-in_err-answer-clause-restores g c = λ reliable every sound. c.in_err-answer.ensures.restores (c.loop-rest.invariant.reliable reliable) every (c.loop-rest.invariant.restores reliable every sound)
 
 pub returns-then-not-branch-clause-restores : goal.returns-then-not-branch-clause-restores
-returns-then-not-branch-clause-restores g c = λ reliable sound. c.in_ok-answer.ensures.restores (c.loop-rest.invariant.reliable reliable) (c.loop-rest.invariant.restores reliable sound)
+returns-then-not-branch-clause-restores g c = λ reliable every sound. c.in_ok-answer.ensures.restores (c.loop-rest.invariant.reliable reliable) every (c.loop-rest.invariant.restores reliable every sound)

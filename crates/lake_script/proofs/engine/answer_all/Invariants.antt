@@ -1,9 +1,9 @@
-use Rattle.std.proofs.Common.{◌≡◌, ◌+◌, ◌≤◌, ◌^◌, true, false, option_map}
+use Rattle.std.proofs.Common.{◌≡◌, ◌+◌, ◌≤◌, ◌^◌, Bool, true, false, option_map}
 use Rattle.std.specs.Prelude.{⊤}
 use Rattle.lake_script.specs.Streams.{held, write_failed}
 use Rattle.lake_script.specs.Runs.{Tells}
 use Rattle.delta_actions.specs.Commit.{lines_of}
-use Rattle.table_log.specs.Restoring.{HasSoundCheckpoints, RestoresWell}
+use Rattle.table_log.specs.Restoring.{AreCheckpointsSound, RestoresWell}
 use Rattle.lake_script.specs.Told.{lines_left, first_bad_from, first_bad}
 use Rattle.lake_script.proofs.RunLemmas.{SoFar, lines_at_most}
 use Rattle.lake_script.proofs.RunsLemmas.{Onward, SaysShort}
@@ -21,7 +21,7 @@ invariant-loop-rest g l =
           → Tells (held g.W.Write.contents l.fn.output) (held g.W.Write.contents l.output) (SaysShort (objects l.fn.store) (lines_of l.fn.text));
       behind : Tells (held g.W.Write.contents l.fn.output) (held g.W.Write.contents l.output) (λ written. ⊤);
       reliable : g.S.Store.is_reliable l.fn.store → g.S.Store.is_reliable l.store;
-      restores : g.S.Store.is_reliable l.fn.store → HasSoundCheckpoints (objects l.fn.store) → HasSoundCheckpoints (objects l.store);
+      restores : g.S.Store.is_reliable l.fn.store → (every : Bool) → AreCheckpointsSound every (objects l.fn.store) → AreCheckpointsSound every (objects l.store);
       found : first_bad_from l.number (lines_left lines) ≡ first_bad l.fn.text;
       unbroken : write_failed l.output ≡ write_failed l.fn.output;
       counted : l.number + lines_at_most lines ≤ 2 ^ 30 + 2;

@@ -1,5 +1,6 @@
 use Rattle.std.proofs.Common.{subst, sym}
-use Rattle.table_log.specs.Restoring.{HasSoundCheckpoints}
+use Rattle.table_log.specs.Restoring.{AreCheckpointsSound}
+use Rattle.table_log.proofs.Callers.{well_sound}
 use Rattle.lake_script.specs.Lines.{create, foreign, task, task_view}
 use Rattle.lake_script.proofs.SoundPuts.{puts_sound}
 use Rattle.lake_script.proofs.reply.grant.Goals as goal
@@ -11,19 +12,19 @@ pub returns-in-Snapshot-clause-told : goal.returns-in-Snapshot-clause-told
 returns-in-Snapshot-clause-told g c = λ reliable well. rw c.in-Snapshot.is (c.tell_snapshot.ensures.told reliable well)
 
 pub returns-in-Create-clause-restores : goal.returns-in-Create-clause-restores
-returns-in-Create-clause-restores g c = λ reliable sound.
-    puts_sound (g.S.Store.objects c.args.store.now) (create c.in-Create.id.now c.in-Create.at c.in-Create.schema.now) (g.S.Store.objects c.create_table.new.store) (c.create_table.ensures.grows reliable) sound
+returns-in-Create-clause-restores g c = λ reliable every sound.
+    puts_sound every (g.S.Store.objects c.args.store.now) (create c.in-Create.id.now c.in-Create.at c.in-Create.schema.now) (g.S.Store.objects c.create_table.new.store) (c.create_table.ensures.grows reliable) sound
 
 pub returns-in-Job-clause-restores : goal.returns-in-Job-clause-restores
-returns-in-Job-clause-restores g c = λ reliable sound.
-    puts_sound (g.S.Store.objects c.args.store.now) (task (task_view c.in-Job.job)) (g.S.Store.objects c.grant_job.new.store) (c.grant_job.ensures.grows reliable (λ is. sound)) sound
+returns-in-Job-clause-restores g c = λ reliable every sound.
+    puts_sound every (g.S.Store.objects c.args.store.now) (task (task_view c.in-Job.job)) (g.S.Store.objects c.grant_job.new.store) (c.grant_job.ensures.grows reliable (λ is. well_sound every (g.S.Store.objects c.args.store.now) sound)) sound
 
 pub returns-in-Snapshot-clause-restores : goal.returns-in-Snapshot-clause-restores
-returns-in-Snapshot-clause-restores g c = λ reliable sound. subst HasSoundCheckpoints (sym c.tell_snapshot.ensures.untouched) sound
+returns-in-Snapshot-clause-restores g c = λ reliable every sound. subst (AreCheckpointsSound every) (sym c.tell_snapshot.ensures.untouched) sound
 
 pub returns-in-Foreign-clause-restores : goal.returns-in-Foreign-clause-restores
-returns-in-Foreign-clause-restores g c = λ reliable sound.
-    puts_sound (g.S.Store.objects c.args.store.now) (foreign c.in-Foreign.version c.in-Foreign.action.now) (g.S.Store.objects c.put_foreign.new.store) (c.put_foreign.ensures.grows reliable) sound
+returns-in-Foreign-clause-restores g c = λ reliable every sound.
+    puts_sound every (g.S.Store.objects c.args.store.now) (foreign c.in-Foreign.version c.in-Foreign.action.now) (g.S.Store.objects c.put_foreign.new.store) (c.put_foreign.ensures.grows reliable) sound
 
 pub returns-in-Job-clause-told : goal.returns-in-Job-clause-told
 returns-in-Job-clause-told g c = λ reliable well. rw c.in-Job.is (c.grant_job.ensures.told reliable well)
