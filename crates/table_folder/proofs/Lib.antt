@@ -1,0 +1,6 @@
+mod ApartLemmas
+mod CopyLemmas
+mod KindLemmas
+mod LoadLemmas
+mod NameLemmas
+mod SaveLemmas

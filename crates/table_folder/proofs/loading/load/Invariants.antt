@@ -1,0 +1,15 @@
+use Rattle.std.proofs.Common.{◌≡◌, map, take, []}
+use Rattle.std.specs.String.{string_bytes}
+use Rattle.store_core.specs.Memory.{stored_objects}
+use Rattle.table_folder.specs.Copies.{with_copies}
+use Rattle.table_folder.proofs.loading.load.Given as goal
+
+-- the files of the names so far are loaded, and the folder is as it was
+abbrev pub invariant-loop-name : goal.invariant-loop-name
+invariant-loop-name g l = record {
+  loaded : g.F.Folder.is_steady l.fn.folder → stored_objects l.store ≡ with_copies (g.F.Folder.objects l.fn.folder) [] (map string_bytes (take l.name-index l.name-items));
+  untouched : g.F.Folder.is_steady l.fn.folder → g.F.Folder.objects l.folder ≡ g.F.Folder.objects l.fn.folder;
+  steady : g.F.Folder.is_steady l.fn.folder → g.F.Folder.is_steady l.folder;
+  counted : g.F.Folder.fault_count l.folder ≡ g.F.Folder.fault_count l.fn.folder;
+  reliable : g.F.Folder.is_reliable l.fn.folder → g.F.Folder.is_reliable l.folder;
+}

@@ -1,0 +1,14 @@
+use Rattle.std.proofs.Common.{◌∙◌, ap, sym, inr}
+use Rattle.std.specs.Option.{option_map}
+use Rattle.table_folder.proofs.SaveLemmas.{may_have_made, may_have_saved, unchanged_if_found}
+use Rattle.table_folder.proofs.saving.save_one.Goals as goal
+
+pub returns-in_err-create-clause-refused : goal.returns-in_err-create-clause-refused
+returns-in_err-create-clause-refused g c = λ steady is.
+    may_have_saved _ _ _ c.args.name.now c.in-Some.bytes.items
+    (sym c.in_ok-bytes.ensures.object ∙ ap (option_map (λ bytes. bytes.items)) c.in-Some.is)
+    (may_have_made c.in_err-create.field-0.0 _ _ _ _ (c.in_err-create.ensures.failed steady) (c.in_err-create.ensures.memory steady))
+
+pub returns-in-Exists-clause-refused : goal.returns-in-Exists-clause-refused
+returns-in-Exists-clause-refused g c = λ steady is.
+    inr (unchanged_if_found c.in_ok-create.field-0 _ _ c.args.name.now _ (c.in_ok-create.ensures.told steady) c.in-Exists.is (c.in_ok-create.ensures.made steady))

@@ -1,0 +1,134 @@
+//! A table's folder on a disk.
+ghost use Rattle.std.specs.Prelude.{◌≡◌, IfOk};
+ghost use Rattle.table_folder.specs.Calls.{CountsFailure};
+
+use crate::disk::{file_bytes, make_file, make_folder, table_names};
+use crate::naming::{LOG, is_table_name};
+use crate::{Folder, FolderFault};
+use std::alloc::AllocError;
+use std::io;
+use std::rt::Files;
+use store_core::Put;
+
+/// A table's folder on a disk: its plain files and those of `_delta_log` in it. Links, other folders and names that begin
+/// with `.` are passed over. A name that isn't text and a file over 1 GiB fail.
+///
+/// It needs hard links: a file is written and synced as `.new-N`, and a link then gives it its name where that is absent.
+/// A create that fails removes its `.new-N`; a run that is killed may leave one. With 1,000 of them in a folder creates
+/// fail until they are removed, which is safe only while no other process writes to the table.
+///
+/// Of the disk nothing is claimed: this folder is never steady.
+#[derive(Drop)]
+pub struct DirFolder<R> {
+    rt: R,
+    path: String,
+    faults: u64,
+}
+
+impl<R: Files + AllocGlobal + Clone + Drop> DirFolder<R> {
+    /// The folder of that path, which needn't be there. Nothing is asked of the disk yet.
+    pub fn new(rt: R, path: &str) -> Result<DirFolder<R>, AllocError>
+        ensures path { IfOk result (λ folder. ⟦<DirFolder<R> as Folder>⟧.path folder ≡ path.now) }
+        ensures faults { IfOk result (λ folder. ⟦<DirFolder<R> as Folder>⟧.fault_count folder ≡ 0) }
+    {
+        let path = String::from_str(rt.alloc(), path)?;
+        Ok(DirFolder {
+            rt,
+            path,
+            faults: 0,
+        })
+    }
+
+    // An answer, counted where it is a failure.
+    fn counted<T>(&mut self, answer: Result<T, FolderFault>) -> Result<T, FolderFault>
+        ensures answer { result ≡ answer }
+        ensures counted { CountsFailure result self.old.faults self.new.faults }
+    {
+        if let Err(FolderFault::Failed { name: _ }) = &answer {
+            self.faults = self.faults.saturating_add(1);
+        }
+        answer
+    }
+
+    // The path of a name's folder, with a slash at its end, and of the name.
+    fn paths(&self, name: &str) -> Result<(String, String), AllocError> {
+        let folder = if name.starts_with(LOG) {
+            format!(in self.rt.alloc(); "{}/{LOG}", self.path)?
+        } else {
+            format!(in self.rt.alloc(); "{}/", self.path)?
+        };
+        let path = format!(in self.rt.alloc(); "{}/{name}", self.path)?;
+        Ok((folder, path))
+    }
+
+    fn made(&self, name: &str, bytes: &[u8]) -> io::Result<Put> {
+        let (folder, path) = self.paths(name)?;
+        if name.starts_with(LOG) {
+            make_folder(&self.rt, self.path.as_str(), folder.as_str())?;
+        }
+        make_file(&self.rt, folder.as_str(), path.as_str(), bytes)
+    }
+}
+
+impl<R: Files + AllocGlobal + Clone + Drop> Folder for DirFolder<R> {
+    ghost use Rattle.std.specs.Prelude.{[], All, IsTrue, map, string_bytes};
+    ghost use Rattle.table_folder.specs.Calls.{FailsAt, IsFailed};
+    ghost use Rattle.table_folder.specs.Names.{is_table_name};
+    ghost use Rattle.table_folder.specs.Orders.{IsInOrder-none};
+
+    ghost objects = { λ _. [] };
+
+    ghost path = { λ folder. string_bytes folder.path };
+
+    ghost fault_count = { λ folder. folder.faults };
+
+    ghost is_steady = { λ _. ⊥ };
+
+    ghost is_reliable = { λ _. ⊥ };
+
+    /// Reads both folders and syncs them. Each name is a plain file name that doesn't begin with `.`, alone or behind `_delta_log/`.
+    fn names(&mut self) -> Result<Vec<String>, FolderFault>
+        ensures shown { IfOk result (λ names.
+            All (λ name. IsTrue (is_table_name name)) (map string_bytes names.items)) }
+        ensures faults { CountsFailure result
+            (⟦<DirFolder<R> as Folder>⟧.fault_count self.old) (⟦<DirFolder<R> as Folder>⟧.fault_count self.new) }
+    {
+        let names = table_names(&self.rt, self.path.as_str());
+        self.counted(names)
+    }
+
+    /// Reads the file, of at most 1 GiB. A name that is no table file's is absent.
+    fn read(&mut self, name: &str) -> Result<Option<Vec<u8>>, FolderFault> {
+        if !is_table_name(name) {
+            return Ok(None);
+        }
+        let refused = String::from_str(self.rt.alloc(), name)?;
+        let (_, path) = self.paths(name)?;
+        let bytes = match file_bytes(&self.rt, path.as_str()) {
+            Ok(bytes) => Ok(bytes),
+            Err(e) if e.kind() == io::ErrorKind::OutOfMemory => Err(FolderFault::Memory),
+            Err(_) => Err(FolderFault::Failed { name: refused }),
+        };
+        self.counted(bytes)
+    }
+
+    /// Writes the file and syncs it and its folder. A name that is no table file's fails.
+    fn create(&mut self, name: &str, bytes: Vec<u8>) -> Result<Put, FolderFault> {
+        let refused = String::from_str(self.rt.alloc(), name)?;
+        if !is_table_name(name) {
+            return self.counted(Err(FolderFault::Failed { name: refused }));
+        }
+        let put = match self.made(name, bytes.as_slice()) {
+            Ok(put) => Ok(put),
+            Err(e) if e.kind() == io::ErrorKind::OutOfMemory => Err(FolderFault::Memory),
+            Err(_) => Err(FolderFault::Failed { name: refused }),
+        };
+        self.counted(put)
+    }
+
+    fn faults(&self) -> u64 {
+        self.faults
+    }
+
+    ghost in_order = { λ _. IsInOrder-none };
+}

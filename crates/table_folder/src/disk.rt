@@ -1,0 +1,225 @@
+//! The files of a table's folder on a disk. No contract says what a disk gives or takes.
+ghost use Rattle.std.specs.Prelude.{IfOk, IfSome, IsTrue, OnOk, All, map, string_bytes};
+ghost use Rattle.table_folder.specs.Names.{is_table_name};
+
+use crate::FolderFault;
+use crate::naming::{LOG, is_table_name};
+use std::alloc::Global;
+use std::fs::{DirEntry, File, OpenFile};
+use std::io::{Error, ErrorKind, Read, Write};
+use std::rt::Files;
+use std::{fs, io};
+use store_core::Put;
+
+/// The most bytes of a file that is read: 1 GiB.
+const MOST_BYTES: u64 = 1 << 30;
+
+/// How many names are tried for a file that is being written.
+const MOST_TRIES: u32 = 1_000;
+
+/// The names of the plain files of a folder and of its log's folder, in the order of their bytes. Links, other folders
+/// and names that begin with `.` are passed over; the log's folder may be absent. The log is listed first, so a commit of
+/// another writer comes with the data files that were made before it. Both folders are synced before the names are told,
+/// so that what a killed run has named lasts before anything is built on it.
+pub(crate) fn table_names<R: Files + AllocGlobal + Clone + Drop>(
+    rt: &R,
+    folder: &str,
+) -> Result<Vec<String>, FolderFault>
+    ensures { IfOk result (λ names. All (λ name. IsTrue (is_table_name name)) (map string_bytes names.items)) }
+{
+    // A folder that can't be read is told before its log's.
+    if let Err(e) = fs::read_dir(rt, folder) {
+        return Err(fault_at(rt.alloc(), folder, e));
+    }
+    let log = format!(in rt.alloc(); "{folder}/{LOG}")?;
+    let mut names = Vec::new(rt.alloc());
+    if is_there(rt, log.as_str())? {
+        add_names(rt, log.as_str(), LOG, &mut names)?;
+    }
+    add_names(rt, folder, "", &mut names)?;
+    names.sort()?;
+    Ok(names)
+}
+
+// Whether anything has that path.
+fn is_there<R: Files + AllocGlobal>(rt: &R, path: &str) -> Result<bool, FolderFault> {
+    match fs::exists(rt, path) {
+        Ok(stands) => Ok(stands),
+        Err(e) => Err(fault_at(rt.alloc(), path, e)),
+    }
+}
+
+// Adds the names of a folder's plain files, each behind the prefix, and syncs the folder.
+fn add_names<R: Files + AllocGlobal + Clone + Drop>(
+    rt: &R,
+    path: &str,
+    prefix: &str,
+    names: &mut Vec<String>,
+) -> Result<(), FolderFault>
+    requires { All (λ name. IsTrue (is_table_name name)) (map string_bytes names.old.items) }
+    ensures { OnOk result (All (λ name. IsTrue (is_table_name name)) (map string_bytes names.new.items)) }
+{
+    let entries = match fs::read_dir(rt, path) {
+        Ok(entries) => entries,
+        Err(e) => return Err(fault_at(rt.alloc(), path, e)),
+    };
+    for entry in entries {
+        let entry = match entry {
+            Ok(entry) => entry,
+            Err(e) => return Err(entry_fault(rt.alloc(), path, e)),
+        };
+        if let Some(name) = plain_name(rt.alloc(), entry, prefix)? {
+            names.push(name)?;
+        }
+    }
+    settle(rt, path)
+}
+
+// The name of a folder's entry behind the prefix, where it is a plain file's and doesn't begin with `.`.
+fn plain_name<R: Files + Drop>(
+    alloc: Global,
+    entry: DirEntry<R, Global>,
+    prefix: &str,
+) -> Result<Option<String>, FolderFault>
+    ensures { IfOk result (λ found. IfSome found (λ name. IsTrue (is_table_name (string_bytes name)))) }
+{
+    let name = format!(in alloc; "{prefix}{}", entry.file_name())?;
+    if !is_table_name(name.as_str()) {
+        return Ok(None);
+    }
+    match entry.metadata() {
+        Ok(metadata) if metadata.is_file() => Ok(Some(name)),
+        Ok(_) => Ok(None),
+        Err(e) if e.kind() == ErrorKind::NotFound => Ok(None),
+        Err(e) if e.kind() == ErrorKind::OutOfMemory => Err(FolderFault::Memory),
+        Err(_) => Err(FolderFault::Failed { name }),
+    }
+}
+
+// Syncs a folder's names. A file system that can't be written to or can't sync a folder, which it may say by
+// `InvalidInput`, has nothing to wait for.
+fn settle<R: Files + AllocGlobal>(rt: &R, path: &str) -> Result<(), FolderFault> {
+    let Err(error) = sync_folder(rt, path) else {
+        return Ok(());
+    };
+    match error.kind() {
+        ErrorKind::ReadOnlyFilesystem
+        | ErrorKind::PermissionDenied
+        | ErrorKind::Unsupported
+        | ErrorKind::InvalidInput => Ok(()),
+        _ => Err(fault_at(rt.alloc(), path, error)),
+    }
+}
+
+// The fault of an entry of a folder: `-` where its name isn't text, else the folder's.
+fn entry_fault(alloc: Global, folder: &str, error: Error) -> FolderFault {
+    let place = if error.kind() == ErrorKind::InvalidFilename {
+        "-"
+    } else {
+        folder
+    };
+    fault_at(alloc, place, error)
+}
+
+// The fault of a call of the disk that failed there.
+fn fault_at(alloc: Global, place: &str, error: Error) -> FolderFault {
+    if error.kind() == ErrorKind::OutOfMemory {
+        return FolderFault::Memory;
+    }
+    match String::from_str(alloc, place) {
+        Ok(name) => FolderFault::Failed { name },
+        Err(_) => FolderFault::Memory,
+    }
+}
+
+/// The bytes of the plain file of that path, or `None` where there is none. A file over 1 GiB is an error.
+pub(crate) fn file_bytes<R: Files + AllocGlobal>(
+    rt: &R,
+    path: &str,
+) -> io::Result<Option<Vec<u8>>> {
+    match fs::symlink_metadata(rt, path) {
+        Ok(metadata) if !metadata.is_file() => return Ok(None),
+        Ok(metadata) if metadata.len() > MOST_BYTES => return Err(too_large()),
+        Ok(_) => {}
+        Err(e) if e.kind() == ErrorKind::NotFound => return Ok(None),
+        Err(e) => return Err(e),
+    }
+    let mut bytes = Vec::new(rt.alloc());
+    let mut file = File::open(rt, path)?.take(MOST_BYTES + 1);
+    file.read_to_end(&mut bytes)?;
+    if bytes.len() as u64 > MOST_BYTES {
+        return Err(too_large());
+    }
+    Ok(Some(bytes))
+}
+
+fn too_large() -> Error {
+    Error::from(ErrorKind::FileTooLarge)
+}
+
+/// Makes a file with these bytes where the path is absent. They are written and synced under a name that begins with
+/// `.`, and a link then gives the file its path, which fails where the path stands. So the path stands with all the
+/// bytes or not at all. Want of memory is told as that only where nothing was made.
+pub(crate) fn make_file<R: Files + AllocGlobal>(
+    rt: &R,
+    folder: &str,
+    path: &str,
+    bytes: &[u8],
+) -> io::Result<Put> {
+    if fs::exists(rt, path)? {
+        return Ok(Put::Exists);
+    }
+    let hidden = write_hidden(rt, folder, bytes)?;
+    let linked = fs::hard_link(rt, hidden.as_str(), path);
+    let removed = fs::remove_file(rt, hidden.as_str());
+    match linked {
+        Ok(()) => {}
+        Err(e) if e.kind() == ErrorKind::AlreadyExists => return Ok(Put::Exists),
+        Err(e) => return Err(e),
+    }
+    if removed.is_err() || sync_folder(rt, folder).is_err() {
+        return Err(Error::from(ErrorKind::Other));
+    }
+    Ok(Put::Created)
+}
+
+// Writes and syncs the bytes under a new name that begins with `.`, and tells its path. Where that fails, the file is
+// removed.
+fn write_hidden<R: Files + AllocGlobal>(rt: &R, folder: &str, bytes: &[u8]) -> io::Result<String> {
+    for number in 0..MOST_TRIES {
+        let path = format!(in rt.alloc(); "{folder}.new-{number}")?;
+        match File::create_new(rt, path.as_str()) {
+            Ok(mut file) => {
+                if let Err(e) = write_synced(&mut file, bytes) {
+                    let _removed = fs::remove_file(rt, path.as_str());
+                    return Err(e);
+                }
+                return Ok(path);
+            }
+            Err(e) if e.kind() == ErrorKind::AlreadyExists => {}
+            Err(e) => return Err(e),
+        }
+    }
+    Err(Error::from(ErrorKind::AlreadyExists))
+}
+
+fn write_synced<W: Write + OpenFile>(file: &mut W, bytes: &[u8]) -> io::Result<()> {
+    file.write_all(bytes)?;
+    file.sync_all()
+}
+
+/// Makes a folder where it is absent, and syncs its parent: also where it stands, since the run that made it may have
+/// been killed before it did so.
+pub(crate) fn make_folder<R: Files>(rt: &R, parent: &str, path: &str) -> io::Result<()> {
+    match fs::create_dir(rt, path) {
+        Ok(()) => {}
+        Err(e) if e.kind() == ErrorKind::AlreadyExists => {}
+        Err(e) => return Err(e),
+    }
+    sync_folder(rt, parent)
+}
+
+// Syncs a folder's names.
+fn sync_folder<R: Files>(rt: &R, path: &str) -> io::Result<()> {
+    File::open(rt, path)?.sync_all()
+}
