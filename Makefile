@@ -1,4 +1,6 @@
-.PHONY: bench demo inspect lake model test times
+PREFIX ?= $(HOME)/.local
+
+.PHONY: bench demo inspect install lake model test times
 
 # Runs the stored script of the program without a proof, and shows each line before its replies.
 demo:
@@ -8,6 +10,11 @@ demo:
 lake:
 	@cd crates/lake && rt run -- $$(cat args) < stdin > /dev/null
 	@echo "built: crates/lake/out/lake"
+
+# Copies the built program to PREFIX/bin; run `make lake` before it.
+install:
+	@install -D crates/lake/out/lake "$(PREFIX)/bin/lake"
+	@echo "installed: $(PREFIX)/bin/lake"
 
 # Proves and builds the program that prints what bytes are, and says where it lies.
 inspect:

@@ -15,6 +15,7 @@ import hashlib
 import re
 import sys
 
+from commands import Folder, Run
 from log import Log
 from parquet_reader import ReadFault, read_file
 from parquet_writer import write_file
@@ -82,12 +83,17 @@ class Tally:
 
 
 class ScriptCase(NamedTuple):
-    """A case of scripts: its directives but for texts, and its script."""
+    """A case: its directives but for texts and command lines, its script, and its command lines."""
 
     name: str
     directives: list[str]
     script: bytearray
     objects: dict[str, bytes]
+    runs: list[Run]
+
+    def input(self) -> bytearray:
+        """The script, or the input of the last command line."""
+        return self.runs[-1].input if self.runs else self.script
 
 
 def script_text(names: dict[str, bytes], text: str) -> bytes:
@@ -122,24 +128,28 @@ def script_cases(lines: list[str]) -> Iterator[ScriptCase]:
         if line.startswith("== "):
             if case is not None:
                 yield case
-            case = ScriptCase(line[3:], [], bytearray(), {})
+            case = ScriptCase(line[3:], [], bytearray(), {}, [])
         elif line.startswith(">> let "):
             name, _, rest = line.removeprefix(">> let ").partition(" ")
             names[name] = script_text(names, rest)
         elif case is not None and line.startswith(">> text "):
-            case.script.extend(script_text(names, line.removeprefix(">> text ")))
+            case.input().extend(script_text(names, line.removeprefix(">> text ")))
         elif case is not None and line.startswith(">> repeat "):
             times, _, rest = line.removeprefix(">> repeat ").partition(" ")
             parts = [script_text(names, part) for part in rest.split("#")]
-            case.script.extend(repeated(parts, int(times)))
+            case.input().extend(repeated(parts, int(times)))
         elif case is not None and line.startswith((">> object ", ">> commit ")):
             word, name, text = (line.removeprefix(">> ") + " ").split(" ", 2)
             name = commit_name(int(name)) if word == "commit" else name
             case.objects.setdefault(name, script_text(names, text.removesuffix(" ")))
+        elif case is not None and line.startswith(">> words"):
+            case.runs.append(Run(line.removeprefix(">> words").split(), bytearray(), []))
+        elif case is not None and case.runs and line.startswith(">> stops "):
+            case.runs[-1].stops.append(line.removeprefix(">> stops "))
         elif case is not None and line.startswith(">> "):
             case.directives.append(line.removeprefix(">> "))
         elif case is not None:
-            case.script.extend(line.encode() + b"\n")
+            case.input().extend(line.encode() + b"\n")
     if case is not None:
         yield case
 
@@ -156,6 +166,13 @@ def last_lines(lines: list[str], count: int) -> list[str]:
 def script_answer(case: ScriptCase) -> list[str]:
     """What is told of a case: the replies, how it ended, and the table that is left."""
     words = [directive.partition(" ")[0] for directive in case.directives]
+    if case.runs:
+        if not {"folder", "objects"}.issuperset(words):
+            raise NotModelled("a directive beside command lines")
+        made = [word[7:] for word in case.directives if word.startswith("folder ")]
+        folder = Folder(case.objects, made)
+        told = [line for run in case.runs for line in folder.answer(run)]
+        return told + (folder.object_lines() if "objects" in words else [])
     for word in words:
         if word not in ("entries", "objects", "last", "replays"):
             raise NotModelled(f"the directive {word}")

@@ -4,7 +4,19 @@ use crate::failure::Failure;
 use crate::notation::{Names, number, spelled};
 use crate::streams::{Manner, SOUND};
 use std::alloc::Global;
+use std::mem;
 use store_core::{Flaky, MemoryStore, Store, Turn};
+use table_folder::Stop;
+
+/// A command line of the program, and what is on its standard input.
+#[derive(Drop)]
+pub struct Run {
+    /// The words, of which the first is the program's name.
+    pub words: Vec<String>,
+    pub input: Vec<u8>,
+    /// Which file's making fails, where the folder is in memory.
+    pub stop: Stop,
+}
 
 /// A script, and how it is run and told.
 #[derive(Drop)]
@@ -13,8 +25,10 @@ pub struct Case {
     pub script: Vec<u8>,
     /// What stands before the script runs, and the turns that its calls meet then.
     pub store: Flaky<MemoryStore>,
-    /// The words of a command line, where the script is that command's input.
-    pub words: Option<Vec<String>>,
+    /// The command lines, where the script is the input of the last one.
+    pub runs: Vec<Run>,
+    /// The folder on the disk that is made for the command lines. Else their folder is in memory.
+    pub folder: Option<String>,
     /// Whether the script is one of the plain table.
     pub is_plain: bool,
     /// Whether logs are read from version 0, without a checkpoint.
@@ -39,7 +53,8 @@ impl Case {
             name: String::from_str(alloc, name)?,
             script: Vec::new(alloc),
             store: Flaky::new(MemoryStore::new(alloc), Vec::new(alloc)),
-            words: None,
+            runs: Vec::new(alloc),
+            folder: None,
             is_plain: false,
             replays: false,
             input: SOUND,
@@ -58,7 +73,11 @@ impl Case {
     /// - `object NAME TEXT` and `commit V TEXT` put an object, or the commit of a version, before the script runs;
     /// - `meets TURN ..`: the store's calls meet these turns, each `pass`, `request` (the request is lost) or `answer`
     ///   (the answer is), and past them every call passes;
-    /// - `words WORD ..` runs the command of these words, with the script on its standard input;
+    /// - `words WORD ..` runs the command of these words, with the lines behind it, up to the next such directive, on its
+    ///   standard input, over a folder in memory that holds the objects, whatever its name is;
+    /// - `stops before N`, `stops after N`: of the files that the command makes the one after N others fails, before it is
+    ///   made or after;
+    /// - `folder NAME`: the commands run on the disk, where a new folder of that name is made for them;
     /// - `plain` runs the script over the plain table, as `plain.rt` says;
     /// - `replays`: logs are read from version 0, without a checkpoint;
     /// - `input by N`, `output by N`: a call moves N bytes at most; `input breaks N`, `output breaks N`: calls fail
@@ -80,7 +99,9 @@ impl Case {
                 self.put(alloc, names, &line)?;
             }
             "meets" => self.store.turns = turns_of(alloc, rest)?,
-            "words" => self.words = Some(words_of(alloc, rest)?),
+            "words" => self.begin(alloc, rest)?,
+            "stops" => self.stop(rest)?,
+            "folder" => self.folder = Some(String::from_str(alloc, rest)?),
             "plain" => self.is_plain = true,
             "replays" => self.replays = true,
             "input" | "output" => self.hinder(directive)?,
@@ -89,6 +110,38 @@ impl Case {
             "entries" => self.tells_entries = true,
             _ => return Err(Failure::Misspelled),
         }
+        Ok(())
+    }
+
+    // Begins a command line; the script so far is the input of the one before it.
+    fn begin(&mut self, alloc: Global, words: &str) -> Result<(), Failure> {
+        self.end_run(alloc);
+        let run = Run {
+            words: words_of(alloc, words)?,
+            input: Vec::new(alloc),
+            stop: Stop::Never,
+        };
+        self.runs.push(run)?;
+        Ok(())
+    }
+
+    /// Gives the script to the last command line, if there is one.
+    pub fn end_run(&mut self, alloc: Global) {
+        if let Some(run) = self.runs.last_mut() {
+            run.input = mem::replace(&mut self.script, Vec::new(alloc));
+        }
+    }
+
+    // Says which file's making fails in the last command line.
+    fn stop(&mut self, text: &str) -> Result<(), Failure> {
+        let (when, count) = text.split_once(' ').ok_or(Failure::Misspelled)?;
+        let count = number::<u64>(count)?;
+        let run = self.runs.last_mut().ok_or(Failure::Misspelled)?;
+        run.stop = match when {
+            "before" => Stop::Before(count),
+            "after" => Stop::After(count),
+            _ => return Err(Failure::Misspelled),
+        };
         Ok(())
     }
 

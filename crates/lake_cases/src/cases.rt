@@ -4,14 +4,13 @@ use crate::case::Case;
 use crate::failure::Failure;
 use crate::notation::{Names, spelled};
 use crate::running::tell_case;
-use std::alloc::Global;
 use std::collections::BTreeMap;
 use std::io::Write;
 
 /// The cases that are read so far.
 #[derive(Drop)]
-struct Cases {
-    alloc: Global,
+struct Cases<'r> {
+    rt: &'r HostRuntime,
     /// The texts that directives named.
     names: Names,
     /// The case that is being read.
@@ -19,10 +18,10 @@ struct Cases {
 }
 
 /// Runs the cases of an input, and adds what is told of them. A directive that can't be read ends it.
-pub fn tell_cases(alloc: Global, text: &str, out: &mut Vec<u8>) -> Result<(), Failure> {
+pub fn tell_cases(rt: &HostRuntime, text: &str, out: &mut Vec<u8>) -> Result<(), Failure> {
     let mut cases = Cases {
-        alloc,
-        names: BTreeMap::new(alloc),
+        rt,
+        names: BTreeMap::new(rt.alloc()),
         case: None,
     };
     let text = text.strip_suffix('\n').unwrap_or(text);
@@ -40,12 +39,12 @@ pub fn tell_cases(alloc: Global, text: &str, out: &mut Vec<u8>) -> Result<(), Fa
     cases.end(out)
 }
 
-impl Cases {
+impl Cases<'_> {
     // Takes one line of the input.
     fn take(&mut self, line: &str, out: &mut Vec<u8>) -> Result<(), Failure> {
         if let Some(name) = line.strip_prefix("== ") {
             self.end(out)?;
-            self.case = Some(Case::new(self.alloc, name)?);
+            self.case = Some(Case::new(self.rt.alloc(), name)?);
             return Ok(());
         }
         if let Some(directive) = line.strip_prefix(">> ") {
@@ -62,19 +61,19 @@ impl Cases {
     fn direct(&mut self, directive: &str) -> Result<(), Failure> {
         if let Some(rest) = directive.strip_prefix("let ") {
             let (name, text) = rest.split_once(' ').ok_or(Failure::Misspelled)?;
-            let bytes = spelled(self.alloc, &self.names, text)?;
+            let bytes = spelled(self.rt.alloc(), &self.names, text)?;
             self.names
-                .insert(String::from_str(self.alloc, name)?, bytes)?;
+                .insert(String::from_str(self.rt.alloc(), name)?, bytes)?;
             return Ok(());
         }
         let case = self.case.as_mut().ok_or(Failure::Misspelled)?;
-        case.direct(self.alloc, &self.names, directive)
+        case.direct(self.rt.alloc(), &self.names, directive)
     }
 
     // Runs the case that was read.
     fn end(&mut self, out: &mut Vec<u8>) -> Result<(), Failure> {
         match self.case.take() {
-            Some(case) => tell_case(self.alloc, case, out),
+            Some(case) => tell_case(self.rt, case, out),
             None => Ok(()),
         }
     }

@@ -8,6 +8,7 @@
 
 mod case;
 mod cases;
+mod commands;
 mod failure;
 mod notation;
 mod plain;
@@ -22,7 +23,7 @@ use std::process::ExitCode;
 fn main(rt: HostRuntime) -> io::Result<ExitCode> {
     let text = io::read_to_string(rt.alloc(), rt.stdin())?;
     let mut told = Vec::new(rt.alloc());
-    let ended = cases::tell_cases(rt.alloc(), text.as_str(), &mut told);
+    let ended = cases::tell_cases(&rt, text.as_str(), &mut told);
     rt.stdout().write_all(&told)?;
     match ended {
         Ok(()) => Ok(ExitCode::SUCCESS),

@@ -1,23 +1,24 @@
 //! One case: it is run, and what came of it is told.
 
 use crate::case::Case;
+use crate::commands::tell_runs;
 use crate::failure::Failure;
 use crate::plain::tell_plain;
 use crate::streams::{Sink, Source};
 use crate::table::{tell_entries, tell_objects, tell_table};
-use lake_command::command;
 use lake_script::{End, Input, Outcome, Output, run};
 use sha2::{Digest, Sha256};
 use std::alloc::Global;
 use std::io::Write;
 
 /// Runs a case, and adds what is told of it: its name, what was written, how it ended, and which table is left.
-pub fn tell_case(alloc: Global, case: Case, out: &mut Vec<u8>) -> Result<(), Failure> {
+pub fn tell_case(rt: &HostRuntime, case: Case, out: &mut Vec<u8>) -> Result<(), Failure> {
+    let alloc = rt.alloc();
     let mut case = case;
     let name = &case.name;
     writeln!(out, "== {name}")?;
-    if case.words.is_some() {
-        return tell_command(alloc, &case, out);
+    if !case.runs.is_empty() {
+        return tell_runs(rt, &mut case, out);
     }
     if case.is_plain {
         return tell_plain(alloc, &case.script, out);
@@ -54,39 +55,9 @@ fn run_script(alloc: Global, case: &mut Case, told: &mut Vec<u8>) -> Outcome {
     run(alloc, &mut input, &mut output, &mut case.store, restore)
 }
 
-// Runs the command of a case, and adds what it writes, its exit status, and what it tells on standard error.
-fn tell_command(alloc: Global, case: &Case, out: &mut Vec<u8>) -> Result<(), Failure> {
-    let mut told = Vec::new(alloc);
-    let mut err = Vec::new(alloc);
-    let status = run_command(alloc, case, &mut told, &mut err);
-    tell_written(alloc, &told, case.last, out)?;
-    writeln!(out, "status {status}")?;
-    tell_written(alloc, &err, None, out)
-}
-
-fn run_command(alloc: Global, case: &Case, told: &mut Vec<u8>, err: &mut Vec<u8>) -> u8 {
-    let source = Source {
-        rest: &case.script,
-        manner: case.input,
-    };
-    let sink = Sink {
-        told,
-        manner: case.output,
-        is_full: case.is_full,
-        is_stuck: case.is_stuck,
-    };
-    let mut input = Input::new(source);
-    let mut output = Output::new(alloc, sink);
-    let words = match &case.words {
-        Some(words) => words.as_slice(),
-        None => &[],
-    };
-    command(alloc, words, &mut input, &mut output, err).status
-}
-
-// Adds what was written. Of many lines the last alone are told, and of those before them the count and the SHA-256.
-// A last line that isn't ended is ended by a backslash.
-fn tell_written(
+/// Adds what was written. Of many lines the last alone are told, and of those before them the count and the SHA-256.
+/// A last line that isn't ended is ended by a backslash.
+pub fn tell_written(
     alloc: Global,
     told: &[u8],
     last: Option<usize>,

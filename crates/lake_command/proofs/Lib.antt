@@ -1,2 +1,3 @@
+pub mod FolderLemmas
+pub mod LineLemmas
 pub mod ScriptLemmas
-pub mod WordLemmas

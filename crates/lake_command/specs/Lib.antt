@@ -1,2 +1,3 @@
+pub mod Failures
+pub mod Folders
 pub mod Status
-pub mod Words

@@ -1,5 +1,15 @@
 -- The exit status of a command.
-use Rattle.std.specs.Prelude.{◌≡◌, ◌⊎◌, ℕ, Bool, true, List, Option, Some, None}
+use Rattle.std.specs.Prelude.{◌≡◌, ◌⊎◌, ℕ, Bool, true, false, List, Option, Some, None, codes, nat_eq}
+use Rattle.std.specs.List.{list_any, starts_with}
+use Rattle.delta_actions.specs.Commit.{lines_of}
+use Rattle.table_folder.specs.declared.fault.LoadFault.TheVariants as loads
+use Rattle.table_folder.specs.declared.fault.SaveFault.TheVariants as saves
+use Rattle.lake_script.specs.declared.reply.Reply.{Reply}
+use Rattle.lake_script.specs.declared.reply.Reply.TheVariants.{Created, Appended, Checkpointed, Put, Bytes, Digits}
+use Rattle.lake_words.specs.Asked.{Work}
+use Rattle.lake_words.specs.Asked as words
+use Rattle.lake_command.specs.declared.failure.Failure.{Failure}
+use Rattle.lake_command.specs.declared.failure.Failure.TheVariants.{Misused, BadLine, Memory, Loading, Saving}
 use Rattle.clap.specs.Words.{IsAmong}
 use Rattle.clap.specs.declared.error.kind.ErrorKind.{ErrorKind}
 use Rattle.clap.specs.declared.error.kind.ErrorKind.TheVariants.{DisplayHelp, DisplayVersion, OutOfMemory}
@@ -28,3 +38,35 @@ status_of_kind _ = 2
 -- the status of words that have these faults: that of one of them, unless memory ran out
 abbrev pub IsStatusOf : List ErrorKind → (status : ℕ) → (is_short : Bool) → Type 0
 IsStatusOf kinds status is_short = ((status ≡ 1) × (is_short ≡ true)) ⊎ ((kind : ErrorKind) × IsAmong kind kinds × (status ≡ status_of_kind kind))
+
+-- the status of a job that has no reply
+abbrev pub status_of_failure : Failure → ℕ
+status_of_failure Misused = 2
+status_of_failure (BadLine number) = 2
+status_of_failure _ = 1
+
+-- a growth was refused
+abbrev pub is_want_of_memory : Failure → Bool
+is_want_of_memory Memory = true
+is_want_of_memory (Loading loads.Memory) = true
+is_want_of_memory (Saving saves.Memory) = true
+is_want_of_memory _ = false
+
+-- a line begins with `refused `
+abbrev pub has_refusal : List ℕ → Bool
+has_refusal text = list_any (λ line. starts_with nat_eq line (codes "refused ")) (lines_of text)
+
+-- a history says in a line of its own that it ends at what can't be read
+abbrev pub refuses_text : Work → List ℕ → Bool
+refuses_text words.history text = has_refusal text
+refuses_text _ text = false
+
+-- a reply to a job refuses it
+abbrev pub refuses : Work → Reply → Bool
+refuses work (Bytes text) = refuses_text work text.items
+refuses work Created = false
+refuses work (Appended answer) = false
+refuses work (Checkpointed version) = false
+refuses work (Put put) = false
+refuses work (Digits digits) = false
+refuses work _ = true

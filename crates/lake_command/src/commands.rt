@@ -1,43 +1,30 @@
-// One command, from its words to its exit status.
+//! One command, from its words to its exit status.
 ghost use Rattle.std.specs.Prelude.{◌≡◌, ◌≢◌, ◌≤◌, ◌⊎◌, ℕ, [], true, false, length, map, IfSome};
 ghost use Rattle.std.specs.Io.KnownBytes.{Appends};
 ghost use Rattle.clap.specs.Words.{fault_of, kind_of};
 ghost use Rattle.delta_actions.specs.Commit.{lines_of};
-ghost use Rattle.lake_command.specs.declared.words.Command.{Command};
+ghost use Rattle.lake_words.specs.declared.command.Command.{Command};
 ghost use Rattle.lake_script.specs.Runs.{MayBeTold, Tells};
 ghost use Rattle.lake_command.specs.Status.{status_of, status_at, status_of_kind, IsStatusOf};
 ghost use Rattle.lake_script.specs.declared.inputs.TheConstants.{MOST_READS};
 ghost use Rattle.lake_script.specs.Streams.{held, unread, read_failed, write_failed};
 ghost use Rattle.lake_script.specs.Tables.{told as told_by_table, AreOfTable};
 ghost use Rattle.lake_script.specs.Told.{IsTold, first_bad};
-ghost use Rattle.lake_command.specs.Words.{commands, Spells};
+ghost use Rattle.lake_words.specs.Asked.{Spells};
+ghost use Rattle.lake_words.specs.Words.{commands};
 
-use crate::words::{Command, read_words};
+use crate::disk::folder_of;
+use crate::exit::{DONE, Exit, MISUSED, REFUSED};
+use crate::failure::Failure;
+use crate::telling::{table_command, tell_failure};
 use clap::Error;
 use clap::error::ErrorKind;
 use lake_script::{End, Fault, Input, Output, Refusal, run};
-use std::alloc::Global;
+use lake_words::{Command, TableCommand, read_words};
 use std::convert::AsStr;
 use std::io::{Read, Write};
+use std::rt::Files;
 use store_core::MemoryStore;
-
-/// The exit status of a command that was done.
-pub const DONE: u8 = 0;
-
-/// The exit status of a command that was refused.
-pub const REFUSED: u8 = 1;
-
-/// The exit status of words or of a line that can't be read.
-pub const MISUSED: u8 = 2;
-
-/// How a command ended.
-#[derive(Clone, Copy, Debug, PartialEq, Eq)]
-pub struct Exit {
-    /// The exit status.
-    pub status: u8,
-    /// Whether a growth was refused on the way, or an object would have passed 64 MiB.
-    pub is_short: bool,
-}
 
 // The status of words that ask for help, that are refused, or that were too much to read.
 fn misused(error: &Error) -> u8
@@ -65,10 +52,34 @@ fn ended<E: Write>(end: End, err: &mut E) -> u8
     REFUSED
 }
 
-/// Runs the command that the words ask for, over a store in which nothing stands yet. Replies go to
-/// `output`. What `clap` says of the words and the program's own faults go to `err`.
-pub fn command<S: AsStr, R: Read, W: Write, E: Write>(
-    alloc: Global,
+// Does a job on the table in a folder on the disk.
+fn command_on_disk<H: Files + AllocGlobal + Clone + Drop, R: Read, W: Write, E: Write>(
+    rt: &H,
+    command: TableCommand<'_>,
+    input: &mut Input<R>,
+    output: &mut Output<W>,
+    err: &mut E,
+) -> Exit {
+    match folder_of(rt, command) {
+        Ok(folder) => {
+            let mut folder = folder;
+            table_command(rt.alloc(), &mut folder, command, input, output, err)
+        }
+        Err(fault) => tell_failure(&Failure::Loading(fault), output, err),
+    }
+}
+
+/// Runs the command that the words ask for: a script over a store in which nothing stands yet, or a job on the table in a
+/// folder on the disk, of which [`table_command`] tells what is claimed over any folder. Replies go to `output`. What
+/// `clap` says of the words and the program's own faults go to `err`.
+pub fn command<
+    H: Files + AllocGlobal + Clone + Drop,
+    S: AsStr,
+    R: Read,
+    W: Write,
+    E: Write,
+>(
+    rt: &H,
     words: &[S],
     input: &mut Input<R>,
     output: &mut Output<W>,
@@ -100,7 +111,9 @@ pub fn command<S: AsStr, R: Read, W: Write, E: Write>(
     ensures misused { fault_of commands (map S.text words.now) ≢ [] → IsStatusOf (fault_of commands (map S.text words.now)) result.status result.is_short }
     ensures unread { fault_of commands (map S.text words.now) ≢ [] → (input.new ≡ input.old) × (output.new ≡ output.old) }
 {
+    let alloc = rt.alloc();
     match read_words(alloc, words) {
+        Ok(Command::Table(command)) => command_on_disk(rt, command, input, output, err),
         Ok(Command::Script { restore }) => {
             let mut store = MemoryStore::new(alloc);
             let outcome = run(alloc, input, output, &mut store, restore);

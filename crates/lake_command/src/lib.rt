@@ -1,7 +1,19 @@
-//! The program's commands: the words of a command line, what each command does, and its exit status.
+//! The program's commands: what each does, what it tells, and its exit status.
+//!
+//! [`command`] takes the words of a command line. A job on the table in a folder goes by [`answer`], over any folder,
+//! and [`table_command`], which tells its reply.
 #![tactic(auto)]
 
+mod answering;
 mod commands;
-pub mod words;
+mod disk;
+mod exit;
+mod failure;
+mod saving;
+mod telling;
 
-pub use commands::{DONE, Exit, MISUSED, REFUSED, command};
+pub use answering::answer;
+pub use commands::command;
+pub use exit::{DONE, Exit, MISUSED, REFUSED};
+pub use failure::Failure;
+pub use telling::table_command;

@@ -1,4 +1,5 @@
-//! Scripts: their lines, what each line does over a store, and the replies.
+//! Scripts: their lines, what each line does over a store, and the replies. [`run`] answers a whole script, [`grant`] one
+//! line.
 #![tactic(auto)]
 
 mod engine;
@@ -17,4 +18,6 @@ mod verb;
 pub use engine::{End, Outcome, run, run_text};
 pub use faults::{Fault, Refusal};
 pub use inputs::{Input, InputError, MOST_BYTES, MOST_READS};
+pub use line::{Job, Line};
 pub use outputs::{Output, OutputError};
+pub use reply::{Reply, grant};

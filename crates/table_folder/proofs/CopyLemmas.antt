@@ -9,7 +9,7 @@ use Rattle.store_core.specs.Objects.{Objects, IsInOrder, object_at, names_of, wi
 use Rattle.store_core.specs.ObjectLaws.{object_at-with_object_same, object_at-with_object_other, IsInOrder-with_object, same_objects}
 use Rattle.table_folder.specs.Kinds.{is_data, is_commit, is_checkpoint}
 use Rattle.table_folder.specs.Orders.{IsInOrder-none}
-use Rattle.table_folder.specs.Copies.{AreAbsent, not_loaded, to_save, saved_at, with_found, with_copy, with_copies}
+use Rattle.table_folder.specs.Copies.{AreAbsent, HasAll, not_loaded, to_save, saved_at, with_found, with_copy, with_copies}
 
 -- what stood, or else what is copied there
 abbrev pub first_of : Option (List ℕ) → Option (List ℕ) → Option (List ℕ)
@@ -171,3 +171,19 @@ pub kept_by_copies : (stored held : Objects) (names : List (List ℕ)) (name byt
 kept_by_copies stored held names name bytes e =
     object_at-with_copies stored held names name
     ∙ ap (λ (found : Option (List ℕ)). first_of found (cond (list_any (bytes_eq name) names) (object_at stored name) None)) e
+
+-- what stands once a store that has all that was there is saved over it, is what stands in that store
+either : (held stored : Option (List ℕ)) → ((bytes : List ℕ) → held ≡ Some bytes → stored ≡ Some bytes) → first_of held (cond (not (is_some held) && is_some stored) stored None) ≡ stored
+either None None has = refl
+either None (Some bytes) has = refl
+either (Some bytes) stored has = sym (has bytes refl)
+
+-- once the store's new objects are saved, the folder holds all of the store, where the store has all that the folder had
+pub all_saved : (held stored : Objects) → IsInOrder held → IsInOrder stored → HasAll stored held → with_copies stored held (to_save (names_of held) (names_of stored)) ≡ stored
+all_saved held stored order stored_order has =
+    same_objects (with_copies stored held (to_save (names_of held) (names_of stored))) stored (IsInOrder-with_copies stored held (to_save (names_of held) (names_of stored)) order) stored_order
+    (λ name. object_at-with_copies stored held (to_save (names_of held) (names_of stored)) name
+    ∙ ap (λ b. first_of (object_at held name) (cond b (object_at stored name) None))
+    (list_any-to_save (names_of held) (names_of stored) name
+    ∙ (λ i. not (list_any-names held name i) && list_any-names stored name i))
+    ∙ either (object_at held name) (object_at stored name) (has name))

@@ -1,11 +1,11 @@
 use Rattle.std.proofs.Common.{true, ◌≡◌, sym, ap, ◌∙◌, map, rules, subst, take, ℕ, List, Err, Result}
-use Rattle.store_core.specs.Objects.{Objects, object_at}
+use Rattle.store_core.specs.Objects.{Objects, names_of, object_at}
 use Rattle.std.specs.Prelude.{is_some, string_bytes, refl}
 use Rattle.std.proofs.lemmas.List.{take_all}
 use Rattle.table_folder.specs.Faults.{SaveFailsAt, CountsSave, FailsWhereStood}
-use Rattle.table_folder.specs.Copies.{MayHaveSaved, new_names, saved_at, with_copy}
+use Rattle.table_folder.specs.Copies.{MayHaveSaved, new_names, saved_at, to_save, with_copies, with_copy}
 use Rattle.table_folder.specs.declared.fault.SaveFault.{SaveFault}
-use Rattle.table_folder.proofs.CopyLemmas.{kept_by_copies, whole_saved}
+use Rattle.table_folder.proofs.CopyLemmas.{all_saved, kept_by_copies, whole_saved}
 use Rattle.table_folder.proofs.SaveLemmas.{absent_more, copies_more, counts_before, found_before, front_after, is_err, is_stored, kept_by_front, stood_before}
 use Rattle.table_folder.proofs.saving.save.Goals as goal
 
@@ -83,3 +83,11 @@ pub returns-clause-kept : goal.returns-clause-kept
 returns-clause-kept g c = λ steady name bytes e.
     ap (λ (o : Objects). object_at o name) (c.loop-name.invariant.copied steady)
     ∙ kept_by_copies (g.S.Store.objects c.args.store.now) (g.F.Folder.objects c.args.folder.now) (map string_bytes (take c.loop-name.name-index c.deref-name-items.result.now)) name bytes e
+
+pub returns-clause-same : goal.returns-clause-same
+returns-clause-same g c = λ steady loaded has.
+    let all : map string_bytes (take c.loop-name.name-index c.deref-name-items.result.now) ≡ new_names c.args.loaded.now (g.S.Store.objects c.args.store.now) =
+    ap (map string_bytes) (take_all _ _ c.loop-name-test.false ∙ c.deref-name-items.ensures.value) ∙ c.in_ok-names.ensures.names in
+    c.loop-name.invariant.copied steady
+    ∙ ap (with_copies (g.S.Store.objects c.args.store.now) (g.F.Folder.objects c.args.folder.now)) (all ∙ ap (λ names. to_save names (names_of (g.S.Store.objects c.args.store.now))) loaded)
+    ∙ all_saved (g.F.Folder.objects c.args.folder.now) (g.S.Store.objects c.args.store.now) (g.met.F.Folder.in_order c.args.folder.now) (g.met.S.Store.in_order c.args.store.now) has

@@ -1,0 +1,97 @@
+//! The command lines of a case: each is run, and what it tells is added.
+
+use crate::case::{Case, Run};
+use crate::failure::Failure;
+use crate::running::tell_written;
+use crate::streams::{Sink, Source};
+use crate::table::tell_objects;
+use lake_command::{command, table_command};
+use lake_script::{Input, Output};
+use lake_words::{Command, read_words};
+use std::fs;
+use std::io::Write;
+use std::mem;
+use store_core::MemoryStore;
+use table_folder::{DirFolder, MemoryFolder, Stop, load};
+
+/// Runs the command lines of a case, and adds what each writes, its exit status, and what it tells on standard error.
+pub fn tell_runs(rt: &HostRuntime, case: &mut Case, out: &mut Vec<u8>) -> Result<(), Failure> {
+    let alloc = rt.alloc();
+    case.end_run(alloc);
+    if let Some(folder) = &case.folder {
+        let _removed = fs::remove_dir_all(rt, folder.as_str());
+        fs::create_dir(rt, folder.as_str())?;
+    }
+    let store = mem::replace(&mut case.store.store, MemoryStore::new(alloc));
+    let mut folder = MemoryFolder::new(alloc, store, Stop::Never);
+    for run in &case.runs {
+        folder.stop = run.stop;
+        tell_run(rt, case, run, &mut folder, out)?;
+    }
+    if case.tells_objects {
+        tell_files(rt, case, &mut folder, out)?;
+    }
+    Ok(())
+}
+
+// Adds the names of the files that are left, each with its count of bytes.
+fn tell_files(
+    rt: &HostRuntime,
+    case: &Case,
+    folder: &mut MemoryFolder,
+    out: &mut Vec<u8>,
+) -> Result<(), Failure> {
+    match &case.folder {
+        Some(path) => {
+            let mut folder = DirFolder::new(rt.clone()?, path.as_str())?;
+            let mut store = load(rt.alloc(), &mut folder).map_err(|_| Failure::Memory)?;
+            tell_objects(&mut store, out)
+        }
+        None => tell_objects(&mut folder.store, out),
+    }
+}
+
+fn tell_run(
+    rt: &HostRuntime,
+    case: &Case,
+    run: &Run,
+    folder: &mut MemoryFolder,
+    out: &mut Vec<u8>,
+) -> Result<(), Failure> {
+    let mut told = Vec::new(rt.alloc());
+    let mut err = Vec::new(rt.alloc());
+    let status = run_command(rt, case, run, folder, &mut told, &mut err);
+    tell_written(rt.alloc(), &told, case.last, out)?;
+    writeln!(out, "status {status}")?;
+    tell_written(rt.alloc(), &err, None, out)
+}
+
+// Runs one command line, over the folder in memory unless the case is on the disk.
+fn run_command(
+    rt: &HostRuntime,
+    case: &Case,
+    run: &Run,
+    folder: &mut MemoryFolder,
+    told: &mut Vec<u8>,
+    err: &mut Vec<u8>,
+) -> u8 {
+    let source = Source {
+        rest: &run.input,
+        manner: case.input,
+    };
+    let sink = Sink {
+        told,
+        manner: case.output,
+        is_full: case.is_full,
+        is_stuck: case.is_stuck,
+    };
+    let mut input = Input::new(source);
+    let mut output = Output::new(rt.alloc(), sink);
+    let exit = match read_words(rt.alloc(), &run.words) {
+        Ok(Command::Table(job)) if case.folder.is_none() => {
+            table_command(rt.alloc(), folder, job, &mut input, &mut output, err)
+        }
+        _ => command(rt, &run.words, &mut input, &mut output, err),
+    };
+    exit.status
+}

@@ -1,0 +1,61 @@
+-- What a job on the table in a folder asks for, in the words of a script, and what it leaves in the folder.
+use Rattle.std.specs.Prelude.{◌≡◌, ◌⊎◌, ℕ, List, Option, Some, IfSome, map, false}
+use Rattle.std.specs.Io.KnownBytes.{Appends}
+use Rattle.serde_json.specs.Data.{Data}
+use Rattle.serde_json.specs.View.{items_of}
+use Rattle.store_core.specs.Objects.{Objects, names_of}
+use Rattle.table_folder.specs.Copies.{HasSavedFront, to_save}
+use Rattle.json_lines.specs.Rows.{input_lines, object_of}
+use Rattle.lake_words.specs.Asked.{Work}
+use Rattle.lake_words.specs.Asked as words
+use Rattle.lake_script.specs.Growth.{MayPut}
+use Rattle.lake_script.specs.Lines.{Wish, create, task, append, checkpoint, tail, snapshot, history}
+use Rattle.lake_script.specs.Runs.{Grants}
+use Rattle.lake_script.specs.ReplyView.{reply_text}
+use Rattle.lake_script.specs.Told.{not_yet}
+use Rattle.lake_script.specs.declared.reply.Reply.{Reply}
+use Rattle.lake_command.specs.Status.{refuses}
+
+-- these are the rows of an input: the JSON objects of its lines
+abbrev pub AreRows : List ℕ → List Data → Type 0
+AreRows text rows = map object_of (input_lines text) ≡ map (λ row. Some row) rows
+
+-- what a job asks for, where the input, which tells its text or doesn't, has the rows of an append
+abbrev pub IsAskedBy : Work → (text : Option (List ℕ)) → Wish → Type 0
+IsAskedBy (words.create id schema at) text wish = wish ≡ create id at schema
+IsAskedBy (words.append application number at tries) text wish =
+    (rows : List Data) × IfSome text (λ bytes. AreRows bytes rows) × (wish ≡ task (append application number at (items_of rows)))
+IsAskedBy (words.close application at tries) text wish = ⊥
+IsAskedBy (words.load workers at tries) text wish = ⊥
+IsAskedBy (words.tail max offset) text wish = wish ≡ task (tail max offset)
+IsAskedBy words.snapshot text wish = wish ≡ snapshot
+IsAskedBy words.checkpoint text wish = wish ≡ task checkpoint
+IsAskedBy words.history text wish = wish ≡ history
+
+-- the job isn't there yet
+abbrev pub IsNotYet : Work → Type 0
+IsNotYet (words.close application at tries) = Unit {0}
+IsNotYet (words.load workers at tries) = Unit {0}
+IsNotYet _ = ⊥
+
+-- the reply to a job, and the objects behind it: those of a line of a script, over the same objects
+abbrev pub IsAnswer : Work → (text : Option (List ℕ)) → (old : Objects) → (reply : List ℕ) → (new : Objects) → Type 0
+IsAnswer work text old reply new =
+    (IsNotYet work × (reply ≡ not_yet) × (new ≡ old)) ⊎ ((wish : Wish) × IsAskedBy work text wish × Grants old wish reply new)
+
+-- A job is done: its reply is written behind what was held, doesn't refuse it, and the folder holds what it leaves.
+pub record IsAnswered (work : Work) (text : Option (List ℕ)) (old : Objects) (before after : Option (List ℕ)) (new : Objects) : Type 0 where
+  pub reply : Reply
+  pub told : Appends before after (reply_text reply)
+  pub done : refuses work reply ≡ false
+  pub answer : IsAnswer work text old (reply_text reply) new
+
+-- A line's objects aren't saved whole: the folder holds what it had and a front of what the line may put, in the order of
+-- saving, or nothing of it.
+abbrev pub IsPartSaved : (old : Objects) → Wish → (new : Objects) → Type 0
+IsPartSaved old wish new =
+    (new ≡ old) ⊎ ((after : Objects) × MayPut old wish after × HasSavedFront after (to_save (names_of old) (names_of after)) old new)
+
+-- the same of a job
+abbrev pub IsLeftInPart : Work → (text : Option (List ℕ)) → (old new : Objects) → Type 0
+IsLeftInPart work text old new = (new ≡ old) ⊎ ((wish : Wish) × IsAskedBy work text wish × IsPartSaved old wish new)

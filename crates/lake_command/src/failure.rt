@@ -1,0 +1,101 @@
+//! Why a job on a folder has no reply.
+ghost use Rattle.std.specs.Prelude.{◌≡◌, Some};
+ghost use Rattle.table_folder.specs.declared.fault.LoadFault.TheVariants as loads;
+ghost use Rattle.lake_command.specs.Failures.{failure_text};
+
+use json_lines::LineFault;
+use lake_script::InputError;
+use std::fmt;
+use std::fmt::{Display, Formatter};
+use store_core::StoreFault;
+use table_folder::{LoadFault, SaveFault};
+use thiserror::Error;
+
+/// Why a job on a folder has no reply. Its texts are written by hand, so that contracts know them.
+#[derive(Debug, Drop, Error)]
+pub enum Failure {
+    /// The moment is past 999,999,999,999,999. Nothing was run.
+    Misused,
+    /// A read of the input failed, or the input passes its bounds. Nothing was run.
+    NotRead,
+    /// The input's line of this number, counted from 1, is no JSON object. Nothing was run.
+    BadLine(u64),
+    /// No room was left for the rows. Nothing was run.
+    Memory,
+    /// The table wasn't loaded. Nothing was run.
+    Loading(LoadFault),
+    /// What the job put wasn't saved whole.
+    Saving(SaveFault),
+}
+
+impl Display for Failure {
+    ghost output = { λ failure. Some (failure_text failure) };
+
+    fn fmt<W: fmt::Write>(&self, f: &mut Formatter<W>) -> fmt::Result {
+        match self {
+            Failure::Misused => f.write_str("--at is past 999999999999999"),
+            Failure::NotRead => f.write_str("refused F3 NotRead"),
+            Failure::BadLine(number) => write!(f, "bad line {number}"),
+            Failure::Memory => f.write_str("refused S6 Memory"),
+            Failure::Loading(fault) => write!(f, "refused {fault}"),
+            Failure::Saving(fault) => write!(f, "refused {fault}"),
+        }
+    }
+}
+
+impl From<InputError> for Failure {
+    ghost from_gives = { λ error failure. IsFailureOfInput error failure };
+
+    ghost use Rattle.lake_command.specs.Failures.{IsFailureOfInput};
+
+    fn from(error: InputError) -> Failure {
+        match error {
+            InputError::Memory => Failure::Memory,
+            _ => Failure::NotRead,
+        }
+    }
+}
+
+impl From<LineFault> for Failure {
+    ghost from_gives = { λ fault failure. IsFailureOfLine fault failure };
+
+    ghost use Rattle.lake_command.specs.Failures.{IsFailureOfLine};
+
+    fn from(fault: LineFault) -> Failure {
+        match fault {
+            LineFault::Bad(number) => Failure::BadLine(number),
+            LineFault::Memory => Failure::Memory,
+        }
+    }
+}
+
+impl From<LoadFault> for Failure {
+    ghost from_gives = { λ fault failure. failure ≡ Loading fault };
+
+    ghost use Rattle.lake_command.specs.declared.failure.Failure.TheVariants.{Loading};
+
+    fn from(fault: LoadFault) -> Failure {
+        Failure::Loading(fault)
+    }
+}
+
+impl From<SaveFault> for Failure {
+    ghost from_gives = { λ fault failure. failure ≡ Saving fault };
+
+    ghost use Rattle.lake_command.specs.declared.failure.Failure.TheVariants.{Saving};
+
+    fn from(fault: SaveFault) -> Failure {
+        Failure::Saving(fault)
+    }
+}
+
+impl From<StoreFault> for Failure {
+    // The names of a store in memory are lacking for want of memory alone.
+    ghost from_gives = { λ _ failure. failure ≡ Loading loads.Memory };
+
+    ghost use Rattle.lake_command.specs.declared.failure.Failure.TheVariants.{Loading};
+
+    fn from(_fault: StoreFault) -> Failure {
+        Failure::Loading(LoadFault::Memory)
+    }
+}

@@ -1,0 +1,150 @@
+//! The reply to a job on the table in a folder, told, and the exit status.
+ghost use Rattle.std.specs.Prelude.{◌≡◌, ◌≢◌, ℕ, List, Bool, true, false, Some, IfSome, IsErr};
+ghost use Rattle.std.specs.Io.KnownBytes.{Appends};
+ghost use Rattle.store_core.specs.Objects.{object_at};
+ghost use Rattle.table_log.specs.Restoring.{RestoresWell};
+ghost use Rattle.lake_words.specs.Asked.{work_view};
+ghost use Rattle.lake_script.specs.ReplyView.{is_short, reply_text};
+ghost use Rattle.lake_script.specs.Streams.{held, unread};
+ghost use Rattle.lake_command.specs.Status.{has_refusal, is_want_of_memory, refuses, status_of_failure};
+ghost use Rattle.lake_command.specs.Folders.{IsAnswered};
+
+use crate::answering::answer;
+use crate::exit::{DONE, Exit, MISUSED, REFUSED};
+use crate::failure::Failure;
+use lake_script::{Fault, Input, Output, Refusal, Reply};
+use lake_words::{Job, TableCommand};
+use std::alloc::Global;
+use std::io::{Read, Write};
+use table_folder::{Folder, LoadFault, SaveFault};
+
+/// Does a job on the table in a folder. Replies and bad lines go to `output`, faults of the folder and of the streams to
+/// `err`.
+pub fn table_command<F: Folder, R: Read, W: Write, E: Write>(
+    alloc: Global,
+    folder: &mut F,
+    command: TableCommand<'_>,
+    input: &mut Input<R>,
+    output: &mut Output<W>,
+    err: &mut E,
+) -> Exit
+    // Over a steady folder whose checkpoints are sound, or with all commits read, a job that is done writes the reply of the
+    // same line of a script over the folder's objects, and the folder then holds what that line leaves.
+    ensures done { F.is_steady folder.old → RestoresWell command.entry.restore (F.objects folder.old) → result.status ≡ DONE
+        → IsAnswered (work_view command.entry.job) (unread R.remaining input.old) (F.objects folder.old)
+        (held W.contents output.old) (W.contents output.new.writer) (F.objects folder.new) }
+    // Whatever happens, what stood stands.
+    ensures kept { F.is_steady folder.old → (name bytes : List ℕ) → object_at (F.objects folder.old) name ≡ Some bytes
+        → object_at (F.objects folder.new) name ≡ Some bytes }
+    ensures steady { F.is_steady folder.old → F.is_steady folder.new }
+{
+    match answer(alloc, folder, command, input) {
+        Ok(reply) => tell(&reply, command.job, output, err),
+        Err(failure) => tell_failure(&failure, output, err),
+    }
+}
+
+// Tells a reply.
+fn tell<W: Write, E: Write>(
+    reply: &Reply,
+    job: Job<'_>,
+    output: &mut Output<W>,
+    err: &mut E,
+) -> Exit
+    ensures told { result.status ≡ DONE
+        → Appends (held W.contents output.old) (W.contents output.new.writer) (reply_text reply.now) }
+    ensures done { result.status ≡ DONE → refuses (work_view job.entry) reply.now ≡ false }
+{
+    let is_short = reply.is_short();
+    if give(reply, output) {
+        let status = if is_refused(reply, job) { REFUSED } else { DONE };
+        return Exit { status, is_short };
+    }
+    // Where this fails too, nothing is left to tell it on.
+    let _ = err.writeln(Refusal(Fault::NotWritten));
+    Exit {
+        status: REFUSED,
+        is_short,
+    }
+}
+
+// Gives a reply and writes it. False where that failed.
+fn give<W: Write>(reply: &Reply, output: &mut Output<W>) -> bool
+    ensures { result ≡ true
+        → Appends (held W.contents output.old) (W.contents output.new.writer) (reply_text reply.now) }
+{
+    reply.give(output).is_ok() && output.flush().is_ok()
+}
+
+/// Tells why there is no reply. A bad line goes where replies go.
+pub(crate) fn tell_failure<W: Write, E: Write>(
+    failure: &Failure,
+    output: &mut Output<W>,
+    err: &mut E,
+) -> Exit
+    ensures status { result.status ≢ DONE }
+{
+    let is_short = is_want_of_memory(failure);
+    let is_reply = matches!(failure, Failure::BadLine(_) | Failure::Memory);
+    if is_reply && (output.say(failure).is_err() || output.flush().is_err()) {
+        let _ = err.writeln(Refusal(Fault::NotWritten));
+        return Exit {
+            status: REFUSED,
+            is_short,
+        };
+    }
+    if !is_reply {
+        let _ = err.writeln(failure);
+    }
+    Exit {
+        status: status_of(failure),
+        is_short,
+    }
+}
+
+fn status_of(failure: &Failure) -> u8
+    ensures { result ≡ status_of_failure failure.now }
+{
+    match failure {
+        Failure::Misused | Failure::BadLine(_) => MISUSED,
+        _ => REFUSED,
+    }
+}
+
+fn is_want_of_memory(failure: &Failure) -> bool
+    ensures { result ≡ is_want_of_memory failure.now }
+{
+    matches!(
+        failure,
+        Failure::Memory
+            | Failure::Loading(LoadFault::Memory)
+            | Failure::Saving(SaveFault::Memory)
+    )
+}
+
+// Whether a reply to a job refuses it. A history that ends early says so in its last line.
+fn is_refused(reply: &Reply, job: Job<'_>) -> bool
+    ensures { result ≡ refuses (work_view job.entry) reply.now }
+{
+    match reply {
+        Reply::Bytes(text) => job == Job::History && has_refusal(text),
+        Reply::Created
+        | Reply::Appended(_)
+        | Reply::Checkpointed(_)
+        | Reply::Put(_)
+        | Reply::Digits(_) => false,
+        _ => true,
+    }
+}
+
+// Whether a line of a text begins with `refused `.
+fn has_refusal(text: &[u8]) -> bool
+    ensures { result ≡ has_refusal text.now }
+{
+    for line in text.split(|byte| *byte == b'\n') {
+        if line.starts_with(b"refused ") {
+            return true;
+        }
+    }
+    false
+}

@@ -1,0 +1,3 @@
+pub mod MatchLemmas
+pub mod Numbers
+pub mod WordLemmas

@@ -1,0 +1,27 @@
+use Rattle.std.proofs.Common.{◌≡◌, ap, ap₂, ◌∙◌, true, codes}
+use Rattle.std.proofs.lemmas.Result.{IfOk-weaker}
+use Rattle.clap.specs.Simple.{app_of_fields}
+use Rattle.clap.specs.Words.{App, app_of, new_app, with_subcommand}
+use Rattle.lake_words.specs.Words.{top}
+use Rattle.lake_words.proofs.parser.parser.Goals as goal
+
+-- a command with one more subcommand
+added : (a b : App) (s t : App) → a ≡ b → s ≡ t → with_subcommand a s.top ≡ with_subcommand b t.top
+added a b s t above sub = ap₂ (λ (x y : App). with_subcommand x y.top) above sub
+
+pub returns : goal.returns
+returns c =
+    let about_is : app_of c.about.result ≡ new_app (codes "lake") = ap app_of_fields c.about.ensures ∙ c.new.ensures.app in
+    let help_is : app_of c.after_help.result ≡ new_app (codes "lake") = ap app_of_fields c.after_help.ensures ∙ about_is in
+    let version_is = ap app_of_fields c.version.ensures ∙ ap (λ (a : App). record a { top = record a.top { has_version = true } }) help_is in
+    let top_is : app_of c.subcommand_required-top.result ≡ top = ap app_of_fields c.subcommand_required-top.ensures ∙ ap (λ (a : App). record a { top = record a.top { subcommand_required = true } }) version_is in
+    let create = c.in_ok-top.ensures.app ∙ added _ _ _ _ top_is c.in_ok-create.ensures.app in
+    let append = c.in_ok-top-2.ensures.app ∙ added _ _ _ _ create c.in_ok-append.ensures.app in
+    let close = c.in_ok-top-3.ensures.app ∙ added _ _ _ _ append c.in_ok-close.ensures.app in
+    let load = c.in_ok-top-4.ensures.app ∙ added _ _ _ _ close c.in_ok-load.ensures.app in
+    let tail = c.in_ok-top-5.ensures.app ∙ added _ _ _ _ load c.in_ok-tail.ensures.app in
+    let snapshot = c.in_ok-top-6.ensures.app ∙ added _ _ _ _ tail c.in_ok-snapshot.ensures.app in
+    let checkpoint = c.in_ok-top-7.ensures.app ∙ added _ _ _ _ snapshot c.in_ok-checkpoint.ensures.app in
+    let history = c.in_ok-top-8.ensures.app ∙ added _ _ _ _ checkpoint c.in_ok-history.ensures.app in
+    let all = added _ _ _ _ history c.in_ok-script.ensures.app in
+    IfOk-weaker c.with_subcommand-9.result _ _ (λ parser h. h ∙ all) c.with_subcommand-9.ensures.app

@@ -1,0 +1,29 @@
+use Rattle.std.proofs.Common.{◌≡◌, Some, subst, ap, ◌∙◌, codes, not}
+use Rattle.std.specs.Option.{option_map_or}
+use Rattle.clap.specs.Words.{found_of, rows_of, subcommand_rows_of}
+use Rattle.clap.proofs.WalkLemmas.{one_text-rows}
+use Rattle.lake_words.specs.Asked.{IsFlag, script, table, text_in, work_view}
+use Rattle.lake_words.proofs.MatchLemmas.{asks_for, both_known}
+use Rattle.lake_words.proofs.reading.command_in.Goals as goal
+
+pub returns-in-Some-job_in : goal.returns-in-Some-job_in
+returns-in-Some-job_in c =
+    let flag = c.get_flag-restore.ensures in
+    let found = found_of c.in-Some.matches.now in
+    let rows = rows_of found in
+    let is_flag = subst (λ t. IsFlag t c.get_flag-restore.result) (one_text-rows found (codes "no-checkpoint")) (flag.none, flag.value, flag.other) in
+    let restore = not c.get_flag-restore.result in
+    let sub_is : subcommand_rows_of c.args.matches.now ≡ Some (c.in-Some.name.now, rows) = both_known _ _ c.in-Some.name.now rows c.in-Some.ensures.name c.in-Some.ensures.rows in
+    asks_for _ c.in-Some.name.now rows c.get_flag-restore.result _ sub_is is_flag
+    (ap (λ text. table text restore (work_view c.in-Some-job_in.job)) c.text_in.ensures ∙ ap (λ o. option_map_or (λ work. table (text_in (codes "DIR") rows) restore work) o (script restore)) c.in-Some-job_in.ensures)
+
+pub returns-in-None : goal.returns-in-None
+returns-in-None c =
+    let flag = c.get_flag-restore.ensures in
+    let found = found_of c.in-Some.matches.now in
+    let rows = rows_of found in
+    let is_flag = subst (λ t. IsFlag t c.get_flag-restore.result) (one_text-rows found (codes "no-checkpoint")) (flag.none, flag.value, flag.other) in
+    let restore = not c.get_flag-restore.result in
+    let sub_is : subcommand_rows_of c.args.matches.now ≡ Some (c.in-Some.name.now, rows) = both_known _ _ c.in-Some.name.now rows c.in-Some.ensures.name c.in-Some.ensures.rows in
+    asks_for _ c.in-Some.name.now rows c.get_flag-restore.result _ sub_is is_flag
+    (ap (λ o. option_map_or (λ work. table (text_in (codes "DIR") rows) restore work) o (script restore)) c.in-None.ensures)

@@ -1,0 +1,332 @@
+//! The commands of the program, for `clap`.
+ghost use Rattle.std.specs.Prelude.{◌≡◌, IfOk, false};
+ghost use Rattle.clap.specs.Words.{app_of, rule_of, with_rule, with_subcommand};
+ghost use Rattle.clap.specs.declared.builder.command.Command.TheViews.{out-Command as fields_of};
+ghost use Rattle.lake_words.specs.Words as words;
+ghost use Rattle.lake_words.specs.Words.{at, commands, max, no_checkpoint, on_folder, tries, workers};
+
+use crate::options::{flag, number_option, number_place, option, place};
+use clap::builder::ValueParser;
+use clap::{Arg, Command};
+use std::alloc::{AllocError, Global};
+
+/// What `--version` prints behind the program's name: the product's version, and the toolchain that proved it.
+const VERSION: &str = "0.1.0 (rattle-kit-13b logic dac8208d650f15bf)";
+
+const ABOUT: &str = "Exactly-once batches in a Delta Lake table";
+
+const STATUSES: &str =
+    "Exit status: 0 done, 1 refused (the reply says why), 2 words or an input line that can't be read.\n\
+     Replies go to standard output; F1 to F4, which speak of the folder and the streams, go to standard error.";
+
+const CREATE: &str =
+    "Creates the table: commit 0 in DIR/_delta_log, which is made where it isn't there. DIR must stand.\n\
+     \n\
+     Example:\n  \
+       mkdir orders\n  \
+       lake create orders --id $(uuidgen) --schema '{\"type\":\"struct\",\"fields\":[{\"name\":\"id\",\"type\":\"long\",\"nullable\":false,\"metadata\":{}}]}'\n\
+     \n\
+     Prints: Created 0\n\
+     Exit status: 0 created, 1 refused (the reply says why), 2 words that can't be read.";
+
+const APPEND: &str =
+    "Puts the rows on standard input, one JSON object a line, as the batch NUMBER of the application APP.\n\
+     A batch that stands already is told as such and not written again, so a job that died may append again.\n\
+     Numbers of an application rise; gaps are allowed. A batch has at most 65,536 rows.\n\
+     \n\
+     Example:\n  \
+       echo '{\"id\":1}' | lake append orders shop-7 0\n\
+     \n\
+     Prints: Committed VERSION, or Already NUMBER where the same rows stand under that number\n\
+     Exit status: 0 the batch stands, 1 refused (the reply says why), 2 words or a line that can't be read\n  \
+       (`bad line N` names the line; nothing was appended).";
+
+const TAIL: &str =
+    "Prints the rows from OFFSET on, one JSON object a line, and then `next` and the offset to go on from.\n\
+     The first offset of a table is {\"file\":0,\"row\":0,\"version\":0}.\n\
+     \n\
+     Example:\n  \
+       lake tail orders --from '{\"file\":0,\"row\":0,\"version\":0}' --max 1000\n\
+     \n\
+     Exit status: 0 done, 1 refused (the offset stays good), 2 words that can't be read.";
+
+const SNAPSHOT: &str =
+    "Prints the table's newest version, protocol and schema, then its applications with their last\n\
+     numbers, the applications whose streams are closed, and the files with their sizes in bytes.\n\
+     \n\
+     Exit status: 0 done, 1 refused (the reply says why), 2 words that can't be read.";
+
+const CHECKPOINT: &str =
+    "Puts a checkpoint of the newest version, from which later commands read the log.\n\
+     \n\
+     Prints: Checkpointed VERSION\n\
+     Exit status: 0 the checkpoint stands, 1 refused (the reply says why), 2 words that can't be read.";
+
+const HISTORY: &str =
+    "Prints a line for each version: the version, and the batches (txn APP NUMBER) and closes in it.\n\
+     \n\
+     Exit status: 0 done, 1 refused (the reply says why), 2 words that can't be read.";
+
+const SCRIPT: &str =
+    "Runs the lines on standard input over a table in memory, and prints a reply for each.\n\
+     Words are separated by one space; the last one goes to the line's end. Blank lines and lines that begin with # are\n\
+     passed over.\n\
+     \n\
+     Lines:\n  \
+       create ID AT SCHEMA\n  \
+       append APP NUMBER AT ROWS      ROWS is a JSON array of objects\n  \
+       tail MAX OFFSET\n  \
+       checkpoint, snapshot, history\n  \
+       show V                         the bytes of commit V\n  \
+       hex NAME                       an object in hexadecimal\n  \
+       foreign V LINE                 another tool's commit V of one action\n\
+     \n\
+     Example:\n  \
+       create 00000000-0000-4000-8000-000000000001 0 {\"type\":\"struct\",\"fields\":[{\"name\":\"x\",\"type\":\"long\",\"nullable\":false,\"metadata\":{}}]}\n  \
+       append a 0 5 [{\"x\":1},{\"x\":-1}]\n  \
+       tail 10 {\"file\":0,\"row\":0,\"version\":0}\n\
+     \n\
+     Exit status: 0 each line was answered, 1 the input or the output failed, 2 `bad line N`.";
+
+// `--at MS`.
+fn at<'a>(alloc: Global) -> Arg<'a>
+    ensures rule { rule_of result ≡ at }
+    ensures local { result.global ≡ false }
+{
+    number_option(
+        alloc,
+        "at",
+        "MS",
+        0,
+        999_999_999_999_999,
+        "0",
+        "The moment of the commit, in milliseconds since 1970-01-01",
+    )
+}
+
+// `--tries N`.
+fn tries<'a>(alloc: Global) -> Arg<'a>
+    ensures rule { rule_of result ≡ tries }
+    ensures local { result.global ≡ false }
+{
+    number_option(
+        alloc,
+        "tries",
+        "N",
+        1,
+        64,
+        "16",
+        "How often a commit is tried where other writers take its version",
+    )
+}
+
+// `--no-checkpoint`.
+fn no_checkpoint<'a>(alloc: Global) -> Arg<'a>
+    ensures rule { rule_of result ≡ no_checkpoint }
+    ensures local { result.global ≡ false }
+{
+    flag(
+        alloc,
+        "no-checkpoint",
+        "Read the log from version 0, without a checkpoint",
+    )
+}
+
+// `--max N`.
+fn max<'a>(alloc: Global) -> Arg<'a>
+    ensures rule { rule_of result ≡ max }
+    ensures local { result.global ≡ false }
+{
+    option(
+        alloc,
+        "max",
+        "N",
+        "How many rows are printed at most, up to 65,536",
+    )
+    .value_parser(ValueParser::Unsigned(0, 65_536))
+}
+
+// `--workers N`.
+fn workers<'a>(alloc: Global) -> Arg<'a>
+    ensures rule { rule_of result ≡ workers }
+    ensures local { result.global ≡ false }
+{
+    option(
+        alloc,
+        "workers",
+        "N",
+        "How many batches are put at once, 1 to 64",
+    )
+    .value_parser(ValueParser::Unsigned(0, u64::MAX))
+}
+
+// A command with one more argument.
+fn with<'a>(command: Command<'a>, arg: Arg<'a>) -> Result<Command<'a>, AllocError>
+    requires { arg.global ≡ false }
+    ensures app { IfOk result (λ more. app_of more ≡ with_rule (app_of command.entry) (rule_of arg.entry)) }
+    ensures local { (fields_of command.entry).has_globals ≡ false
+        → IfOk result (λ more. (fields_of more).has_globals ≡ false) }
+{
+    command.arg(arg)
+}
+
+// A command on the table in a folder.
+fn on_folder<'a>(
+    alloc: Global,
+    name: &'a str,
+    about: &'a str,
+    help: &'a str,
+) -> Result<Command<'a>, AllocError>
+    ensures app { IfOk result (λ command. app_of command ≡ on_folder name.now) }
+    ensures local { IfOk result (λ command. (fields_of command).has_globals ≡ false) }
+{
+    let command = Command::new(alloc, name).about(about).after_help(help);
+    with(command, place(alloc, "DIR", "The table's folder"))
+}
+
+fn create<'a>(alloc: Global) -> Result<Command<'a>, AllocError>
+    ensures app { IfOk result (λ command. app_of command ≡ words.create) }
+    ensures local { IfOk result (λ command. (fields_of command).has_globals ≡ false) }
+{
+    let command = on_folder(alloc, "create", "Create a table in a folder", CREATE)?;
+    let id = option(alloc, "id", "UUID", "The table's id, a UUID");
+    let command = with(command, id)?;
+    let schema = option(
+        alloc,
+        "schema",
+        "TEXT",
+        "The table's schema, as JSON (Delta PROTOCOL.md, \"Schema Serialization Format\")",
+    );
+    let command = with(command, schema)?;
+    with(command, at(alloc))
+}
+
+fn append<'a>(alloc: Global) -> Result<Command<'a>, AllocError>
+    ensures app { IfOk result (λ command. app_of command ≡ words.append) }
+    ensures local { IfOk result (λ command. (fields_of command).has_globals ≡ false) }
+{
+    let command = on_folder(
+        alloc,
+        "append",
+        "Append the rows on standard input as a batch",
+        APPEND,
+    )?;
+    let application = place(alloc, "APP", "The application's id, 1 to 64 bytes");
+    let command = with(command, application)?;
+    let number = number_place(alloc, "NUMBER", "The batch's number, up to 999,999,999,999");
+    let command = with(command, number)?;
+    let command = with(command, at(alloc))?;
+    let command = with(command, tries(alloc))?;
+    with(command, no_checkpoint(alloc))
+}
+
+fn close<'a>(alloc: Global) -> Result<Command<'a>, AllocError>
+    ensures app { IfOk result (λ command. app_of command ≡ words.close) }
+    ensures local { IfOk result (λ command. (fields_of command).has_globals ≡ false) }
+{
+    let command = on_folder(
+        alloc,
+        "close",
+        "Close an application's stream (not yet)",
+        STATUSES,
+    )?;
+    let application = place(alloc, "APP", "The application's id, 1 to 64 bytes");
+    let command = with(command, application)?;
+    let command = with(command, at(alloc))?;
+    let command = with(command, tries(alloc))?;
+    with(command, no_checkpoint(alloc))
+}
+
+fn load<'a>(alloc: Global) -> Result<Command<'a>, AllocError>
+    ensures app { IfOk result (λ command. app_of command ≡ words.load) }
+    ensures local { IfOk result (λ command. (fields_of command).has_globals ≡ false) }
+{
+    let command = on_folder(
+        alloc,
+        "load",
+        "Append the batches on standard input (not yet)",
+        STATUSES,
+    )?;
+    let command = with(command, workers(alloc))?;
+    let command = with(command, at(alloc))?;
+    let command = with(command, tries(alloc))?;
+    with(command, no_checkpoint(alloc))
+}
+
+fn tail<'a>(alloc: Global) -> Result<Command<'a>, AllocError>
+    ensures app { IfOk result (λ command. app_of command ≡ words.tail) }
+    ensures local { IfOk result (λ command. (fields_of command).has_globals ≡ false) }
+{
+    let command = on_folder(alloc, "tail", "Print rows from an offset on", TAIL)?;
+    let from = option(
+        alloc,
+        "from",
+        "OFFSET",
+        "The offset of the first row, as JSON",
+    );
+    let command = with(command, from)?;
+    let command = with(command, max(alloc))?;
+    with(command, no_checkpoint(alloc))
+}
+
+// A command on a folder that has no other option than `--no-checkpoint`.
+fn bare<'a>(
+    alloc: Global,
+    name: &'a str,
+    about: &'a str,
+    help: &'a str,
+) -> Result<Command<'a>, AllocError>
+    ensures app { IfOk result (λ command. app_of command ≡ with_rule (on_folder name.now) no_checkpoint) }
+    ensures local { IfOk result (λ command. (fields_of command).has_globals ≡ false) }
+{
+    let command = on_folder(alloc, name, about, help)?;
+    with(command, no_checkpoint(alloc))
+}
+
+fn script<'a>(alloc: Global) -> Result<Command<'a>, AllocError>
+    ensures app { IfOk result (λ command. app_of command ≡ words.script) }
+    ensures local { IfOk result (λ command. (fields_of command).has_globals ≡ false) }
+{
+    let command = Command::new(alloc, "script")
+        .about("Run the script on standard input")
+        .after_help(SCRIPT);
+    with(command, no_checkpoint(alloc))
+}
+
+// A command with one more subcommand.
+fn with_subcommand<'a>(command: Command<'a>, sub: Command<'a>) -> Result<Command<'a>, AllocError>
+    requires sub { (fields_of sub).has_globals ≡ false }
+    requires above { (fields_of command).has_globals ≡ false }
+    ensures app { IfOk result (λ more. app_of more ≡ with_subcommand (app_of command.entry) (app_of sub.entry).top) }
+    ensures local { IfOk result (λ more. (fields_of more).has_globals ≡ false) }
+{
+    command.subcommand(sub)
+}
+
+/// The program's commands.
+pub(crate) fn parser<'a>(alloc: Global) -> Result<Command<'a>, AllocError>
+    ensures { IfOk result (λ parser. app_of parser ≡ commands) }
+{
+    let top = Command::new(alloc, "lake")
+        .about(ABOUT)
+        .after_help(STATUSES)
+        .version(VERSION)
+        .subcommand_required(true);
+    let top = with_subcommand(top, create(alloc)?)?;
+    let top = with_subcommand(top, append(alloc)?)?;
+    let top = with_subcommand(top, close(alloc)?)?;
+    let top = with_subcommand(top, load(alloc)?)?;
+    let top = with_subcommand(top, tail(alloc)?)?;
+    let snapshot = bare(alloc, "snapshot", "Print the table's snapshot", SNAPSHOT)?;
+    let top = with_subcommand(top, snapshot)?;
+    let checkpoint = bare(
+        alloc,
+        "checkpoint",
+        "Put a checkpoint of the newest version",
+        CHECKPOINT,
+    )?;
+    let top = with_subcommand(top, checkpoint)?;
+    let history = bare(alloc, "history", "Print what each version holds", HISTORY)?;
+    let top = with_subcommand(top, history)?;
+    with_subcommand(top, script(alloc)?)
+}

@@ -1,0 +1,166 @@
+"""Commands on the table in a folder: their words, and what each tells and leaves."""
+
+from typing import NamedTuple
+import re
+
+from log import Log
+from table import NotModelled, json_value
+
+# The places of each command behind its folder, its options, and whether one has to be given.
+AT = {"at": False}
+PUTS = AT | {"tries": False}
+COMMANDS: dict[str, tuple[int, dict[str, bool]]] = {
+    "create": (0, AT | {"id": True, "schema": True}),
+    "append": (2, PUTS),
+    "close": (1, PUTS),
+    "load": (0, PUTS | {"workers": True}),
+    "tail": (0, {"from": True, "max": True}),
+    "snapshot": (0, {}),
+    "checkpoint": (0, {}),
+    "history": (0, {}),
+}
+
+# The bounds of numbers, and what stands for an option that isn't given.
+BOUNDS = {"at": (0, 10**15 - 1), "tries": (1, 64), "max": (0, 65_536), "workers": (0, 2**64 - 1)}
+NUMBER = (0, 2**64 - 1)
+DEFAULTS = {"at": "0", "tries": "16"}
+
+COMMIT = re.compile(r"_delta_log/[0-9]{20}\.json")
+CHECKPOINT = re.compile(r"_delta_log/[0-9]{20}\.checkpoint\..*\.json")
+
+
+class Run(NamedTuple):
+    """A command line, its input, and which of the files that it makes fails."""
+
+    words: list[str]
+    input: bytearray
+    stops: list[str]
+
+
+class Command(NamedTuple):
+    """A command that was read: its name, folder, further places and options."""
+
+    name: str
+    folder: str
+    places: list[str]
+    options: dict[str, str]
+    restores: bool
+
+
+class BadLine(Exception):
+    """The number of an input line that is no JSON object."""
+
+
+def command_of(words: list[str]) -> Command:
+    """The command that words spell. What else they may be isn't modelled."""
+    if not words or words[0] not in COMMANDS:
+        raise NotModelled("words that are no command on a folder")
+    count, options = COMMANDS[words[0]]
+    places: list[str] = []
+    given: dict[str, str] = {}
+    restores = True
+    rest = iter(words[1:])
+    for word in rest:
+        if word == "--no-checkpoint" and words[0] != "create":
+            restores = False
+        elif word.startswith("-"):
+            if word[2:] not in options or word[2:] in given:
+                raise NotModelled("words that are refused")
+            given[word[2:]] = next(rest, "-")
+        else:
+            places.append(word)
+    is_whole = all(name in given for name, needed in options.items() if needed)
+    values = [(given[name], BOUNDS[name]) for name in given if name in BOUNDS]
+    values += [(places[2], NUMBER)] if words[0] == "append" and len(places) > 2 else []
+    are_numbers = all(is_number(value, *bounds) for value, bounds in values)
+    if len(places) != count + 1 or not is_whole or not are_numbers:
+        raise NotModelled("words that are refused")
+    return Command(words[0], places[0], places[1:], DEFAULTS | given, restores)
+
+
+def is_number(word: str, low: int, high: int) -> bool:
+    """Whether a word spells a number between two bounds."""
+    return re.fullmatch("[+]?[0-9]+", word) is not None and low <= int(word) <= high
+
+
+def objects_in(content: bytes) -> list[str]:
+    """The lines of an input, each a JSON object."""
+    lines = content.split(b"\n")
+    if not lines[-1]:
+        lines.pop()
+    for place, line in enumerate(lines):
+        try:
+            value = json_value(line.decode())
+        except ValueError as error:
+            raise BadLine(place + 1) from error
+        if not isinstance(value, dict):
+            raise BadLine(place + 1)
+    return [line.decode() for line in lines]
+
+
+def script_line(command: Command, content: bytes) -> str:
+    """The line of a script that asks for the same."""
+    options = command.options
+    if command.name == "create":
+        return f"create {options['id']} {options['at']} {options['schema']}"
+    if command.name == "append":
+        rows = ",".join(objects_in(content))
+        return f"append {command.places[0]} {command.places[1]} {options['at']} [{rows}]"
+    if command.name == "tail":
+        return f"tail {options['max']} {options['from']}"
+    return command.name
+
+
+def kind(name: str) -> int:
+    """The place of an object's kind in the order of saving."""
+    return 1 if COMMIT.fullmatch(name) else 2 if CHECKPOINT.fullmatch(name) else 0
+
+
+class Folder:
+    """A table's folder: its files, and what commands tell of them."""
+
+    def __init__(self, objects: dict[str, bytes], made: list[str]) -> None:
+        self.objects = dict(objects)
+        self.known = set(made)
+
+    def answer(self, run: Run) -> list[str]:
+        """The lines that a command writes, its status, and what stands on standard error."""
+        command = command_of(run.words)
+        self.known.add(command.folder)
+        if len(self.known) > 1 or command.folder.endswith("!"):
+            return self.elsewhere(command, run)
+        if command.name in ("close", "load"):
+            return ["refused N1 NotYet", "status 1"]
+        try:
+            line = script_line(command, bytes(run.input))
+        except BadLine as bad:
+            return [f"bad line {bad}", "status 2"]
+        log = Log(dict(self.objects), command.restores)
+        told = log.answer(line)
+        fault = self.save(log.objects, run.stops)
+        if fault is not None:
+            return ["status 1", f"refused F2 NotSaved {fault}"]
+        return [*told, f"status {1 if told and told[-1].startswith('refused ') else 0}"]
+
+    def elsewhere(self, command: Command, run: Run) -> list[str]:
+        """Of folders beside the first nothing is modelled but bad lines, which come before they are looked at."""
+        try:
+            script_line(command, bytes(run.input))
+        except BadLine as bad:
+            return [f"bad line {bad}", "status 2"]
+        raise NotModelled("a second folder")
+
+    def save(self, objects: dict[str, bytes], stops: list[str]) -> str | None:
+        """Makes the files that are new, up to one that fails, whose name is told."""
+        names = sorted(objects.keys() - self.objects.keys(), key=lambda name: (kind(name), name))
+        for place, name in enumerate(names):
+            if f"before {place}" in stops:
+                return name
+            self.objects[name] = objects[name]
+            if f"after {place}" in stops:
+                return name
+        return None
+
+    def object_lines(self) -> list[str]:
+        """The names of the files, each with its count of bytes."""
+        return [f"{name} {len(self.objects[name])}" for name in sorted(self.objects)]
