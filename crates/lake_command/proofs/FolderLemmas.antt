@@ -80,9 +80,12 @@ store_has_all old held start end wish same is put = subst (λ o. HasAll end o) (
 -- a front of what a line put is saved
 pub part_saved : (old held start end new : Objects) (wish : Wish) (names : List (List ℕ)) → start ≡ old → held ≡ old → names ≡ names_of start → MayPut start wish end → HasSavedFront end (to_save names (names_of end)) held new → IsPartSaved old wish new
 part_saved old held start end new wish names same is listed put front =
-    inr (end, subst (λ o. MayPut o wish end) same put,
-    subst (λ ns. HasSavedFront end (to_save ns (names_of end)) old new) (listed ∙ ap names_of same)
-    (subst (λ o. HasSavedFront end (to_save names (names_of end)) o new) is front))
+    inr (
+      end,
+      subst (λ o. MayPut o wish end) same put,
+      subst (λ ns. HasSavedFront end (to_save ns (names_of end)) old new) (listed ∙ ap names_of same)
+          (subst (λ o. HasSavedFront end (to_save names (names_of end)) o new) is front),
+    )
 
 -- what is so of a saving's failure is so of the error that it becomes
 pub of_saving : {X : Type 0} (P : Failure → Type 0) (result : Result X Failure) (fault : SaveFault) → IsErrAnd result (λ failure. failure ≡ Saving fault) → P (Saving fault) → IfErr result P

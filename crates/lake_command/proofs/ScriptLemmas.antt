@@ -8,6 +8,10 @@ use Rattle.lake_script.specs.declared.engine.End.TheVariants.{Done, BadLine, Not
 use Rattle.lake_script.specs.Runs.{Tells}
 use Rattle.lake_script.specs.Sound.{IsRun}
 use Rattle.lake_script.specs.Told.{ArePrinted, IsTold, told, Finishes}
+use Rattle.lake_words.specs.Asked.{Spells, replaying, restoring}
+use Rattle.lake_words.specs.declared.command.Command.{Command}
+use Rattle.lake_words.specs.declared.command.Command.TheVariants.{Table}
+use Rattle.lake_words.specs.declared.command.TableCommand.{TableCommand}
 use Rattle.lake_command.specs.Status.{status_of}
 
 -- what is written over nothing is what the script is told
@@ -24,3 +28,8 @@ told_of_run (BadLine number) None old new before after fine run empty = tt
 told_of_run (BadLine number) (Some text) old new before after fine run empty = tells_of_run old new text before after empty run
 told_of_run NotRead input old new before after fine run empty = absurd (fine refl)
 told_of_run NotWritten input old new before after fine run empty = absurd (fine refl)
+
+-- words that ask for a script ask for no job on a folder
+pub no_job : (words : List (List ℕ)) (c : Command) (t : TableCommand) → Spells words c → Table t ≡ c → ⊥
+no_job words c t restoring e = absurd cc
+no_job words c t replaying e = absurd cc

@@ -1,11 +1,11 @@
 -- The exit status of a command.
-use Rattle.std.specs.Prelude.{◌≡◌, ◌⊎◌, ℕ, Bool, true, false, List, Option, Some, None, codes, nat_eq}
+use Rattle.std.specs.Prelude.{◌≡◌, ◌⊎◌, ◌||◌, ℕ, Bool, true, false, List, Option, Some, None, codes, nat_eq}
 use Rattle.std.specs.List.{list_any, starts_with}
 use Rattle.delta_actions.specs.Commit.{lines_of}
 use Rattle.table_folder.specs.declared.fault.LoadFault.TheVariants as loads
 use Rattle.table_folder.specs.declared.fault.SaveFault.TheVariants as saves
 use Rattle.lake_script.specs.declared.reply.Reply.{Reply}
-use Rattle.lake_script.specs.declared.reply.Reply.TheVariants.{Created, Appended, Checkpointed, Put, Bytes, Digits}
+use Rattle.lake_script.specs.declared.reply.Reply.TheVariants.{Created, Appended, Checkpointed, Put, Bytes}
 use Rattle.lake_words.specs.Asked.{Work}
 use Rattle.lake_words.specs.Asked as words
 use Rattle.lake_command.specs.declared.failure.Failure.{Failure}
@@ -52,21 +52,24 @@ is_want_of_memory (Loading loads.Memory) = true
 is_want_of_memory (Saving saves.Memory) = true
 is_want_of_memory _ = false
 
--- a line begins with `refused `
+-- a text begins with `refused `
+abbrev pub is_refusal : List ℕ → Bool
+is_refusal text = starts_with nat_eq text (codes "refused ")
+
+-- a line of a text does
 abbrev pub has_refusal : List ℕ → Bool
-has_refusal text = list_any (λ line. starts_with nat_eq line (codes "refused ")) (lines_of text)
+has_refusal text = list_any is_refusal (lines_of text)
 
 -- a history says in a line of its own that it ends at what can't be read
-abbrev pub refuses_text : Work → List ℕ → Bool
-refuses_text words.history text = has_refusal text
-refuses_text _ text = false
+abbrev pub ends_early : Work → List ℕ → Bool
+ends_early words.history text = has_refusal text
+ends_early _ text = false
 
--- a reply to a job refuses it
+-- a reply to a job refuses it: a text by its bytes, others by what they are
 abbrev pub refuses : Work → Reply → Bool
-refuses work (Bytes text) = refuses_text work text.items
+refuses work (Bytes text) = is_refusal text.items || ends_early work text.items
 refuses work Created = false
 refuses work (Appended answer) = false
 refuses work (Checkpointed version) = false
 refuses work (Put put) = false
-refuses work (Digits digits) = false
 refuses work _ = true

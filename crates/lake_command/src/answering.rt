@@ -34,8 +34,8 @@ pub fn answer<F: Folder, R: Read>(
     ensures told { F.is_steady folder.old → RestoresWell command.entry.restore (F.objects folder.old)
         → IfOk result (λ reply. IsAnswer (work_view command.entry.job) (unread R.remaining input.old)
         (F.objects folder.old) (reply_text reply) (F.objects folder.new)) }
-    // A fault of the input comes before anything is run. Where the table isn't saved whole, the folder holds a front of what
-    // the job put: the data file, then the commit.
+    // A fault of the words or of the input leaves the folder as it was. Where the table isn't saved whole, it holds a front of
+    // what the job put: the data file, then the commit.
     ensures failed { F.is_steady folder.old → RestoresWell command.entry.restore (F.objects folder.old)
         → IfErr result (λ failure. Leaves failure (work_view command.entry.job) (unread R.remaining input.old)
         (F.objects folder.old) (F.objects folder.new)) }

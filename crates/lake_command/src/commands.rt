@@ -72,13 +72,7 @@ fn command_on_disk<H: Files + AllocGlobal + Clone + Drop, R: Read, W: Write, E: 
 /// Runs the command that the words ask for: a script over a store in which nothing stands yet, or a job on the table in a
 /// folder on the disk, of which [`table_command`] tells what is claimed over any folder. Replies go to `output`. What
 /// `clap` says of the words and the program's own faults go to `err`.
-pub fn command<
-    H: Files + AllocGlobal + Clone + Drop,
-    S: AsStr,
-    R: Read,
-    W: Write,
-    E: Write,
->(
+pub fn command<H: Files + AllocGlobal + Clone + Drop, S: AsStr, R: Read, W: Write, E: Write>(
     rt: &H,
     words: &[S],
     input: &mut Input<R>,

@@ -81,11 +81,7 @@ fn add_files_from<F: Folder>(
 }
 
 // Adds the data files of a commit. One that can't be read has none, and is refused where it is read again.
-fn add_files(
-    alloc: Global,
-    commit: &[u8],
-    files: &mut BTreeSet<String>,
-) -> Result<(), AllocError> {
+fn add_files(alloc: Global, commit: &[u8], files: &mut BTreeSet<String>) -> Result<(), AllocError> {
     let actions = match read_commit(alloc, commit) {
         Ok(actions) => actions,
         Err(ActionFault::Memory) => return Err(AllocError),

@@ -14,8 +14,8 @@ use std::alloc::Global;
 use store_core::Store;
 use table_folder::{Folder, load, save};
 
-/// Does what a line asks for on the table in a folder, and finds its reply. All files are loaded, and the new objects are
-/// saved before the reply is told: data files, then commits, then checkpoints. However it ends, what stood stands.
+/// Does what a line asks for on the table in a folder, and finds its reply. All files that the folder lists are loaded, and the new
+/// objects are saved before the reply is told: data files, then commits, then checkpoints. However it ends, what stood stands.
 pub(crate) fn grant_in<F: Folder>(
     alloc: Global,
     folder: &mut F,

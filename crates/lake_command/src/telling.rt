@@ -1,18 +1,18 @@
 //! The reply to a job on the table in a folder, told, and the exit status.
-ghost use Rattle.std.specs.Prelude.{◌≡◌, ◌≢◌, ℕ, List, Bool, true, false, Some, IfSome, IsErr};
+ghost use Rattle.std.specs.Prelude.{◌≡◌, ◌≢◌, ℕ, List, false, Some, OnOk};
 ghost use Rattle.std.specs.Io.KnownBytes.{Appends};
 ghost use Rattle.store_core.specs.Objects.{object_at};
 ghost use Rattle.table_log.specs.Restoring.{RestoresWell};
 ghost use Rattle.lake_words.specs.Asked.{work_view};
-ghost use Rattle.lake_script.specs.ReplyView.{is_short, reply_text};
+ghost use Rattle.lake_script.specs.ReplyView.{reply_text};
 ghost use Rattle.lake_script.specs.Streams.{held, unread};
-ghost use Rattle.lake_command.specs.Status.{has_refusal, is_want_of_memory, refuses, status_of_failure};
+ghost use Rattle.lake_command.specs.Status.{has_refusal, is_refusal, is_want_of_memory, refuses, status_of_failure};
 ghost use Rattle.lake_command.specs.Folders.{IsAnswered};
 
 use crate::answering::answer;
 use crate::exit::{DONE, Exit, MISUSED, REFUSED};
 use crate::failure::Failure;
-use lake_script::{Fault, Input, Output, Refusal, Reply};
+use lake_script::{Fault, Input, Output, OutputError, Refusal, Reply};
 use lake_words::{Job, TableCommand};
 use std::alloc::Global;
 use std::io::{Read, Write};
@@ -56,24 +56,36 @@ fn tell<W: Write, E: Write>(
     ensures done { result.status ≡ DONE → refuses (work_view job.entry) reply.now ≡ false }
 {
     let is_short = reply.is_short();
-    if give(reply, output) {
-        let status = if is_refused(reply, job) { REFUSED } else { DONE };
-        return Exit { status, is_short };
-    }
-    // Where this fails too, nothing is left to tell it on.
-    let _ = err.writeln(Refusal(Fault::NotWritten));
-    Exit {
-        status: REFUSED,
-        is_short,
+    match give(reply, output) {
+        Ok(()) => {
+            let status = if is_refused(reply, job) {
+                REFUSED
+            } else {
+                DONE
+            };
+            Exit { status, is_short }
+        }
+        Err(error) => not_written(error, is_short, err),
     }
 }
 
-// Gives a reply and writes it. False where that failed.
-fn give<W: Write>(reply: &Reply, output: &mut Output<W>) -> bool
-    ensures { result ≡ true
-        → Appends (held W.contents output.old) (W.contents output.new.writer) (reply_text reply.now) }
+// Gives a reply and writes it.
+fn give<W: Write>(reply: &Reply, output: &mut Output<W>) -> Result<(), OutputError>
+    ensures { OnOk result (Appends (held W.contents output.old) (W.contents output.new.writer) (reply_text reply.now)) }
 {
-    reply.give(output).is_ok() && output.flush().is_ok()
+    reply.give(output)?;
+    output.flush()
+}
+
+// Tells that a reply wasn't written. Where this fails too, nothing is left to tell it on.
+fn not_written<E: Write>(error: OutputError, is_short: bool, err: &mut E) -> Exit
+    ensures { result.status ≡ REFUSED }
+{
+    let _ = err.writeln(Refusal(Fault::NotWritten));
+    Exit {
+        status: REFUSED,
+        is_short: is_short || error == OutputError::Memory,
+    }
 }
 
 /// Tells why there is no reply. A bad line goes where replies go.
@@ -85,21 +97,23 @@ pub(crate) fn tell_failure<W: Write, E: Write>(
     ensures status { result.status ≢ DONE }
 {
     let is_short = is_want_of_memory(failure);
-    let is_reply = matches!(failure, Failure::BadLine(_) | Failure::Memory);
-    if is_reply && (output.say(failure).is_err() || output.flush().is_err()) {
-        let _ = err.writeln(Refusal(Fault::NotWritten));
-        return Exit {
-            status: REFUSED,
-            is_short,
-        };
-    }
-    if !is_reply {
+    if matches!(failure, Failure::BadLine(_) | Failure::Memory) {
+        if let Err(error) = say(failure, output) {
+            return not_written(error, is_short, err);
+        }
+    } else {
         let _ = err.writeln(failure);
     }
     Exit {
         status: status_of(failure),
         is_short,
     }
+}
+
+// Says why there is no reply, where replies go.
+fn say<W: Write>(failure: &Failure, output: &mut Output<W>) -> Result<(), OutputError> {
+    output.say(failure)?;
+    output.flush()
 }
 
 fn status_of(failure: &Failure) -> u8
@@ -116,9 +130,7 @@ fn is_want_of_memory(failure: &Failure) -> bool
 {
     matches!(
         failure,
-        Failure::Memory
-            | Failure::Loading(LoadFault::Memory)
-            | Failure::Saving(SaveFault::Memory)
+        Failure::Memory | Failure::Loading(LoadFault::Memory) | Failure::Saving(SaveFault::Memory)
     )
 }
 
@@ -127,14 +139,17 @@ fn is_refused(reply: &Reply, job: Job<'_>) -> bool
     ensures { result ≡ refuses (work_view job.entry) reply.now }
 {
     match reply {
-        Reply::Bytes(text) => job == Job::History && has_refusal(text),
-        Reply::Created
-        | Reply::Appended(_)
-        | Reply::Checkpointed(_)
-        | Reply::Put(_)
-        | Reply::Digits(_) => false,
+        Reply::Bytes(text) => is_refusal(text) || (job == Job::History && has_refusal(text)),
+        Reply::Created | Reply::Appended(_) | Reply::Checkpointed(_) | Reply::Put(_) => false,
         _ => true,
     }
+}
+
+// Whether a text begins with `refused `.
+fn is_refusal(text: &[u8]) -> bool
+    ensures { result ≡ is_refusal text.now }
+{
+    text.starts_with(b"refused ")
 }
 
 // Whether a line of a text begins with `refused `.
@@ -142,7 +157,7 @@ fn has_refusal(text: &[u8]) -> bool
     ensures { result ≡ has_refusal text.now }
 {
     for line in text.split(|byte| *byte == b'\n') {
-        if line.starts_with(b"refused ") {
+        if is_refusal(line) {
             return true;
         }
     }

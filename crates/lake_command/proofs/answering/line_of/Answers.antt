@@ -12,7 +12,8 @@ returns-clause-asked g c = elim c.match-job.branch [
   | in-Append+in_ok-at-in-Append+in_ok-text-in-Append+in_ok-rows-in-Append w ↦ rw (w.in-Append.is, w.line-is) (
     map view w.in_ok-rows-in-Append.rows.items,
     rows_of_input _ _ _ w.in_ok-text-in-Append.ensures.all (ap (λ text. map object_of (input_lines text)) (sym w.as_slice.ensures.value) ∙ w.in_ok-rows-in-Append.ensures.objects),
-    ap (λ at. task (append w.in-Append.application.now w.in-Append.number at (items_of (map view w.in_ok-rows-in-Append.rows.items)))) w.in_ok-at-in-Append.ensures.same.0)
+    ap (λ at. task (append w.in-Append.application.now w.in-Append.number at (items_of (map view w.in_ok-rows-in-Append.rows.items)))) w.in_ok-at-in-Append.ensures.same.0,
+  )
   | in-Tail w ↦ rw (w.in-Tail.is, w.line-is) refl
   | in-Checkpoint w ↦ rw (w.in-Checkpoint.is, w.line-is) refl
   | in-Snapshot w ↦ rw (w.in-Snapshot.is, w.line-is) refl
