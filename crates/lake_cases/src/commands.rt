@@ -8,9 +8,8 @@ use crate::table::tell_objects;
 use lake_command::{command, table_command};
 use lake_script::{Input, Output};
 use lake_words::{Command, read_words};
-use std::fs;
 use std::io::Write;
-use std::mem;
+use std::{fs, mem};
 use store_core::MemoryStore;
 use table_folder::{DirFolder, MemoryFolder, Stop, load};
 
