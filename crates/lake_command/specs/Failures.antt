@@ -11,8 +11,7 @@ use Rattle.lake_script.specs.declared.inputs.InputError.TheVariants as inputs
 use Rattle.lake_words.specs.Asked.{Work}
 use Rattle.lake_command.specs.declared.failure.Failure.{Failure}
 use Rattle.lake_command.specs.declared.failure.Failure.TheVariants.{Misused, NotRead, BadLine, Memory, Loading, Saving}
-use Rattle.lake_script.specs.Lines.{Wish}
-use Rattle.lake_command.specs.Folders.{IsLeftInPart, IsPartSaved}
+use Rattle.lake_command.specs.Folders.{MayLeave}
 
 -- the printed form
 abbrev pub failure_text : Failure → List ℕ
@@ -33,11 +32,11 @@ abbrev pub IsFailureOfLine : LineFault → Failure → Type 0
 IsFailureOfLine (lines.Bad number) failure = failure ≡ BadLine number
 IsFailureOfLine lines.Memory failure = failure ≡ Memory
 
--- what a folder holds where a line's objects aren't loaded or saved: what it held, or a front of what the line may put
-abbrev pub LeavesFolder : Failure → Wish → (old new : Objects) → Type 0
-LeavesFolder (Loading fault) wish old new = new ≡ old
-LeavesFolder (Saving fault) wish old new = IsPartSaved old wish new
-LeavesFolder _ wish old new = ⊥
+-- the failure comes from the folder, and what isn't loaded leaves it as it was
+abbrev pub IsOfFolder : Failure → (old new : Objects) → Type 0
+IsOfFolder (Loading fault) old new = new ≡ old
+IsOfFolder (Saving fault) old new = Unit {0}
+IsOfFolder _ old new = ⊥
 
 -- the failure comes from the words or from an input of that text, and a bad line is the first that there is
 abbrev pub IsOfInput : Failure → Option (List ℕ) → Type 0
@@ -46,8 +45,8 @@ IsOfInput (Saving fault) text = ⊥
 IsOfInput (BadLine number) text = IfSome text (λ bytes. IsFirstBadLine bytes number)
 IsOfInput _ text = Unit {0}
 
--- what a folder holds behind a failure: what it held, or where the table wasn't saved whole a front of what the job put
+-- what a folder holds behind a failure: what it held, or where the table wasn't saved whole what the job may have put
 abbrev pub Leaves : Failure → Work → (text : Option (List ℕ)) → (old new : Objects) → Type 0
-Leaves (Saving fault) work text old new = IsLeftInPart work text old new
+Leaves (Saving fault) work text old new = MayLeave work text old new
 Leaves (BadLine number) work text old new = (new ≡ old) × IfSome text (λ bytes. IsFirstBadLine bytes number)
 Leaves _ work text old new = new ≡ old

@@ -3,8 +3,7 @@ use Rattle.std.specs.Prelude.{◌≡◌, ◌⊎◌, ℕ, List, Option, Some, IfS
 use Rattle.std.specs.Io.KnownBytes.{Appends}
 use Rattle.serde_json.specs.Data.{Data}
 use Rattle.serde_json.specs.View.{items_of}
-use Rattle.store_core.specs.Objects.{Objects, names_of}
-use Rattle.table_folder.specs.Copies.{HasSavedFront, to_save}
+use Rattle.store_core.specs.Objects.{Objects}
 use Rattle.json_lines.specs.Rows.{input_lines, object_of}
 use Rattle.lake_words.specs.Asked.{Work}
 use Rattle.lake_words.specs.Asked as words
@@ -50,12 +49,7 @@ pub record IsAnswered (work : Work) (text : Option (List ℕ)) (old : Objects) (
   pub done : refuses work reply ≡ false
   pub answer : IsAnswer work text old (reply_text reply) new
 
--- A line's objects aren't saved whole: the folder holds what it had and a front of what the line may put, in the order of
--- saving, or nothing of it.
-abbrev pub IsPartSaved : (old : Objects) → Wish → (new : Objects) → Type 0
-IsPartSaved old wish new =
-    (new ≡ old) ⊎ ((after : Objects) × MayPut old wish after × HasSavedFront after (to_save (names_of old) (names_of after)) old new)
-
--- the same of a job
-abbrev pub IsLeftInPart : Work → (text : Option (List ℕ)) → (old new : Objects) → Type 0
-IsLeftInPart work text old new = (new ≡ old) ⊎ ((wish : Wish) × IsAskedBy work text wish × IsPartSaved old wish new)
+-- the folder holds what it had, or what may stand behind a line that asks for the same: all that it puts, or its data file
+-- alone
+abbrev pub MayLeave : Work → (text : Option (List ℕ)) → (old new : Objects) → Type 0
+MayLeave work text old new = (new ≡ old) ⊎ ((wish : Wish) × IsAskedBy work text wish × MayPut old wish new)

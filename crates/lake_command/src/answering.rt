@@ -1,6 +1,9 @@
 //! The reply to a job on the table in a folder.
 ghost use Rattle.std.specs.Prelude.{◌≡◌, ◌<◌, ◌≤◌, ◌^◌, ℕ, List, Some, None, IfOk, IfErr, IfSome, OnErr, Ok};
 ghost use Rattle.store_core.specs.Objects.{object_at};
+ghost use Rattle.commit_core.specs.Sound.{IsSoundStore};
+ghost use Rattle.table_log.specs.Counts.{commit_count};
+ghost use Rattle.table_store.specs.Sound.{greatest_version};
 ghost use Rattle.table_log.specs.Restoring.{RestoresWell};
 ghost use Rattle.lake_words.specs.Asked.{work_view};
 ghost use Rattle.lake_script.specs.Lines.{wish_view, IsTimely};
@@ -34,11 +37,14 @@ pub fn answer<F: Folder, R: Read>(
     ensures told { F.is_steady folder.old → RestoresWell command.entry.restore (F.objects folder.old)
         → IfOk result (λ reply. IsAnswer (work_view command.entry.job) (unread R.remaining input.old)
         (F.objects folder.old) (reply_text reply) (F.objects folder.new)) }
-    // A fault of the words or of the input leaves the folder as it was. Where the table isn't saved whole, it holds a front of
-    // what the job put: the data file, then the commit.
+    // A fault of the words or of the input leaves the folder as it was. Where the table isn't saved whole, it holds what the job
+    // put, or its data file alone, or nothing of it.
     ensures failed { F.is_steady folder.old → RestoresWell command.entry.restore (F.objects folder.old)
         → IfErr result (λ failure. Leaves failure (work_view command.entry.job) (unread R.remaining input.old)
         (F.objects folder.old) (F.objects folder.new)) }
+    // However it ends, a sound table stays sound: it has all that the job put, or its data file alone, or nothing of it.
+    ensures sound { F.is_steady folder.old → commit_count (F.objects folder.old) < greatest_version → IsSoundStore (F.objects folder.old)
+        → IsSoundStore (F.objects folder.new) }
     // Whatever happens, what stood stands.
     ensures kept { F.is_steady folder.old → (name bytes : List ℕ) → object_at (F.objects folder.old) name ≡ Some bytes
         → object_at (F.objects folder.new) name ≡ Some bytes }

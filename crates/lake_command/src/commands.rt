@@ -13,7 +13,6 @@ ghost use Rattle.lake_script.specs.Told.{IsTold, first_bad};
 ghost use Rattle.lake_words.specs.Asked.{Spells};
 ghost use Rattle.lake_words.specs.Words.{commands};
 
-use crate::disk::folder_of;
 use crate::exit::{DONE, Exit, MISUSED, REFUSED};
 use crate::failure::Failure;
 use crate::telling::{table_command, tell_failure};
@@ -21,10 +20,12 @@ use clap::Error;
 use clap::error::ErrorKind;
 use lake_script::{End, Fault, Input, Output, Refusal, run};
 use lake_words::{Command, TableCommand, read_words};
+use std::alloc::AllocError;
 use std::convert::AsStr;
 use std::io::{Read, Write};
 use std::rt::Files;
 use store_core::MemoryStore;
+use table_folder::{DirFolder, LoadFault};
 
 // The status of words that ask for help, that are refused, or that were too much to read.
 fn misused(error: &Error) -> u8
@@ -52,6 +53,14 @@ fn ended<E: Write>(end: End, err: &mut E) -> u8
     REFUSED
 }
 
+// The folder of that path on the disk.
+fn open<H: Files + AllocGlobal + Clone + Drop>(
+    rt: &H,
+    path: &str,
+) -> Result<DirFolder<H>, AllocError> {
+    DirFolder::new(rt.clone()?, path)
+}
+
 // Does a job on the table in a folder on the disk.
 fn command_on_disk<H: Files + AllocGlobal + Clone + Drop, R: Read, W: Write, E: Write>(
     rt: &H,
@@ -60,12 +69,12 @@ fn command_on_disk<H: Files + AllocGlobal + Clone + Drop, R: Read, W: Write, E: 
     output: &mut Output<W>,
     err: &mut E,
 ) -> Exit {
-    match folder_of(rt, command) {
+    match open(rt, command.folder) {
         Ok(folder) => {
             let mut folder = folder;
             table_command(rt.alloc(), &mut folder, command, input, output, err)
         }
-        Err(fault) => tell_failure(&Failure::Loading(fault), output, err),
+        Err(_error) => tell_failure(&Failure::Loading(LoadFault::Memory), output, err),
     }
 }
 

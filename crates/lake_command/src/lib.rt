@@ -6,9 +6,9 @@
 
 mod answering;
 mod commands;
-mod disk;
 mod exit;
 mod failure;
+mod looking;
 mod saving;
 mod telling;
 

@@ -2,6 +2,7 @@ pub mod Calls
 pub mod Copies
 pub mod Faults
 pub mod Kinds
+pub mod Loads
 pub mod Names
 pub mod Orders
 pub mod Stops

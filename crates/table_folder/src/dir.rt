@@ -6,7 +6,6 @@ use crate::disk::{file_bytes, make_file, make_folder, table_names};
 use crate::naming::{LOG, is_table_name};
 use crate::{Folder, FolderFault};
 use std::alloc::AllocError;
-use std::collections::BTreeSet;
 use std::io;
 use std::rt::Files;
 use store_core::Put;
@@ -23,8 +22,6 @@ use store_core::Put;
 pub struct DirFolder<R> {
     rt: R,
     path: String,
-    /// The data files that are listed, where not all are.
-    listed: Option<BTreeSet<String>>,
     faults: u64,
 }
 
@@ -38,18 +35,8 @@ impl<R: Files + AllocGlobal + Clone + Drop> DirFolder<R> {
         Ok(DirFolder {
             rt,
             path,
-            listed: None,
             faults: 0,
         })
-    }
-
-    /// From now on lists of the data files just these, where they stand, so that others aren't loaded. All files of
-    /// `_delta_log` are listed as before, and a create of any file that stands is told so.
-    pub fn list_only(&mut self, files: BTreeSet<String>)
-        ensures path { ⟦<DirFolder<R> as Folder>⟧.path self.new ≡ ⟦<DirFolder<R> as Folder>⟧.path self.old }
-        ensures faults { ⟦<DirFolder<R> as Folder>⟧.fault_count self.new ≡ ⟦<DirFolder<R> as Folder>⟧.fault_count self.old }
-    {
-        self.listed = Some(files);
     }
 
     // An answer, counted where it is a failure.
@@ -99,14 +86,15 @@ impl<R: Files + AllocGlobal + Clone + Drop> Folder for DirFolder<R> {
 
     ghost is_reliable = { λ _. ⊥ };
 
-    /// Reads both folders and syncs them, and tells the names that are listed. Each name is a plain file name that doesn't begin with `.`, alone or behind `_delta_log/`.
+    /// Reads both folders and syncs them. Each name is a plain file name that doesn't begin with `.`, alone or behind
+    /// `_delta_log/`.
     fn names(&mut self) -> Result<Vec<String>, FolderFault>
         ensures shown { IfOk result (λ names.
             All (λ name. IsTrue (is_table_name name)) (map string_bytes names.items)) }
         ensures faults { CountsFailure result
             (⟦<DirFolder<R> as Folder>⟧.fault_count self.old) (⟦<DirFolder<R> as Folder>⟧.fault_count self.new) }
     {
-        let names = table_names(&self.rt, self.path.as_str(), &self.listed);
+        let names = table_names(&self.rt, self.path.as_str());
         self.counted(names)
     }
 

@@ -5,7 +5,6 @@ ghost use Rattle.table_folder.specs.Names.{is_table_name};
 use crate::FolderFault;
 use crate::naming::{LOG, is_table_name};
 use std::alloc::Global;
-use std::collections::BTreeSet;
 use std::fs::{DirEntry, File, OpenFile};
 use std::io::{Error, ErrorKind, Read, Write};
 use std::rt::Files;
@@ -18,15 +17,13 @@ const MOST_BYTES: u64 = 1 << 30;
 /// How many names are tried for a file that is being written.
 const MOST_TRIES: u32 = 1_000;
 
-/// The names of the plain files of a folder and of its log's folder, in the order of their bytes; of the data files these
-/// alone, where some are named. Links, other folders
+/// The names of the plain files of a folder and of its log's folder, in the order of their bytes. Links, other folders
 /// and names that begin with `.` are passed over; the log's folder may be absent. The log is listed first, so a commit of
 /// another writer comes with the data files that were made before it. Both folders are synced before the names are told,
 /// so that what a killed run has named lasts before anything is built on it.
 pub(crate) fn table_names<R: Files + AllocGlobal + Clone + Drop>(
     rt: &R,
     folder: &str,
-    listed: &Option<BTreeSet<String>>,
 ) -> Result<Vec<String>, FolderFault>
     ensures { IfOk result (λ names. All (λ name. IsTrue (is_table_name name)) (map string_bytes names.items)) }
 {
@@ -37,9 +34,9 @@ pub(crate) fn table_names<R: Files + AllocGlobal + Clone + Drop>(
     let log = format!(in rt.alloc(); "{folder}/{LOG}")?;
     let mut names = Vec::new(rt.alloc());
     if is_there(rt, log.as_str())? {
-        add_names(rt, log.as_str(), LOG, listed, &mut names)?;
+        add_names(rt, log.as_str(), LOG, &mut names)?;
     }
-    add_names(rt, folder, "", listed, &mut names)?;
+    add_names(rt, folder, "", &mut names)?;
     names.sort()?;
     Ok(names)
 }
@@ -57,7 +54,6 @@ fn add_names<R: Files + AllocGlobal + Clone + Drop>(
     rt: &R,
     path: &str,
     prefix: &str,
-    listed: &Option<BTreeSet<String>>,
     names: &mut Vec<String>,
 ) -> Result<(), FolderFault>
     requires { All (λ name. IsTrue (is_table_name name)) (map string_bytes names.old.items) }
@@ -72,7 +68,7 @@ fn add_names<R: Files + AllocGlobal + Clone + Drop>(
             Ok(entry) => entry,
             Err(e) => return Err(entry_fault(rt.alloc(), path, e)),
         };
-        if let Some(name) = plain_name(rt.alloc(), entry, prefix, listed)? {
+        if let Some(name) = plain_name(rt.alloc(), entry, prefix)? {
             names.push(name)?;
         }
     }
@@ -84,12 +80,11 @@ fn plain_name<R: Files + Drop>(
     alloc: Global,
     entry: DirEntry<R, Global>,
     prefix: &str,
-    listed: &Option<BTreeSet<String>>,
 ) -> Result<Option<String>, FolderFault>
     ensures { IfOk result (λ found. IfSome found (λ name. IsTrue (is_table_name (string_bytes name)))) }
 {
     let name = format!(in alloc; "{prefix}{}", entry.file_name())?;
-    if !is_table_name(name.as_str()) || !is_listed(listed, name.as_str()) {
+    if !is_table_name(name.as_str()) {
         return Ok(None);
     }
     match entry.metadata() {
@@ -98,14 +93,6 @@ fn plain_name<R: Files + Drop>(
         Err(e) if e.kind() == ErrorKind::NotFound => Ok(None),
         Err(e) if e.kind() == ErrorKind::OutOfMemory => Err(FolderFault::Memory),
         Err(_) => Err(FolderFault::Failed { name }),
-    }
-}
-
-// Whether a file is listed: each of the log is, and of the data files each, or these alone.
-fn is_listed(listed: &Option<BTreeSet<String>>, name: &str) -> bool {
-    match listed {
-        Some(files) => name.starts_with(LOG) || files.contains(name),
-        None => true,
     }
 }
 

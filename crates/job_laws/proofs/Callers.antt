@@ -1,0 +1,1 @@
+-- The lemmas that proofs of other crates may cite.

@@ -1,0 +1,34 @@
+-- Which data files a line looks at. Of the log's folder it may look at every file.
+use Rattle.std.specs.Prelude.{◌≡◌, ◌≤◌, ℕ, List, Contains, Some, map, true}
+use Rattle.store_core.specs.Objects.{Objects}
+use Rattle.delta_actions.specs.Names.{data_file_name}
+use Rattle.table_log.specs.Versions.{Version, version_at}
+use Rattle.table_folder.specs.Loads.{is_loaded}
+use Rattle.table_model.specs.declared.reading.Place.{Place}
+use Rattle.source_core.specs.Offsets.{offset_of}
+use Rattle.source_core.specs.Tailing.{paths_in}
+use Rattle.lake_script.specs.Lines.{Wish, task, append, tail, hex}
+
+-- the data files that a version's commit adds new rows with, by the keys of their paths
+abbrev pub files_in : Version → List (List ℕ)
+files_in found = map (λ path. path.key) (paths_in found)
+
+-- A version from an offset on has a commit that adds the file of this name.
+pub record IsReadFrom (objects : Objects) (offset name : List ℕ) : Type 0 where
+  pub place : Place
+  pub read : offset_of offset ≡ Some place
+  pub version : ℕ
+  pub from : place.version ≤ version
+  pub added : Contains (files_in (version_at objects version)) name
+
+-- The data file is one that a line may look at over these objects: an append looks at its batch's, and a read at those that
+-- commits from its offset's version on add.
+abbrev pub MayLookAt : Objects → Wish → (name : List ℕ) → Type 0
+MayLookAt objects (task (append application number at items)) name = name ≡ data_file_name application number
+MayLookAt objects (task (tail max offset)) name = IsReadFrom objects offset name
+MayLookAt objects (hex own) name = name ≡ own
+MayLookAt objects wish name = ⊥
+
+-- a line looks at nothing but what is loaded with these data files
+abbrev pub LooksWithin : Objects → Wish → (files : List (List ℕ)) → Type 0
+LooksWithin objects wish files = (name : List ℕ) → MayLookAt objects wish name → is_loaded files name ≡ true
