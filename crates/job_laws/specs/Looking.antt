@@ -1,7 +1,8 @@
 -- Which data files a line looks at. Of the log's folder it may look at every file.
-use Rattle.std.specs.Prelude.{◌≡◌, ◌≤◌, ℕ, List, Contains, Some, map, true}
+use Rattle.std.specs.Prelude.{◌≡◌, ◌≤◌, ◌<◌, ℕ, List, Contains, Some, map, true}
 use Rattle.store_core.specs.Objects.{Objects}
 use Rattle.delta_actions.specs.Names.{data_file_name}
+use Rattle.table_log.specs.Counts.{commit_count}
 use Rattle.table_log.specs.Versions.{Version, version_at}
 use Rattle.table_folder.specs.Loads.{is_loaded}
 use Rattle.table_model.specs.declared.reading.Place.{Place}
@@ -13,12 +14,13 @@ use Rattle.lake_script.specs.Lines.{Wish, task, append, tail, hex}
 abbrev pub files_in : Version → List (List ℕ)
 files_in found = map (λ path. path.key) (paths_in found)
 
--- A version from an offset on has a commit that adds the file of this name.
+-- A version of the log from an offset on has a commit that adds the file of this name.
 pub record IsReadFrom (objects : Objects) (offset name : List ℕ) : Type 0 where
   pub place : Place
   pub read : offset_of offset ≡ Some place
   pub version : ℕ
   pub from : place.version ≤ version
+  pub small : version < commit_count objects
   pub added : Contains (files_in (version_at objects version)) name
 
 -- The data file is one that a line may look at over these objects: an append looks at its batch's, and a read at those that
