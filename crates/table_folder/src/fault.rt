@@ -82,6 +82,14 @@ impl From<FolderFault> for LoadFault {
     }
 }
 
+impl From<AllocError> for LoadFault {
+    ghost from_gives = { λ _ e. e ≡ loads.Memory };
+
+    fn from(_e: AllocError) -> LoadFault {
+        LoadFault::Memory
+    }
+}
+
 /// Why a store's objects weren't all saved.
 #[derive(Debug, Drop, Error)]
 pub enum SaveFault {
