@@ -17,5 +17,5 @@ among_more names more fault (Ok x) h part e = absurd h
 among_more {X} names more fault (Err told) h part e = by_case told (subst (λ (f : LoadFault). LoadFailsAmong {X = Unit {0}} names (Err f)) (sym h) e)
   where
     by_case : (f : LoadFault) → LoadFailsAmong {X = Unit {0}} names (Err f) → LoadFailsAmong {X = X} more (Err f)
-    by_case (NotLoaded n) e = part _ e
+    by_case (NotLoaded n reason) e = part _ e
     by_case Memory e = tt

@@ -78,7 +78,7 @@ log_copied objects h =
     ∙ log_found (is_of_log name) (object_at objects name)
     ∙ sym (object_at-loaded [] objects name))
 
--- a name of the log, or of the files before or after
+-- one of three tests, grouped either way
 or_assoc : (a b c : Bool) → ((a || b) || c) ≡ (a || (b || c))
 or_assoc true b c = refl
 or_assoc false b c = refl
