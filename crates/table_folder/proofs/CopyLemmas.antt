@@ -32,7 +32,7 @@ first_of-Some None bytes = refl
 first_of-Some (Some kept) bytes = refl
 
 -- one copy after another
-first_of-twice : (a b : Bool) (held stored : Option (List ℕ)) → first_of (first_of held (cond a stored None)) (cond b stored None) ≡ first_of held (cond (a || b) stored None)
+pub first_of-twice : (a b : Bool) (held stored : Option (List ℕ)) → first_of (first_of held (cond a stored None)) (cond b stored None) ≡ first_of held (cond (a || b) stored None)
 first_of-twice a b (Some bytes) stored = refl
 first_of-twice true true None None = refl
 first_of-twice true true None (Some bytes) = refl

@@ -1,6 +1,8 @@
 mod ApartLemmas
+pub mod Callers
 mod CopyLemmas
 mod KindLemmas
 mod LoadLemmas
+mod LoadedLemmas
 mod NameLemmas
 mod SaveLemmas

@@ -90,7 +90,7 @@ unchanged_if_found put held new name bytes told is made = made ∙ with_object_s
 
 -- what a create that ends with a fault may have made
 pub may_have_made : (fault : FolderFault) (held new : Objects) (name bytes : List ℕ) → (IsFailed {X = Put} (Err fault) → MayHaveMade name bytes held new) → (IsErrOf {T = Put} (Err fault) folders.Memory → new ≡ held) → MayHaveMade name bytes held new
-may_have_made (folders.Failed told) held new name bytes failed memory = failed tt
+may_have_made (folders.Failed told reason) held new name bytes failed memory = failed tt
 may_have_made folders.Memory held new name bytes failed memory = inr (memory refl)
 
 -- a put that may have been made copied the object to where its name was absent, or changed nothing
@@ -109,14 +109,14 @@ is_err (Err told) fault h = ap Err h
 
 -- what is found where the fault tells is what was there at first
 pub stood_before : (now held : Objects) (name : List ℕ) (fault : SaveFault) → SaveFailsAt {X = Unit {0}} name (Err fault) → object_at now name ≡ object_at held name → FailsWhereStood {X = Unit {0}} now (Err fault) → FailsWhereStood {X = Unit {0}} held (Err fault)
-stood_before now held name (NotSaved n) e same stood = ap is_some (ap (object_at held) e ∙ sym same ∙ sym (ap (object_at now) e)) ∙ stood
+stood_before now held name (NotSaved n reason) e same stood = ap is_some (ap (object_at held) e ∙ sym same ∙ sym (ap (object_at now) e)) ∙ stood
 stood_before now held name Lost e same stood = tt
 stood_before now held name Memory e same stood = tt
 
 pub counts_before : (steady later : Type 0) (now held : Objects) (name : List ℕ) (fault : SaveFault) (first old new : ℕ) → (steady → later) → old ≡ first → SaveFailsAt {X = Unit {0}} name (Err fault) → (steady → object_at now name ≡ object_at held name)
     → CountsSave {X = Unit {0}} later now (Err fault) old new → CountsSave {X = Unit {0}} steady held (Err fault) first new
-counts_before steady later now held name (NotSaved n) first old new so from e same (inl risen) = inl (subst (λ (o : ℕ). HasRisen o new) from risen)
-counts_before steady later now held name (NotSaved n) first old new so from e same (inr stood) =
-    inr (stood.0 ∙ from, λ s. stood_before now held name (NotSaved n) e (same s) (stood.1 (so s)))
+counts_before steady later now held name (NotSaved n reason) first old new so from e same (inl risen) = inl (subst (λ (o : ℕ). HasRisen o new) from risen)
+counts_before steady later now held name (NotSaved n reason) first old new so from e same (inr stood) =
+    inr (stood.0 ∙ from, stood.1, λ s. stood_before now held name (NotSaved n reason) e (same s) (stood.2 (so s)))
 counts_before steady later now held name Lost first old new so from e same counted = counted ∙ from
 counts_before steady later now held name Memory first old new so from e same counted = counted ∙ from

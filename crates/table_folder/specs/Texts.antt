@@ -9,16 +9,16 @@ use Rattle.table_folder.specs.declared.fault.SaveFault.TheVariants as saves
 
 -- a fault of a folder
 abbrev pub folder_text : FolderFault → List ℕ
-folder_text (folders.Failed name) = codes "Failed " ++ string_bytes name
+folder_text (folders.Failed name reason) = codes "Failed " ++ string_bytes name
 folder_text folders.Memory = codes "Memory"
 
 -- why a table is not loaded
 abbrev pub load_text : LoadFault → List ℕ
-load_text (loads.NotLoaded name) = codes "F1 NotLoaded " ++ string_bytes name
+load_text (loads.NotLoaded name reason) = codes "F1 NotLoaded " ++ string_bytes name
 load_text loads.Memory = codes "F1 NotLoaded -"
 
 -- why an object is not saved
 abbrev pub save_text : SaveFault → List ℕ
-save_text (saves.NotSaved name) = codes "F2 NotSaved " ++ string_bytes name
+save_text (saves.NotSaved name reason) = codes "F2 NotSaved " ++ string_bytes name
 save_text saves.Lost = codes "St1 Lost"
 save_text saves.Memory = codes "F2 NotSaved -"

@@ -2,11 +2,10 @@
 ghost use Rattle.std.specs.Prelude.{◌≡◌, IfOk};
 ghost use Rattle.table_folder.specs.Calls.{CountsFailure};
 
-use crate::disk::{file_bytes, make_file, make_folder, table_names};
+use crate::disk::{DiskFault, file_bytes, make_file, make_folder, table_names};
 use crate::naming::{LOG, is_table_name};
-use crate::{Folder, FolderFault};
+use crate::{Folder, FolderFault, Reason};
 use std::alloc::AllocError;
-use std::io;
 use std::rt::Files;
 use store_core::Put;
 
@@ -44,7 +43,7 @@ impl<R: Files + AllocGlobal + Clone + Drop> DirFolder<R> {
         ensures answer { result ≡ answer }
         ensures counted { CountsFailure result self.old.faults self.new.faults }
     {
-        if let Err(FolderFault::Failed { name: _ }) = &answer {
+        if let Err(FolderFault::Failed { .. }) = &answer {
             self.faults = self.faults.saturating_add(1);
         }
         answer
@@ -61,7 +60,7 @@ impl<R: Files + AllocGlobal + Clone + Drop> DirFolder<R> {
         Ok((folder, path))
     }
 
-    fn made(&self, name: &str, bytes: &[u8]) -> io::Result<Put> {
+    fn made(&self, name: &str, bytes: &[u8]) -> Result<Put, DiskFault> {
         let (folder, path) = self.paths(name)?;
         if name.starts_with(LOG) {
             make_folder(&self.rt, self.path.as_str(), folder.as_str())?;
@@ -107,8 +106,11 @@ impl<R: Files + AllocGlobal + Clone + Drop> Folder for DirFolder<R> {
         let (_, path) = self.paths(name)?;
         let bytes = match file_bytes(&self.rt, path.as_str()) {
             Ok(bytes) => Ok(bytes),
-            Err(e) if e.kind() == io::ErrorKind::OutOfMemory => Err(FolderFault::Memory),
-            Err(_) => Err(FolderFault::Failed { name: refused }),
+            Err(DiskFault::Failed(reason)) => Err(FolderFault::Failed {
+                name: refused,
+                reason,
+            }),
+            Err(DiskFault::Memory) => Err(FolderFault::Memory),
         };
         self.counted(bytes)
     }
@@ -117,12 +119,18 @@ impl<R: Files + AllocGlobal + Clone + Drop> Folder for DirFolder<R> {
     fn create(&mut self, name: &str, bytes: Vec<u8>) -> Result<Put, FolderFault> {
         let refused = String::from_str(self.rt.alloc(), name)?;
         if !is_table_name(name) {
-            return self.counted(Err(FolderFault::Failed { name: refused }));
+            return self.counted(Err(FolderFault::Failed {
+                name: refused,
+                reason: Reason::Other,
+            }));
         }
         let put = match self.made(name, bytes.as_slice()) {
             Ok(put) => Ok(put),
-            Err(e) if e.kind() == io::ErrorKind::OutOfMemory => Err(FolderFault::Memory),
-            Err(_) => Err(FolderFault::Failed { name: refused }),
+            Err(DiskFault::Failed(reason)) => Err(FolderFault::Failed {
+                name: refused,
+                reason,
+            }),
+            Err(DiskFault::Memory) => Err(FolderFault::Memory),
         };
         self.counted(put)
     }

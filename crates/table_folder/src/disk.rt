@@ -2,9 +2,10 @@
 ghost use Rattle.std.specs.Prelude.{IfOk, IfSome, IsTrue, OnOk, All, map, string_bytes};
 ghost use Rattle.table_folder.specs.Names.{is_table_name};
 
-use crate::FolderFault;
 use crate::naming::{LOG, is_table_name};
-use std::alloc::Global;
+use crate::reason::reason_of;
+use crate::{FolderFault, Reason};
+use std::alloc::{AllocError, Global};
 use std::fs::{DirEntry, File, OpenFile};
 use std::io::{Error, ErrorKind, Read, Write};
 use std::rt::Files;
@@ -16,6 +17,28 @@ const MOST_BYTES: u64 = 1 << 30;
 
 /// How many names are tried for a file that is being written.
 const MOST_TRIES: u32 = 1_000;
+
+/// Why a call of the disk failed.
+#[derive(Drop)]
+pub(crate) enum DiskFault {
+    Failed(Reason),
+    Memory,
+}
+
+impl From<Error> for DiskFault {
+    fn from(error: Error) -> DiskFault {
+        match error.kind() {
+            ErrorKind::OutOfMemory => DiskFault::Memory,
+            kind => DiskFault::Failed(reason_of(kind)),
+        }
+    }
+}
+
+impl From<AllocError> for DiskFault {
+    fn from(_e: AllocError) -> DiskFault {
+        DiskFault::Memory
+    }
+}
 
 /// The names of the plain files of a folder and of its log's folder, in the order of their bytes. Links, other folders
 /// and names that begin with `.` are passed over; the log's folder may be absent. The log is listed first, so a commit of
@@ -92,7 +115,10 @@ fn plain_name<R: Files + Drop>(
         Ok(_) => Ok(None),
         Err(e) if e.kind() == ErrorKind::NotFound => Ok(None),
         Err(e) if e.kind() == ErrorKind::OutOfMemory => Err(FolderFault::Memory),
-        Err(_) => Err(FolderFault::Failed { name }),
+        Err(e) => Err(FolderFault::Failed {
+            name,
+            reason: reason_of(e.kind()),
+        }),
     }
 }
 
@@ -113,12 +139,10 @@ fn settle<R: Files + AllocGlobal>(rt: &R, path: &str) -> Result<(), FolderFault>
 
 // The fault of an entry of a folder: `-` where its name isn't text, else the folder's.
 fn entry_fault(alloc: Global, folder: &str, error: Error) -> FolderFault {
-    let place = if error.kind() == ErrorKind::InvalidFilename {
-        "-"
-    } else {
-        folder
-    };
-    fault_at(alloc, place, error)
+    if error.kind() == ErrorKind::InvalidFilename {
+        return fault_for(alloc, "-", Reason::NotText);
+    }
+    fault_at(alloc, folder, error)
 }
 
 // The fault of a call of the disk that failed there.
@@ -126,8 +150,13 @@ fn fault_at(alloc: Global, place: &str, error: Error) -> FolderFault {
     if error.kind() == ErrorKind::OutOfMemory {
         return FolderFault::Memory;
     }
+    fault_for(alloc, place, reason_of(error.kind()))
+}
+
+// The fault of a call that failed there, for that reason.
+fn fault_for(alloc: Global, place: &str, reason: Reason) -> FolderFault {
     match String::from_str(alloc, place) {
-        Ok(name) => FolderFault::Failed { name },
+        Ok(name) => FolderFault::Failed { name, reason },
         Err(_) => FolderFault::Memory,
     }
 }
@@ -136,13 +165,13 @@ fn fault_at(alloc: Global, place: &str, error: Error) -> FolderFault {
 pub(crate) fn file_bytes<R: Files + AllocGlobal>(
     rt: &R,
     path: &str,
-) -> io::Result<Option<Vec<u8>>> {
+) -> Result<Option<Vec<u8>>, DiskFault> {
     match fs::symlink_metadata(rt, path) {
         Ok(metadata) if !metadata.is_file() => return Ok(None),
         Ok(metadata) if metadata.len() > MOST_BYTES => return Err(too_large()),
         Ok(_) => {}
         Err(e) if e.kind() == ErrorKind::NotFound => return Ok(None),
-        Err(e) => return Err(e),
+        Err(e) => return Err(DiskFault::from(e)),
     }
     let mut bytes = Vec::new(rt.alloc());
     let mut file = File::open(rt, path)?.take(MOST_BYTES + 1);
@@ -153,8 +182,8 @@ pub(crate) fn file_bytes<R: Files + AllocGlobal>(
     Ok(Some(bytes))
 }
 
-fn too_large() -> Error {
-    Error::from(ErrorKind::FileTooLarge)
+fn too_large() -> DiskFault {
+    DiskFault::Failed(Reason::TooLarge)
 }
 
 /// Makes a file with these bytes where the path is absent. They are written and synced under a name that begins with
@@ -165,7 +194,7 @@ pub(crate) fn make_file<R: Files + AllocGlobal>(
     folder: &str,
     path: &str,
     bytes: &[u8],
-) -> io::Result<Put> {
+) -> Result<Put, DiskFault> {
     if fs::exists(rt, path)? {
         return Ok(Put::Exists);
     }
@@ -175,12 +204,20 @@ pub(crate) fn make_file<R: Files + AllocGlobal>(
     match linked {
         Ok(()) => {}
         Err(e) if e.kind() == ErrorKind::AlreadyExists => return Ok(Put::Exists),
-        Err(e) => return Err(e),
+        Err(e) => return Err(link_fault(e)),
     }
     if removed.is_err() || sync_folder(rt, folder).is_err() {
-        return Err(Error::from(ErrorKind::Other));
+        return Err(DiskFault::Failed(Reason::Other));
     }
     Ok(Put::Created)
+}
+
+// Why a file wasn't linked: a file system without hard links says so by `Unsupported` or `PermissionDenied`.
+fn link_fault(error: Error) -> DiskFault {
+    match error.kind() {
+        ErrorKind::Unsupported | ErrorKind::PermissionDenied => DiskFault::Failed(Reason::NoLinks),
+        _ => DiskFault::from(error),
+    }
 }
 
 // Writes and syncs the bytes under a new name that begins with `.`, and tells its path. Where that fails, the file is

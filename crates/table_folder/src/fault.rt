@@ -7,6 +7,7 @@ ghost use Rattle.table_folder.specs.declared.fault.FolderFault.TheVariants as fo
 ghost use Rattle.table_folder.specs.declared.fault.LoadFault.TheVariants as loads;
 ghost use Rattle.table_folder.specs.declared.fault.SaveFault.TheVariants as saves;
 
+use crate::Reason;
 use std::alloc::{AllocError, AllocFailed};
 use std::fmt;
 use std::fmt::{Display, Formatter};
@@ -19,7 +20,7 @@ use thiserror::Error;
 pub enum FolderFault {
     /// The call failed: at the file of this name, or at the folder, by its path. `-` stands for a name that isn't
     /// text. A create may have made the file, with all its bytes.
-    Failed { name: String },
+    Failed { name: String, reason: Reason },
     /// Memory ran out, and nothing changed.
     Memory,
 }
@@ -29,7 +30,7 @@ impl Display for FolderFault {
 
     fn fmt<W: fmt::Write>(&self, f: &mut Formatter<W>) -> fmt::Result {
         match self {
-            FolderFault::Failed { name } => write!(f, "Failed {name}"),
+            FolderFault::Failed { name, .. } => write!(f, "Failed {name}"),
             FolderFault::Memory => f.write_str("Memory"),
         }
     }
@@ -55,7 +56,7 @@ impl<T: Drop> From<AllocFailed<T>> for FolderFault {
 #[derive(Debug, Drop, Error)]
 pub enum LoadFault {
     /// The first file that can't be loaded, or the folder, by its path. `-` stands for a name that isn't text.
-    NotLoaded { name: String },
+    NotLoaded { name: String, reason: Reason },
     /// Memory ran out.
     Memory,
 }
@@ -65,7 +66,7 @@ impl Display for LoadFault {
 
     fn fmt<W: fmt::Write>(&self, f: &mut Formatter<W>) -> fmt::Result {
         match self {
-            LoadFault::NotLoaded { name } => write!(f, "F1 NotLoaded {name}"),
+            LoadFault::NotLoaded { name, .. } => write!(f, "F1 NotLoaded {name}"),
             LoadFault::Memory => f.write_str("F1 NotLoaded -"),
         }
     }
@@ -76,17 +77,25 @@ impl From<FolderFault> for LoadFault {
 
     fn from(fault: FolderFault) -> LoadFault {
         match fault {
-            FolderFault::Failed { name } => LoadFault::NotLoaded { name },
+            FolderFault::Failed { name, reason } => LoadFault::NotLoaded { name, reason },
             FolderFault::Memory => LoadFault::Memory,
         }
+    }
+}
+
+impl From<AllocError> for LoadFault {
+    ghost from_gives = { λ _ e. e ≡ loads.Memory };
+
+    fn from(_e: AllocError) -> LoadFault {
+        LoadFault::Memory
     }
 }
 
 /// Why a store's objects weren't all saved.
 #[derive(Debug, Drop, Error)]
 pub enum SaveFault {
-    /// The first object that wasn't saved: the folder failed at it, or its name stood.
-    NotSaved { name: String },
+    /// The first object that wasn't saved: the folder failed at it, or its name stood, which is `Reason::Taken`.
+    NotSaved { name: String, reason: Reason },
     /// The store lost a call.
     Lost,
     /// Memory ran out.
@@ -98,7 +107,7 @@ impl Display for SaveFault {
 
     fn fmt<W: fmt::Write>(&self, f: &mut Formatter<W>) -> fmt::Result {
         match self {
-            SaveFault::NotSaved { name } => write!(f, "F2 NotSaved {name}"),
+            SaveFault::NotSaved { name, .. } => write!(f, "F2 NotSaved {name}"),
             SaveFault::Lost => f.write_str("St1 Lost"),
             SaveFault::Memory => f.write_str("F2 NotSaved -"),
         }
@@ -110,7 +119,7 @@ impl From<FolderFault> for SaveFault {
 
     fn from(fault: FolderFault) -> SaveFault {
         match fault {
-            FolderFault::Failed { name } => SaveFault::NotSaved { name },
+            FolderFault::Failed { name, reason } => SaveFault::NotSaved { name, reason },
             FolderFault::Memory => SaveFault::Memory,
         }
     }

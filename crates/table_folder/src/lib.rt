@@ -14,6 +14,7 @@ mod kind;
 mod loading;
 mod memory;
 mod naming;
+mod reason;
 mod saving;
 
 pub use dir::DirFolder;
@@ -23,4 +24,5 @@ pub use kind::{FileKind, kind_of};
 pub use loading::{load, load_files, load_log};
 pub use memory::{MemoryFolder, Stop};
 pub use naming::is_table_name;
+pub use reason::Reason;
 pub use saving::save;

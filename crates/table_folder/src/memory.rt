@@ -6,7 +6,7 @@ ghost use Rattle.store_core.specs.Objects.{object_at, with_object};
 ghost use Rattle.table_folder.specs.Calls.{CountsFailure, FailsAt, IsFailed, MayHaveMade};
 ghost use Rattle.table_folder.specs.Stops.{stop_turn, later_stop};
 
-use crate::{Folder, FolderFault};
+use crate::{Folder, FolderFault, Reason};
 use std::alloc::Global;
 use store_core::{MemoryStore, Put, Store, Turn};
 
@@ -120,6 +120,7 @@ impl Folder for MemoryFolder {
     {
         let refused = FolderFault::Failed {
             name: String::from_str(self.alloc, name)?,
+            reason: Reason::Other,
         };
         match self.next_turn() {
             Turn::Pass => put_in(&mut self.store, name, bytes),

@@ -9,7 +9,7 @@ ghost use Rattle.table_folder.specs.Faults.{CountsLost, CountsSave, FailsWhereSt
 ghost use Rattle.table_folder.specs.Kinds.{is_checkpoint, is_commit, is_data, is_of};
 
 use crate::kind::is_of;
-use crate::{FileKind, Folder, SaveFault};
+use crate::{FileKind, Folder, Reason, SaveFault};
 use std::alloc::{AllocError, Global};
 use std::collections::BTreeSet;
 use store_core::{Put, Store};
@@ -103,13 +103,16 @@ fn save_one<F: Folder, S: Store>(
     ensures stays_reliable { F.is_reliable folder.old → F.is_reliable folder.new }
     ensures store_stays_reliable { S.is_reliable store.old → S.is_reliable store.new }
 {
-    let refused = String::from_str(alloc, name)?;
+    let refused = SaveFault::NotSaved {
+        name: String::from_str(alloc, name)?,
+        reason: Reason::Taken,
+    };
     let Some(bytes) = store.get(name)? else {
         return Ok(());
     };
     match folder.create(name, bytes)? {
         Put::Created => Ok(()),
-        Put::Exists => Err(SaveFault::NotSaved { name: refused }),
+        Put::Exists => Err(refused),
     }
 }
 

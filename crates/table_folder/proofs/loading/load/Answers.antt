@@ -1,22 +1,23 @@
-use Rattle.std.proofs.Common.{◌≡◌, ◌∙◌, ap, map, take, [], ℕ, List, Err, subst}
-use Rattle.std.proofs.lemmas.List.{take_all}
-use Rattle.std.specs.String.{string_bytes}
+use Rattle.std.proofs.Common.{◌≡◌, ◌∙◌, ◌∷◌, [], ap, map, subst}
+use Rattle.std.proofs.lemmas.List.Elements.{Contains-append_right}
+use Rattle.std.specs.Prelude.{List, ℕ, Contains, string_bytes}
+use Rattle.store_core.specs.Objects.{names_of}
 use Rattle.table_folder.specs.Copies.{with_copies}
-use Rattle.table_folder.specs.Faults.{LoadFailsAt}
 use Rattle.table_folder.proofs.CopyLemmas.{all_copied}
-use Rattle.table_folder.proofs.LoadLemmas.{among}
-use Rattle.table_folder.proofs.NameLemmas.{contains_at}
+use Rattle.table_folder.proofs.LoadLemmas.{among_more}
 use Rattle.table_folder.proofs.loading.load.Goals as goal
+
+pub returns-in_err-copy_files-clause-named : goal.returns-in_err-copy_files-clause-named
+returns-in_err-copy_files-clause-named g c = λ steady.
+    let names = ap (map string_bytes) c.deref.ensures.value ∙ c.in_ok-names.ensures.names steady in
+    among_more (map string_bytes c.deref.result.now) (g.F.Folder.path c.args.folder.now ∷ names_of (g.F.Folder.objects c.args.folder.now)) c.in_err-copy_files.field-0.0 c.from_residual-in_err-copy_files.result c.from_residual-in_err-copy_files.ensures.1
+    (λ name one. Contains-append_right (g.F.Folder.path c.args.folder.now ∷ []) (names_of (g.F.Folder.objects c.args.folder.now)) name
+    (subst (λ (all : List (List ℕ)). Contains all name) names one))
+    c.in_err-copy_files.ensures.named
 
 pub returns-clause-loaded : goal.returns-clause-loaded
 returns-clause-loaded g c = λ steady.
-    let all : take c.loop-name.name-index c.deref-name-items.result.now ≡ c.in_ok-names.names.items = take_all _ _ c.loop-name-test.false ∙ c.deref-name-items.ensures.value in
-    c.loop-name.invariant.loaded steady
-    ∙ ap (λ names. with_copies (g.F.Folder.objects c.args.folder.now) [] names) (ap (map string_bytes) all ∙ c.in_ok-names.ensures.names steady)
-    ∙ all_copied _ (g.met.F.Folder.in_order c.args.folder.now)
-
-pub returns-in_err-load_one-clause-named : goal.returns-in_err-load_one-clause-named
-returns-in_err-load_one-clause-named g c = λ steady.
-    among _ _ (string_bytes c.name-item.result) c.in_err-load_one.field-0.0 c.from_residual-in_err-load_one.result c.from_residual-in_err-load_one.ensures.1
-    (contains_at c.deref-name-items.result.now _ c.loop-name.name-index c.name-item.result c.loop-name-test.true c.name-item.is (ap (map string_bytes) c.deref-name-items.ensures.value ∙ c.in_ok-names.ensures.names steady))
-    (subst (λ (name : List ℕ). LoadFailsAt {X = Unit {0}} name (Err c.in_err-load_one.field-0.0)) c.as_str.ensures.value c.in_err-load_one.ensures.named)
+    let names = ap (map string_bytes) c.deref.ensures.value ∙ c.in_ok-names.ensures.names steady in
+    c.in_ok-copy_files.ensures.copied (c.in_ok-names.ensures.steady steady)
+    ∙ (λ i. with_copies (c.in_ok-names.ensures.untouched steady i) (c.new-store.ensures i) (names i))
+    ∙ all_copied (g.F.Folder.objects c.args.folder.now) (g.met.F.Folder.in_order c.args.folder.now)
