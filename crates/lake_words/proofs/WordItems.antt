@@ -1,5 +1,6 @@
 -- What `clap` reads where the words are flags that are written out, and plain words.
 use Rattle.std.proofs.Common.{◌≡◌, ℕ, ◌&&◌, ◌||◌, Bool, true, false, List, [], ◌∷◌, ◌++◌, map, Option, Some, None, refl, ap, ap₂, ◌∙◌, subst, sym}
+use Rattle.std.proofs.lemmas.Bool.{and_from}
 use Rattle.std.specs.Prelude.{is_some}
 use Rattle.std.specs.List.{list_all, fold}
 use Rattle.clap.specs.Walk.{Held, Row, Rule, Step, Text, Waiting, Walk, after_step, finished, idle, nothing_held, option, plain_word, positional, rows_after, subcommand_met, value, walk_from, walked, walked_from, word_met}
@@ -82,9 +83,20 @@ abbrev pub item_passes : Shape → Walk → Item → Bool
 item_passes s w (flag word) = turn_passes s [] w word
 item_passes s w (plain word) = plain_passes s w word
 
-abbrev pub items_pass : Shape → Walk → List Item → Bool
+-- the walk takes each word
+pub items_pass : Shape → Walk → List Item → Bool
 items_pass s w [] = true
 items_pass s w (item ∷ items) = item_passes s w item && items_pass s (item_walked s.rules w item) items
+
+-- the same, item after item
+pub data TakesAll (s : Shape) : Walk → List Item → Type 0 where
+  no_more : {w : Walk} → TakesAll s w []
+  next : {w : Walk} {item : Item} {items : List Item} → item_passes s w item ≡ true → TakesAll s (item_walked s.rules w item) items → TakesAll s w (item ∷ items)
+
+takes_all : (s : Shape) (w : Walk) (items : List Item) → TakesAll s w items → items_pass s w items ≡ true
+unfolding items_pass
+takes_all s w items no_more = refl
+takes_all s w items (next first rest) = and_from _ _ first (takes_all s _ _ rest)
 
 -- the words are read as the items are
 pub items_walked : (c : List Rule) (items : List Item) (w : Walk) → ArePlain items
@@ -97,7 +109,7 @@ items_walked c (plain word ∷ items) w p =
 
 pub items_passed : (s : Shape) (items : List Item) (w : Walk) → ArePlain items
     → walk_passes s [] w (map word_of items) ≡ items_pass s w items
-unfolding walk_passes walked
+unfolding walk_passes walked items_pass
 items_passed s [] w p = refl
 items_passed s (flag word ∷ items) w p = ap (λ rest. turn_passes s [] w word && rest) (items_passed s items (walked s.rules [] w word) p)
 items_passed s (plain word ∷ items) w p =
@@ -125,3 +137,9 @@ items_are_taken s items p =
             && (list_all default_passes s.rules && is_valid s (finished s.rules w.held) false)))
         (items_passed s items (walk_from nothing_held) p)
         (items_walked s.rules items (walk_from nothing_held) p)
+
+-- where the walk takes them, and what they leave is complete
+pub all_taken : (s : Shape) (items : List Item) → TakesAll s (walk_from nothing_held) items
+    → settle_passes s.rules s.args_override_self (fold (item_walked s.rules) (walk_from nothing_held) items).held ≡ true
+    → (list_all default_passes s.rules && is_valid s (item_rows s.rules items) false) ≡ true → items_taken s items ≡ true
+all_taken s items passes settles valid = and_from _ _ (takes_all s _ items passes) (and_from _ _ settles valid)
