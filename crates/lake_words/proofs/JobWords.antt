@@ -1,5 +1,5 @@
 -- What `clap` finds in the words of a job: the job's name, and what the words behind it are read as.
-use Rattle.std.proofs.Common.{◌≡◌, ℕ, ◌&&◌, Bool, true, false, not, List, [], ◌∷◌, ◌++◌, map, Option, Some, None, refl, ap, ◌∙◌, sym, subst, codes, append-nil, append_assoc}
+use Rattle.std.proofs.Common.{◌≡◌, ◌&&◌, Bool, true, false, not, List, [], ◌∷◌, ◌++◌, map, Option, Some, None, refl, ap, ◌∙◌, sym, subst, codes, append-nil, append_assoc}
 use Rattle.std.proofs.lemmas.Bool.{and_from, not-true, not-false}
 use Rattle.std.specs.Prelude.{is_some, option_map}
 use Rattle.std.specs.List.{list_all, fold, find}
@@ -75,19 +75,20 @@ unfolding walk_passes
 job_taken program job rest s is passes =
     let at_end = sym (top_walked job rest s is) in
     let inside : entered_passes (built commands) (Some (job, rest)) ≡ true =
-        ap (λ found. option_map_or (λ (s : Shape). level_passes s [] nothing_held rest false) found true) is.found ∙ passes in
-    let behind = ap (λ w. walk_passes (built commands).top (names_of (built commands)) w rest) is.walked ∙ rest_passes (built commands).top (names_of (built commands)) (walk_from nothing_held) job rest [] in
+    ap (λ found. option_map_or (λ (s : Shape). level_passes s [] nothing_held rest false) found true) is.found ∙ passes in
+    let behind = ap (λ w. walk_passes (built commands).top (names_of (built commands)) w rest) is.walked
+    ∙ rest_passes (built commands).top (names_of (built commands)) (walk_from nothing_held) job rest [] in
     let has_job : is_some (entered (built commands) (Some (job, rest))) ≡ true =
-        ap (λ found. is_some (option_map (λ (s : Shape). rows_at s rest) found)) is.found in
+    ap (λ found. is_some (option_map (λ (s : Shape). rows_at s rest) found)) is.found in
     and_from _ _ commands_simple
-        (and_from _ _ (subst (λ (w : Walk). entered_passes (built commands) w.stopped ≡ true) at_end inside)
-        (and_from _ _ (and_from _ _ is.passes behind)
-        (subst (λ (w : Walk). (settle_passes (built commands).top.rules (built commands).top.args_override_self w.held
-            && (list_all default_passes (built commands).top.rules && is_valid (built commands).top (finished (built commands).top.rules w.held)
-                (is_some (entered (built commands) w.stopped)))) ≡ true) at_end
-            (subst (λ has. (settle_passes (built commands).top.rules (built commands).top.args_override_self nothing_held
-                && (list_all default_passes (built commands).top.rules && is_valid (built commands).top (finished (built commands).top.rules nothing_held) has)) ≡ true)
-                (sym has_job) top_ends_well))))
+    (and_from _ _ (subst (λ (w : Walk). entered_passes (built commands) w.stopped ≡ true) at_end inside)
+    (and_from _ _ (and_from _ _ is.passes behind)
+    (subst (λ (w : Walk). (settle_passes (built commands).top.rules (built commands).top.args_override_self w.held
+    && (list_all default_passes (built commands).top.rules && is_valid (built commands).top (finished (built commands).top.rules w.held)
+    (is_some (entered (built commands) w.stopped)))) ≡ true) at_end
+    (subst (λ has. (settle_passes (built commands).top.rules (built commands).top.args_override_self nothing_held
+    && (list_all default_passes (built commands).top.rules && is_valid (built commands).top (finished (built commands).top.rules nothing_held) has)) ≡ true)
+    (sym has_job) top_ends_well))))
 
 -- ---- what the words ask for
 
@@ -119,7 +120,7 @@ pub job_read : (program job : Text) (items : List Item) (s : Shape) (restore : B
     → items_taken s items ≡ true → TellsRestore (one_of (codes "no-checkpoint") (item_rows s.rules items)) restore
     → asked_by s.name (item_rows s.rules items) restore ≡ asked → AreRead (program ∷ job ∷ map word_of items) asked
 job_read program job items s restore asked is plain taken tells reads = record {
-    taken = job_taken program job (map word_of items) s is (items_are_taken s items plain ∙ taken);
-    read = λ c h. asks _ s.name (item_rows s.rules items) c restore asked
-        (job_found program job (map word_of items) s is ∙ ap (λ rows. Some (s.name, rows)) (rows_of_items s.rules items plain)) tells reads h;
+  taken = job_taken program job (map word_of items) s is (items_are_taken s items plain ∙ taken);
+  read = λ c h. asks _ s.name (item_rows s.rules items) c restore asked
+      (job_found program job (map word_of items) s is ∙ ap (λ rows. Some (s.name, rows)) (rows_of_items s.rules items plain)) tells reads h;
 }

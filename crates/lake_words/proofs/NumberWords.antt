@@ -1,9 +1,9 @@
 -- Words that are numbers are plain, and `clap` takes them where they lie in the bounds.
-use Rattle.std.proofs.Common.{◌≡◌, ℕ, ◌^◌, ◌<◌, ◌≤◌, Bool, true, false, List, [], ◌∷◌, Option, Some, None, refl, ap, sym, subst, ◌∙◌, arith, codes, cond}
+use Rattle.std.proofs.Common.{◌≡◌, ℕ, ◌^◌, ◌<◌, ◌≤◌, Bool, true, false, List, [], ◌∷◌, Option, Some, None, refl, sym, subst, arith, codes, cond}
 use Rattle.std.proofs.lemmas.Bool.{and_from, eqb-true}
 use Rattle.std.proofs.lemmas.Option.{same_Some}
 use Rattle.std.specs.Prelude.{◌==◌, ◌&&◌}
-use Rattle.std.specs.Str.Parse.{IsNumeral, digits_value, starts_with_minus, without_leading_plus}
+use Rattle.std.specs.Str.Parse.{IsNumeral, digits_value, without_leading_plus}
 use Rattle.clap.specs.ValueTests.{accepts}
 use Rattle.clap.proofs.ValueTestLemmas.{Accepts-accepts}
 use Rattle.clap.specs.declared.builder.value_parser.ValueParser.TheVariants.{Unsigned}
@@ -38,6 +38,7 @@ number_plain text n h = unhyphened text (number_means text n h).0
     begins : (b : Bool) (x : ℕ) (xs : List ℕ) → (x == 45) ≡ b → IsNumeral 10 (without_leading_plus (x ∷ xs)) → b ≡ false
     begins true x xs e h = absurd (no_hyphen xs (subst (λ c. IsNumeral 10 (without_leading_plus (c ∷ xs))) (eqb-true _ _ e) h))
     begins false x xs e h = refl
+
     unhyphened : (text : List ℕ) → IsNumeral 10 (without_leading_plus text) → IsPlain text
     unhyphened [] h = refl
     unhyphened (x ∷ xs) h = begins _ x xs refl h
@@ -46,7 +47,7 @@ pub number_accepted : (low high : ℕ) (text : List ℕ) (n : ℕ) → IsNumber 
 number_accepted low high text n h above below =
     let means = number_means text n h in
     Accepts-accepts false (Unsigned low high) text
-        (means.0, subst (λ v. v < 2 ^ 64) (sym means.2) means.1, subst (λ v. low ≤ v) (sym means.2) above, subst (λ v. v ≤ high) (sym means.2) below)
+    (means.0, subst (λ v. v < 2 ^ 64) (sym means.2) means.1, subst (λ v. low ≤ v) (sym means.2) above, subst (λ v. v ≤ high) (sym means.2) below)
 
 -- any number, a moment, a number of tries, and a number of rows
 pub any_accepted : (text : List ℕ) (n : ℕ) → IsNumber text n → accepts false (Unsigned 0 18_446_744_073_709_551_615) text ≡ true

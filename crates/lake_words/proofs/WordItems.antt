@@ -1,5 +1,5 @@
 -- What `clap` reads where the words are flags that are written out, and plain words.
-use Rattle.std.proofs.Common.{◌≡◌, ℕ, ◌&&◌, ◌||◌, Bool, true, false, List, [], ◌∷◌, ◌++◌, map, Option, Some, None, refl, ap, ap₂, ◌∙◌, subst, sym}
+use Rattle.std.proofs.Common.{◌≡◌, ℕ, ◌&&◌, ◌||◌, Bool, true, false, List, [], ◌∷◌, ◌++◌, map, Option, Some, None, refl, ap, ap₂, ◌∙◌}
 use Rattle.std.proofs.lemmas.Bool.{and_from}
 use Rattle.std.specs.Prelude.{is_some}
 use Rattle.std.specs.List.{list_all, fold}
@@ -70,8 +70,8 @@ plain_passes s w word =
 plain_is_passed : (s : Shape) (w : Walk) (word : Text) → IsPlain word → turn_passes s [] w word ≡ plain_passes s w word
 plain_is_passed s w word e =
     ap₂ (λ (passes : Bool) (met : Held × Step). is_some w.stopped || (passes && step_passes s w.position met.0 met.1))
-        (plain_word_passes s w.is_trailing w.waiting word w.held e)
-        (plain_is_met s.rules w.is_trailing w.waiting w.position word w.held e)
+    (plain_word_passes s w.is_trailing w.waiting word w.held e)
+    (plain_is_met s.rules w.is_trailing w.waiting w.position word w.held e)
 
 -- ---- the words of a subcommand
 
@@ -114,7 +114,7 @@ items_passed s [] w p = refl
 items_passed s (flag word ∷ items) w p = ap (λ rest. turn_passes s [] w word && rest) (items_passed s items (walked s.rules [] w word) p)
 items_passed s (plain word ∷ items) w p =
     ap₂ (λ (a b : Bool). a && b) (plain_is_passed s w word p.0)
-        (ap (λ v. walk_passes s [] v (map word_of items)) (plain_is_walked s.rules w.stopped w word p.0) ∙ items_passed s items (plain_walked s.rules w.stopped w word) p.1)
+    (ap (λ v. walk_passes s [] v (map word_of items)) (plain_is_walked s.rules w.stopped w word p.0) ∙ items_passed s items (plain_walked s.rules w.stopped w word) p.1)
 
 -- the rows of a subcommand
 abbrev pub item_rows : List Rule → List Item → List Row
@@ -134,9 +134,9 @@ pub items_are_taken : (s : Shape) (items : List Item) → ArePlain items
     → level_passes s [] nothing_held (map word_of items) false ≡ items_taken s items
 items_are_taken s items p =
     ap₂ (λ (passes : Bool) (w : Walk). passes && (settle_passes s.rules s.args_override_self w.held
-            && (list_all default_passes s.rules && is_valid s (finished s.rules w.held) false)))
-        (items_passed s items (walk_from nothing_held) p)
-        (items_walked s.rules items (walk_from nothing_held) p)
+    && (list_all default_passes s.rules && is_valid s (finished s.rules w.held) false)))
+    (items_passed s items (walk_from nothing_held) p)
+    (items_walked s.rules items (walk_from nothing_held) p)
 
 -- where the walk takes them, and what they leave is complete
 pub all_taken : (s : Shape) (items : List Item) → TakesAll s (walk_from nothing_held) items
