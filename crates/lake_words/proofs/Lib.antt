@@ -1,3 +1,13 @@
+pub mod AppendWords
+pub mod BareWords
+pub mod CloseWords
+pub mod CreateWords
+pub mod JobSpelling
+pub mod JobWords
+pub mod LoadWords
 pub mod MatchLemmas
+pub mod NumberWords
 pub mod Numbers
+pub mod TailWords
+pub mod WordItems
 pub mod WordLemmas

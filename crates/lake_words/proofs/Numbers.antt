@@ -12,7 +12,7 @@ is_number_true ds n small =
     and_from _ _ (lt-ltb _ _ n.0) (and_from _ _ ((numerals_by_value _ tells_all_ascii_digits).from ds n.1) (lt-ltb _ _ small))
 
 -- and nothing else is
-is_number_means : (ds : List ℕ) → is_number ds ≡ true → IsNumeral 10 ds × (digits_value 10 ds < 2 ^ 64)
+pub is_number_means : (ds : List ℕ) → is_number ds ≡ true → IsNumeral 10 ds × (digits_value 10 ds < 2 ^ 64)
 is_number_means ds h =
     let outer = and_parts _ _ h in
     let inner = and_parts _ _ outer.1 in

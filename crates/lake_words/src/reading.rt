@@ -2,7 +2,8 @@
 ghost use Rattle.std.specs.Prelude.{◌≡◌, IfOk, MatchResult, map, option_map};
 ghost use Rattle.clap.specs.Words.{fault_of, found_of, kind_of, rows_of, subcommand_of, subcommand_rows_of, FailsBy};
 ghost use Rattle.lake_words.specs.Words.{commands};
-ghost use Rattle.lake_words.specs.Asked.{number_in, text_in, work_of, work_view, AsksFor, Spells};
+ghost use Rattle.lake_words.specs.Asked.{command_view, number_in, text_in, work_of, work_view, Asked, AsksFor, Spells};
+ghost use Rattle.lake_words.specs.Spelling.{SpellsJob};
 ghost use Rattle.lake_words.specs.declared.command.Command.{Command};
 
 use crate::command::{Command, Job, TableCommand};
@@ -81,7 +82,9 @@ fn command_in<'a>(matches: &ArgMatches<'a>) -> Command<'a>
     }
 }
 
-/// Reads the words of a command line, of which the first is the program's name.
+/// Reads the words of a command line, of which the first is the program's name. `Spells` lists the words that ask for a
+/// script and `SpellsJob` those that ask for a job on a table, with its options in the order in which the help has them;
+/// `found` says of all other words, too, what they are read as.
 pub fn read_words<'a, S: AsStr>(alloc: Global, words: &'a [S]) -> Result<Command<'a>, Error>
     // What is read is what `clap` finds in the words, and an error is one that they have.
     ensures found { IfOk result (AsksFor (subcommand_of commands (map S.text words.now))) }
@@ -90,6 +93,10 @@ pub fn read_words<'a, S: AsStr>(alloc: Global, words: &'a [S]) -> Result<Command
     // Words that ask for a script are read as that command, unless memory runs out.
     ensures spelled { (command : Command) → Spells (map S.text words.now) command
         → MatchResult result (λ read. read ≡ command) (λ e. kind_of e ≡ ErrorKind.OutOfMemory) }
+
+    // And words that ask for a job on a table are read as that job.
+    ensures job_spelled { (asked : Asked) → SpellsJob (map S.text words.now) asked
+        → MatchResult result (λ read. command_view read ≡ asked) (λ e. kind_of e ≡ ErrorKind.OutOfMemory) }
 {
     let matches = parser(alloc)?.try_get_matches_from(words)?;
     Ok(command_in(&matches))

@@ -1,0 +1,22 @@
+-- The words that ask for a job are read as that job.
+use Rattle.std.proofs.Common.{List}
+use Rattle.clap.specs.Walk.{Text}
+use Rattle.lake_words.specs.Asked.{Asked}
+use Rattle.lake_words.specs.Spelling.{SpellsJob, append, checkpoint, close, create, history, load, snapshot, tail}
+use Rattle.lake_words.proofs.AppendWords.{append_read}
+use Rattle.lake_words.proofs.BareWords.{checkpoint_read, history_read, snapshot_read}
+use Rattle.lake_words.proofs.CloseWords.{close_read}
+use Rattle.lake_words.proofs.CreateWords.{create_read}
+use Rattle.lake_words.proofs.JobWords.{AreRead}
+use Rattle.lake_words.proofs.LoadWords.{load_read}
+use Rattle.lake_words.proofs.TailWords.{tail_read}
+
+pub job_words_read : (words : List Text) (asked : Asked) → SpellsJob words asked → AreRead words asked
+job_words_read words asked (create d i s m) = create_read _ _ _ _ _ _ d i s m
+job_words_read words asked (append d a e m t r) = append_read _ _ _ _ _ _ _ _ _ _ _ d a e m t r
+job_words_read words asked (close d a m t r) = close_read _ _ _ _ _ _ _ _ _ d a m t r
+job_words_read words asked (load d e m t r) = load_read _ _ _ _ _ _ _ _ _ _ d e m t r
+job_words_read words asked (tail d o e below r) = tail_read _ _ _ _ _ _ _ d o e below r
+job_words_read words asked (snapshot d r) = snapshot_read _ _ _ _ d r
+job_words_read words asked (checkpoint d r) = checkpoint_read _ _ _ _ d r
+job_words_read words asked (history d r) = history_read _ _ _ _ d r

@@ -1,0 +1,69 @@
+-- Which words are which command on the table in a folder, as the program's help has them.
+use Rattle.std.specs.Prelude.{◌≡◌, ℕ, ◌≤◌, Bool, true, false, List, [], ◌∷◌, ◌++◌, Some, codes}
+use Rattle.std.specs.Str.Parse.{starts_with_minus}
+use Rattle.clap.specs.Words.{Text}
+use Rattle.lake_words.specs.Asked.{Asked, number_of, table}
+use Rattle.lake_words.specs.Asked as asked
+
+-- the text doesn't begin with a hyphen, so that it is a value and no option
+abbrev pub IsPlain : Text → Type 0
+IsPlain text = starts_with_minus text ≡ false
+
+-- the text writes this number, below 2^64: decimal digits, with at most one plus before them
+abbrev pub IsNumber : Text → ℕ → Type 0
+IsNumber text number = number_of text ≡ Some number
+
+-- [--at MS]: a moment in milliseconds, 0 unless it is given
+pub data SpellsMoment : List Text → ℕ → Type 0 where
+  beginning : SpellsMoment [] 0
+  moment : {text : Text} {at : ℕ} → IsNumber text at → at ≤ 999_999_999_999_999 → SpellsMoment (codes "--at" ∷ text ∷ []) at
+
+-- [--tries N]: how often a commit is tried, 1 to 64, and 16 times unless it is given
+pub data SpellsTries : List Text → ℕ → Type 0 where
+  sixteen : SpellsTries [] 16
+  tries : {text : Text} {n : ℕ} → IsNumber text n → 1 ≤ n → n ≤ 64 → SpellsTries (codes "--tries" ∷ text ∷ []) n
+
+-- [--no-checkpoint]: whether the log is read from its newest checkpoint
+pub data SpellsRestore : List Text → Bool → Type 0 where
+  restoring : SpellsRestore [] true
+  replaying : SpellsRestore (codes "--no-checkpoint" ∷ []) false
+
+-- the words that ask for a job on the table in a folder, of which the first is the program's name
+pub data SpellsJob : List Text → Asked → Type 0 where
+  -- create DIR --id ID --schema TEXT [--at MS]
+  create : {program dir id schema : Text} {moment_words : List Text} {at : ℕ}
+      → IsPlain dir → IsPlain id → IsPlain schema → SpellsMoment moment_words at
+      → SpellsJob (program ∷ codes "create" ∷ dir ∷ codes "--id" ∷ id ∷ codes "--schema" ∷ schema ∷ moment_words)
+      (table dir true (asked.create id schema at))
+  -- append DIR APP NUMBER [--at MS] [--tries N] [--no-checkpoint]
+  append : {program dir application number : Text} {moment_words tries_words restore_words : List Text} {n at tries : ℕ} {restore : Bool}
+      → IsPlain dir → IsPlain application → IsNumber number n
+      → SpellsMoment moment_words at → SpellsTries tries_words tries → SpellsRestore restore_words restore
+      → SpellsJob (program ∷ codes "append" ∷ dir ∷ application ∷ number ∷ moment_words ++ (tries_words ++ restore_words))
+      (table dir restore (asked.append application n at tries))
+  -- close DIR APP [--at MS] [--tries N] [--no-checkpoint]
+  close : {program dir application : Text} {moment_words tries_words restore_words : List Text} {at tries : ℕ} {restore : Bool}
+      → IsPlain dir → IsPlain application
+      → SpellsMoment moment_words at → SpellsTries tries_words tries → SpellsRestore restore_words restore
+      → SpellsJob (program ∷ codes "close" ∷ dir ∷ application ∷ moment_words ++ (tries_words ++ restore_words))
+      (table dir restore (asked.close application at tries))
+  -- load DIR --workers N [--at MS] [--tries N] [--no-checkpoint]
+  load : {program dir number : Text} {moment_words tries_words restore_words : List Text} {workers at tries : ℕ} {restore : Bool}
+      → IsPlain dir → IsNumber number workers
+      → SpellsMoment moment_words at → SpellsTries tries_words tries → SpellsRestore restore_words restore
+      → SpellsJob (program ∷ codes "load" ∷ dir ∷ codes "--workers" ∷ number ∷ moment_words ++ (tries_words ++ restore_words))
+      (table dir restore (asked.load workers at tries))
+  -- tail DIR --from OFFSET --max N [--no-checkpoint]
+  tail : {program dir offset number : Text} {restore_words : List Text} {max : ℕ} {restore : Bool}
+      → IsPlain dir → IsPlain offset → IsNumber number max → max ≤ 65_536 → SpellsRestore restore_words restore
+      → SpellsJob (program ∷ codes "tail" ∷ dir ∷ codes "--from" ∷ offset ∷ codes "--max" ∷ number ∷ restore_words)
+      (table dir restore (asked.tail max offset))
+  -- snapshot DIR [--no-checkpoint]
+  snapshot : {program dir : Text} {restore_words : List Text} {restore : Bool} → IsPlain dir → SpellsRestore restore_words restore
+      → SpellsJob (program ∷ codes "snapshot" ∷ dir ∷ restore_words) (table dir restore asked.snapshot)
+  -- checkpoint DIR [--no-checkpoint]
+  checkpoint : {program dir : Text} {restore_words : List Text} {restore : Bool} → IsPlain dir → SpellsRestore restore_words restore
+      → SpellsJob (program ∷ codes "checkpoint" ∷ dir ∷ restore_words) (table dir restore asked.checkpoint)
+  -- history DIR [--no-checkpoint]
+  history : {program dir : Text} {restore_words : List Text} {restore : Bool} → IsPlain dir → SpellsRestore restore_words restore
+      → SpellsJob (program ∷ codes "history" ∷ dir ∷ restore_words) (table dir restore asked.history)
