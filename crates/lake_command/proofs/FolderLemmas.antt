@@ -1,111 +1,98 @@
--- What a line puts leaves what stood, and what a folder holds once it is saved.
-use Rattle.std.proofs.Common.{◌≡◌, ◌⊎◌, inl, inr, ℕ, List, [], ◌∷◌, Option, Some, None, IfSome, Result, Ok, Err, IfOk, IfErr, IsErrAnd, false, sym, refl, ap, subst, ◌∙◌, map}
-use Rattle.store_core.specs.Objects.{Objects, names_of, object_at, with_object}
-use Rattle.store_core.specs.ObjectLaws.{object_at-with_object_kept}
-use Rattle.table_folder.specs.Copies.{HasAll, HasSavedFront, to_save}
-use Rattle.commit_core.specs.Creating as creations
-use Rattle.commit_core.specs.Creating.{commit_from, with_creation}
-use Rattle.table_log.specs.Names.{commit_name}
-use Rattle.sink_core.specs.Appending.{Batch, Step, puts, stands, settled, with_append, with_file, with_file_alone}
-use Rattle.sink_core.specs.Refusals.{Refusal}
-use Rattle.lake_script.specs.Growth.{MayPut}
-use Rattle.lake_script.specs.Lines.{Wish, append, checkpoint, create, task, foreign}
+-- What a job leaves in a folder, by what a line of a script leaves over the files that were loaded.
+use Rattle.std.proofs.Common.{◌≡◌, ◌⊎◌, ◌<◌, inl, inr, ℕ, Bool, true, List, [], ◌∷◌, Option, Some, None, IfSome, Result, Ok, Err, IfOk, IfErr, IsErrAnd, sym, refl, ap, subst, ◌∙◌, map}
 use Rattle.serde_json.specs.View.{view}
 use Rattle.serde_json.specs.declared.value.Value.{Value}
-use Rattle.json_lines.specs.Rows.{input_lines, object_of}
+use Rattle.store_core.specs.Objects.{Objects, IsInOrder, names_of}
+use Rattle.table_store.specs.Sound.{greatest_version}
+use Rattle.table_log.specs.Counts.{commit_count}
+use Rattle.table_log.specs.Restoring.{RestoresWell}
+use Rattle.table_log.proofs.Callers.{well_sound}
+use Rattle.commit_core.specs.Sound.{IsSoundStore}
+use Rattle.table_folder.specs.Copies.{HasSavedFront, to_save, with_copies}
+use Rattle.table_folder.specs.Loads.{loaded}
 use Rattle.table_folder.specs.declared.fault.SaveFault.{SaveFault}
-use Rattle.lake_script.specs.Lines.{wish_view}
+use Rattle.json_lines.specs.Rows.{input_lines, object_of}
+use Rattle.lake_script.specs.Growth.{MayPut}
+use Rattle.lake_script.specs.Lines.{Wish, asks, wish_view}
 use Rattle.lake_script.specs.ReplyView.{reply_text}
 use Rattle.lake_script.specs.Runs.{Grants}
+use Rattle.lake_script.specs.Told.{IsPutHere}
 use Rattle.lake_script.specs.declared.line.Line.{Line}
 use Rattle.lake_script.specs.declared.reply.Reply.{Reply}
+use Rattle.job_laws.proofs.Callers.{line_granted, line_saved, line_sound, loaded_restores}
 use Rattle.lake_words.specs.Asked.{Work}
-use Rattle.lake_command.specs.Failures.{Leaves, LeavesFolder}
-use Rattle.lake_command.specs.Folders.{AreRows, IsAnswer, IsAskedBy, IsPartSaved}
+use Rattle.lake_words.specs.Asked as words
+use Rattle.lake_command.specs.Failures.{IsOfFolder, Leaves}
+use Rattle.lake_command.specs.Folders.{AreRows, IsAnswer, IsAskedBy, IsLoadedFor, MayHavePut}
 use Rattle.lake_command.specs.declared.failure.Failure.{Failure}
 use Rattle.lake_command.specs.declared.failure.Failure.TheVariants.{Loading, Saving}
 
--- nothing changed
-same_has_all : (old new : Objects) → new ≡ old → HasAll new old
-same_has_all old new same = λ name bytes stands. ap (λ (o : Objects). object_at o name) same ∙ stands
+-- ---- what was loaded
 
--- one object more
-one_has_all : (old : Objects) (name bytes : List ℕ) → HasAll (with_object old name bytes) old
-one_has_all old name bytes = λ other kept stands. object_at-with_object_kept old name bytes other kept stands
+-- their checkpoints are sound where the folder's are
+pub loaded_well : (restore : Bool) (old start : Objects) (wish : Wish) → IsInOrder old → IsLoadedFor old wish start → RestoresWell restore old → RestoresWell restore start
+loaded_well restore old start wish order is well = subst (RestoresWell restore) (sym is.same) (loaded_restores old is.files restore order well)
 
--- the same of objects that are these
-is_has_all : (old middle new : Objects) → new ≡ middle → HasAll middle old → HasAll new old
-is_has_all old middle new is has = subst (λ (o : Objects). HasAll o old) (sym is) has
+-- a line that has what it asks for over what was loaded has it over the folder's objects, once its own are saved
+pub granted : (old start end new : Objects) (wish : Wish) (reply : List ℕ) (names : List (List ℕ)) → IsInOrder old → IsLoadedFor old wish start → names ≡ names_of start → Grants start wish reply end
+    → new ≡ with_copies end old (to_save names (names_of end)) → Grants old wish reply new
+granted old start end new wish reply names order is listed granted saved =
+    let added : new ≡ with_copies end old (to_save (names_of (loaded is.files old)) (names_of end)) = saved ∙ ap (λ ns. with_copies end old (to_save ns (names_of end))) (listed ∙ ap names_of is.same) in
+    subst (λ o. Grants old wish reply o) (sym added) (line_granted old end wish is.files reply order is.within (subst (λ o. Grants o wish reply end) is.same granted))
 
--- a creation
-creation_has_all : (old : Objects) (commit : Result (List ℕ) creations.Refusal) → HasAll (with_creation old commit) old
-creation_has_all old (Ok bytes) = one_has_all old (commit_name 0) bytes
-creation_has_all old (Err refusal) = same_has_all old old refl
+-- a front of what a line put over what was loaded may have been put over the folder's objects
+pub front_saved : (old start end new : Objects) (wish : Wish) (names : List (List ℕ)) → IsInOrder old → IsLoadedFor old wish start → names ≡ names_of start → MayPut start wish end
+    → HasSavedFront end (to_save names (names_of end)) old new → MayHavePut old wish new
+front_saved old start end new wish names order is listed put front =
+    inr (line_saved old end new wish is.files order is.within (subst (λ o. MayPut o wish end) is.same put)
+    (subst (λ ns. HasSavedFront end (to_save ns (names_of end)) old new) (listed ∙ ap names_of is.same) front))
 
--- a batch's file, alone and with its commit
-file_has_all : (old : Objects) (step : Result Step Refusal) → HasAll (with_file_alone old step) old
-file_has_all old (Ok (puts batch)) = one_has_all old batch.name batch.file
-file_has_all old (Ok stands) = same_has_all old old refl
-file_has_all old (Err refusal) = same_has_all old old refl
+-- ---- what a job leaves
 
-append_has_all : (old : Objects) (step : Result Step Refusal) → HasAll (with_append old step) old
-append_has_all old (Ok (puts batch)) = λ name bytes found.
-    one_has_all (with_file old batch) (commit_name batch.version) batch.commit name bytes (one_has_all old batch.name batch.file name bytes found)
-append_has_all old (Ok stands) = same_has_all old old refl
-append_has_all old (Err refusal) = same_has_all old old refl
-
--- what a line puts leaves what stood
-pub put_has_all : (old : Objects) (wish : Wish) (new : Objects) → MayPut old wish new → HasAll new old
-put_has_all old (create id at schema) new (inl same) = same_has_all old new same
-put_has_all old (create id at schema) new (inr (printed, put)) = is_has_all old (with_creation old (commit_from id at schema printed)) new put.1 (creation_has_all old (commit_from id at schema printed))
-put_has_all old (task (append application number at items)) new (text, inl same) = same_has_all old new same
-put_has_all old (task (append application number at items)) new (text, inr (well, inl alone)) =
-    is_has_all old (with_file_alone old (settled false old application number at items)) new alone (file_has_all old (settled false old application number at items))
-put_has_all old (task (append application number at items)) new (text, inr (well, inr whole)) =
-    is_has_all old (with_append old (settled false old application number at items)) new whole (append_has_all old (settled false old application number at items))
-put_has_all old (task checkpoint) new (inl same) = same_has_all old new same
-put_has_all old (task checkpoint) new (inr (version, put)) = is_has_all old (with_object old put.name put.bytes) new put.put (one_has_all old put.name put.bytes)
-put_has_all old (foreign version action) new (inl same) = same_has_all old new same
-put_has_all old (foreign version action) new (inr put) = is_has_all old _ new put (one_has_all old (commit_name version) _)
-put_has_all old _ new put = same_has_all old new put
-
--- what holds of the objects that were loaded and those behind a line holds of the folder's
-pub of_folder : (P : Objects → Objects → Type 0) (old start end new : Objects) → start ≡ old → new ≡ end → P start end → P old new
-of_folder P old start end new same saved holds = subst (λ o. P o new) same (subst (λ o. P start o) (sym saved) holds)
-
--- behind a line the store has all that the folder has
-pub store_has_all : (old held start end : Objects) (wish : Wish) → start ≡ old → held ≡ old → MayPut start wish end → HasAll end held
-store_has_all old held start end wish same is put = subst (λ o. HasAll end o) (same ∙ sym is) (put_has_all start wish end put)
-
--- a front of what a line put is saved
-pub part_saved : (old held start end new : Objects) (wish : Wish) (names : List (List ℕ)) → start ≡ old → held ≡ old → names ≡ names_of start → MayPut start wish end → HasSavedFront end (to_save names (names_of end)) held new → IsPartSaved old wish new
-part_saved old held start end new wish names same is listed put front =
-    inr (
-      end,
-      subst (λ o. MayPut o wish end) same put,
-      subst (λ ns. HasSavedFront end (to_save ns (names_of end)) old new) (listed ∙ ap names_of same)
-          (subst (λ o. HasSavedFront end (to_save names (names_of end)) o new) is front),
-    )
-
--- what is so of a saving's failure is so of the error that it becomes
-pub of_saving : {X : Type 0} (P : Failure → Type 0) (result : Result X Failure) (fault : SaveFault) → IsErrAnd result (λ failure. failure ≡ Saving fault) → P (Saving fault) → IfErr result P
-of_saving P (Ok x) fault is holds = absurd is
-of_saving P (Err failure) fault is holds = subst P (sym is) holds
-
--- what is left in a folder by a line, for the job that asks for it
-pub left_for_job : (failure : Failure) (work : Work) (text : Option (List ℕ)) (wish : Wish) (old new : Objects) → IsAskedBy work text wish → LeavesFolder failure wish old new → Leaves failure work text old new
-left_for_job (Loading fault) work text wish old new asked same = same
-left_for_job (Saving fault) work text wish old new asked part = inr (wish, asked, part)
-left_for_job _ work text wish old new asked none = absurd none
+-- a failure of the folder, for the job whose line was asked for
+pub left_for_job : (failure : Failure) (work : Work) (text : Option (List ℕ)) (wish : Wish) (old new : Objects) → IsAskedBy work text wish → IsOfFolder failure old new → MayHavePut old wish new
+    → Leaves failure work text old new
+left_for_job (Loading fault) work text wish old new asked same put = same
+left_for_job (Saving fault) work text wish old new asked of (inl same) = inl same
+left_for_job (Saving fault) work text wish old new asked of (inr put) = inr (wish, asked, put)
+left_for_job _ work text wish old new asked none put = absurd none
 
 -- the same where a call gave a reply or failed
 pub replies_to_job : (result : Result Reply Failure) (work : Work) (text : Option (List ℕ)) (wish : Wish) (old new : Objects) → IsAskedBy work text wish → IfOk result (λ reply. Grants old wish (reply_text reply) new) → IfOk result (λ reply. IsAnswer work text old (reply_text reply) new)
 replies_to_job (Ok reply) work text wish old new asked granted = inr (wish, asked, granted)
 replies_to_job (Err failure) work text wish old new asked granted = tt
 
-pub fails_for_job : (result : Result Reply Failure) (work : Work) (text : Option (List ℕ)) (wish : Wish) (old new : Objects) → IsAskedBy work text wish → IfErr result (λ failure. LeavesFolder failure wish old new) → IfErr result (λ failure. Leaves failure work text old new)
-fails_for_job (Ok reply) work text wish old new asked left = tt
-fails_for_job (Err failure) work text wish old new asked left = left_for_job failure work text wish old new asked left
+pub fails_for_job : (result : Result Reply Failure) (work : Work) (text : Option (List ℕ)) (wish : Wish) (old new : Objects) → IsAskedBy work text wish → IfErr result (λ failure. IsOfFolder failure old new) → MayHavePut old wish new
+    → IfErr result (λ failure. Leaves failure work text old new)
+fails_for_job (Ok reply) work text wish old new asked of put = tt
+fails_for_job (Err failure) work text wish old new asked of put = left_for_job failure work text wish old new asked of put
+
+-- no job puts another tool's commit
+put_here : (work : Work) (text : Option (List ℕ)) (wish : Wish) → IsAskedBy work text wish → IsPutHere (asks wish)
+put_here (words.create id schema at) text wish is = rw is tt
+put_here (words.append application number at tries) text wish is = rw is.2 tt
+put_here (words.close application at tries) text wish is = absurd is
+put_here (words.load workers at tries) text wish is = absurd is
+put_here (words.tail max offset) text wish is = rw is tt
+put_here words.snapshot text wish is = rw is tt
+put_here words.checkpoint text wish is = rw is tt
+put_here words.history text wish is = rw is tt
+
+-- so a sound table stays sound
+pub stays_sound : (work : Work) (text : Option (List ℕ)) (wish : Wish) (old new : Objects) → IsInOrder old → IsAskedBy work text wish → commit_count old < greatest_version → IsSoundStore old → MayHavePut old wish new → IsSoundStore new
+stays_sound work text wish old new order asked few sound (inl same) = subst IsSoundStore (sym same) sound
+stays_sound work text wish old new order asked few sound (inr put) = line_sound old new wish order (put_here work text wish asked) few sound put
+
+-- the checkpoints of a sound table are
+pub sound_restores : (restore : Bool) (objects : Objects) → IsSoundStore objects → RestoresWell restore objects
+sound_restores restore objects sound = λ used. well_sound true objects sound.checkpoints
+
+-- ---- failures, and rows of an input
+
+-- what is so of a saving's failure is so of the error that it becomes
+pub of_saving : {X : Type 0} (P : Failure → Type 0) (result : Result X Failure) (fault : SaveFault) → IsErrAnd result (λ failure. failure ≡ Saving fault) → P (Saving fault) → IfErr result P
+of_saving P (Ok x) fault is holds = absurd is
+of_saving P (Err failure) fault is holds = subst P (sym is) holds
 
 -- what is asked by a line that was found
 pub found_asked : (found : Option Line) (line : Line) (work : Work) (text : Option (List ℕ)) → found ≡ Some line → IfSome found (λ l. IsAskedBy work text (wish_view l)) → IsAskedBy work text (wish_view line)

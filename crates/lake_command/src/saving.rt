@@ -1,15 +1,13 @@
 //! What a line asks for, done on the table in a folder: loaded, done, and saved.
-ghost use Rattle.std.specs.Prelude.{◌≡◌, ◌×◌, ℕ, List, Some, IfOk, IfErr, map, string_bytes};
+ghost use Rattle.std.specs.Prelude.{◌≡◌, ℕ, List, Some, IfOk, IfErr};
 ghost use Rattle.store_core.specs.Memory.{stored_objects};
 ghost use Rattle.store_core.specs.Objects.{object_at};
-ghost use Rattle.table_folder.specs.Loads.{loaded};
 ghost use Rattle.table_log.specs.Restoring.{RestoresWell};
-ghost use Rattle.lake_script.specs.Growth.{MayPut};
 ghost use Rattle.lake_script.specs.Lines.{wish_view, IsTimely};
 ghost use Rattle.lake_script.specs.ReplyView.{reply_text};
 ghost use Rattle.lake_script.specs.Runs.{Grants};
-ghost use Rattle.job_laws.specs.Looking.{LooksWithin};
 ghost use Rattle.lake_command.specs.Failures.{IsOfFolder};
+ghost use Rattle.lake_command.specs.Folders.{IsLoadedFor, MayHavePut};
 
 use crate::Failure;
 use crate::looking::files_for;
@@ -31,7 +29,7 @@ pub(crate) fn grant_in<F: Folder>(
     ensures told { F.is_steady folder.old → RestoresWell restore (F.objects folder.old)
         → IfOk result (λ reply. Grants (F.objects folder.old) (wish_view line.entry) (reply_text reply) (F.objects folder.new)) }
     ensures puts { F.is_steady folder.old → RestoresWell restore (F.objects folder.old)
-        → MayPut (F.objects folder.old) (wish_view line.entry) (F.objects folder.new) }
+        → MayHavePut (F.objects folder.old) (wish_view line.entry) (F.objects folder.new) }
     ensures failed { F.is_steady folder.old → IfErr result (λ failure. IsOfFolder failure (F.objects folder.old) (F.objects folder.new)) }
     ensures kept { F.is_steady folder.old → (name bytes : List ℕ) → object_at (F.objects folder.old) name ≡ Some bytes
         → object_at (F.objects folder.new) name ≡ Some bytes }
@@ -50,8 +48,7 @@ fn load_for<F: Folder>(
     folder: &mut F,
     line: &Line<'_>,
 ) -> Result<MemoryStore, Failure>
-    ensures loaded { F.is_steady folder.old → IfOk result (λ store. (files : List (List ℕ)) × LooksWithin (F.objects folder.old) (wish_view line.now) files
-        × (stored_objects store ≡ loaded files (F.objects folder.old))) }
+    ensures loaded { F.is_steady folder.old → IfOk result (λ store. IsLoadedFor (F.objects folder.old) (wish_view line.now) (stored_objects store)) }
     ensures failed { F.is_steady folder.old → IfErr result (λ failure. IsOfFolder failure (F.objects folder.old) (F.objects folder.new)) }
     ensures untouched { F.is_steady folder.old → F.objects folder.new ≡ F.objects folder.old }
     ensures steady { F.is_steady folder.old → F.is_steady folder.new }

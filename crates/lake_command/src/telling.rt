@@ -109,10 +109,23 @@ pub(crate) fn tell_failure<W: Write, E: Write>(
         }
     } else {
         let _ = err.writeln(failure);
+        hint(failure, err);
     }
     Exit {
         status: status_of(failure),
         is_short,
+    }
+}
+
+// Says what to do about a failure, where the folder tells why it failed and there is something to do.
+fn hint<E: Write>(failure: &Failure, err: &mut E) {
+    let reason = match failure {
+        Failure::Loading(LoadFault::NotLoaded { reason, .. }) => *reason,
+        Failure::Saving(SaveFault::NotSaved { reason, .. }) => *reason,
+        _ => return,
+    };
+    if let Some(hint) = reason.hint() {
+        let _ = err.writeln(format_args!("hint: {hint}"));
     }
 }
 

@@ -27,12 +27,10 @@ pub enum Reason {
 }
 
 impl Reason {
-    /// What to do about it, in one plain sentence. Nothing is said of `Other`.
-    pub fn hint(self) -> &'static str {
-        match self {
-            Reason::Missing => {
-                "there is no such folder or file; make the folder first, with mkdir"
-            }
+    /// What to do about it, in one plain sentence, where there is something to say.
+    pub fn hint(self) -> Option<&'static str> {
+        let hint = match self {
+            Reason::Missing => "there is no such folder or file; make the folder first, with mkdir",
             Reason::NotAFolder => "it is no folder",
             Reason::Denied => "whoever runs this may not read or write it",
             Reason::Full => "the disk is full: make room and run the same command again",
@@ -41,8 +39,9 @@ impl Reason {
             Reason::NotText => "a name in the folder isn't UTF-8",
             Reason::Taken => "another process put it meanwhile: run the same command again",
             Reason::NoLinks => "the file system has no hard links, which writing a table needs",
-            Reason::Other => "",
-        }
+            Reason::Other => return None,
+        };
+        Some(hint)
     }
 }
 
