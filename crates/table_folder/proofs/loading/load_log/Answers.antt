@@ -1,4 +1,4 @@
-use Rattle.std.proofs.Common.{◌≡◌, ◌∙◌, ◌∷◌, [], ap, map, subst}
+use Rattle.std.proofs.Common.{◌∙◌, ◌∷◌, [], ap, map, subst}
 use Rattle.std.proofs.lemmas.List.Elements.{Contains-append_right}
 use Rattle.std.specs.Prelude.{List, ℕ, Contains, filter, string_bytes}
 use Rattle.store_core.specs.Objects.{names_of}
