@@ -1,6 +1,7 @@
 -- Which data files a line looks at. Of the log's folder it may look at every file.
 use Rattle.std.specs.Prelude.{◌≡◌, ◌≤◌, ◌<◌, ℕ, List, Contains, Some, map, true}
 use Rattle.store_core.specs.Objects.{Objects}
+use Rattle.delta_actions.specs.Kinds.{Path}
 use Rattle.delta_actions.specs.Names.{data_file_name}
 use Rattle.table_log.specs.Counts.{commit_count}
 use Rattle.table_log.specs.Versions.{Version, version_at}
@@ -10,9 +11,13 @@ use Rattle.source_core.specs.Offsets.{offset_of}
 use Rattle.source_core.specs.Tailing.{paths_in}
 use Rattle.lake_script.specs.Lines.{Wish, task, append, tail, hex}
 
+-- the keys of paths
+abbrev pub keys_of : List Path → List (List ℕ)
+keys_of paths = map (λ path. path.key) paths
+
 -- the data files that a version's commit adds new rows with, by the keys of their paths
 abbrev pub files_in : Version → List (List ℕ)
-files_in found = map (λ path. path.key) (paths_in found)
+files_in found = keys_of (paths_in found)
 
 -- A version of the log from an offset on has a commit that adds the file of this name.
 pub record IsReadFrom (objects : Objects) (offset name : List ℕ) : Type 0 where
