@@ -1,3 +1,5 @@
 pub mod FolderLemmas
 pub mod LineLemmas
+pub mod LookingLemmas
 pub mod ScriptLemmas
+pub mod StandingLemmas

@@ -161,7 +161,8 @@ fn fault_for(alloc: Global, place: &str, reason: Reason) -> FolderFault {
     }
 }
 
-/// The bytes of the plain file of that path, or `None` where there is none. A file over 1 GiB is an error.
+/// The bytes of the plain file of that path, or `None` where there is none, also where the path has a name that no file
+/// can have: one that is too long, or has a zero byte. A file over 1 GiB is an error.
 pub(crate) fn file_bytes<R: Files + AllocGlobal>(
     rt: &R,
     path: &str,
@@ -170,7 +171,7 @@ pub(crate) fn file_bytes<R: Files + AllocGlobal>(
         Ok(metadata) if !metadata.is_file() => return Ok(None),
         Ok(metadata) if metadata.len() > MOST_BYTES => return Err(too_large()),
         Ok(_) => {}
-        Err(e) if e.kind() == ErrorKind::NotFound => return Ok(None),
+        Err(e) if is_absent(e.kind()) => return Ok(None),
         Err(e) => return Err(DiskFault::from(e)),
     }
     let mut bytes = Vec::new(rt.alloc());
@@ -180,6 +181,14 @@ pub(crate) fn file_bytes<R: Files + AllocGlobal>(
         return Err(too_large());
     }
     Ok(Some(bytes))
+}
+
+// Whether an error tells that nothing stands under a name.
+fn is_absent(kind: ErrorKind) -> bool {
+    matches!(
+        kind,
+        ErrorKind::NotFound | ErrorKind::InvalidFilename | ErrorKind::InvalidInput
+    )
 }
 
 fn too_large() -> DiskFault {
