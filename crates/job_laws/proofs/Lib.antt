@@ -1,1 +1,22 @@
+mod Added
+mod Admissible
 pub mod Callers
+mod Left
+mod Loaded
+mod LoadedItems
+mod LogCloses
+mod LogEntries
+mod LogNewest
+mod LogNumbers
+mod LogSchema
+mod NameKinds
+mod OwnSteps
+mod Requests
+mod SameLogs
+mod SameReads
+mod SameReplies
+mod SavedFronts
+mod SavedNames
+mod SavedPuts
+mod SoundGrowth
+mod SoundLines

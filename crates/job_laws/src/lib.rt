@@ -15,13 +15,14 @@ ghost use Rattle.lake_script.specs.Growth.{MayPut};
 ghost use Rattle.lake_script.specs.Lines.{Wish, asks};
 ghost use Rattle.lake_script.specs.Runs.{Grants};
 ghost use Rattle.lake_script.specs.Told.{IsPutHere, reply_to_wish};
+ghost use Rattle.job_laws.specs.Bytes.{LooksAtBytes};
 ghost use Rattle.job_laws.specs.Looking.{LooksWithin};
 ghost use Rattle.job_laws.specs.Saved.{with_added};
 
 /// Data files that a line doesn't look at don't matter to it: over the log and the files that it may look at it is told
 /// what it is told over all objects, and what it puts there is what it puts here.
 pub fn what_isnt_looked_at_doesnt_matter()
-    ensures reply { (objects : Objects) (wish : Wish) (files : List (List ℕ)) (printed : List ℕ) → IsInOrder objects → LooksWithin objects wish files
+    ensures reply { (objects : Objects) (wish : Wish) (files : List (List ℕ)) (printed : List ℕ) → LooksWithin objects wish files
         → reply_to_wish (loaded files objects) wish printed ≡ reply_to_wish objects wish printed }
     ensures grants { (objects after : Objects) (wish : Wish) (files : List (List ℕ)) (reply : List ℕ) → IsInOrder objects → LooksWithin objects wish files
         → Grants (loaded files objects) wish reply after → Grants objects wish reply (with_added (loaded files objects) after objects) }
@@ -30,12 +31,13 @@ pub fn what_isnt_looked_at_doesnt_matter()
         → MayPut (loaded files objects) wish after → HasSavedFront after (to_save (names_of (loaded files objects)) (names_of after)) objects new
         → MayPut objects wish new }
     // Checkpoints that are sound are so without the other files.
-    ensures restores { (objects : Objects) (files : List (List ℕ)) (restore : Bool) → IsInOrder objects → RestoresWell restore objects → RestoresWell restore (loaded files objects) }
+    ensures restores { (objects : Objects) (files : List (List ℕ)) (restore : Bool) → RestoresWell restore objects → RestoresWell restore (loaded files objects) }
 {}
 
 /// Whatever this program puts for a line leaves a sound store sound, however far it comes with it, where the line puts no
-/// other tool's commit. Of logs of fewer versions than there can be.
+/// other tool's commit. Of logs of fewer versions than there can be, where the data file that it looks at is of bytes: that
+/// its numbers are below 256 isn't known of objects in general.
 pub fn a_line_keeps_a_store_sound()
-    ensures { (objects after : Objects) (wish : Wish) → IsInOrder objects → IsPutHere (asks wish) → commit_count objects < greatest_version → IsSoundStore objects → MayPut objects wish after
-        → IsSoundStore after }
+    ensures { (objects after : Objects) (wish : Wish) → LooksAtBytes objects wish → IsPutHere (asks wish) → commit_count objects < greatest_version → IsSoundStore objects
+        → MayPut objects wish after → IsSoundStore after }
 {}

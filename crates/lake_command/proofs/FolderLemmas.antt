@@ -19,7 +19,8 @@ use Rattle.lake_script.specs.Runs.{Grants}
 use Rattle.lake_script.specs.Told.{IsPutHere}
 use Rattle.lake_script.specs.declared.line.Line.{Line}
 use Rattle.lake_script.specs.declared.reply.Reply.{Reply}
-use Rattle.job_laws.proofs.Callers.{line_granted, line_saved, line_sound, loaded_restores}
+use Rattle.job_laws.specs.Bytes.{AreBytes}
+use Rattle.job_laws.proofs.Callers.{granted as line_granted, line_keeps_sound_bytes, restores, saved as line_saved}
 use Rattle.lake_words.specs.Asked.{Work}
 use Rattle.lake_words.specs.Asked as words
 use Rattle.lake_command.specs.Failures.{IsOfFolder, Leaves}
@@ -30,13 +31,13 @@ use Rattle.lake_command.specs.declared.failure.Failure.TheVariants.{Loading, Sav
 -- ---- what was loaded
 
 -- their checkpoints are sound where the folder's are
-pub loaded_well : (restore : Bool) (old start : Objects) (wish : Wish) → IsInOrder old → IsLoadedFor old wish start → RestoresWell restore old → RestoresWell restore start
-loaded_well restore old start wish order is well = subst (RestoresWell restore) (sym is.same) (loaded_restores old is.files restore order well)
+pub loaded_well : (restore : Bool) (old start : Objects) (wish : Wish) → IsLoadedFor old wish start → RestoresWell restore old → RestoresWell restore start
+loaded_well restore old start wish is well = subst (RestoresWell restore) (sym is.same) (restores old is.files restore well)
 
 -- a line that has what it asks for over what was loaded has it over the folder's objects, once its own are saved
-pub granted : (old start end new : Objects) (wish : Wish) (reply : List ℕ) (names : List (List ℕ)) → IsInOrder old → IsLoadedFor old wish start → names ≡ names_of start → Grants start wish reply end
+pub line_done : (old start end new : Objects) (wish : Wish) (reply : List ℕ) (names : List (List ℕ)) → IsInOrder old → IsLoadedFor old wish start → names ≡ names_of start → Grants start wish reply end
     → new ≡ with_copies end old (to_save names (names_of end)) → Grants old wish reply new
-granted old start end new wish reply names order is listed granted saved =
+line_done old start end new wish reply names order is listed granted saved =
     let added : new ≡ with_copies end old (to_save (names_of (loaded is.files old)) (names_of end)) = saved ∙ ap (λ ns. with_copies end old (to_save ns (names_of end))) (listed ∙ ap names_of is.same) in
     subst (λ o. Grants old wish reply o) (sym added) (line_granted old end wish is.files reply order is.within (subst (λ o. Grants o wish reply end) is.same granted))
 
@@ -79,9 +80,9 @@ put_here words.checkpoint text wish is = rw is tt
 put_here words.history text wish is = rw is tt
 
 -- so a sound table stays sound
-pub stays_sound : (work : Work) (text : Option (List ℕ)) (wish : Wish) (old new : Objects) → IsInOrder old → IsAskedBy work text wish → commit_count old < greatest_version → IsSoundStore old → MayHavePut old wish new → IsSoundStore new
-stays_sound work text wish old new order asked few sound (inl same) = subst IsSoundStore (sym same) sound
-stays_sound work text wish old new order asked few sound (inr put) = line_sound old new wish order (put_here work text wish asked) few sound put
+pub stays_sound : (work : Work) (text : Option (List ℕ)) (wish : Wish) (old new : Objects) → AreBytes old → IsAskedBy work text wish → commit_count old < greatest_version → IsSoundStore old → MayHavePut old wish new → IsSoundStore new
+stays_sound work text wish old new are asked few sound (inl same) = subst IsSoundStore (sym same) sound
+stays_sound work text wish old new are asked few sound (inr put) = line_keeps_sound_bytes old new wish are (put_here work text wish asked) few sound put
 
 -- the checkpoints of a sound table are
 pub sound_restores : (restore : Bool) (objects : Objects) → IsSoundStore objects → RestoresWell restore objects

@@ -2,6 +2,7 @@
 ghost use Rattle.std.specs.Prelude.{◌≡◌, ◌<◌, ◌≤◌, ◌^◌, ℕ, List, Some, None, IfOk, IfErr, IfSome, OnErr, Ok};
 ghost use Rattle.store_core.specs.Objects.{object_at};
 ghost use Rattle.commit_core.specs.Sound.{IsSoundStore};
+ghost use Rattle.job_laws.specs.Bytes.{AreBytes};
 ghost use Rattle.table_log.specs.Counts.{commit_count};
 ghost use Rattle.table_store.specs.Sound.{greatest_version};
 ghost use Rattle.table_log.specs.Restoring.{RestoresWell};
@@ -43,7 +44,7 @@ pub fn answer<F: Folder, R: Read>(
         → IfErr result (λ failure. Leaves failure (work_view command.entry.job) (unread R.remaining input.old)
         (F.objects folder.old) (F.objects folder.new)) }
     // However it ends, a sound table stays sound: it has all that the job put, or its data file alone, or nothing of it.
-    ensures sound { F.is_steady folder.old → commit_count (F.objects folder.old) < greatest_version → IsSoundStore (F.objects folder.old)
+    ensures sound { F.is_steady folder.old → AreBytes (F.objects folder.old) → commit_count (F.objects folder.old) < greatest_version → IsSoundStore (F.objects folder.old)
         → IsSoundStore (F.objects folder.new) }
     // Whatever happens, what stood stands.
     ensures kept { F.is_steady folder.old → (name bytes : List ℕ) → object_at (F.objects folder.old) name ≡ Some bytes

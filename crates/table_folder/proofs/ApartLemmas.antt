@@ -21,7 +21,7 @@ IsApart [] = Unit {0}
 IsApart (n ∷ ns) = (list_any (bytes_eq n) ns ≡ false) × IsApart ns
 
 -- a choice of names that aren't there twice
-apart_filter : (test : List ℕ → Bool) (ns : List (List ℕ)) → IsApart ns → IsApart (filter test ns)
+pub apart_filter : (test : List ℕ → Bool) (ns : List (List ℕ)) → IsApart ns → IsApart (filter test ns)
 apart_filter test [] h = tt
 apart_filter test (n ∷ ns) h = by_case (test n) (apart_filter test ns h.1)
   where
@@ -56,7 +56,7 @@ apart_rising (n ∷ ns) h = (none ns h.0, apart_rising ns h.1)
     none (m ∷ ms) g = λ i. (sym (is_eq-slice_cmp n m) ∙ ap is_eq g.0) i || none ms g.1 i
 
 -- a commit is no checkpoint
-commit_only : (name : List ℕ) → is_commit name ≡ true → is_checkpoint name ≡ false
+pub commit_only : (name : List ℕ) → is_commit name ≡ true → is_checkpoint name ≡ false
 unfolding is_commit is_checkpoint
 commit_only name e =
     let rest : drop 31 name ≡ codes ".json" = (bytes_eq-Decides (drop 31 name) (codes ".json")).0 (and_parts (has_version name) (bytes_eq (drop 31 name) (codes ".json")) e).1 in

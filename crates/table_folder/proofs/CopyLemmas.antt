@@ -41,7 +41,7 @@ first_of-twice true false None (Some bytes) = refl
 first_of-twice false b None stored = refl
 
 -- what is found after an object is put
-found_after_put : (held : Objects) (name bytes other : List ℕ) (same : Bool) → bytes_eq other name ≡ same → object_at (with_object held name bytes) other ≡ first_of (object_at held other) (cond same (Some bytes) None)
+pub found_after_put : (held : Objects) (name bytes other : List ℕ) (same : Bool) → bytes_eq other name ≡ same → object_at (with_object held name bytes) other ≡ first_of (object_at held other) (cond same (Some bytes) None)
 found_after_put held name bytes other true e =
     let is : other ≡ name = (bytes_eq-Decides other name).0 e in
     ap (object_at (with_object held name bytes)) is ∙ object_at-with_object_same held name bytes ∙ first_of-Some (object_at held name) bytes

@@ -1,0 +1,131 @@
+-- What a line leaves over the files that are loaded is what is loaded of what it leaves over all objects.
+use Rattle.std.proofs.Common.{◌≡◌, ◌∙◌, ◌++◌, ℕ, true, false, codes, List, Option, None, Some, Result, Ok, Err, inl, inr, refl, sym, ap, subst}
+use Rattle.std.specs.Prelude.{nat_lt, length}
+use Rattle.uuid.specs.Text.{hyphenated_text, lower}
+use Rattle.lake_bytes.specs.Results.{◌>>=◌, refused_as, refused_if}
+use Rattle.store_core.specs.Objects.{Objects, IsInOrder}
+use Rattle.delta_actions.specs.Entry.{MetaDataEntry}
+use Rattle.delta_actions.specs.Names.{data_file_name, twenty_digits}
+use Rattle.delta_checkpoint.specs.Names.{checkpoint_id, name_with}
+use Rattle.delta_replay.specs.Support.{meta_data_of}
+use Rattle.table_folder.specs.Loads.{is_loaded, loaded}
+use Rattle.table_log.specs.Names.{commit_name}
+use Rattle.commit_core.specs.Creating as creations
+use Rattle.commit_core.specs.Creating.{commit_from, with_creation}
+use Rattle.commit_core.specs.Texts.{line_of}
+use Rattle.snapshot_core.specs.Faults.{checked}
+use Rattle.snapshot_core.specs.Taking.{most_bytes}
+use Rattle.sink_core.specs.Appending.{Step, puts, stands, settled, with_append, with_file_alone}
+use Rattle.sink_core.specs.Refusals.{Refusal}
+use Rattle.lake_script.specs.Checkpoints.{Checkpoint, NotPut, by_log, too_large, checkpoint_by, checkpoint_of, newest_version, with_checkpoint}
+use Rattle.lake_script.specs.Lines.{append, checkpoint, Wish, create, task, foreign}
+use Rattle.lake_script.specs.Runs.{Grants, MayLeave}
+use Rattle.lake_script.specs.Told.{left_by_wish}
+use Rattle.job_laws.specs.Looking.{LooksWithin}
+use Rattle.job_laws.specs.Saved.{with_added}
+use Rattle.job_laws.proofs.Added.{IsAlike, added_alike, alike_before, alike_put}
+use Rattle.job_laws.proofs.Loaded.{commit_loaded, log_loaded}
+use Rattle.job_laws.proofs.OwnSteps.{PutsOwn, settled_own}
+use Rattle.job_laws.proofs.SameReads.{same_settled}
+use Rattle.job_laws.proofs.SameReplies.{same_checkpoint, same_printed, same_reply}
+
+-- ---- creations
+
+-- a creation
+created_alike : (files : List (List ℕ)) (objects : Objects) (commit : Result (List ℕ) creations.Refusal) → IsInOrder objects → IsAlike files objects (with_creation (loaded files objects) commit) (with_creation objects commit)
+created_alike files objects (Ok bytes) order = alike_put files objects (loaded files objects) objects (commit_name 0) bytes (commit_loaded files 0) (alike_before files objects order)
+created_alike files objects (Err refusal) order = alike_before files objects order
+
+-- ---- appends
+
+-- the file of a batch
+pub file_alike : (files : List (List ℕ)) (objects : Objects) (application : List ℕ) (number : ℕ) (step : Result Step Refusal) → IsInOrder objects → is_loaded files (data_file_name application number) ≡ true → PutsOwn application number step
+    → IsAlike files objects (with_file_alone (loaded files objects) step) (with_file_alone objects step)
+file_alike files objects application number (Ok (puts batch)) order is own =
+    alike_put files objects (loaded files objects) objects batch.name batch.file (ap (is_loaded files) own.name ∙ is) (alike_before files objects order)
+file_alike files objects application number (Ok stands) order is own = alike_before files objects order
+file_alike files objects application number (Err refusal) order is own = alike_before files objects order
+
+-- the file, and the commit
+append_alike : (files : List (List ℕ)) (objects : Objects) (application : List ℕ) (number : ℕ) (step : Result Step Refusal) → IsInOrder objects → is_loaded files (data_file_name application number) ≡ true → PutsOwn application number step
+    → IsAlike files objects (with_append (loaded files objects) step) (with_append objects step)
+append_alike files objects application number (Ok (puts batch)) order is own =
+    alike_put files objects _ _ (commit_name batch.version) batch.commit (commit_loaded files batch.version) (file_alike files objects application number (Ok (puts batch)) order is own)
+append_alike files objects application number (Ok stands) order is own = alike_before files objects order
+append_alike files objects application number (Err refusal) order is own = alike_before files objects order
+
+-- ---- checkpoints
+
+-- a name in the log's folder with a checkpoint's version is loaded, whatever the version
+named_loaded : (files : List (List ℕ)) (version : ℕ) (id : List ℕ) → is_loaded files (name_with version id) ≡ true
+named_loaded files version id = log_loaded files (twenty_digits version ++ (codes ".checkpoint." ++ (id ++ codes ".json")))
+
+-- the name of what is put is loaded
+abbrev PutsLoaded : (files : List (List ℕ)) → Result Checkpoint NotPut → Type 0
+PutsLoaded files (Ok c) = is_loaded files c.name ≡ true
+PutsLoaded files (Err why) = Unit {0}
+
+-- so it is behind a step that may be refused
+loaded_behind : {A : Type 0} (files : List (List ℕ)) (r : Result A NotPut) (f : A → Result Checkpoint NotPut) → ((a : A) → PutsLoaded files (f a)) → PutsLoaded files (r >>= f)
+loaded_behind files (Ok a) f all = all a
+loaded_behind files (Err why) f all = tt
+
+of_version : (files : List (List ℕ)) (version : ℕ) (meta_data : Option MetaDataEntry) → PutsLoaded files (checkpoint_of version meta_data)
+of_version files version None = tt
+of_version files version (Some m) = named_loaded files version (hyphenated_text lower (checkpoint_id version m.id))
+
+puts_loaded : (files : List (List ℕ)) (objects : Objects) (bytes : List ℕ) → PutsLoaded files (checkpoint_by objects bytes)
+puts_loaded files objects bytes =
+    loaded_behind files (refused_as by_log (checked false objects)) _ (λ commits. loaded_behind files (refused_if (nat_lt most_bytes (length bytes)) too_large) _ (λ fits. of_version files (newest_version objects) (meta_data_of commits)))
+
+checkpoint_alike : (files : List (List ℕ)) (objects : Objects) (bytes : List ℕ) (made : Result Checkpoint NotPut) → IsInOrder objects → PutsLoaded files made → IsAlike files objects (with_checkpoint (loaded files objects) bytes made) (with_checkpoint objects bytes made)
+checkpoint_alike files objects bytes (Ok c) order is = alike_put files objects (loaded files objects) objects c.name bytes is (alike_before files objects order)
+checkpoint_alike files objects bytes (Err why) order is = alike_before files objects order
+
+-- ---- what a line leaves
+
+left_alike : (objects : Objects) (wish : Wish) (files : List (List ℕ)) (printed : List ℕ) → IsInOrder objects → LooksWithin objects wish files → IsAlike files objects (left_by_wish (loaded files objects) wish printed) (left_by_wish objects wish printed)
+left_alike objects (create id at schema) files printed order within = created_alike files objects (commit_from id at schema printed) order
+left_alike objects (task (append application number at rows)) files printed order within =
+    subst (λ (step : Result Step Refusal). IsAlike files objects (with_append (loaded files objects) step) (with_append objects (settled false objects application number at rows)))
+    (sym (same_settled files objects application number at rows (within (data_file_name application number) refl)))
+    (append_alike files objects application number (settled false objects application number at rows) order (within (data_file_name application number) refl) (settled_own false objects application number at rows))
+left_alike objects (task checkpoint) files printed order within =
+    subst (λ (made : Result Checkpoint NotPut). IsAlike files objects (with_checkpoint (loaded files objects) printed made) (with_checkpoint objects printed (checkpoint_by objects printed)))
+    (sym (same_checkpoint files objects printed))
+    (checkpoint_alike files objects printed (checkpoint_by objects printed) order (puts_loaded files objects printed))
+left_alike objects (foreign version action) files printed order within =
+    alike_put files objects (loaded files objects) objects (commit_name version) (line_of action) (commit_loaded files version) (alike_before files objects order)
+left_alike objects _ files printed order within = alike_before files objects order
+
+-- what a line leaves is loaded of what it leaves over all objects
+pub left_loaded : (objects : Objects) (wish : Wish) (files : List (List ℕ)) (printed : List ℕ) → IsInOrder objects → LooksWithin objects wish files → left_by_wish (loaded files objects) wish printed ≡ loaded files (left_by_wish objects wish printed)
+left_loaded objects wish files printed order within = (left_alike objects wish files printed order within).is
+
+-- where nothing was put, nothing is added
+none_added : (files : List (List ℕ)) (objects after : Objects) → IsInOrder objects → after ≡ loaded files objects → with_added (loaded files objects) after objects ≡ objects
+none_added files objects after order same =
+    ap (λ (o : Objects). with_added (loaded files objects) o objects) same ∙ added_alike files objects (loaded files objects) objects order (alike_before files objects order)
+
+-- what a line leaves whose growth was refused
+may_leave : (objects after : Objects) (wish : Wish) (files : List (List ℕ)) → IsInOrder objects → LooksWithin objects wish files → MayLeave (loaded files objects) wish after → MayLeave objects wish (with_added (loaded files objects) after objects)
+may_leave objects after (task (append application number at rows)) files order within (inl same) = inl (none_added files objects after order same)
+may_leave objects after (task (append application number at rows)) files order within (inr alone) =
+    inr (ap (λ (o : Objects). with_added (loaded files objects) o objects)
+    (alone ∙ ap (with_file_alone (loaded files objects)) (same_settled files objects application number at rows (within (data_file_name application number) refl)))
+    ∙ added_alike files objects (with_file_alone (loaded files objects) (settled false objects application number at rows)) (with_file_alone objects (settled false objects application number at rows)) order
+    (file_alike files objects application number (settled false objects application number at rows) order (within (data_file_name application number) refl) (settled_own false objects application number at rows)))
+may_leave objects after _ files order within same = none_added files objects after order same
+
+-- what a line is granted over the files that are loaded is granted over all objects
+pub granted : (objects after : Objects) (wish : Wish) (files : List (List ℕ)) (reply : List ℕ) → IsInOrder objects → LooksWithin objects wish files → Grants (loaded files objects) wish reply after
+    → Grants objects wish reply (with_added (loaded files objects) after objects)
+granted objects after wish files reply order within (inl has) =
+    inl (
+      has.0,
+      same_printed objects wish files has.0 within has.1,
+      has.2 ∙ same_reply objects wish files has.0 within,
+      ap (λ (o : Objects). with_added (loaded files objects) o objects) has.3
+          ∙ added_alike files objects (left_by_wish (loaded files objects) wish has.0) (left_by_wish objects wish has.0) order (left_alike objects wish files has.0 order within),
+    )
+granted objects after wish files reply order within (inr short) = inr (short.0, may_leave objects after wish files order within short.1)

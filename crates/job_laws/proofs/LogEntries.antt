@@ -1,0 +1,112 @@
+-- The log of a sound store: a commit for each entry, and as many versions as there are entries.
+use Rattle.std.proofs.Common.{◌≡◌, ℕ, suc, ◌+◌, ◌<◌, ◌≤◌, false, true, List, [], ◌∷◌, map, length, IsSome, Ok, refl, sym, ap, subst, ◌∙◌, add-one, arith, inl, inr}
+use Rattle.std.proofs.lemmas.Bool.{cases_eq, cases_lt}
+use Rattle.store_core.specs.Objects.{Objects, object_at}
+use Rattle.delta_actions.specs.Entry as actions
+use Rattle.delta_actions.specs.Names as names
+use Rattle.table_log.specs.Counts.{commit_count}
+use Rattle.table_log.specs.Names.{commit_name}
+use Rattle.table_log.specs.Versions.{commit, versions_from, versions_of, commits_in, commits_of, log_of}
+use Rattle.table_log.proofs.Callers.{count_is, of_commit, stands_below}
+use Rattle.table_model.specs.Lawful.{BeginsWithCreation}
+use Rattle.table_model.specs.Table.{Entry, creation, group, close}
+use Rattle.table_store.specs.Holds.{HoldsFrom}
+use Rattle.table_store.specs.Schema.{Schema}
+use Rattle.table_store.specs.Sound.{IsSound, greatest_version}
+use Rattle.table_store.proofs.LawfulLogLemmas.{AreMadeFor}
+
+-- ---- how many versions there are
+
+-- each commit from a version on stands
+stands_at : (objects : Objects) (schema : Schema) (version wanted : ℕ) (entries : List Entry) → HoldsFrom objects schema version entries → version ≤ wanted → wanted < version + length entries
+    → IsSome (object_at objects (names.commit_name wanted))
+stands_at objects schema version wanted [] holds low high = absurd (omega arith)
+stands_at objects schema version wanted (entry ∷ entries) holds low high =
+    elim (cases_eq wanted version) [
+      | inl here ↦ rw (here, holds.0.1) refl
+      | inr later ↦ stands_at objects schema (suc version) wanted entries holds.2 (omega (arith, later)) (omega arith)
+    ]
+
+module _ (objects : Objects) (sound : IsSound objects) (small : commit_count objects < greatest_version) where
+  -- there are as many entries as versions, or fewer
+  few_entries : length sound.entries ≤ commit_count objects
+  unfolding commit_name
+  few_entries =
+      elim (cases_lt (commit_count objects) (length sound.entries)) [
+        | inr few ↦ few
+        | inl many ↦
+            let there : IsSome (object_at objects (names.commit_name (commit_count objects))) = stands_at objects sound.schema 0 (commit_count objects) sound.entries sound.holds (omega arith) (omega (arith, many)) in
+            let below : commit_count objects < commit_count objects = stands_below objects (commit_count objects) (omega (arith, small)) there in
+            absurd (omega (arith, below))
+      ]
+
+  -- A sound store has as many versions as its table has entries.
+  pub sound_count : commit_count objects ≡ length sound.entries
+  unfolding commit_name
+  sound_count = count_is objects (length sound.entries) (omega (arith, few_entries, small)) below stands
+    where
+      below : (version : ℕ) → version ≤ 999_999_999_999 → IsSome (object_at objects (names.commit_name version)) → version < length sound.entries
+      below version fits there =
+          elim (cases_lt version (length sound.entries)) [
+            | inl low ↦ low
+            | inr past ↦ let none : false ≡ true = rw (sound.ends version past fits) at there in absurd cc
+          ]
+
+      stands : (version : ℕ) → suc version ≡ length sound.entries → IsSome (object_at objects (names.commit_name version))
+      stands version is = stands_at objects sound.schema 0 version sound.entries sound.holds (omega arith) (omega (arith, is))
+
+-- ---- what stands at each
+
+module _ (objects : Objects) (schema : Schema) where
+  -- the actions of the commits that stand
+  abbrev made_of : (version : ℕ) (entries : List Entry) → HoldsFrom objects schema version entries → List (List actions.Entry)
+  made_of version [] holds = []
+  made_of version (entry ∷ entries) holds = holds.0.2.actions ∷ made_of (suc version) entries holds.2
+
+  -- they stand for the entries
+  are_made : (version : ℕ) (entries : List Entry) (holds : HoldsFrom objects schema version entries) → AreMadeFor objects schema entries (made_of version entries holds)
+  are_made version [] holds = tt
+  are_made version (entry ∷ entries) holds = (holds.0.2.stand, holds.1, are_made (suc version) entries holds.2)
+
+  -- they are what the versions have
+  commits_stand : (version : ℕ) (entries : List Entry) (holds : HoldsFrom objects schema version entries) → versions_from (length entries) version objects ≡ map commit (made_of version entries holds)
+  unfolding versions_from commit_name
+  commits_stand version [] holds = refl
+  commits_stand version (entry ∷ entries) holds =
+      let more : versions_from (length entries) (suc version) objects ≡ map commit (made_of (suc version) entries holds.2) = commits_stand (suc version) entries holds.2 in
+      rw (holds.0.1, of_commit holds.0.0 holds.0.2.actions holds.0.2.commit, add-one, more) refl
+
+-- ---- the log
+
+-- where each version has a commit, there are all of them
+all_commits : (version : ℕ) (commits : List (List actions.Entry)) → commits_in version (map commit commits) ≡ Ok commits
+all_commits version [] = refl
+all_commits version (made ∷ commits) = rw (all_commits (suc version) commits) refl
+
+-- The commits of a log that can be read: they stand for the entries, of which the first is the creation.
+pub record IsLogOf (objects : Objects) (schema : Schema) (entries : List Entry) (commits : List (List actions.Entry)) : Type 0 where
+  pub rest : List Entry
+  pub begins : entries ≡ creation ∷ rest
+  pub made : AreMadeFor objects schema entries commits
+
+-- commits that are read for entries are a log of them
+log_by : (objects : Objects) (schema : Schema) (entries : List Entry) (made commits : List (List actions.Entry)) → BeginsWithCreation entries → AreMadeFor objects schema entries made
+    → commits_of (map commit made) ≡ Ok commits → IsLogOf objects schema entries commits
+log_by objects schema [] [] commits begins are told = absurd cc
+log_by objects schema [] (first ∷ made) commits begins are told = absurd are
+log_by objects schema (creation ∷ rest) [] commits begins are told = absurd are
+log_by objects schema (creation ∷ rest) (first ∷ made) commits begins are told =
+    let read = sym (all_commits 0 (first ∷ made)) ∙ told in
+    let same : first ∷ made ≡ commits = cc in
+    record { rest = rest; begins = refl; made = subst (AreMadeFor objects schema (creation ∷ rest)) same are }
+log_by objects schema (group bs ∷ rest) made commits begins are told = absurd begins
+log_by objects schema (close application ∷ rest) made commits begins are told = absurd begins
+
+-- The log of a sound store, where it can be read, has a commit for each entry.
+pub sound_log : (objects : Objects) (sound : IsSound objects) → commit_count objects < greatest_version → (commits : List (List actions.Entry)) → log_of objects ≡ Ok commits → IsLogOf objects sound.schema sound.entries commits
+unfolding log_of
+sound_log objects sound small commits told =
+    let made = made_of objects sound.schema 0 sound.entries sound.holds in
+    let versions : versions_of objects ≡ map commit made =
+    ap (λ (count : ℕ). versions_from count 0 objects) (sound_count objects sound small) ∙ commits_stand objects sound.schema 0 sound.entries sound.holds in
+    log_by objects sound.schema sound.entries made commits sound.lawful.begins (are_made objects sound.schema 0 sound.entries sound.holds) (rw versions at told)

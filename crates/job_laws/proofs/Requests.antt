@@ -1,0 +1,190 @@
+-- What an append that puts a batch found in the log, and what the batch is.
+use Rattle.std.proofs.Common.{◌≡◌, ℕ, ◌&&◌, Bool, true, false, not, List, length, Result, Ok, Err, refl, sym, ap, subst, ◌∙◌}
+use Rattle.std.specs.Prelude.{nat_lt, if◌then◌else◌}
+use Rattle.lake_bytes.specs.Results.{◌>>=◌, refused_as, refused_if}
+use Rattle.serde_json.specs.Data.{Items}
+use Rattle.schema_tree.specs.Tree.{Tree}
+use Rattle.store_core.specs.Objects.{Objects, object_at}
+use Rattle.delta_actions.specs.Entry as actions
+use Rattle.delta_actions.specs.Names.{data_file_name}
+use Rattle.delta_replay.specs.Closes.{is_closed}
+use Rattle.delta_replay.specs.Keys.{last_number}
+use Rattle.delta_replay.specs.Support.{writable}
+use Rattle.parquet_rows.specs.Writing.{written_file}
+use Rattle.row_core.specs.Rows.{Row}
+use Rattle.table_log.specs.Counts.{commit_count}
+use Rattle.table_log.specs.Restoring.{seen}
+use Rattle.table_log.specs.Versions.{log_of}
+use Rattle.commit_core.specs.Commits.{commit_text}
+use Rattle.sink_core.specs.Appending.{Batch, Request, appending, batch_of, checked, count, file_name, file_or_refusal, fitting, is_repeat, new_step, puts, repeated_step, request_behind, request_of, settled, stands, step_of, unless_other, where_same}
+use Rattle.sink_core.specs.Refusals.{Refusal, bad_log, read_only, stream_closed, too_large}
+use Rattle.sink_core.specs.RowsIn.{rows_from, takes_rows}
+
+-- ---- steps that weren't refused
+
+-- two steps that gave this: what the first gave, and that the second gives this of it
+both_done : {A B E : Type 0} (first : Result A E) (next : A → Result B E) (y : B) → (first >>= next) ≡ Ok y → (x : A) × (first ≡ Ok x) × (next x ≡ Ok y)
+both_done (Ok x) next y is = (x, refl, is)
+both_done (Err why) next y is = absurd cc
+
+-- what is done with a value
+abbrev done : {A E : Type 0} → A → Result A E
+done x = Ok x
+
+-- what was given is this
+given : {A E : Type 0} (x y : A) → done {E = E} x ≡ done y → x ≡ y
+given x y is = cc
+
+-- what was given isn't another refusal
+told_done : {A E F : Type 0} (tell : E → F) (read : Result A E) (x : A) → refused_as tell read ≡ Ok x → read ≡ Ok x
+told_done {A = A} {E = E} tell (Ok y) x is = let same : y ≡ x = cc in ap (done {A = A} {E = E}) same
+told_done tell (Err why) x is = absurd cc
+
+-- a test that refuses nothing is false
+pub passed : {E : Type 0} (test : Bool) (why : E) (x : Unit {0}) → refused_if test why ≡ Ok x → test ≡ false
+passed true why x is = absurd cc
+passed false why x is = refl
+
+-- ---- the request
+
+-- a request that was taken: of a table that is written, for the next version, with a number that isn't below the last
+record IsTaken (next : ℕ) (commits : List (List actions.Entry)) (application : List ℕ) (number : ℕ) (request : Request) : Type 0 where
+  schema : writable commits ≡ Ok request.schema
+  repeats : is_repeat number (last_number application commits) ≡ Ok request.repeats
+  goes_on : (not request.repeats && is_closed application commits) ≡ false
+  version : request.version ≡ next
+
+module _ (next : ℕ) (commits : List (List actions.Entry)) (application : List ℕ) (number : ℕ) (items : Items) where
+  abbrev asked : Tree → List Row → Bool → Request
+  asked schema rows repeats = record { version = next; schema = schema; rows = rows; repeats = repeats }
+
+  -- the steps of a request, each behind the one before it
+  abbrev behind_number : Tree → List Row → Bool → Result Request Refusal
+  behind_number schema rows repeats = refused_if (not repeats && is_closed application commits) stream_closed >>= λ goes_on. Ok (asked schema rows repeats)
+
+  abbrev behind_rows : Tree → List Row → Result Request Refusal
+  behind_rows schema rows = is_repeat number (last_number application commits) >>= behind_number schema rows
+
+  abbrev behind_schema : Tree → Result Request Refusal
+  behind_schema schema = takes_rows schema >>= λ supported. rows_from 0 schema items >>= behind_rows schema
+
+  -- a request whose number was looked at
+  taken_with : (schema : Tree) (rows : List Row) (repeats : Bool) (request : Request) → writable commits ≡ Ok schema → is_repeat number (last_number application commits) ≡ Ok repeats
+      → behind_number schema rows repeats ≡ Ok request → IsTaken next commits application number request
+  taken_with schema rows repeats request written number_is is =
+      let e = both_done (refused_if (not repeats && is_closed application commits) stream_closed) (λ goes_on. Ok (asked schema rows repeats)) request is in
+      let same : asked schema rows repeats ≡ request = given {E = Refusal} (asked schema rows repeats) request e.2 in
+      subst (IsTaken next commits application number) same (record {
+        schema = written;
+        repeats = number_is;
+        goes_on = passed (not repeats && is_closed application commits) stream_closed e.0 e.1;
+        version = refl;
+      })
+
+  -- the request behind the commits of a log
+  taken : (request : Request) → request_behind next commits application number items ≡ Ok request → IsTaken next commits application number request
+  unfolding request_behind
+  taken request is =
+      let a = both_done (refused_as read_only (writable commits)) behind_schema request is in
+      let b = both_done (takes_rows a.0) (λ supported. rows_from 0 a.0 items >>= behind_rows a.0) request a.2 in
+      let c = both_done (rows_from 0 a.0 items) (behind_rows a.0) request b.2 in
+      let d = both_done (is_repeat number (last_number application commits)) (behind_number a.0 c.0) request c.2 in
+      taken_with a.0 c.0 d.0 request (told_done read_only (writable commits) a.0 a.1) d.1 d.2
+
+-- ---- the batch
+
+-- a batch that a request asks for
+record IsAskedBy (request : Request) (application : List ℕ) (number : ℕ) (batch : Batch) : Type 0 where
+  version : batch.version ≡ request.version
+  schema : batch.schema ≡ request.schema
+  name : batch.name ≡ data_file_name application number
+
+module _ (request : Request) (application : List ℕ) (number at : ℕ) where
+  -- the batch with this file
+  abbrev made : List ℕ → Batch
+  made file = record {
+    version = request.version;
+    schema = request.schema;
+    rows = request.rows;
+    name = file_name application number;
+    file = file;
+    commit = commit_text (appending application number at (file_name application number) (length file) (length request.rows));
+  }
+
+  abbrev with_bytes : List ℕ → Result Batch Refusal
+  with_bytes file = Ok (made file)
+
+  -- the batch of a request is one that it asks for
+  batch_asked : (batch : Batch) → batch_of request application number at ≡ Ok batch → IsAskedBy request application number batch
+  unfolding batch_of file_name
+  batch_asked batch is =
+      let a = both_done (refused_if (nat_lt 999_999_999_999 request.version) too_large) (λ small. file_or_refusal (written_file request.schema request.rows) >>= with_bytes) batch is in
+      let b = both_done (file_or_refusal (written_file request.schema request.rows)) with_bytes batch a.2 in
+      let same : made b.0 ≡ batch = given {E = Refusal} (made b.0) batch b.2 in
+      subst (IsAskedBy request application number) same (record { version = refl; schema = refl; name = refl })
+
+-- ---- the step
+
+-- A batch that is put: the commits of the log, and what was found in them.
+pub record PutsBatch (objects : Objects) (application : List ℕ) (number : ℕ) (batch : Batch) : Type 0 where
+  pub commits : List (List actions.Entry)
+  pub log : log_of objects ≡ Ok commits
+  pub schema : writable commits ≡ Ok batch.schema
+  pub new : is_repeat number (last_number application commits) ≡ Ok false
+  pub goes_on : is_closed application commits ≡ false
+  pub version : batch.version ≡ commit_count objects
+  pub name : batch.name ≡ data_file_name application number
+  pub fits : (fine : Unit {0}) × (unless_other batch.schema batch.rows batch.name (object_at objects batch.name) ≡ Ok fine)
+
+-- a step puts one batch
+put_is : (batch other : Batch) → puts batch ≡ puts other → batch ≡ other
+put_is batch other is = cc
+
+module _ (objects : Objects) (application : List ℕ) (number at : ℕ) (batch : Batch) where
+  -- what a request asked that puts a batch: its number is new, and its batch fits
+  record NewStep (request : Request) : Type 0 where
+    new : request.repeats ≡ false
+    asked : IsAskedBy request application number batch
+    fits : (fine : Unit {0}) × (unless_other batch.schema batch.rows batch.name (object_at objects batch.name) ≡ Ok fine)
+
+  by_repeats : (request : Request) (repeats : Bool) → request.repeats ≡ repeats
+      → (if repeats then repeated_step objects request application number else new_step objects request application number at) ≡ Ok (puts batch) → NewStep request
+  by_repeats request true again is =
+      let a = both_done (where_same request.schema request.rows (file_name application number) (object_at objects (file_name application number))) (λ same. Ok stands) (puts batch) is in
+      let no : stands ≡ puts batch = given {E = Refusal} stands (puts batch) a.2 in
+      absurd cc
+  by_repeats request false new is =
+      let a = both_done (batch_of request application number at) (fitting objects) (puts batch) is in
+      let b = both_done (unless_other a.0.schema a.0.rows a.0.name (object_at objects a.0.name)) (λ fits. Ok (puts a.0)) (puts batch) a.2 in
+      let same : a.0 ≡ batch = put_is a.0 batch (given {E = Refusal} (puts a.0) (puts batch) b.2) in
+      record {
+        new = new;
+        asked = subst (IsAskedBy request application number) same (batch_asked request application number at a.0 a.1);
+        fits = (b.0, subst (λ (found : Batch). unless_other found.schema found.rows found.name (object_at objects found.name) ≡ Ok b.0) same b.1);
+      }
+
+  -- what is done for a request
+  new_step_of : (request : Request) → step_of objects application number at request ≡ Ok (puts batch) → NewStep request
+  new_step_of request is = by_repeats request request.repeats refl is
+
+  -- the parts of what was found
+  joined : (commits : List (List actions.Entry)) (request : Request) → log_of objects ≡ Ok commits → IsTaken (commit_count objects) commits application number request → NewStep request → PutsBatch objects application number batch
+  joined commits request log is step = record {
+    commits = commits;
+    log = log;
+    schema = is.schema ∙ ap (λ (t : Tree). Ok t) (sym step.asked.schema);
+    new = is.repeats ∙ ap (λ (b : Bool). Ok b) step.new;
+    goes_on = rw step.new at is.goes_on;
+    version = step.asked.version ∙ is.version;
+    name = step.asked.name;
+    fits = step.fits;
+  }
+
+  -- An append that puts a batch.
+  pub puts_batch : (items : Items) → settled false objects application number at items ≡ Ok (puts batch) → PutsBatch objects application number batch
+  unfolding request_of
+  puts_batch items is =
+      let a = both_done (request_of false objects application number items) (step_of objects application number at) (puts batch) is in
+      let b = both_done (checked application number (count items)) (λ fine. refused_as bad_log (seen false objects) >>= λ commits. request_behind (commit_count objects) commits application number items) a.0 a.1 in
+      let c = both_done (refused_as bad_log (seen false objects)) (λ commits. request_behind (commit_count objects) commits application number items) a.0 b.2 in
+      joined c.0 a.0 (told_done bad_log (seen false objects) c.0 c.1) (taken (commit_count objects) c.0 application number items a.0 c.2) (new_step_of a.0 a.2)

@@ -1,0 +1,178 @@
+-- What lines are told of the log over the objects that are loaded is what they are told over all objects.
+use Rattle.std.proofs.Common.{◌≡◌, ◌∙◌, ℕ, Bool, true, false, List, Option, Result, Ok, Err, cond, refl, sym, ap}
+use Rattle.std.specs.Prelude.{bytes_eq, unwrap_or, None, Some}
+use Rattle.std.proofs.lemmas.Slice.Eq.{bytes_eq-Decides}
+use Rattle.lake_bytes.specs.Results.{◌>>=◌, or_refusal, refused_as}
+use Rattle.serde_json.specs.Data.{Items}
+use Rattle.store_core.specs.Objects.{Objects, object_at, with_object}
+use Rattle.store_core.specs.ObjectLaws.{object_at-with_object_other, object_at-with_object_same}
+use Rattle.delta_actions.specs.Entry.{Entry}
+use Rattle.delta_actions.specs.Names.{data_file_name}
+use Rattle.delta_replay.specs.Support.{checkpointable, readable}
+use Rattle.table_log.specs.Counts.{commit_count}
+use Rattle.table_log.specs.Names.{commit_name}
+use Rattle.table_log.specs.Restoring.{seen}
+use Rattle.table_log.specs.InForce.{Told}
+use Rattle.table_model.specs.declared.reading.Place.{Place}
+use Rattle.table_folder.specs.Loads.{is_loaded, loaded}
+use Rattle.commit_core.specs.Creating.{commit_from, created_by, unless_there}
+use Rattle.commit_core.specs.Histories.{history_in, history_of}
+use Rattle.snapshot_core.specs.Faults as faults
+use Rattle.sink_core.specs.Appending as appends
+use Rattle.sink_core.specs.Appending.{Batch, Request, Step, appended_by, answered, batch_of, checked, count, file_name, file_or_refusal, fitting, puts, request_behind, request_of, settled, stands, step_of, unless_other, where_same}
+use Rattle.sink_core.specs.Refusals.{Refusal, bad_log}
+use Rattle.source_core.specs.Offsets.{offset_of}
+use Rattle.source_core.specs.Tailing as tails
+use Rattle.source_core.specs.Tailing.{bad_offset, handed_by, handed_text, schema_at, tailed, versions_at}
+use Rattle.job_laws.specs.Looking.{IsReadFrom}
+use Rattle.job_laws.proofs.Loaded.{commit_loaded, loaded_at}
+use Rattle.job_laws.proofs.LoadedItems.{AddsLoaded, handed_alike, schema_alike, versions_alike}
+use Rattle.job_laws.proofs.SameLogs.{same_count, same_seen, same_versions}
+
+-- ---- steps of which one may be refused
+
+-- what follows is the same where it is so of each value that is handed on
+pub same_after : {A B E : Type 0} (r : Result A E) (f g : A → Result B E) → ((a : A) → r ≡ Ok a → f a ≡ g a) → (r >>= f) ≡ (r >>= g)
+same_after (Ok a) f g same = same a refl
+same_after (Err e) f g same = refl
+
+-- ---- creations
+
+-- what a creation makes is told alike
+pub same_created : (files : List (List ℕ)) (objects : Objects) (id : List ℕ) (at : ℕ) (schema printed : List ℕ) → created_by (loaded files objects) id at schema printed ≡ created_by objects id at schema printed
+same_created files objects id at schema printed =
+    ap (λ (found : Option (List ℕ)). unless_there found (commit_from id at schema printed)) (loaded_at files objects (commit_name 0) (commit_loaded files 0))
+
+-- ---- appends
+
+-- the name of a batch's file
+file_named : (application : List ℕ) (number : ℕ) → file_name application number ≡ data_file_name application number
+unfolding file_name
+file_named application number = refl
+
+-- what is asked of a table
+same_request : (files : List (List ℕ)) (objects : Objects) (application : List ℕ) (number : ℕ) (items : Items) → request_of false (loaded files objects) application number items ≡ request_of false objects application number items
+unfolding request_of
+same_request files objects application number items =
+    ap (λ (log : Result (List (List Entry)) ℕ). checked application number (count items) >>= λ fine. refused_as bad_log log >>= λ commits. request_behind (commit_count (loaded files objects)) commits application number items) (same_seen files objects)
+    ∙ ap (λ (next : ℕ). checked application number (count items) >>= λ fine. refused_as bad_log (seen false objects) >>= λ commits. request_behind next commits application number items) (same_count files objects)
+
+-- a batch that is made in steps has its name
+made_named : (name : List ℕ) (small : Result (Unit {0}) Refusal) (file : Result (List ℕ) Refusal) (make : List ℕ → Batch) → ((bytes : List ℕ) → (make bytes).name ≡ name) → (batch : Batch)
+    → (small >>= λ fine. file >>= λ bytes. Ok (make bytes)) ≡ Ok batch → batch.name ≡ name
+made_named name (Err refusal) file make all batch is = cc
+made_named name (Ok fine) (Err refusal) make all batch is = cc
+made_named name (Ok fine) (Ok bytes) make all batch is = let same : make bytes ≡ batch = cc in ap (λ b. b.name) (sym same) ∙ all bytes
+
+-- a batch is put under the name of its file
+batch_named : (request : Request) (application : List ℕ) (number at : ℕ) (batch : Batch) → batch_of request application number at ≡ Ok batch → batch.name ≡ file_name application number
+unfolding batch_of
+batch_named request application number at batch is = made_named (file_name application number) _ _ _ (λ bytes. refl) batch is
+
+-- what is done for a request, which looks at the batch's file alone
+module _ (files : List (List ℕ)) (objects : Objects) (application : List ℕ) (number at : ℕ) (own : is_loaded files (data_file_name application number) ≡ true) where
+  -- the file stands as it did
+  same_file : object_at (loaded files objects) (file_name application number) ≡ object_at objects (file_name application number)
+  same_file = loaded_at files objects (file_name application number) (ap (is_loaded files) (file_named application number) ∙ own)
+
+  -- a batch fits as it did
+  same_fitting : (batch : Batch) → batch.name ≡ file_name application number → fitting (loaded files objects) batch ≡ fitting objects batch
+  same_fitting batch is =
+      ap (λ (found : Option (List ℕ)). unless_other batch.schema batch.rows batch.name found >>= λ fits. Ok (puts batch))
+      (ap (object_at (loaded files objects)) is ∙ same_file ∙ ap (object_at objects) (sym is))
+
+  same_step : (request : Request) → step_of (loaded files objects) application number at request ≡ step_of objects application number at request
+  same_step request = by_case request.repeats
+    where
+      by_case : (repeats : Bool) → cond repeats (appends.repeated_step (loaded files objects) request application number) (appends.new_step (loaded files objects) request application number at)
+          ≡ cond repeats (appends.repeated_step objects request application number) (appends.new_step objects request application number at)
+      by_case true = ap (λ (found : Option (List ℕ)). where_same request.schema request.rows (file_name application number) found >>= λ same. Ok stands) same_file
+      by_case false = same_after (batch_of request application number at) (fitting (loaded files objects)) (fitting objects) (λ batch is. same_fitting batch (batch_named request application number at batch is))
+
+-- what an append does
+pub same_settled : (files : List (List ℕ)) (objects : Objects) (application : List ℕ) (number at : ℕ) (items : Items) → is_loaded files (data_file_name application number) ≡ true
+    → settled false (loaded files objects) application number at items ≡ settled false objects application number at items
+same_settled files objects application number at items own =
+    ap (λ (request : Result Request Refusal). request >>= step_of (loaded files objects) application number at) (same_request files objects application number items)
+    ∙ same_after (request_of false objects application number items) (step_of (loaded files objects) application number at) (step_of objects application number at) (λ request is. same_step files objects application number at own request)
+
+-- behind a put, a name that is loaded stands as it does behind the put over all objects
+pub same_behind_put : (files : List (List ℕ)) (objects : Objects) (name bytes other : List ℕ) → is_loaded files other ≡ true → object_at (with_object (loaded files objects) name bytes) other ≡ object_at (with_object objects name bytes) other
+same_behind_put files objects name bytes other own = by_case (bytes_eq other name) refl
+  where
+    by_case : (same : Bool) → bytes_eq other name ≡ same → object_at (with_object (loaded files objects) name bytes) other ≡ object_at (with_object objects name bytes) other
+    by_case true e =
+        let is : other ≡ name = (bytes_eq-Decides other name).0 e in
+        let named : is_loaded files name ≡ true = ap (is_loaded files) (sym is) ∙ own in
+        ap (object_at (with_object (loaded files objects) name bytes)) is
+        ∙ object_at-with_object_same (loaded files objects) name bytes
+        ∙ ap (λ (found : Option (List ℕ)). Some (unwrap_or found bytes)) (loaded_at files objects name named)
+        ∙ sym (object_at-with_object_same objects name bytes)
+        ∙ ap (object_at (with_object objects name bytes)) (sym is)
+    by_case false e =
+        object_at-with_object_other (loaded files objects) name bytes other (apart e)
+        ∙ loaded_at files objects other own
+        ∙ sym (object_at-with_object_other objects name bytes other (apart e))
+      where
+        apart : bytes_eq other name ≡ false → other ≡ name → ⊥
+        apart e is = let same : bytes_eq other name ≡ true = (bytes_eq-Decides other name).1 is in absurd cc
+
+-- what is answered to it
+same_answered : (files : List (List ℕ)) (objects : Objects) (number : ℕ) (step : Step) → answered (loaded files objects) number step ≡ answered objects number step
+same_answered files objects number (puts batch) =
+    ap (appends.unless_there batch.version) (same_behind_put files objects batch.name batch.file (commit_name batch.version) (commit_loaded files batch.version))
+same_answered files objects number stands = refl
+
+-- what an append answers
+pub same_appended : (files : List (List ℕ)) (objects : Objects) (application : List ℕ) (number at : ℕ) (items : Items) → is_loaded files (data_file_name application number) ≡ true
+    → appended_by false (loaded files objects) application number at items ≡ appended_by false objects application number at items
+same_appended files objects application number at items own =
+    ap (λ (step : Result Step Refusal). step >>= answered (loaded files objects) number) (same_settled files objects application number at items own)
+    ∙ same_after (settled false objects application number at items) (answered (loaded files objects) number) (answered objects number) (λ step is. same_answered files objects number step)
+
+-- ---- checkpoints, snapshots and the versions of a log
+
+-- the commits of which a checkpoint may be put
+pub same_checked : (files : List (List ℕ)) (objects : Objects) → faults.checked false (loaded files objects) ≡ faults.checked false objects
+same_checked files objects =
+    ap (λ (log : Result (List (List Entry)) ℕ). refused_as faults.bad_log log >>= λ commits. refused_as faults.unsupported (checkpointable commits) >>= λ fine. Ok commits) (same_seen files objects)
+
+-- the commits of a log whose table is read
+pub same_readable : (files : List (List ℕ)) (objects : Objects) → faults.readable_log false (loaded files objects) ≡ faults.readable_log false objects
+same_readable files objects =
+    ap (λ (log : Result (List (List Entry)) ℕ). refused_as faults.bad_log log >>= λ commits. refused_as faults.unsupported (readable commits) >>= λ schema. Ok commits) (same_seen files objects)
+
+-- what is told of its versions
+pub same_history : (files : List (List ℕ)) (objects : Objects) → history_of (loaded files objects) ≡ history_of objects
+same_history files objects = ap history_in (same_versions files objects)
+
+-- ---- reads from an offset on
+
+-- a text that is an offset spells its place
+place_told : (offset : List ℕ) (place : Place) → or_refusal (offset_of offset) bad_offset ≡ Ok place → offset_of offset ≡ Some place
+place_told offset place is = by_case (offset_of offset) is
+  where
+    by_case : (found : Option Place) → or_refusal found bad_offset ≡ Ok place → found ≡ Some place
+    by_case None e = absurd cc
+    by_case (Some other) e = cc
+
+-- the files that a read from a place on meets are loaded, where those are that a read from its offset on looks at
+adds_loaded : (files : List (List ℕ)) (objects : Objects) (offset : List ℕ) (place : Place) → offset_of offset ≡ Some place → ((name : List ℕ) → IsReadFrom objects offset name → is_loaded files name ≡ true) → AddsLoaded objects place files
+adds_loaded files objects offset place read all = record { each = λ version name has from small. all name (record { place = place; read = read; version = version; from = from; small = small; added = has }) }
+
+-- what a read is told from a place on
+abbrev tailed_from : Objects → (max : ℕ) → Place → Result (List ℕ) tails.Refusal
+tailed_from objects max place = schema_at false objects place >>= λ told. handed_by objects told (versions_at false objects place) max place >>= λ handed. Ok (handed_text told.schema handed)
+
+same_from : (files : List (List ℕ)) (objects : Objects) (max : ℕ) (place : Place) → AddsLoaded objects place files → tailed_from (loaded files objects) max place ≡ tailed_from objects max place
+same_from files objects max place adds =
+    let handed : (told : Told) → handed_by (loaded files objects) told (versions_at false objects place) max place ≡ handed_by objects told (versions_at false objects place) max place = λ told. handed_alike files objects told max place adds in
+    (λ i. schema_alike files objects place i >>= λ told. handed_by (loaded files objects) told (versions_alike files objects place i) max place >>= λ handed. Ok (handed_text told.schema handed))
+    ∙ (λ i. schema_at false objects place >>= λ told. handed told i >>= λ handed. Ok (handed_text told.schema handed))
+
+-- what a read is told
+pub same_tailed : (files : List (List ℕ)) (objects : Objects) (max : ℕ) (offset : List ℕ) → ((name : List ℕ) → IsReadFrom objects offset name → is_loaded files name ≡ true) → tailed false (loaded files objects) max offset ≡ tailed false objects max offset
+unfolding tailed
+same_tailed files objects max offset all =
+    same_after (or_refusal (offset_of offset) bad_offset) (tailed_from (loaded files objects) max) (tailed_from objects max)
+    (λ place is. let read = place_told offset place is in same_from files objects max place (adds_loaded files objects offset place read all))

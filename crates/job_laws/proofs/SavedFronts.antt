@@ -1,0 +1,117 @@
+-- Whatever front of what a line put over the files that are loaded is saved beside all objects, the line may have put it.
+use Rattle.std.proofs.Common.{◌≡◌, ◌⊎◌, inl, inr, ◌∙◌, ℕ, List, true, false, Result, Ok, Err, refl, sym, ap, subst}
+use Rattle.store_core.specs.Objects.{Objects, IsInOrder, names_of, with_object}
+use Rattle.delta_actions.specs.Names as names
+use Rattle.delta_actions.specs.Names.{data_file_name}
+use Rattle.table_folder.specs.Copies.{HasSavedFront, to_save}
+use Rattle.table_folder.specs.Kinds.{is_commit, is_data}
+use Rattle.table_folder.specs.Loads.{is_loaded, loaded}
+use Rattle.table_log.specs.Names.{commit_name}
+use Rattle.commit_core.specs.Creating as creations
+use Rattle.commit_core.specs.Creating.{IsPut, commit_from}
+use Rattle.commit_core.specs.Texts.{line_of}
+use Rattle.snapshot_core.specs.Taking.{HasPut, PutsCheckpoint}
+use Rattle.sink_core.specs.Appending.{MayAppend, Step, puts, stands, settled}
+use Rattle.sink_core.specs.Refusals.{Refusal}
+use Rattle.lake_script.specs.Growth.{MayPut, MayPutCheckpoint}
+use Rattle.lake_script.specs.Lines.{append, checkpoint, Wish, create, task, foreign}
+use Rattle.job_laws.specs.Looking.{LooksWithin}
+use Rattle.job_laws.proofs.Loaded.{checkpoint_loaded, commit_loaded}
+use Rattle.job_laws.proofs.NameKinds.{commit_is_commit, file_is_data}
+use Rattle.job_laws.proofs.OwnSteps.{PutsOwn, settled_own}
+use Rattle.job_laws.proofs.SameLogs.{same_count, same_seen}
+use Rattle.job_laws.proofs.SameReads.{same_settled}
+use Rattle.job_laws.proofs.SavedPuts.{none_saved, one_saved, two_saved}
+
+-- a front of what was put over the files that are loaded was saved beside all objects
+abbrev IsSaved : (files : List (List ℕ)) → (objects after new : Objects) → Type 0
+IsSaved files objects after new = HasSavedFront after (to_save (names_of (loaded files objects)) (names_of after)) objects new
+
+-- the name of a commit of few digits is a commit's
+own_commit : (version : ℕ) → is_commit (names.commit_name version) ≡ true → is_commit (commit_name version) ≡ true
+unfolding commit_name
+own_commit version is = is
+
+-- ---- creations
+
+commit_saved : (files : List (List ℕ)) (objects after new : Objects) (at : ℕ) (schema : List ℕ) (commit : Result (List ℕ) creations.Refusal) → IsInOrder objects → IsPut at schema commit (loaded files objects) after → IsSaved files objects after new
+    → (new ≡ objects) ⊎ IsPut at schema commit objects new
+commit_saved files objects after new at schema (Ok bytes) order put front = by_case (one_saved files objects after new (commit_name 0) bytes order (commit_loaded files 0) put.1 front)
+  where
+    by_case : (new ≡ objects) ⊎ (new ≡ with_object objects (commit_name 0) bytes) → (new ≡ objects) ⊎ IsPut at schema (Ok bytes) objects new
+    by_case (inl same) = inl same
+    by_case (inr is) = inr (put.0, is)
+commit_saved files objects after new at schema (Err refusal) order put front = inl (none_saved files objects after new put.1 front)
+
+creation_saved : (files : List (List ℕ)) (objects after new : Objects) (id : List ℕ) (at : ℕ) (schema printed : List ℕ) → IsInOrder objects → IsPut at schema (commit_from id at schema printed) (loaded files objects) after → IsSaved files objects after new
+    → MayPut objects (create id at schema) new
+creation_saved files objects after new id at schema printed order put front = by_case (commit_saved files objects after new at schema (commit_from id at schema printed) order put front)
+  where
+    by_case : (new ≡ objects) ⊎ IsPut at schema (commit_from id at schema printed) objects new → MayPut objects (create id at schema) new
+    by_case (inl same) = inl same
+    by_case (inr is) = inr (printed, is)
+
+-- ---- appends
+
+module _ (files : List (List ℕ)) (objects after new : Objects) (application : List ℕ) (number at : ℕ) (order : IsInOrder objects) (own_file : is_loaded files (data_file_name application number) ≡ true) (front : IsSaved files objects after new) where
+  append_saved : (step : Result Step Refusal) → PutsOwn application number step → MayAppend application number at step (loaded files objects) after → MayAppend application number at step objects new
+  append_saved step own (inl same) = inl (none_saved files objects after new same front)
+  append_saved (Ok (puts batch)) own (inr (well, inl alone)) =
+      by_case (one_saved files objects after new batch.name batch.file order (ap (is_loaded files) own.name ∙ own_file) alone front)
+    where
+      by_case : (new ≡ objects) ⊎ (new ≡ with_object objects batch.name batch.file) → MayAppend application number at (Ok (puts batch)) objects new
+      by_case (inl same) = inl same
+      by_case (inr put) = inr (well, inl put)
+  append_saved (Ok (puts batch)) own (inr (well, inr whole)) =
+      by_case (two_saved files objects after batch.name batch.file (commit_name batch.version) batch.commit order (ap (is_loaded files) own.name ∙ own_file) (commit_loaded files batch.version)
+      (ap is_data own.name ∙ file_is_data application number) (own_commit batch.version (commit_is_commit batch.version own.small)) whole new front)
+    where
+      by_case : (new ≡ objects) ⊎ ((new ≡ with_object objects batch.name batch.file) ⊎ (new ≡ with_object (with_object objects batch.name batch.file) (commit_name batch.version) batch.commit))
+          → MayAppend application number at (Ok (puts batch)) objects new
+      by_case (inl same) = inl same
+      by_case (inr (inl put)) = inr (well, inl put)
+      by_case (inr (inr both)) = inr (well, inr both)
+  append_saved (Ok stands) own (inr (well, inl same)) = inl (none_saved files objects after new same front)
+  append_saved (Ok stands) own (inr (well, inr same)) = inl (none_saved files objects after new same front)
+  append_saved (Err refusal) own (inr (well, inl same)) = inl (none_saved files objects after new same front)
+  append_saved (Err refusal) own (inr (well, inr same)) = inl (none_saved files objects after new same front)
+
+-- ---- checkpoints
+
+-- what is put over the files that are loaded is put over all objects
+puts_too : (files : List (List ℕ)) (objects : Objects) (version : ℕ) (name bytes : List ℕ) → PutsCheckpoint false (loaded files objects) version name bytes → PutsCheckpoint false objects version name bytes
+puts_too files objects version name bytes p = record {
+  commits = p.commits;
+  read = sym (same_seen files objects) ∙ p.read;
+  supported = p.supported;
+  id = p.id;
+  of_table = p.of_table;
+  checkpoint = record { newest = p.checkpoint.newest ∙ same_count files objects; checkpoint = p.checkpoint.checkpoint; ordered = p.checkpoint.ordered };
+  fits = p.fits;
+  named = p.named;
+  found = p.found;
+}
+
+checkpoint_saved : (files : List (List ℕ)) (objects after new : Objects) (version : ℕ) → IsInOrder objects → HasPut false version (loaded files objects) after → IsSaved files objects after new → MayPutCheckpoint objects new
+checkpoint_saved files objects after new version order put front =
+    by_case (one_saved files objects after new put.name put.bytes order (checkpoint_loaded files version put.name put.puts.found) put.put front)
+  where
+    by_case : (new ≡ objects) ⊎ (new ≡ with_object objects put.name put.bytes) → MayPutCheckpoint objects new
+    by_case (inl same) = inl same
+    by_case (inr is) = inr (version, record { name = put.name; bytes = put.bytes; puts = puts_too files objects version put.name put.bytes put.puts; put = is })
+
+-- ---- what a line may put
+
+pub saved : (objects after new : Objects) (wish : Wish) (files : List (List ℕ)) → IsInOrder objects → LooksWithin objects wish files → MayPut (loaded files objects) wish after → IsSaved files objects after new → MayPut objects wish new
+saved objects after new (create id at schema) files order within (inl same) front = inl (none_saved files objects after new same front)
+saved objects after new (create id at schema) files order within (inr (printed, put)) front = creation_saved files objects after new id at schema printed order put front
+saved objects after new (task (append application number at items)) files order within put front = (
+  put.0,
+  append_saved files objects after new application number at order (within (data_file_name application number) refl) front (settled false objects application number at items) (settled_own false objects application number at items)
+      (subst (λ (step : Result Step Refusal). MayAppend application number at step (loaded files objects) after) (same_settled files objects application number at items (within (data_file_name application number) refl)) put.1),
+)
+saved objects after new (task checkpoint) files order within (inl same) front = inl (none_saved files objects after new same front)
+saved objects after new (task checkpoint) files order within (inr (version, put)) front = checkpoint_saved files objects after new version order put front
+saved objects after new (foreign version action) files order within (inl same) front = inl (none_saved files objects after new same front)
+saved objects after new (foreign version action) files order within (inr put) front = one_saved files objects after new (commit_name version) (line_of action) order (commit_loaded files version) put front
+saved objects after new _ files order within same front = none_saved files objects after new same front
