@@ -13,6 +13,7 @@ mod NameKinds
 mod OwnSteps
 mod Requests
 mod SameLogs
+mod SameLooks
 mod SameReads
 mod SameReplies
 mod SavedFronts

@@ -129,7 +129,7 @@ hand_alike files objects schema end [] are most skip rows next = refl
 hand_alike files objects schema end (version_fault version refusal ∷ items) are most skip rows next = refl
 hand_alike files objects schema end (data_file f ∷ items) are most skip rows next =
     let later : (part : List Row) → hand (loaded files objects) schema end (most - length part) 0 (rows ++ part) (behind f skip part next) items ≡ hand objects schema end (most - length part) 0 (rows ++ part) (behind f skip part next) items
-        = λ part. hand_alike files objects schema end items are.1 (most - length part) 0 (rows ++ part) (behind f skip part next) in
+    = λ part. hand_alike files objects schema end items are.1 (most - length part) 0 (rows ++ part) (behind f skip part next) in
     ap (λ (read : Result (List Row) Refusal). cond (is_done most skip) (Ok (record { rows = rows; next = next })) (hand_on most rows next read (λ part. hand (loaded files objects) schema end (most - length part) 0 (rows ++ part) (behind f skip part next) items))) (left_alike files objects schema f skip are.0)
     ∙ (λ i. cond (is_done most skip) (Ok (record { rows = rows; next = next })) (hand_on most rows next (rows_left objects schema f skip) (λ part. later part i)))
 

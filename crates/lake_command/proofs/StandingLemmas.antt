@@ -1,12 +1,14 @@
 -- The files that versions add, gathered version by version.
-use Rattle.std.proofs.Common.{◌≡◌, ◌≢◌, ◌⊎◌, inl, inr, ◌+◌, ◌<◌, ◌≤◌, ◌==◌, ℕ, zero, suc, Bool, true, false, List, [], ◌∷◌, Contains, length, map, drop, get_or, refl, sym, ap, subst, ◌∙◌, arith, eqb-true}
+use Rattle.std.proofs.Common.{◌≡◌, ◌≢◌, ◌⊎◌, inl, inr, ◌+◌, ◌<◌, ◌≤◌, ◌==◌, ℕ, zero, suc, Bool, true, false, List, [], ◌∷◌, Option, Some, None, Contains, length, map, drop, get_or, refl, sym, ap, subst, ◌∙◌, arith, eqb-true}
 use Rattle.std.proofs.lemmas.Bool.{eqb-false}
 use Rattle.std.proofs.lemmas.List.{drop_more, drop_all}
 use Rattle.store_core.specs.Objects.{Objects}
 use Rattle.table_log.specs.Counts.{commit_count}
 use Rattle.table_log.specs.Logs.{standing_by, standing_from}
 use Rattle.table_log.specs.Versions.{Version, missing, unreadable, commit, version_at, versions_from, versions_of}
-use Rattle.job_laws.specs.Looking.{files_in}
+use Rattle.table_model.specs.declared.reading.Place.{Place}
+use Rattle.source_core.specs.Offsets.{offset_of}
+use Rattle.job_laws.specs.Looking.{files_in, IsReadFrom}
 
 -- a version is among these that stand
 abbrev pub IsAmong : List (ℕ × Version) → ℕ → Type 0
@@ -105,3 +107,20 @@ listed_all objects from versions i held end listed version name low high among =
     by_place : Contains held name ⊎ IsAmong (map (standing_by objects) (drop i versions)) version → Contains held name
     by_place (inl is) = is
     by_place (inr left) = absurd (subst (λ (s : List (ℕ × Version)). IsAmong s version) none left)
+
+-- ---- a read
+
+-- the files that a read may look at are held, where those of its offset's version and later ones are
+pub read_held : (objects : Objects) (offset : List ℕ) (place : Place) (held : List (List ℕ)) → Some place ≡ offset_of offset
+    → ((version : ℕ) (name : List ℕ) → place.version ≤ version → version < commit_count objects → Contains (files_in (version_at objects version)) name → Contains held name)
+    → (name : List ℕ) → IsReadFrom objects offset name → Contains held name
+read_held objects offset place held is all name read =
+    let both : Some place ≡ Some read.place = is ∙ read.read in
+    let same : place ≡ read.place = cc in
+    all read.version name (subst (λ (p : Place). p.version ≤ read.version) (sym same) read.from) read.small read.added
+
+-- an offset that isn't one begins no read
+pub none_read : (objects : Objects) (offset : List ℕ) (held : List (List ℕ)) → None {T = Place} ≡ offset_of offset → (name : List ℕ) → IsReadFrom objects offset name → Contains held name
+none_read objects offset held is name read =
+    let both : None {T = Place} ≡ Some read.place = is ∙ read.read in
+    absurd cc
