@@ -120,7 +120,7 @@ read_held objects offset place held is all name read =
     all read.version name (subst (λ (p : Place). p.version ≤ read.version) (sym same) read.from) read.small read.added
 
 -- an offset that isn't one begins no read
-pub none_read : (objects : Objects) (offset : List ℕ) (held : List (List ℕ)) → None {T = Place} ≡ offset_of offset → (name : List ℕ) → IsReadFrom objects offset name → Contains held name
+pub none_read : (objects : Objects) (offset : List ℕ) (held : List (List ℕ)) → offset_of offset ≡ None → (name : List ℕ) → IsReadFrom objects offset name → Contains held name
 none_read objects offset held is name read =
-    let both : None {T = Place} ≡ Some read.place = is ∙ read.read in
+    let both : Some read.place ≡ None = sym read.read ∙ is in
     absurd cc
