@@ -1,4 +1,4 @@
-use Rattle.std.proofs.Common.{◌≡◌, None, Some, ap, sym, ◌∙◌, option_map}
+use Rattle.std.proofs.Common.{ap, sym, ◌∙◌, option_map}
 use Rattle.source_core.specs.Offsets.{place_view}
 use Rattle.lake_command.proofs.StandingLemmas.{none_read, read_held}
 use Rattle.lake_command.proofs.looking.files_read.Goals as goal

@@ -1,11 +1,9 @@
-use Rattle.std.proofs.Common.{◌≡◌, [], map, ap, subst, sym, ◌∙◌, string_bytes}
+use Rattle.std.proofs.Common.{[], map, ap, subst, sym, ◌∙◌, string_bytes}
 use Rattle.store_core.specs.Objects.{Objects}
-use Rattle.store_core.specs.Memory.{stored_objects}
 use Rattle.table_folder.specs.Loads.{loaded}
 use Rattle.job_laws.specs.Looking.{LooksWithin}
 use Rattle.job_laws.proofs.Callers.{looks_within}
 use Rattle.lake_script.specs.Lines.{wish_view}
-use Rattle.lake_command.specs.Folders.{IsLoadedFor}
 use Rattle.lake_command.proofs.saving.load_for.Goals as goal
 
 pub returns-clause-loaded : goal.returns-clause-loaded

@@ -1,4 +1,4 @@
-use Rattle.std.proofs.Common.{ℕ, List, length, rules, tests, sym, ap, ◌∙◌}
+use Rattle.std.proofs.Common.{length, rules, tests, sym, ap, ◌∙◌}
 use Rattle.std.specs.Slice.Iter.{split_rest, split_done, split_callee}
 use Rattle.std.proofs.lemmas.Iterator.Splits.{YieldsList-from_slice_split}
 use Rattle.std.proofs.lemmas.Iterator.Consumers.{YieldsList-turn, YieldsList-end}
