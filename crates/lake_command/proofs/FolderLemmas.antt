@@ -1,5 +1,5 @@
 -- What a job leaves in a folder, by what a line of a script leaves over the files that were loaded.
-use Rattle.std.proofs.Common.{◌≡◌, ◌<◌, inl, inr, ℕ, Bool, true, List, [], ◌∷◌, Option, Some, None, IfSome, Result, Ok, Err, IfOk, IfErr, IsErrAnd, sym, refl, ap, subst, ◌∙◌, map}
+use Rattle.std.proofs.Common.{◌≡◌, ◌<◌, inl, inr, ℕ, Bool, true, List, [], ◌∷◌, Option, Some, None, IfSome, Result, Ok, Err, IfOk, IfErr, sym, refl, ap, subst, ◌∙◌, map}
 use Rattle.serde_json.specs.View.{view}
 use Rattle.serde_json.specs.declared.value.Value.{Value}
 use Rattle.store_core.specs.Objects.{Objects, IsInOrder, names_of}
@@ -10,7 +10,6 @@ use Rattle.table_log.proofs.Callers.{well_sound}
 use Rattle.commit_core.specs.Sound.{IsSoundStore}
 use Rattle.table_folder.specs.Copies.{HasSavedFront, to_save, with_copies}
 use Rattle.table_folder.specs.Loads.{loaded}
-use Rattle.table_folder.specs.declared.fault.SaveFault.{SaveFault}
 use Rattle.json_lines.specs.Rows.{input_lines, object_of}
 use Rattle.lake_script.specs.Growth.{MayPut}
 use Rattle.lake_script.specs.Lines.{Wish, asks, wish_view}
@@ -89,11 +88,6 @@ pub sound_restores : (restore : Bool) (objects : Objects) → IsSoundStore objec
 sound_restores restore objects sound = λ used. well_sound true objects sound.checkpoints
 
 -- ---- failures, and rows of an input
-
--- what is so of a saving's failure is so of the error that it becomes
-pub of_saving : {X : Type 0} (P : Failure → Type 0) (result : Result X Failure) (fault : SaveFault) → IsErrAnd result (λ failure. failure ≡ Saving fault) → P (Saving fault) → IfErr result P
-of_saving P (Ok x) fault is holds = absurd is
-of_saving P (Err failure) fault is holds = subst P (sym is) holds
 
 -- what is asked by a line that was found
 pub found_asked : (found : Option Line) (line : Line) (work : Work) (text : Option (List ℕ)) → found ≡ Some line → IfSome found (λ l. IsAskedBy work text (wish_view l)) → IsAskedBy work text (wish_view line)
