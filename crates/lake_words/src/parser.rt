@@ -15,21 +15,34 @@ const VERSION: &str = "0.1.0 (rattle-kit-13f logic dac8208d650f15bf)";
 
 const ABOUT: &str = "Exactly-once batches in a Delta Lake table";
 
-const STATUSES: &str =
-    "Exit status: 0 done, 1 refused (the reply says why), 2 words or an input line that can't be read.\n\
-     Replies go to standard output; F1 to F4, which speak of the folder and the streams, go to standard error.";
+// What the help of a command on a folder says behind its lists: the command's own text, and where replies go.
+macro_rules! help {
+    ($text:literal) => {
+        concat!(
+            $text,
+            "\nReplies go to standard output; F1 to F4, which speak of the folder and the streams, go to \
+             standard error."
+        )
+    };
+}
 
-const CREATE: &str =
+const STATUSES: &str = help!(
+    "Exit status: 0 done, 1 refused (the reply says why), 2 words or an input line that can't be read."
+);
+
+const CREATE: &str = help!(
     "Creates the table: commit 0 in DIR/_delta_log, which is made where it isn't there. DIR must stand.\n\
      \n\
      Example:\n  \
        mkdir orders\n  \
-       lake create orders --id $(uuidgen) --schema '{\"type\":\"struct\",\"fields\":[{\"name\":\"id\",\"type\":\"long\",\"nullable\":false,\"metadata\":{}}]}'\n\
+       lake create orders --id $(uuidgen) --schema \
+       '{\"type\":\"struct\",\"fields\":[{\"name\":\"id\",\"type\":\"long\",\"nullable\":false}]}'\n\
      \n\
      Prints: Created 0\n\
-     Exit status: 0 created, 1 refused (the reply says why), 2 words that can't be read.";
+     Exit status: 0 created, 1 refused (the reply says why), 2 words that can't be read."
+);
 
-const APPEND: &str =
+const APPEND: &str = help!(
     "Puts the rows on standard input, one JSON object a line, as the batch NUMBER of the application APP.\n\
      A batch that stands already is told as such and not written again, so a job that died may append again.\n\
      Numbers of an application rise; gaps are allowed. A batch has at most 65,536 rows.\n\
@@ -39,33 +52,58 @@ const APPEND: &str =
      \n\
      Prints: Committed VERSION, or Already NUMBER where the same rows stand under that number\n\
      Exit status: 0 the batch stands, 1 refused (the reply says why), 2 words or a line that can't be read\n  \
-       (`bad line N` names the line; nothing was appended).";
+       (`bad line N` names the line; nothing was appended)."
+);
 
-const TAIL: &str =
+const TAIL: &str = help!(
     "Prints the rows from OFFSET on, one JSON object a line, and then `next` and the offset to go on from.\n\
      The first offset of a table is {\"file\":0,\"row\":0,\"version\":0}.\n\
      \n\
      Example:\n  \
        lake tail orders --from '{\"file\":0,\"row\":0,\"version\":0}' --max 1000\n\
      \n\
-     Exit status: 0 done, 1 refused (the offset stays good), 2 words that can't be read.";
+     Exit status: 0 done, 1 refused (the offset stays good), 2 words that can't be read."
+);
 
-const SNAPSHOT: &str =
+const SNAPSHOT: &str = help!(
     "Prints the table's newest version, protocol and schema, then its applications with their last\n\
      numbers, the applications whose streams are closed, and the files with their sizes in bytes.\n\
      \n\
-     Exit status: 0 done, 1 refused (the reply says why), 2 words that can't be read.";
+     Example:\n  \
+       lake snapshot orders\n\
+     \n\
+     Prints, where the batch of append's example stands:\n  \
+       version 1\n  \
+       protocol 3 7\n  \
+       schema {\"fields\":[{\"metadata\":{},\"name\":\"id\",\"nullable\":false,\
+       \"type\":\"long\"}],\"type\":\"struct\"}\n  \
+       app \"shop-7\" 0\n  \
+       file part-73686f702d37-00000000000000000000.parquet 115\n\
+     Exit status: 0 done, 1 refused (the reply says why), 2 words that can't be read."
+);
 
-const CHECKPOINT: &str =
+const CHECKPOINT: &str = help!(
     "Puts a checkpoint of the newest version, from which later commands read the log.\n\
      \n\
-     Prints: Checkpointed VERSION\n\
-     Exit status: 0 the checkpoint stands, 1 refused (the reply says why), 2 words that can't be read.";
-
-const HISTORY: &str =
-    "Prints a line for each version: the version, and the batches (txn APP NUMBER) and closes in it.\n\
+     Example:\n  \
+       lake checkpoint orders\n\
      \n\
-     Exit status: 0 done, 1 refused (the reply says why), 2 words that can't be read.";
+     Prints: Checkpointed VERSION, also where that checkpoint stands already\n\
+     Exit status: 0 the checkpoint stands, 1 refused (the reply says why), 2 words that can't be read."
+);
+
+const HISTORY: &str = help!(
+    "Prints a line for each version: the version, and the batches (txn APP NUMBER) and closes (close APP)\n\
+     in it.\n\
+     \n\
+     Example:\n  \
+       lake history orders\n\
+     \n\
+     Prints, where the batch of append's example stands:\n  \
+       0\n  \
+       1 txn \"shop-7\" 0\n\
+     Exit status: 0 done, 1 refused (the reply says why), 2 words that can't be read."
+);
 
 const SCRIPT: &str =
     "Runs the lines on standard input over a table in memory, and prints a reply for each.\n\

@@ -25,3 +25,55 @@ returns c =
     let history = c.in_ok-top-8.ensures.app ∙ added _ _ _ _ checkpoint c.in_ok-history.ensures.app in
     let all = added _ _ _ _ history c.in_ok-script.ensures.app in
     IfOk-weaker c.with_subcommand-9.result _ _ (λ parser h. h ∙ all) c.with_subcommand-9.ensures.app
+
+-- no command has global arguments
+pub with_subcommand-requires-clause-sub : goal.with_subcommand-requires-clause-sub
+with_subcommand-requires-clause-sub c = c.in_ok-create.ensures.local
+
+pub with_subcommand-requires-2-clause-sub : goal.with_subcommand-requires-2-clause-sub
+with_subcommand-requires-2-clause-sub c = c.in_ok-append.ensures.local
+
+pub with_subcommand-requires-2-clause-above : goal.with_subcommand-requires-2-clause-above
+with_subcommand-requires-2-clause-above c = c.in_ok-top.ensures.local
+
+pub with_subcommand-requires-3-clause-sub : goal.with_subcommand-requires-3-clause-sub
+with_subcommand-requires-3-clause-sub c = c.in_ok-close.ensures.local
+
+pub with_subcommand-requires-3-clause-above : goal.with_subcommand-requires-3-clause-above
+with_subcommand-requires-3-clause-above c = c.in_ok-top-2.ensures.local
+
+pub with_subcommand-requires-4-clause-sub : goal.with_subcommand-requires-4-clause-sub
+with_subcommand-requires-4-clause-sub c = c.in_ok-load.ensures.local
+
+pub with_subcommand-requires-4-clause-above : goal.with_subcommand-requires-4-clause-above
+with_subcommand-requires-4-clause-above c = c.in_ok-top-3.ensures.local
+
+pub with_subcommand-requires-5-clause-sub : goal.with_subcommand-requires-5-clause-sub
+with_subcommand-requires-5-clause-sub c = c.in_ok-tail.ensures.local
+
+pub with_subcommand-requires-5-clause-above : goal.with_subcommand-requires-5-clause-above
+with_subcommand-requires-5-clause-above c = c.in_ok-top-4.ensures.local
+
+pub with_subcommand-requires-6-clause-sub : goal.with_subcommand-requires-6-clause-sub
+with_subcommand-requires-6-clause-sub c = c.in_ok-snapshot.ensures.local
+
+pub with_subcommand-requires-6-clause-above : goal.with_subcommand-requires-6-clause-above
+with_subcommand-requires-6-clause-above c = c.in_ok-top-5.ensures.local
+
+pub with_subcommand-requires-7-clause-sub : goal.with_subcommand-requires-7-clause-sub
+with_subcommand-requires-7-clause-sub c = c.in_ok-checkpoint.ensures.local
+
+pub with_subcommand-requires-7-clause-above : goal.with_subcommand-requires-7-clause-above
+with_subcommand-requires-7-clause-above c = c.in_ok-top-6.ensures.local
+
+pub with_subcommand-requires-8-clause-sub : goal.with_subcommand-requires-8-clause-sub
+with_subcommand-requires-8-clause-sub c = c.in_ok-history.ensures.local
+
+pub with_subcommand-requires-8-clause-above : goal.with_subcommand-requires-8-clause-above
+with_subcommand-requires-8-clause-above c = c.in_ok-top-7.ensures.local
+
+pub with_subcommand-requires-9-clause-sub : goal.with_subcommand-requires-9-clause-sub
+with_subcommand-requires-9-clause-sub c = c.in_ok-script.ensures.local
+
+pub with_subcommand-requires-9-clause-above : goal.with_subcommand-requires-9-clause-above
+with_subcommand-requires-9-clause-above c = c.in_ok-top-8.ensures.local
