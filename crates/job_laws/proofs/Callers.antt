@@ -1,6 +1,8 @@
 -- The lemmas that proofs of other crates may cite.
 pub use Rattle.job_laws.proofs.Left.{granted}
+pub use Rattle.job_laws.proofs.PutNames.{put_under}
 pub use Rattle.job_laws.proofs.SameLogs.{restores}
 pub use Rattle.job_laws.proofs.SameLooks.{looks_within}
 pub use Rattle.job_laws.proofs.SavedFronts.{saved}
+pub use Rattle.job_laws.proofs.WholeReads.{whole}
 pub use Rattle.job_laws.proofs.SoundLines.{line_keeps_sound_bytes}

@@ -32,7 +32,7 @@ use Rattle.job_laws.proofs.SameReplies.{same_checkpoint, same_printed, same_repl
 -- ---- creations
 
 -- a creation
-created_alike : (files : List (List ℕ)) (objects : Objects) (commit : Result (List ℕ) creations.Refusal) → IsInOrder objects → IsAlike files objects (with_creation (loaded files objects) commit) (with_creation objects commit)
+pub created_alike : (files : List (List ℕ)) (objects : Objects) (commit : Result (List ℕ) creations.Refusal) → IsInOrder objects → IsAlike files objects (with_creation (loaded files objects) commit) (with_creation objects commit)
 created_alike files objects (Ok bytes) order = alike_put files objects (loaded files objects) objects (commit_name 0) bytes (commit_loaded files 0) (alike_before files objects order)
 created_alike files objects (Err refusal) order = alike_before files objects order
 
@@ -47,7 +47,7 @@ file_alike files objects application number (Ok stands) order is own = alike_bef
 file_alike files objects application number (Err refusal) order is own = alike_before files objects order
 
 -- the file, and the commit
-append_alike : (files : List (List ℕ)) (objects : Objects) (application : List ℕ) (number : ℕ) (step : Result Step Refusal) → IsInOrder objects → is_loaded files (data_file_name application number) ≡ true → PutsOwn application number step
+pub append_alike : (files : List (List ℕ)) (objects : Objects) (application : List ℕ) (number : ℕ) (step : Result Step Refusal) → IsInOrder objects → is_loaded files (data_file_name application number) ≡ true → PutsOwn application number step
     → IsAlike files objects (with_append (loaded files objects) step) (with_append objects step)
 append_alike files objects application number (Ok (puts batch)) order is own =
     alike_put files objects _ _ (commit_name batch.version) batch.commit (commit_loaded files batch.version) (file_alike files objects application number (Ok (puts batch)) order is own)

@@ -1,5 +1,8 @@
 mod Added
 mod Admissible
+mod AppendedAgain
+mod AppendedFile
+mod AppendedLog
 pub mod Callers
 mod Left
 mod Loaded
@@ -11,7 +14,9 @@ mod LogNumbers
 mod LogSchema
 mod NameKinds
 mod OwnSteps
+mod PutNames
 mod Requests
+mod RowLines
 mod SameLogs
 mod SameLooks
 mod SameReads
@@ -21,3 +26,4 @@ mod SavedNames
 mod SavedPuts
 mod SoundGrowth
 mod SoundLines
+mod WholeReads

@@ -7,7 +7,7 @@ use Rattle.lake_bytes.specs.Results.{◌>>=◌, or_refusal}
 use Rattle.schema_tree.specs.Tree.{Tree}
 use Rattle.row_core.specs.Rows.{Row}
 use Rattle.parquet_rows.specs.Reading.{rows_at}
-use Rattle.store_core.specs.Objects.{Objects, object_at}
+use Rattle.store_core.specs.Objects.{Objects}
 use Rattle.delta_actions.specs.Kinds.{Path}
 use Rattle.table_log.specs.FromCheckpoints.{looked_at, no_start}
 use Rattle.table_log.specs.InForce.{Told}
@@ -118,7 +118,7 @@ rows_alike files objects schema file own =
     ap (λ (found : Option (List ℕ)). or_refusal found (missing_file file.path.text) >>= λ bytes. or_bad_file file (rows_at bytes schema)) (loaded_at files objects file.path.key own)
 
 -- those behind the first of them
-left_alike : (files : List (List ℕ)) (objects : Objects) (schema : Tree) (file : LogFile) (skip : ℕ) → is_loaded files file.path.key ≡ true → rows_left (loaded files objects) schema file skip ≡ rows_left objects schema file skip
+pub left_alike : (files : List (List ℕ)) (objects : Objects) (schema : Tree) (file : LogFile) (skip : ℕ) → is_loaded files file.path.key ≡ true → rows_left (loaded files objects) schema file skip ≡ rows_left objects schema file skip
 left_alike files objects schema file skip own = ap (λ (read : Result (List Row) Refusal). read >>= rows_behind skip file.version) (rows_alike files objects schema file own)
 
 -- the rows of items that are loaded

@@ -48,7 +48,7 @@ of_made P false why (Err refusal) make all batch is = cc
 of_made P false why (Ok bytes) make all batch is = let same : make bytes ≡ batch = cc in subst P same (all refl bytes)
 
 -- a batch that a request asks for is its own
-batch_own : (request : Request) (application : List ℕ) (number at : ℕ) (batch : Batch) → batch_of request application number at ≡ Ok batch → IsOwn application number batch
+pub batch_own : (request : Request) (application : List ℕ) (number at : ℕ) (batch : Batch) → batch_of request application number at ≡ Ok batch → IsOwn application number batch
 unfolding batch_of
 batch_own request application number at batch is =
     of_made (IsOwn application number) (nat_lt 999_999_999_999 request.version) _ _ _ (λ small bytes. record { name = file_named application number; small = ltb-false 999_999_999_999 request.version small }) batch is

@@ -23,7 +23,7 @@ use Rattle.sink_core.specs.RowsIn.{rows_from, takes_rows}
 -- ---- steps that weren't refused
 
 -- two steps that gave this: what the first gave, and that the second gives this of it
-both_done : {A B E : Type 0} (first : Result A E) (next : A → Result B E) (y : B) → (first >>= next) ≡ Ok y → (x : A) × (first ≡ Ok x) × (next x ≡ Ok y)
+pub both_done : {A B E : Type 0} (first : Result A E) (next : A → Result B E) (y : B) → (first >>= next) ≡ Ok y → (x : A) × (first ≡ Ok x) × (next x ≡ Ok y)
 both_done (Ok x) next y is = (x, refl, is)
 both_done (Err why) next y is = absurd cc
 
@@ -32,11 +32,11 @@ abbrev done : {A E : Type 0} → A → Result A E
 done x = Ok x
 
 -- what was given is this
-given : {A E : Type 0} (x y : A) → done {E = E} x ≡ done y → x ≡ y
+pub given : {A E : Type 0} (x y : A) → done {E = E} x ≡ done y → x ≡ y
 given x y is = cc
 
 -- what was given isn't another refusal
-told_done : {A E F : Type 0} (tell : E → F) (read : Result A E) (x : A) → refused_as tell read ≡ Ok x → read ≡ Ok x
+pub told_done : {A E F : Type 0} (tell : E → F) (read : Result A E) (x : A) → refused_as tell read ≡ Ok x → read ≡ Ok x
 told_done {A = A} {E = E} tell (Ok y) x is = let same : y ≡ x = cc in ap (done {A = A} {E = E}) same
 told_done tell (Err why) x is = absurd cc
 
@@ -47,55 +47,60 @@ passed false why x is = refl
 
 -- ---- the request
 
--- a request that was taken: of a table that is written, for the next version, with a number that isn't below the last
-record IsTaken (next : ℕ) (commits : List (List actions.Entry)) (application : List ℕ) (number : ℕ) (request : Request) : Type 0 where
-  schema : writable commits ≡ Ok request.schema
+-- A request that was taken: of a table that is written, with rows that it takes, for the next version, and with a number
+-- that isn't below the last.
+pub record IsTaken (next : ℕ) (commits : List (List actions.Entry)) (application : List ℕ) (number : ℕ) (items : Items) (request : Request) : Type 0 where
+  pub schema : writable commits ≡ Ok request.schema
+  pub supported : takes_rows request.schema ≡ Ok tt
+  pub rows : rows_from 0 request.schema items ≡ Ok request.rows
   repeats : is_repeat number (last_number application commits) ≡ Ok request.repeats
   goes_on : (not request.repeats && is_closed application commits) ≡ false
-  version : request.version ≡ next
+  pub version : request.version ≡ next
 
 module _ (next : ℕ) (commits : List (List actions.Entry)) (application : List ℕ) (number : ℕ) (items : Items) where
   abbrev asked : Tree → List Row → Bool → Request
   asked schema rows repeats = record { version = next; schema = schema; rows = rows; repeats = repeats }
 
   -- the steps of a request, each behind the one before it
-  abbrev behind_number : Tree → List Row → Bool → Result Request Refusal
+  abbrev pub behind_number : Tree → List Row → Bool → Result Request Refusal
   behind_number schema rows repeats = refused_if (not repeats && is_closed application commits) stream_closed >>= λ goes_on. Ok (asked schema rows repeats)
 
-  abbrev behind_rows : Tree → List Row → Result Request Refusal
+  abbrev pub behind_rows : Tree → List Row → Result Request Refusal
   behind_rows schema rows = is_repeat number (last_number application commits) >>= behind_number schema rows
 
-  abbrev behind_schema : Tree → Result Request Refusal
+  abbrev pub behind_schema : Tree → Result Request Refusal
   behind_schema schema = takes_rows schema >>= λ supported. rows_from 0 schema items >>= behind_rows schema
 
   -- a request whose number was looked at
-  taken_with : (schema : Tree) (rows : List Row) (repeats : Bool) (request : Request) → writable commits ≡ Ok schema → is_repeat number (last_number application commits) ≡ Ok repeats
-      → behind_number schema rows repeats ≡ Ok request → IsTaken next commits application number request
-  taken_with schema rows repeats request written number_is is =
+  taken_with : (schema : Tree) (rows : List Row) (repeats : Bool) (request : Request) → writable commits ≡ Ok schema → takes_rows schema ≡ Ok tt → rows_from 0 schema items ≡ Ok rows
+      → is_repeat number (last_number application commits) ≡ Ok repeats → behind_number schema rows repeats ≡ Ok request → IsTaken next commits application number items request
+  taken_with schema rows repeats request written supported rows_are number_is is =
       let e = both_done (refused_if (not repeats && is_closed application commits) stream_closed) (λ goes_on. Ok (asked schema rows repeats)) request is in
       let same : asked schema rows repeats ≡ request = given {E = Refusal} (asked schema rows repeats) request e.2 in
-      subst (IsTaken next commits application number) same (record {
+      subst (IsTaken next commits application number items) same (record {
         schema = written;
+        supported = supported;
+        rows = rows_are;
         repeats = number_is;
         goes_on = passed (not repeats && is_closed application commits) stream_closed e.0 e.1;
         version = refl;
       })
 
   -- the request behind the commits of a log
-  taken : (request : Request) → request_behind next commits application number items ≡ Ok request → IsTaken next commits application number request
+  pub taken : (request : Request) → request_behind next commits application number items ≡ Ok request → IsTaken next commits application number items request
   unfolding request_behind
   taken request is =
       let a = both_done (refused_as read_only (writable commits)) behind_schema request is in
       let b = both_done (takes_rows a.0) (λ supported. rows_from 0 a.0 items >>= behind_rows a.0) request a.2 in
       let c = both_done (rows_from 0 a.0 items) (behind_rows a.0) request b.2 in
       let d = both_done (is_repeat number (last_number application commits)) (behind_number a.0 c.0) request c.2 in
-      taken_with a.0 c.0 d.0 request (told_done read_only (writable commits) a.0 a.1) d.1 d.2
+      taken_with a.0 c.0 d.0 request (told_done read_only (writable commits) a.0 a.1) b.1 c.1 d.1 d.2
 
 -- ---- the batch
 
 -- a batch that a request asks for
-record IsAskedBy (request : Request) (application : List ℕ) (number : ℕ) (batch : Batch) : Type 0 where
-  version : batch.version ≡ request.version
+pub record IsAskedBy (request : Request) (application : List ℕ) (number : ℕ) (batch : Batch) : Type 0 where
+  pub version : batch.version ≡ request.version
   schema : batch.schema ≡ request.schema
   name : batch.name ≡ data_file_name application number
 
@@ -115,7 +120,7 @@ module _ (request : Request) (application : List ℕ) (number at : ℕ) where
   with_bytes file = Ok (made file)
 
   -- the batch of a request is one that it asks for
-  batch_asked : (batch : Batch) → batch_of request application number at ≡ Ok batch → IsAskedBy request application number batch
+  pub batch_asked : (batch : Batch) → batch_of request application number at ≡ Ok batch → IsAskedBy request application number batch
   unfolding batch_of file_name
   batch_asked batch is =
       let a = both_done (refused_if (nat_lt 999_999_999_999 request.version) too_large) (λ small. file_or_refusal (written_file request.schema request.rows) >>= with_bytes) batch is in
@@ -137,7 +142,7 @@ pub record PutsBatch (objects : Objects) (application : List ℕ) (number : ℕ)
   pub fits : (fine : Unit {0}) × (unless_other batch.schema batch.rows batch.name (object_at objects batch.name) ≡ Ok fine)
 
 -- a step puts one batch
-put_is : (batch other : Batch) → puts batch ≡ puts other → batch ≡ other
+pub put_is : (batch other : Batch) → puts batch ≡ puts other → batch ≡ other
 put_is batch other is = cc
 
 module _ (objects : Objects) (application : List ℕ) (number at : ℕ) (batch : Batch) where
@@ -168,8 +173,8 @@ module _ (objects : Objects) (application : List ℕ) (number at : ℕ) (batch :
   new_step_of request is = by_repeats request request.repeats refl is
 
   -- the parts of what was found
-  joined : (commits : List (List actions.Entry)) (request : Request) → log_of objects ≡ Ok commits → IsTaken (commit_count objects) commits application number request → NewStep request → PutsBatch objects application number batch
-  joined commits request log is step = record {
+  joined : (commits : List (List actions.Entry)) (items : Items) (request : Request) → log_of objects ≡ Ok commits → IsTaken (commit_count objects) commits application number items request → NewStep request → PutsBatch objects application number batch
+  joined commits items request log is step = record {
     commits = commits;
     log = log;
     schema = is.schema ∙ ap (λ (t : Tree). Ok t) (sym step.asked.schema);
@@ -187,4 +192,4 @@ module _ (objects : Objects) (application : List ℕ) (number at : ℕ) (batch :
       let a = both_done (request_of false objects application number items) (step_of objects application number at) (puts batch) is in
       let b = both_done (checked application number (count items)) (λ fine. refused_as bad_log (seen false objects) >>= λ commits. request_behind (commit_count objects) commits application number items) a.0 a.1 in
       let c = both_done (refused_as bad_log (seen false objects)) (λ commits. request_behind (commit_count objects) commits application number items) a.0 b.2 in
-      joined c.0 a.0 (told_done bad_log (seen false objects) c.0 c.1) (taken (commit_count objects) c.0 application number items a.0 c.2) (new_step_of a.0 a.2)
+      joined c.0 items a.0 (told_done bad_log (seen false objects) c.0 c.1) (taken (commit_count objects) c.0 application number items a.0 c.2) (new_step_of a.0 a.2)

@@ -1,7 +1,7 @@
 -- The log among the objects that are loaded is that among all objects.
 use Rattle.std.proofs.Common.{◌≡◌, ◌∙◌, ◌+◌, ℕ, zero, suc, Bool, true, false, List, [], ◌∷◌, Option, Some, None, cond, refl, sym, ap}
 use Rattle.std.specs.Prelude.{filter}
-use Rattle.store_core.specs.Objects.{IsInOrder, Objects, names_of}
+use Rattle.store_core.specs.Objects.{Objects, names_of}
 use Rattle.table_log.specs.Counts.{commit_count, count_in, count_with, next_behind}
 use Rattle.table_log.specs.Names.{commit_name, commit_version}
 use Rattle.table_log.specs.Restoring.{IsSoundCheckpoint, RestoresWell, seen}

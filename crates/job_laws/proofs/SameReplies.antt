@@ -5,14 +5,13 @@ use Rattle.lake_bytes.specs.Results.{◌>>=◌, refused_as, refused_if}
 use Rattle.store_core.specs.Objects.{Objects, object_at}
 use Rattle.delta_actions.specs.Entry.{Entry}
 use Rattle.delta_replay.specs.Support.{meta_data_of}
-use Rattle.table_log.specs.Counts.{commit_count}
 use Rattle.table_log.specs.Names.{commit_name}
 use Rattle.table_folder.specs.Loads.{loaded}
 use Rattle.snapshot_core.specs.Faults as faults
 use Rattle.snapshot_core.specs.Faults.{readable_log}
 use Rattle.snapshot_core.specs.Taking.{IsNewestCheckpoint, most_bytes}
 use Rattle.snapshot_core.specs.Telling.{TellsSnapshot}
-use Rattle.lake_script.specs.Checkpoints.{by_log, checkpoint_by, checkpoint_of, checkpoint_reply, newest_version, snapshot_reply, too_large, IsItsCheckpoint, IsItsSnapshot}
+use Rattle.lake_script.specs.Checkpoints.{by_log, checkpoint_by, checkpoint_of, checkpoint_reply, newest_version, snapshot_reply, too_large}
 use Rattle.lake_script.specs.Lines.{append, checkpoint, close, tail, Wish, create, die, fault, finish, foreign, hex, history, land, show, snapshot, start, step, task, tries, until}
 use Rattle.lake_script.specs.Replies.{put_word}
 use Rattle.lake_script.specs.Told.{appended_reply, created_reply, in_hex, reply_to_wish, shown, tailed_reply, IsPrintedWish}

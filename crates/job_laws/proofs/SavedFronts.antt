@@ -79,7 +79,7 @@ module _ (files : List (List ℕ)) (objects after new : Objects) (application : 
 -- ---- checkpoints
 
 -- what is put over the files that are loaded is put over all objects
-puts_too : (files : List (List ℕ)) (objects : Objects) (version : ℕ) (name bytes : List ℕ) → PutsCheckpoint false (loaded files objects) version name bytes → PutsCheckpoint false objects version name bytes
+pub puts_too : (files : List (List ℕ)) (objects : Objects) (version : ℕ) (name bytes : List ℕ) → PutsCheckpoint false (loaded files objects) version name bytes → PutsCheckpoint false objects version name bytes
 puts_too files objects version name bytes p = record {
   commits = p.commits;
   read = sym (same_seen files objects) ∙ p.read;

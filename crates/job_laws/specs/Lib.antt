@@ -1,3 +1,4 @@
 pub mod Bytes
+pub mod Enough
 pub mod Looking
 pub mod Saved

@@ -1,9 +1,11 @@
 //! Laws on what a line of a script does to the objects of a table, each a function with an empty body whose contract is
-//! the law: a line looks at the log and at few data files, so that others needn't be loaded, and it leaves a sound table
-//! sound, however much of what it puts is saved.
+//! the law: a line looks at the log and at certain data files, so that others needn't be loaded, and it leaves a sound table
+//! sound, however much of what it puts is saved, where it puts no other tool's commit.
 #![tactic(auto)]
 
-ghost use Rattle.std.specs.Prelude.{◌≡◌, ◌<◌, ℕ, Bool, List};
+ghost use Rattle.std.specs.Prelude.{◌≡◌, ◌<◌, ℕ, Bool, false, List, Ok};
+ghost use Rattle.serde_json.specs.Data.{Items};
+ghost use Rattle.job_laws.specs.Enough.{HasRows};
 ghost use Rattle.store_core.specs.Objects.{Objects, IsInOrder, names_of};
 ghost use Rattle.table_store.specs.Sound.{greatest_version};
 ghost use Rattle.table_log.specs.Counts.{commit_count};
@@ -11,8 +13,10 @@ ghost use Rattle.table_log.specs.Restoring.{RestoresWell};
 ghost use Rattle.table_folder.specs.Copies.{HasSavedFront, to_save};
 ghost use Rattle.table_folder.specs.Loads.{loaded};
 ghost use Rattle.commit_core.specs.Sound.{IsSoundStore};
+ghost use Rattle.sink_core.specs.Appending.{PutsWell, appended_by, settled, stands, with_append};
+ghost use Rattle.sink_core.specs.declared.appending.Appended.TheVariants.{Already, Committed};
 ghost use Rattle.lake_script.specs.Growth.{MayPut};
-ghost use Rattle.lake_script.specs.Lines.{Wish, asks};
+ghost use Rattle.lake_script.specs.Lines.{Wish, asks, tail, task};
 ghost use Rattle.lake_script.specs.Runs.{Grants};
 ghost use Rattle.lake_script.specs.Told.{IsPutHere, reply_to_wish};
 ghost use Rattle.job_laws.specs.Bytes.{LooksAtBytes};
@@ -32,6 +36,24 @@ pub fn what_isnt_looked_at_doesnt_matter()
         → MayPut objects wish new }
     // Checkpoints that are sound are so without the other files.
     ensures restores { (objects : Objects) (files : List (List ℕ)) (restore : Bool) → RestoresWell restore objects → RestoresWell restore (loaded files objects) }
+{}
+
+/// A read over the log and some of the data files that hands out all the rows that it was asked for has that reply over all
+/// objects too.
+pub fn a_read_with_all_its_rows_is_whole()
+    ensures { (objects after : Objects) (files : List (List ℕ)) (max : ℕ) (offset reply : List ℕ) → HasRows max reply
+        → Grants (loaded files objects) (task (tail max offset)) reply after → Grants objects (task (tail max offset)) reply objects }
+{}
+
+/// An append that is told as committed stands: over what it leaves the same append, at whatever moment, is told that its batch
+/// stands, and puts nothing. It is asked that what the first one puts is well made, as `sink_core::append` says of its own.
+pub fn an_append_again_stands()
+    ensures told { (objects : Objects) (application : List ℕ) (number at later version : ℕ) (items : Items) → PutsWell application number at (settled false objects application number at items)
+        → appended_by false objects application number at items ≡ Ok (Committed version)
+        → appended_by false (with_append objects (settled false objects application number at items)) application number later items ≡ Ok (Already number) }
+    ensures puts_nothing { (objects : Objects) (application : List ℕ) (number at later version : ℕ) (items : Items) → PutsWell application number at (settled false objects application number at items)
+        → appended_by false objects application number at items ≡ Ok (Committed version)
+        → settled false (with_append objects (settled false objects application number at items)) application number later items ≡ Ok stands }
 {}
 
 /// Whatever this program puts for a line leaves a sound store sound, however far it comes with it, where the line puts no

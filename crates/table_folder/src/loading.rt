@@ -47,8 +47,7 @@ pub fn load_log<F: Folder>(alloc: Global, folder: &mut F) -> Result<MemoryStore,
     Ok(store)
 }
 
-/// Adds to a store of the log and of some data files those of these names that stand, each read once. What the store has
-/// under a name stays.
+/// Adds to a store of the log and of some data files those of these names that stand. What the store has under a name stays.
 pub fn load_files<F: Folder>(
     folder: &mut F,
     store: &mut MemoryStore,

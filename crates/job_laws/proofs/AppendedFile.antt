@@ -1,0 +1,86 @@
+-- Behind an append its batch's file is found to have the batch's rows; where the file alone stands, the batch still fits.
+use Rattle.std.proofs.Common.{◌≡◌, ◌∙◌, ℕ, Bool, true, false, List, Option, Some, None, Result, Ok, Err, refl, sym, ap, subst}
+use Rattle.std.specs.Prelude.{nat_lt, not, unwrap_or}
+use Rattle.lake_bytes.specs.Results.{◌>>=◌, refused_if}
+use Rattle.schema_tree.specs.Tree.{Tree}
+use Rattle.store_core.specs.Objects.{Objects, object_at}
+use Rattle.store_core.specs.ObjectLaws.{object_at-with_object_kept, object_at-with_object_same}
+use Rattle.parquet_rows.specs.Reading.{rows_at}
+use Rattle.parquet_rows.proofs.Callers.{rows_only}
+use Rattle.row_core.specs.Rows.{Row}
+use Rattle.row_core.proofs.Callers.{same_rows-is}
+use Rattle.table_log.specs.Names.{commit_name}
+use Rattle.sink_core.specs.Appending.{Batch, IsWellMade, Request, Step, puts, stands, batch_of, file_name, fitting, is_same, repeated_step, unless_other, where_same, with_append, with_file}
+use Rattle.sink_core.specs.Refusals.{Refusal, differs}
+
+-- ---- the batch
+
+-- a batch has its request's schema and rows, and its file's name is its application's and number's
+record IsBatchOf (request : Request) (application : List ℕ) (number : ℕ) (batch : Batch) : Type 0 where
+  name : batch.name ≡ file_name application number
+  schema : batch.schema ≡ request.schema
+  rows : batch.rows ≡ request.rows
+
+-- what holds of each batch that is made in steps holds of the one that was
+of_made : (P : Batch → Type 0) (large : Bool) (why : Refusal) (file : Result (List ℕ) Refusal) (make : List ℕ → Batch) → ((bytes : List ℕ) → P (make bytes)) → (batch : Batch)
+    → (refused_if large why >>= λ fine. file >>= λ bytes. Ok (make bytes)) ≡ Ok batch → P batch
+of_made P true why file make all batch is = absurd cc
+of_made P false why (Err refusal) make all batch is = absurd cc
+of_made P false why (Ok bytes) make all batch is = let same : make bytes ≡ batch = cc in subst P same (all bytes)
+
+batch_is : (request : Request) (application : List ℕ) (number at : ℕ) (batch : Batch) → batch_of request application number at ≡ Ok batch → IsBatchOf request application number batch
+unfolding batch_of
+batch_is request application number at batch is =
+    of_made (IsBatchOf request application number) (nat_lt 999_999_999_999 request.version) _ _ _ (λ bytes. record { name = refl; schema = refl; rows = refl }) batch is
+
+-- ---- the file
+
+-- what isn't refused where a test fails passed it
+passes : (test : Bool) (why : Refusal) (step : Step) → (refused_if (not test) why >>= λ fine. Ok step) ≡ Ok step → test ≡ true
+passes true why step is = refl
+passes false why step is = absurd cc
+
+-- what stands behind the put has the batch's rows: what stood already, or the batch's own file
+has_same : (schema : Tree) (rows : List Row) (name file : List ℕ) (step : Step) (found : Option (List ℕ)) → rows_at file schema ≡ Ok rows
+    → (unless_other schema rows name found >>= λ fits. Ok step) ≡ Ok step → is_same rows (rows_at (unwrap_or found file) schema) ≡ true
+has_same schema rows name file step None read fits = ap (is_same rows) read ∙ (same_rows-is rows rows).1 refl
+has_same schema rows name file step (Some old) read fits = passes (is_same rows (rows_at old schema)) (differs name) step fits
+
+module _ (objects : Objects) (batch : Batch) (application : List ℕ) (number at : ℕ) (made : IsWellMade application number at batch) (fits : fitting objects batch ≡ Ok (puts batch)) where
+  -- what stands under the batch's name behind the put
+  abbrev behind : List ℕ
+  behind = unwrap_or (object_at objects batch.name) batch.file
+
+  is_there : object_at (with_file objects batch) batch.name ≡ Some behind
+  is_there = object_at-with_object_same objects batch.name batch.file
+
+  same_rows_there : is_same batch.rows (rows_at behind batch.schema) ≡ true
+  same_rows_there =
+      has_same batch.schema batch.rows batch.name batch.file (puts batch) (object_at objects batch.name)
+      (rows_only batch.file batch.schema batch.rows made.file.within made.file.file made.limits) fits
+
+  -- Where the batch's file alone stands, the batch fits as before.
+  pub file_fits : fitting (with_file objects batch) batch ≡ Ok (puts batch)
+  file_fits =
+      ap (λ (found : Option (List ℕ)). unless_other batch.schema batch.rows batch.name found >>= λ fine. Ok (puts batch)) is_there
+      ∙ ap (λ (test : Bool). refused_if (not test) (differs batch.name) >>= λ fine. Ok (puts batch)) same_rows_there
+
+  -- the same file is found behind the commit
+  found_again : (where_same batch.schema batch.rows batch.name (object_at (with_append objects (Ok (puts batch))) batch.name) >>= λ same. Ok stands) ≡ Ok stands
+  found_again =
+      ap (λ (found : Option (List ℕ)). where_same batch.schema batch.rows batch.name found >>= λ same. Ok stands)
+      (object_at-with_object_kept (with_file objects batch) (commit_name batch.version) batch.commit batch.name behind is_there)
+      ∙ ap (λ (test : Bool). refused_if (not test) (differs batch.name) >>= λ same. Ok stands) same_rows_there
+
+-- Behind an append, a request for the same rows under the same number finds that its batch stands.
+pub appended_same : (objects : Objects) (application : List ℕ) (number at : ℕ) (request other : Request) (batch : Batch)
+    → batch_of request application number at ≡ Ok batch → IsWellMade application number at batch → fitting objects batch ≡ Ok (puts batch)
+    → other.schema ≡ request.schema → other.rows ≡ request.rows
+    → repeated_step (with_append objects (Ok (puts batch))) other application number ≡ Ok stands
+appended_same objects application number at request other batch is made fits schema rows =
+    let own = batch_is request application number at batch is in
+    let one : other.schema ≡ batch.schema = schema ∙ sym own.schema in
+    let two : other.rows ≡ batch.rows = rows ∙ sym own.rows in
+    let name : file_name application number ≡ batch.name = sym own.name in
+    (λ i. where_same (one i) (two i) (name i) (object_at (with_append objects (Ok (puts batch))) (name i)) >>= λ same. Ok stands)
+    ∙ found_again objects batch application number at made fits
