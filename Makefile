@@ -21,7 +21,7 @@ inspect:
 	@cd crates/lake_inspect && rt run -- $$(cat args) < stdin > /dev/null
 	@echo "built: crates/lake_inspect/out/lake_inspect"
 
-# Times the built program on a few scripts; run `make lake` before it.
+# Times the built program on a few scripts and folders; run `make lake` before it.
 bench:
 	@scripts/bench.sh
 

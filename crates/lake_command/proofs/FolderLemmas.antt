@@ -1,5 +1,6 @@
 -- What a job leaves in a folder, by what a line of a script leaves over the files that were loaded.
-use Rattle.std.proofs.Common.{◌≡◌, ◌<◌, inl, inr, ℕ, Bool, true, List, [], ◌∷◌, Option, Some, None, IfSome, Result, Ok, Err, IfOk, IfErr, sym, refl, ap, subst, ◌∙◌, map}
+use Rattle.std.proofs.Common.{◌≡◌, ◌<◌, inl, inr, ℕ, Bool, true, false, Contains, List, [], ◌∷◌, Option, Some, None, IfSome, Result, Ok, Err, IfOk, IfErr, sym, refl, ap, subst, ◌∙◌, map}
+use Rattle.std.specs.Prelude.{IsErrAnd, is_some, string_bytes}
 use Rattle.serde_json.specs.View.{view}
 use Rattle.serde_json.specs.declared.value.Value.{Value}
 use Rattle.store_core.specs.Objects.{Objects, IsInOrder, names_of}
@@ -9,7 +10,10 @@ use Rattle.table_log.specs.Restoring.{RestoresWell}
 use Rattle.table_log.proofs.Callers.{well_sound}
 use Rattle.commit_core.specs.Sound.{IsSoundStore}
 use Rattle.table_folder.specs.Copies.{HasSavedFront, to_save, with_copies}
+use Rattle.table_folder.specs.Faults.{CountsSave, SaveFailsAmong}
 use Rattle.table_folder.specs.Loads.{loaded}
+use Rattle.table_folder.specs.declared.fault.SaveFault.{SaveFault}
+use Rattle.table_folder.specs.declared.fault.SaveFault.TheVariants as saves
 use Rattle.json_lines.specs.Rows.{input_lines, object_of}
 use Rattle.lake_script.specs.Growth.{MayPut}
 use Rattle.lake_script.specs.Lines.{Wish, asks, wish_view}
@@ -19,15 +23,37 @@ use Rattle.lake_script.specs.Told.{IsPutHere}
 use Rattle.lake_script.specs.declared.line.Line.{Line}
 use Rattle.lake_script.specs.declared.reply.Reply.{Reply}
 use Rattle.job_laws.specs.Bytes.{AreBytes}
-use Rattle.job_laws.proofs.Callers.{granted as line_granted, line_keeps_sound_bytes, restores, saved as line_saved}
+use Rattle.job_laws.specs.Looking.{LooksWithin}
+use Rattle.job_laws.proofs.Callers.{granted as line_granted, line_keeps_sound_bytes, looks_within, put_under, restores, saved as line_saved}
 use Rattle.lake_words.specs.Asked.{Work}
 use Rattle.lake_words.specs.Asked as words
-use Rattle.lake_command.specs.Failures.{IsOfFolder, Leaves}
-use Rattle.lake_command.specs.Folders.{AreRows, IsAnswer, IsAskedBy, IsLoadedFor, MayHavePut}
+use Rattle.lake_command.specs.Failures.{ComesOfACall, IsOfFolder, Leaves, NamesPut}
+use Rattle.lake_command.specs.Folders.{AreRows, IsAnswer, IsAskedBy, JobMayLeave, MayHavePut}
 use Rattle.lake_command.specs.declared.failure.Failure.{Failure}
 use Rattle.lake_command.specs.declared.failure.Failure.TheVariants.{Loading, Saving}
 
 -- ---- what was loaded
+
+-- The objects that were loaded are those of the folder's log and some of its data files, with all that a line looks at.
+pub record IsLoadedFor (objects : Objects) (wish : Wish) (loaded_objects : Objects) : Type 0 where
+  pub files : List (List ℕ)
+  pub within : LooksWithin objects wish files
+  pub same : loaded_objects ≡ loaded files objects
+
+-- so it is where the log was loaded at first, and then the data files that a line may look at
+pub loaded_for : (base mid first log start : Objects) (wish : Wish) (names read : List (List ℕ)) → mid ≡ base → log ≡ loaded [] base → first ≡ log → LooksWithin log wish names → read ≡ names
+    → (first ≡ loaded [] mid → start ≡ loaded read mid) → IsLoadedFor base wish start
+loaded_for base mid first log start wish names read same is untouched within all load = record {
+  files = names;
+  within = looks_within [] base wish names (subst (λ (o : Objects). LooksWithin o wish names) is within);
+  same = load (untouched ∙ is ∙ ap (loaded []) (sym same)) ∙ ap (λ (ns : List (List ℕ)). loaded ns mid) all ∙ ap (loaded names) same;
+}
+
+-- a read that was told before all were loaded is told over the folder, which is as it was
+pub told_early : (base mid new : Objects) (wish : Wish) (found : Option Reply) (reply : Reply) → mid ≡ base → new ≡ mid → found ≡ Some reply → IfSome found (λ r. Grants mid wish (reply_text r) mid) → Grants base wish (reply_text reply) new
+told_early base mid new wish found reply same untouched is told =
+    subst (λ (o : Objects). Grants o wish (reply_text reply) new) same
+    (subst (λ (o : Objects). Grants mid wish (reply_text reply) o) (sym untouched) (subst (λ (f : Option Reply). IfSome f (λ r. Grants mid wish (reply_text r) mid)) is told))
 
 -- their checkpoints are sound where the folder's are
 pub loaded_well : (restore : Bool) (old start : Objects) (wish : Wish) → IsLoadedFor old wish start → RestoresWell restore old → RestoresWell restore start
@@ -47,15 +73,52 @@ front_saved old start end new wish names order is listed put front =
     inr (line_saved old end new wish is.files order is.within (subst (λ o. MayPut o wish end) is.same put)
     (subst (λ ns. HasSavedFront end (to_save ns (names_of end)) old new) (listed ∙ ap names_of is.same) front))
 
+-- an object that isn't saved is one that the line puts over the folder's objects, where nothing stood
+pub named_put : (fault : SaveFault) (old start end : Objects) (wish : Wish) (names : List (List ℕ)) → IsInOrder old → IsLoadedFor old wish start → names ≡ names_of start → MayPut start wish end
+    → SaveFailsAmong {X = Unit {0}} (to_save names (names_of end)) (Err fault) → NamesPut (Saving fault) wish old
+named_put (saves.NotSaved name reason) old start end wish names order is listed put new =
+    let found = put_under old end wish is.files (string_bytes name) order is.within (subst (λ o. MayPut o wish end) is.same put)
+    (subst (λ ns. Contains (to_save ns (names_of end)) (string_bytes name)) (listed ∙ ap names_of is.same) new) in
+    record { after = found.0; put = found.1; absent = found.2; stands = found.3 }
+named_put saves.Lost old start end wish names order is listed put new = tt
+named_put saves.Memory old start end wish names order is listed put new = tt
+
+-- a call that gave this fault failed so
+pub fails_as : {X : Type 0} (result : Result X Failure) (fault : SaveFault) → IsErrAnd result (λ failure. failure ≡ Saving fault) → result ≡ Err (Saving fault)
+fails_as (Ok x) fault is = absurd is
+fails_as (Err failure) fault is = ap Err is
+
+-- its name isn't taken: a call of the folder failed
+alone_of_fault : (X : Type 0) (fault : SaveFault) (steady : Type 0) (old : Objects) (wish : Wish) (before after : ℕ) → steady → NamesPut (Saving fault) wish old → CountsSave {X = Unit {0}} steady old (Err fault) before after
+    → ComesOfACall {X = X} (Err (Saving fault)) before after
+alone_of_fault X (saves.NotSaved name reason) steady old wish before after on names (inl risen) = risen
+alone_of_fault X (saves.NotSaved name reason) steady old wish before after on names (inr taken) = let both : true ≡ false = sym (taken.2 on) ∙ ap is_some names.absent in cc
+alone_of_fault X saves.Lost steady old wish before after on names counts = tt
+alone_of_fault X saves.Memory steady old wish before after on names counts = tt
+
+-- the same where the folder was as it was until then
+pub saved_alone : {X : Type 0} (result : Result X Failure) (fault : SaveFault) (steady : Type 0) (held old : Objects) (wish : Wish) (before mid after : ℕ) → result ≡ Err (Saving fault) → held ≡ old → mid ≡ before → steady
+    → IfErr result (λ failure. NamesPut failure wish old) → CountsSave {X = Unit {0}} steady held (Err fault) mid after → ComesOfACall result before after
+saved_alone {X} result fault steady held old wish before mid after is same level on names counts =
+    subst (λ (r : Result X Failure). ComesOfACall r before after) (sym is)
+    (alone_of_fault X fault steady old wish before after on (subst (λ (r : Result X Failure). IfErr r (λ failure. NamesPut failure wish old)) is names)
+    (subst (λ n. CountsSave {X = Unit {0}} steady old (Err fault) n after) level (subst (λ o. CountsSave {X = Unit {0}} steady o (Err fault) mid after) same counts)))
+
 -- ---- what a job leaves
+
+-- what a line leaves, for the job that it was asked for
+pub may_leave : (work : Work) (text : Option (List ℕ)) (wish : Wish) (old new : Objects) → IsAskedBy work text wish → MayHavePut old wish new → JobMayLeave work text old new
+may_leave work text wish old new asked (inl same) = inl same
+may_leave work text wish old new asked (inr put) = inr (wish, asked, put)
 
 -- a failure of the folder, for the job whose line was asked for
 pub left_for_job : (failure : Failure) (work : Work) (text : Option (List ℕ)) (wish : Wish) (old new : Objects) → IsAskedBy work text wish → IsOfFolder failure old new → MayHavePut old wish new
-    → Leaves failure work text old new
-left_for_job (Loading fault) work text wish old new asked same put = same
-left_for_job (Saving fault) work text wish old new asked of (inl same) = inl same
-left_for_job (Saving fault) work text wish old new asked of (inr put) = inr (wish, asked, put)
-left_for_job _ work text wish old new asked none put = absurd none
+    → NamesPut failure wish old → Leaves failure work text old new
+left_for_job (Loading fault) work text wish old new asked same put names = same
+left_for_job (Saving (saves.NotSaved name reason)) work text wish old new asked of put names = (may_leave work text wish old new asked put, (wish, asked, names))
+left_for_job (Saving saves.Lost) work text wish old new asked of put names = may_leave work text wish old new asked put
+left_for_job (Saving saves.Memory) work text wish old new asked of put names = may_leave work text wish old new asked put
+left_for_job _ work text wish old new asked none put names = absurd none
 
 -- the same where a call gave a reply or failed
 pub replies_to_job : (result : Result Reply Failure) (work : Work) (text : Option (List ℕ)) (wish : Wish) (old new : Objects) → IsAskedBy work text wish → IfOk result (λ reply. Grants old wish (reply_text reply) new) → IfOk result (λ reply. IsAnswer work text old (reply_text reply) new)
@@ -63,9 +126,9 @@ replies_to_job (Ok reply) work text wish old new asked granted = inr (wish, aske
 replies_to_job (Err failure) work text wish old new asked granted = tt
 
 pub fails_for_job : (result : Result Reply Failure) (work : Work) (text : Option (List ℕ)) (wish : Wish) (old new : Objects) → IsAskedBy work text wish → IfErr result (λ failure. IsOfFolder failure old new) → MayHavePut old wish new
-    → IfErr result (λ failure. Leaves failure work text old new)
-fails_for_job (Ok reply) work text wish old new asked of put = tt
-fails_for_job (Err failure) work text wish old new asked of put = left_for_job failure work text wish old new asked of put
+    → IfErr result (λ failure. NamesPut failure wish old) → IfErr result (λ failure. Leaves failure work text old new)
+fails_for_job (Ok reply) work text wish old new asked of put names = tt
+fails_for_job (Err failure) work text wish old new asked of put names = left_for_job failure work text wish old new asked of put names
 
 -- no job puts another tool's commit
 put_here : (work : Work) (text : Option (List ℕ)) (wish : Wish) → IsAskedBy work text wish → IsPutHere (asks wish)

@@ -1,12 +1,10 @@
 -- What a job on the table in a folder asks for, in the words of a script, and what it leaves in the folder.
-use Rattle.std.specs.Prelude.{◌≡◌, ◌⊎◌, ℕ, List, Option, Some, IfSome, map, false}
+use Rattle.std.specs.Prelude.{◌≡◌, ◌⊎◌, ℕ, Bool, List, Option, Some, IfSome, map, true, false, string_bytes}
 use Rattle.std.specs.Io.KnownBytes.{Appends}
 use Rattle.serde_json.specs.Data.{Data}
 use Rattle.serde_json.specs.View.{items_of}
 use Rattle.store_core.specs.Objects.{Objects}
-use Rattle.table_folder.specs.Loads.{loaded}
 use Rattle.json_lines.specs.Rows.{input_lines, object_of}
-use Rattle.job_laws.specs.Looking.{LooksWithin}
 use Rattle.lake_words.specs.Asked.{Work}
 use Rattle.lake_words.specs.Asked as words
 use Rattle.lake_script.specs.Growth.{MayPut}
@@ -16,18 +14,22 @@ use Rattle.lake_script.specs.ReplyView.{reply_text}
 use Rattle.lake_script.specs.Told.{not_yet}
 use Rattle.lake_script.specs.declared.reply.Reply.{Reply}
 use Rattle.lake_command.specs.Status.{refuses}
+use Rattle.lake_command.specs.declared.looking.DataFile.{DataFile}
 
 -- these are the rows of an input: the JSON objects of its lines
 abbrev pub AreRows : List ℕ → List Data → Type 0
 AreRows text rows = map object_of (input_lines text) ≡ map (λ row. Some row) rows
 
--- The objects that were loaded are those of the folder's log and some of its data files, with all that a line looks at.
-pub record IsLoadedFor (objects : Objects) (wish : Wish) (loaded_objects : Objects) : Type 0 where
-  pub files : List (List ℕ)
-  pub within : LooksWithin objects wish files
-  pub same : loaded_objects ≡ loaded files objects
+-- the names of some data files
+abbrev pub file_names : List DataFile → List (List ℕ)
+file_names files = map (λ file. string_bytes file.name) files
 
--- what a job asks for, where the input, which tells its text or doesn't, has the rows of an append
+-- an append alone reads the input
+abbrev pub reads_input : Work → Bool
+reads_input (words.append application number at tries) = true
+reads_input _ = false
+
+-- What a job asks for. An append's rows are those of the input's lines; where the reader doesn't tell its bytes, any rows.
 abbrev pub IsAskedBy : Work → (text : Option (List ℕ)) → Wish → Type 0
 IsAskedBy (words.create id schema at) text wish = wish ≡ create id at schema
 IsAskedBy (words.append application number at tries) text wish =
@@ -57,11 +59,11 @@ pub record IsAnswered (work : Work) (text : Option (List ℕ)) (old : Objects) (
   pub done : refuses work reply ≡ false
   pub answer : IsAnswer work text old (reply_text reply) new
 
--- behind a line that wasn't done to its end, or whose reply isn't known: what stood, or what the line may put, all of it or
+-- behind a line, however it ends: what stood, or what the line may put, all of it or
 -- its data file alone
 abbrev pub MayHavePut : (old : Objects) → Wish → (new : Objects) → Type 0
 MayHavePut old wish new = (new ≡ old) ⊎ MayPut old wish new
 
 -- the same of a line that asks for what a job asks for
-abbrev pub MayLeave : Work → (text : Option (List ℕ)) → (old new : Objects) → Type 0
-MayLeave work text old new = (new ≡ old) ⊎ ((wish : Wish) × IsAskedBy work text wish × MayPut old wish new)
+abbrev pub JobMayLeave : Work → (text : Option (List ℕ)) → (old new : Objects) → Type 0
+JobMayLeave work text old new = (new ≡ old) ⊎ ((wish : Wish) × IsAskedBy work text wish × MayPut old wish new)

@@ -1,3 +1,4 @@
 pub mod Failures
 pub mod Folders
 pub mod Status
+pub mod Endings

@@ -1,5 +1,5 @@
 //! The reply to a job on the table in a folder.
-ghost use Rattle.std.specs.Prelude.{◌≡◌, ◌<◌, ◌≤◌, ◌^◌, ℕ, List, Some, None, IfOk, IfErr, IfSome, OnErr, Ok};
+ghost use Rattle.std.specs.Prelude.{◌≡◌, ◌⊎◌, ◌<◌, ◌≤◌, ◌^◌, ℕ, List, true, false, Some, None, IfOk, IfErr, IfSome, IsOkAnd, OnErr, Ok, length};
 ghost use Rattle.store_core.specs.Objects.{object_at};
 ghost use Rattle.commit_core.specs.Sound.{IsSoundStore};
 ghost use Rattle.job_laws.specs.Bytes.{AreBytes};
@@ -9,9 +9,11 @@ ghost use Rattle.table_log.specs.Restoring.{RestoresWell};
 ghost use Rattle.lake_words.specs.Asked.{work_view};
 ghost use Rattle.lake_script.specs.Lines.{wish_view, IsTimely};
 ghost use Rattle.lake_script.specs.ReplyView.{reply_text};
-ghost use Rattle.lake_script.specs.Streams.{unread};
-ghost use Rattle.lake_command.specs.Failures.{IsOfInput, Leaves};
-ghost use Rattle.lake_command.specs.Folders.{IsAnswer, IsAskedBy, IsNotYet};
+ghost use Rattle.lake_script.specs.Streams.{read_failed, unread};
+ghost use Rattle.lake_command.specs.Failures.{ComesOfACall, IsByFolder, IsCaused, IsNotRead, IsOfInput, Leaves};
+ghost use Rattle.lake_script.specs.Told.{not_yet};
+ghost use Rattle.lake_script.specs.declared.inputs.TheConstants.{MOST_BYTES};
+ghost use Rattle.lake_command.specs.Folders.{IsAnswer, IsAskedBy, IsNotYet, JobMayLeave, reads_input};
 
 use crate::Failure;
 use crate::saving::grant_in;
@@ -39,10 +41,26 @@ pub fn answer<F: Folder, R: Read>(
         → IfOk result (λ reply. IsAnswer (work_view command.entry.job) (unread R.remaining input.old)
         (F.objects folder.old) (reply_text reply) (F.objects folder.new)) }
     // A fault of the words or of the input leaves the folder as it was. Where the table isn't saved whole, it holds what the job
-    // put, or its data file alone, or nothing of it.
+    // put, or its data file alone, or nothing of it; an object that isn't saved is one that the job puts where nothing stood,
+    // and a call of the folder failed then.
     ensures failed { F.is_steady folder.old → RestoresWell command.entry.restore (F.objects folder.old)
         → IfErr result (λ failure. Leaves failure (work_view command.entry.job) (unread R.remaining input.old)
         (F.objects folder.old) (F.objects folder.new)) }
+    ensures alone { F.is_steady folder.old → RestoresWell command.entry.restore (F.objects folder.old)
+        → ComesOfACall result (F.fault_count folder.old) (F.fault_count folder.new) }
+    // However it ends, such a folder holds what it had, or what the job may put, well made: all of it, or its data file alone.
+    ensures puts { F.is_steady folder.old → RestoresWell command.entry.restore (F.objects folder.old)
+        → JobMayLeave (work_view command.entry.job) (unread R.remaining input.old) (F.objects folder.old) (F.objects folder.new) }
+    // What comes of it has its cause in the words, the input or the folder's calls, the input before the folder. The folder
+    // isn't touched where the words or the input are refused.
+    ensures caused { IsCaused result (work_view command.entry.job) (unread R.remaining input.old) (read_failed input.new)
+        (F.fault_count folder.old) (F.fault_count folder.new) }
+    ensures first { IfErr result (λ failure. IsByFolder failure ⊎ (folder.new ≡ folder.old)) }
+    // A job but `append` leaves the input alone.
+    ensures input_untouched { reads_input (work_view command.entry.job) ≡ false → input.new ≡ input.old }
+    // What isn't there yet is told as such, without a look at the folder.
+    ensures later { IsNotYet (work_view command.entry.job)
+        → IsOkAnd result (λ reply. reply_text reply ≡ not_yet) × (folder.new ≡ folder.old) }
     // However it ends, a sound table stays sound: it has all that the job put, or its data file alone, or nothing of it.
     ensures sound { F.is_steady folder.old → AreBytes (F.objects folder.old) → commit_count (F.objects folder.old) < greatest_version → IsSoundStore (F.objects folder.old)
         → IsSoundStore (F.objects folder.new) }
@@ -65,8 +83,14 @@ fn line_of<'a, R: Read>(
 ) -> Result<Option<Line<'a>>, Failure>
     ensures asked { IfOk result (λ found. IfSome found (λ line. IsAskedBy (work_view job.entry) (unread R.remaining input.old) (wish_view line))) }
     ensures timely { IfOk result (λ found. IfSome found (λ line. IsTimely (wish_view line))) }
+    ensures broken { reads_input (work_view job.entry) ≡ true → read_failed input.new ≡ true → IsNotRead result }
+    ensures too_long { reads_input (work_view job.entry) ≡ true
+        → IfSome (unread R.remaining input.old) (λ text. MOST_BYTES < length text → IsNotRead result) }
+    ensures input_untouched { reads_input (work_view job.entry) ≡ false → input.new ≡ input.old }
+    ensures not_yet { IsNotYet (work_view job.entry) → result ≡ Ok None }
     ensures later { result ≡ Ok None → IsNotYet (work_view job.entry) }
-    ensures failed { IfErr result (λ failure. IsOfInput failure (unread R.remaining input.old)) }
+    ensures failed { IfErr result (λ failure. IsOfInput failure (work_view job.entry) (unread R.remaining input.old)
+        (read_failed input.new)) }
 {
     let line = match job {
         Job::Create { id, schema, at } => Line::Create {
@@ -102,7 +126,7 @@ fn line_of<'a, R: Read>(
 // A moment that a commit may have.
 fn moment(at: u64) -> Result<u64, Failure>
     ensures same { IfOk result (λ moment. (moment ≡ at) × (moment < 2 ^ 63)) }
-    ensures failed { IfErr result (λ failure. failure ≡ Failure.Misused) }
+    ensures failed { IfErr result (λ failure. (failure ≡ Failure.Misused) × (999_999_999_999_999 < at)) }
 {
     if at > LAST_MOMENT {
         return Err(Failure::Misused);

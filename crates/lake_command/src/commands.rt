@@ -1,5 +1,5 @@
 //! One command, from its words to its exit status.
-ghost use Rattle.std.specs.Prelude.{◌≡◌, ◌≢◌, ◌≤◌, ◌⊎◌, ℕ, [], true, false, length, map, IfSome};
+ghost use Rattle.std.specs.Prelude.{◌≡◌, ◌≢◌, ◌≤◌, ◌⊎◌, ℕ, Bool, List, [], true, false, length, map, IfSome};
 ghost use Rattle.std.specs.Io.KnownBytes.{Appends};
 ghost use Rattle.clap.specs.Words.{fault_of, kind_of};
 ghost use Rattle.delta_actions.specs.Commit.{lines_of};
@@ -10,7 +10,10 @@ ghost use Rattle.lake_script.specs.declared.inputs.TheConstants.{MOST_READS};
 ghost use Rattle.lake_script.specs.Streams.{held, unread, read_failed, write_failed};
 ghost use Rattle.lake_script.specs.Tables.{told as told_by_table, AreOfTable};
 ghost use Rattle.lake_script.specs.Told.{IsTold, first_bad};
-ghost use Rattle.lake_words.specs.Asked.{Spells};
+ghost use Rattle.lake_words.specs.Asked.{Spells, Work, table, work_view};
+ghost use Rattle.lake_words.specs.Spelling.{SpellsJob};
+ghost use Rattle.lake_command.specs.Endings.{TellsJob};
+ghost use Rattle.lake_command.specs.Folders.{reads_input};
 ghost use Rattle.lake_words.specs.Words.{commands};
 
 use crate::exit::{DONE, Exit, MISUSED, REFUSED};
@@ -68,7 +71,11 @@ fn command_on_disk<H: Files + AllocGlobal + Clone + Drop, R: Read, W: Write, E: 
     input: &mut Input<R>,
     output: &mut Output<W>,
     err: &mut E,
-) -> Exit {
+) -> Exit
+    ensures told { TellsJob W.contents (work_view command.entry.job) (unread R.remaining input.old) (read_failed input.new)
+        output.old output.new err.old err.new result }
+    ensures input_untouched { reads_input (work_view command.entry.job) ≡ false → input.new ≡ input.old }
+{
     match open(rt, command.folder) {
         Ok(folder) => {
             let mut folder = folder;
@@ -109,6 +116,13 @@ pub fn command<H: Files + AllocGlobal + Clone + Drop, S: AsStr, R: Read, W: Writ
     ensures refused { (c : Command) → Spells (map S.text words.now) c → result.status ≡ REFUSED
         → (result.is_short ≡ true) ⊎ ((read_failed input.new ≡ true) ⊎ ((write_failed output.new ≡ true)
         ⊎ IfSome (unread R.remaining input.old) (λ text. MOST_READS ≤ length text))) }
+
+    // What comes of a job is told where it belongs, with its status, and a failure of the words or the input has its cause there,
+    // unless memory runs out. What it leaves in a folder on the disk isn't claimed.
+    ensures job { (folder : List ℕ) (restore : Bool) (work : Work) → SpellsJob (map S.text words.now) (table folder restore work)
+        → TellsJob W.contents work (unread R.remaining input.old) (read_failed input.new) output.old output.new err.old err.new result }
+    ensures input_untouched { (folder : List ℕ) (restore : Bool) (work : Work) → SpellsJob (map S.text words.now) (table folder restore work)
+        → reads_input work ≡ false → input.new ≡ input.old }
 
     // Words that can't be read have the status of what is wrong with them, and run nothing.
     ensures misused { fault_of commands (map S.text words.now) ≢ [] → IsStatusOf (fault_of commands (map S.text words.now)) result.status result.is_short }

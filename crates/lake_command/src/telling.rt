@@ -1,5 +1,5 @@
 //! The reply to a job on the table in a folder, told, and the exit status.
-ghost use Rattle.std.specs.Prelude.{◌≡◌, ◌≢◌, ◌<◌, ℕ, List, false, Some, OnOk};
+ghost use Rattle.std.specs.Prelude.{◌≡◌, ◌≢◌, ◌⊎◌, ◌||◌, ◌<◌, ℕ, List, true, false, Some, Result, Ok, Err, OnOk, OnErr};
 ghost use Rattle.std.specs.Io.KnownBytes.{Appends};
 ghost use Rattle.store_core.specs.Objects.{object_at};
 ghost use Rattle.commit_core.specs.Sound.{IsSoundStore};
@@ -7,11 +7,14 @@ ghost use Rattle.job_laws.specs.Bytes.{AreBytes};
 ghost use Rattle.table_log.specs.Counts.{commit_count};
 ghost use Rattle.table_store.specs.Sound.{greatest_version};
 ghost use Rattle.table_log.specs.Restoring.{RestoresWell};
-ghost use Rattle.lake_words.specs.Asked.{work_view};
+ghost use Rattle.commit_core.specs.Texts.{line_of};
+ghost use Rattle.lake_words.specs.Asked.{Work, work_view};
 ghost use Rattle.lake_script.specs.ReplyView.{reply_text};
-ghost use Rattle.lake_script.specs.Streams.{held, unread};
-ghost use Rattle.lake_command.specs.Status.{has_refusal, is_refusal, is_want_of_memory, refuses, status_of_failure};
-ghost use Rattle.lake_command.specs.Folders.{IsAnswered};
+ghost use Rattle.lake_script.specs.Streams.{held, read_failed, unread, write_failed, StandsIn};
+ghost use Rattle.lake_command.specs.Endings.{EndsWith, IsOutcome};
+ghost use Rattle.lake_command.specs.Failures.{ComesOfACall, IsCaused, failure_text};
+ghost use Rattle.lake_command.specs.Status.{ends_early, has_refusal, is_refusal, is_want_of_memory, refuses, status_of_failure};
+ghost use Rattle.lake_command.specs.Folders.{IsAnswered, reads_input};
 
 use crate::answering::answer;
 use crate::exit::{DONE, Exit, MISUSED, REFUSED};
@@ -22,7 +25,7 @@ use std::alloc::Global;
 use std::io::{Read, Write};
 use table_folder::{Folder, LoadFault, SaveFault};
 
-/// Does a job on the table in a folder. Replies and bad lines go to `output`, faults of the folder and of the streams to
+/// Does a job on the table in a folder. Replies, bad lines and want of memory for the rows go to `output`, other failures to
 /// `err`.
 pub fn table_command<F: Folder, R: Read, W: Write, E: Write>(
     alloc: Global,
@@ -37,6 +40,17 @@ pub fn table_command<F: Folder, R: Read, W: Write, E: Write>(
     ensures done { F.is_steady folder.old → RestoresWell command.entry.restore (F.objects folder.old) → result.status ≡ DONE
         → IsAnswered (work_view command.entry.job) (unread R.remaining input.old) (F.objects folder.old)
         (held W.contents output.old) (W.contents output.new.writer) (F.objects folder.new) }
+    // However it ends, there is a reply, or a failure that has its cause; over such a folder it is the answer, or leaves what it
+    // may. It is told where it belongs, with its status, or a write failed or a growth was refused, and the status is 1.
+    ensures ended { (outcome : Result Reply Failure)
+        × (F.is_steady folder.old → RestoresWell command.entry.restore (F.objects folder.old)
+        → IsOutcome outcome (work_view command.entry.job) (unread R.remaining input.old) (F.objects folder.old) (F.objects folder.new)
+        × ComesOfACall outcome (F.fault_count folder.old) (F.fault_count folder.new))
+        × IsCaused outcome (work_view command.entry.job) (unread R.remaining input.old) (read_failed input.new)
+        (F.fault_count folder.old) (F.fault_count folder.new)
+        × EndsWith W.contents (work_view command.entry.job) outcome output.old output.new err.old err.new result }
+    // A job but `append` leaves the input alone.
+    ensures input_untouched { reads_input (work_view command.entry.job) ≡ false → input.new ≡ input.old }
     // However it ends, a sound table stays sound: it has all that the job put, or its data file alone, or nothing of it.
     ensures sound { F.is_steady folder.old → AreBytes (F.objects folder.old) → commit_count (F.objects folder.old) < greatest_version → IsSoundStore (F.objects folder.old)
         → IsSoundStore (F.objects folder.new) }
@@ -61,6 +75,7 @@ fn tell<W: Write, E: Write>(
     ensures told { result.status ≡ DONE
         → Appends (held W.contents output.old) (W.contents output.new.writer) (reply_text reply.now) }
     ensures done { result.status ≡ DONE → refuses (work_view job.entry) reply.now ≡ false }
+    ensures ended { EndsWith W.contents (work_view job.entry) (Ok reply.now) output.old output.new err.old err.new result }
 {
     let is_short = reply.is_short();
     match give(reply, output) {
@@ -78,7 +93,9 @@ fn tell<W: Write, E: Write>(
 
 // Gives a reply and writes it.
 fn give<W: Write>(reply: &Reply, output: &mut Output<W>) -> Result<(), OutputError>
-    ensures { OnOk result (Appends (held W.contents output.old) (W.contents output.new.writer) (reply_text reply.now)) }
+    ensures told { OnOk result (Appends (held W.contents output.old) (W.contents output.new.writer) (reply_text reply.now)) }
+    ensures front { OnErr result (StandsIn (held W.contents output.old) (W.contents output.new.writer) (reply_text reply.now)) }
+    ensures broken { result ≡ Err OutputError.Broken → write_failed output.new ≡ true }
 {
     reply.give(output)?;
     output.flush()
@@ -86,7 +103,8 @@ fn give<W: Write>(reply: &Reply, output: &mut Output<W>) -> Result<(), OutputErr
 
 // Tells that a reply wasn't written. Where this fails too, nothing is left to tell it on.
 fn not_written<E: Write>(error: OutputError, is_short: bool, err: &mut E) -> Exit
-    ensures { result.status ≡ REFUSED }
+    ensures status { result.status ≡ REFUSED }
+    ensures short { (result.is_short ≡ true) ⊎ (error ≡ OutputError.Broken) }
 {
     let _ = err.writeln(Refusal(Fault::NotWritten));
     Exit {
@@ -102,6 +120,7 @@ pub(crate) fn tell_failure<W: Write, E: Write>(
     err: &mut E,
 ) -> Exit
     ensures status { result.status ≢ DONE }
+    ensures ended { (work : Work) → EndsWith W.contents work (Err failure.now) output.old output.new err.old err.new result }
 {
     let is_short = is_want_of_memory(failure);
     if matches!(failure, Failure::BadLine(_) | Failure::Memory) {
@@ -131,7 +150,11 @@ fn hint<E: Write>(failure: &Failure, err: &mut E) {
 }
 
 // Says why there is no reply, where replies go.
-fn say<W: Write>(failure: &Failure, output: &mut Output<W>) -> Result<(), OutputError> {
+fn say<W: Write>(failure: &Failure, output: &mut Output<W>) -> Result<(), OutputError>
+    ensures told { OnOk result (Appends (held W.contents output.old) (W.contents output.new.writer) (line_of (failure_text failure.now))) }
+    ensures front { OnErr result (StandsIn (held W.contents output.old) (W.contents output.new.writer) (line_of (failure_text failure.now))) }
+    ensures broken { result ≡ Err OutputError.Broken → write_failed output.new ≡ true }
+{
     output.say(failure)?;
     output.flush()
 }
@@ -159,14 +182,22 @@ fn is_refused(reply: &Reply, job: Job<'_>) -> bool
     ensures { result ≡ refuses (work_view job.entry) reply.now }
 {
     match reply {
-        Reply::Bytes(text) => is_refusal(text) || (job == Job::History && has_refusal(text)),
+        Reply::Bytes(text) => text_refuses(text, job),
+        Reply::Digits(text) => text_refuses(text.as_bytes(), job),
         Reply::Created | Reply::Appended(_) | Reply::Checkpointed(_) | Reply::Put(_) => false,
         _ => true,
     }
 }
 
-// Whether a text begins with `refused `.
-fn is_refusal(text: &[u8]) -> bool
+// Whether a text that replies to a job refuses it.
+fn text_refuses(text: &[u8], job: Job<'_>) -> bool
+    ensures { result ≡ (is_refusal text.now || ends_early (work_view job.entry) text.now) }
+{
+    is_refusal(text) || (job == Job::History && has_refusal(text))
+}
+
+/// Whether a text begins with `refused `.
+pub(crate) fn is_refusal(text: &[u8]) -> bool
     ensures { result ≡ is_refusal text.now }
 {
     text.starts_with(b"refused ")

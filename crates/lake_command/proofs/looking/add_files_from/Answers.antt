@@ -1,9 +1,9 @@
 use Rattle.std.proofs.Common.{ℕ, List, Contains, get_or, map, sym, ap, subst, ◌∙◌, arith}
-use Rattle.std.specs.Prelude.{string_bytes}
 use Rattle.store_core.specs.Objects.{Objects}
 use Rattle.table_log.specs.Logs.{standing_by}
 use Rattle.table_log.specs.Versions.{version_at}
 use Rattle.job_laws.specs.Looking.{files_in}
+use Rattle.lake_command.specs.Folders.{file_names}
 use Rattle.lake_command.proofs.StandingLemmas.{all_listed, versions_on, listed_more, listed_past, listed_all}
 use Rattle.lake_command.proofs.looking.add_files_from.Goals as goal
 use Rattle.lake_command.proofs.looking.add_files_from.Goals.{then-version-from+in_ok-add_files_at, else-version-from}
@@ -23,7 +23,7 @@ loop-version-preserved g c =
     let front = versions_on objects versions i (omega arith) in
     elim c.if-version-from.branch [
       | then-version-from+in_ok-add_files_at w ↦
-          let added : (name : List ℕ) → Contains (files_in (version_at objects (get_or versions i 0))) name → Contains (map string_bytes w.add_files_at.new.files.items) name =
+          let added : (name : List ℕ) → Contains (files_in (version_at objects (get_or versions i 0))) name → Contains (file_names w.add_files_at.new.files.items) name =
           λ name among. w.in_ok-add_files_at.ensures.added name (subst (λ (o : Objects). Contains (files_in (version_at o (get_or versions i 0))) name) (sym c.loop-version.invariant.same) among) in
           rw (w.store-is, w.files-is) (record {
             same = w.in_ok-add_files_at.ensures.untouched ∙ c.loop-version.invariant.same;

@@ -1,3 +1,5 @@
+use Rattle.std.proofs.Common.{Ok, Err}
+use Rattle.lake_words.specs.Asked.{work_view}
 use Rattle.lake_command.proofs.telling.table_command.Goals as goal
 
 pub returns-in-Ok-clause-done : goal.returns-in-Ok-clause-done
@@ -7,3 +9,9 @@ returns-in-Ok-clause-done g c = λ steady restores done. record {
   done = c.tell.ensures.done done;
   answer = c.in-Ok.ensures.told steady restores;
 }
+
+pub returns-in-Ok-clause-ended : goal.returns-in-Ok-clause-ended
+returns-in-Ok-clause-ended g c = (Ok c.in-Ok.reply, (λ steady restores. (c.in-Ok.ensures.told steady restores, tt)), c.in-Ok.ensures.caused, c.tell.ensures.ended)
+
+pub returns-in-Err-clause-ended : goal.returns-in-Err-clause-ended
+returns-in-Err-clause-ended g c = (Err c.in-Err.failure, (λ steady restores. (c.in-Err.ensures.failed steady restores, c.in-Err.ensures.alone steady restores)), c.in-Err.ensures.caused, c.tell_failure.ensures.ended (work_view c.args.command.job))
