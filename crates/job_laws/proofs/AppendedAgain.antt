@@ -13,12 +13,12 @@ use Rattle.job_laws.proofs.Requests.{both_done, given, put_is}
 
 module _ (objects : Objects) (application : List ℕ) (number at : ℕ) (items : Items) where
   -- A new number's batch is put: its request, and the batch that fits.
-  record IsNew (batch : Batch) : Type 0 where
-    request : Request
-    asked : request_of false objects application number items ≡ Ok request
-    new : request.repeats ≡ false
-    made : batch_of request application number at ≡ Ok batch
-    fits : fitting objects batch ≡ Ok (puts batch)
+  pub record IsNew (batch : Batch) : Type 0 where
+    pub request : Request
+    pub asked : request_of false objects application number items ≡ Ok request
+    pub new : request.repeats ≡ false
+    pub made : batch_of request application number at ≡ Ok batch
+    pub fits : fitting objects batch ≡ Ok (puts batch)
 
   -- a batch that fits is the one that is put
   fits_is : (found batch : Batch) → fitting objects found ≡ Ok (puts batch) → found ≡ batch
@@ -51,7 +51,7 @@ module _ (objects : Objects) (application : List ℕ) (number at : ℕ) (items :
       let a = both_done (request_of false objects application number items) (step_of objects application number at) (puts batch) is in
       (batch, is, by_repeats a.0 batch a.1 a.0.repeats refl a.2)
 
-  committed_put : (version : ℕ) → appended_by false objects application number at items ≡ Ok (Committed version)
+  pub committed_put : (version : ℕ) → appended_by false objects application number at items ≡ Ok (Committed version)
       → (batch : Batch) × (settled false objects application number at items ≡ Ok (puts batch)) × IsNew batch
   committed_put version is =
       let a = both_done (settled false objects application number at items) (answered objects number) (Committed version) is in

@@ -213,7 +213,7 @@ module _ (objects : Objects) (name file bytes : List ℕ) (apart : (version : �
 -- ---- the request behind an append
 
 -- a batch's file has no commit's name
-file_apart : (application : List ℕ) (number : ℕ) (name : List ℕ) → name ≡ data_file_name application number → (version : ℕ) → commit_name version ≢ name
+pub file_apart : (application : List ℕ) (number : ℕ) (name : List ℕ) → name ≡ data_file_name application number → (version : ℕ) → commit_name version ≢ name
 unfolding commit_name
 file_apart application number name named version same = commit_name-data_file_name version application number (same ∙ named)
 

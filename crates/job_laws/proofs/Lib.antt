@@ -1,6 +1,7 @@
 mod Added
 mod Admissible
 mod AppendedAgain
+mod AppendedAlone
 mod AppendedFile
 mod AppendedLog
 pub mod Callers

@@ -51,7 +51,7 @@ unfolding file_name
 file_named application number = refl
 
 -- what is asked of a table
-same_request : (files : List (List ℕ)) (objects : Objects) (application : List ℕ) (number : ℕ) (items : Items) → request_of false (loaded files objects) application number items ≡ request_of false objects application number items
+pub same_request : (files : List (List ℕ)) (objects : Objects) (application : List ℕ) (number : ℕ) (items : Items) → request_of false (loaded files objects) application number items ≡ request_of false objects application number items
 unfolding request_of
 same_request files objects application number items =
     ap (λ (log : Result (List (List Entry)) ℕ). checked application number (count items) >>= λ fine. refused_as bad_log log >>= λ commits. request_behind (commit_count (loaded files objects)) commits application number items) (same_seen files objects)

@@ -13,7 +13,7 @@ ghost use Rattle.table_log.specs.Restoring.{RestoresWell};
 ghost use Rattle.table_folder.specs.Copies.{HasSavedFront, to_save};
 ghost use Rattle.table_folder.specs.Loads.{loaded};
 ghost use Rattle.commit_core.specs.Sound.{IsSoundStore};
-ghost use Rattle.sink_core.specs.Appending.{PutsWell, appended_by, settled, stands, with_append};
+ghost use Rattle.sink_core.specs.Appending.{PutsWell, appended_by, settled, stands, with_append, with_file_alone};
 ghost use Rattle.sink_core.specs.declared.appending.Appended.TheVariants.{Already, Committed};
 ghost use Rattle.lake_script.specs.Growth.{MayPut};
 ghost use Rattle.lake_script.specs.Lines.{Wish, asks, tail, task};
@@ -46,11 +46,14 @@ pub fn a_read_with_all_its_rows_is_whole()
 {}
 
 /// An append that is told as committed stands: over what it leaves the same append, at whatever moment, is told that its batch
-/// stands, and puts nothing. It is asked that what the first one puts is well made, as `sink_core::append` says of its own.
+/// stands, and puts nothing; and where its data file alone was saved, the same append is told as committed. It is asked that what the first one puts is well made, as `sink_core::append` says of its own.
 pub fn an_append_again_stands()
     ensures told { (objects : Objects) (application : List ℕ) (number at later version : ℕ) (items : Items) → PutsWell application number at (settled false objects application number at items)
         → appended_by false objects application number at items ≡ Ok (Committed version)
         → appended_by false (with_append objects (settled false objects application number at items)) application number later items ≡ Ok (Already number) }
+    ensures alone { (objects : Objects) (application : List ℕ) (number at version : ℕ) (items : Items) → IsInOrder objects → PutsWell application number at (settled false objects application number at items)
+        → appended_by false objects application number at items ≡ Ok (Committed version)
+        → appended_by false (with_file_alone objects (settled false objects application number at items)) application number at items ≡ Ok (Committed version) }
     ensures puts_nothing { (objects : Objects) (application : List ℕ) (number at later version : ℕ) (items : Items) → PutsWell application number at (settled false objects application number at items)
         → appended_by false objects application number at items ≡ Ok (Committed version)
         → settled false (with_append objects (settled false objects application number at items)) application number later items ≡ Ok stands }

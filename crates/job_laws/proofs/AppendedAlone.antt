@@ -1,0 +1,80 @@
+-- An append whose data file alone was saved is told the same when it is handed in again.
+use Rattle.std.proofs.Common.{◌≡◌, ◌≢◌, ◌∙◌, ℕ, Bool, true, false, List, [], Option, Some, None, Result, Ok, refl, sym, ap, subst}
+use Rattle.std.specs.Prelude.{if◌then◌else◌}
+use Rattle.lake_bytes.specs.Results.{◌>>=◌}
+use Rattle.serde_json.specs.Data.{Items}
+use Rattle.store_core.specs.Objects.{Objects, IsInOrder, object_at, with_object}
+use Rattle.store_core.specs.ObjectLaws.{IsInOrder-with_object, object_at-with_object_other, same_objects}
+use Rattle.delta_actions.specs.Names.{data_file_name}
+use Rattle.table_log.specs.Names.{commit_name}
+use Rattle.table_folder.specs.Loads.{is_loaded, is_of_log, loaded}
+use Rattle.sink_core.specs.Appending.{Batch, IsWellMade, PutsWell, Request, Step, answered, appended_by, batch_of, fitting, new_step, puts, repeated_step, request_of, settled, step_of, unless_there, with_file, with_file_alone}
+use Rattle.sink_core.specs.Refusals.{Refusal}
+use Rattle.sink_core.specs.declared.appending.Appended.{Appended}
+use Rattle.sink_core.specs.declared.appending.Appended.TheVariants.{Committed}
+use Rattle.job_laws.proofs.Added.{two_names}
+use Rattle.job_laws.proofs.AppendedAgain.{IsNew, committed_put}
+use Rattle.job_laws.proofs.AppendedFile.{file_fits}
+use Rattle.job_laws.proofs.AppendedLog.{file_apart}
+use Rattle.job_laws.proofs.Loaded.{loaded_at, loaded_in_order, loaded_not}
+use Rattle.job_laws.proofs.OwnSteps.{batch_own}
+use Rattle.job_laws.proofs.Requests.{both_done}
+use Rattle.job_laws.proofs.SameReads.{same_request}
+
+-- a data file is none of the log
+data_file_outside : (application : List ℕ) (number : ℕ) → is_loaded [] (data_file_name application number) ≡ false
+unfolding is_of_log
+data_file_outside application number = refl
+
+-- a put under a name that isn't loaded isn't seen
+put_outside : (files : List (List ℕ)) (objects : Objects) (name bytes : List ℕ) → IsInOrder objects → is_loaded files name ≡ false → loaded files (with_object objects name bytes) ≡ loaded files objects
+put_outside files objects name bytes order not =
+    same_objects (loaded files (with_object objects name bytes)) (loaded files objects)
+    (loaded_in_order files (with_object objects name bytes) (IsInOrder-with_object objects name bytes order)) (loaded_in_order files objects order)
+    (λ other. by_case other (is_loaded files other) refl)
+  where
+    by_case : (other : List ℕ) (b : Bool) → is_loaded files other ≡ b → object_at (loaded files (with_object objects name bytes)) other ≡ object_at (loaded files objects) other
+    by_case other true e =
+        loaded_at files (with_object objects name bytes) other e
+        ∙ object_at-with_object_other objects name bytes other (λ same. two_names files other name e not (sym same))
+        ∙ sym (loaded_at files objects other e)
+    by_case other false e = loaded_not files (with_object objects name bytes) other e ∙ sym (loaded_not files objects other e)
+
+-- so what is asked of the table is asked as before
+request_beside : (objects : Objects) (name bytes application : List ℕ) (number : ℕ) (items : Items) → IsInOrder objects → is_loaded [] name ≡ false
+    → request_of false (with_object objects name bytes) application number items ≡ request_of false objects application number items
+request_beside objects name bytes application number items order not =
+    sym (same_request [] (with_object objects name bytes) application number items)
+    ∙ ap (λ (o : Objects). request_of false o application number items) (put_outside [] objects name bytes order not)
+    ∙ same_request [] objects application number items
+
+module _ (objects : Objects) (application : List ℕ) (number at version : ℕ) (items : Items) (order : IsInOrder objects) where
+  -- the batch is put again
+  again : (batch : Batch) → IsNew objects application number at items batch → IsWellMade application number at batch → batch.name ≡ data_file_name application number
+      → settled false (with_file objects batch) application number at items ≡ Ok (puts batch)
+  again batch is well named =
+      let beside = with_file objects batch in
+      let outside : is_loaded [] batch.name ≡ false = ap (is_loaded []) named ∙ data_file_outside application number in
+      ap (λ (r : Result Request Refusal). r >>= step_of beside application number at) (request_beside objects batch.name batch.file application number items order outside ∙ is.asked)
+      ∙ ap (λ (repeats : Bool). if repeats then repeated_step beside is.request application number else new_step beside is.request application number at) is.new
+      ∙ ap (λ (b : Result Batch Refusal). b >>= fitting beside) is.made
+      ∙ file_fits objects batch application number at well is.fits
+
+  -- and it is answered as before
+  answered_again : (batch : Batch) → batch.name ≡ data_file_name application number → answered objects number (puts batch) ≡ Ok (Committed version) → answered (with_file objects batch) number (puts batch) ≡ Ok (Committed version)
+  answered_again batch named is =
+      ap (unless_there batch.version) (object_at-with_object_other (with_file objects batch) batch.name batch.file (commit_name batch.version) (file_apart application number batch.name named batch.version)) ∙ is
+
+  pub told_alone : PutsWell application number at (settled false objects application number at items) → appended_by false objects application number at items ≡ Ok (Committed version)
+      → appended_by false (with_file_alone objects (settled false objects application number at items)) application number at items ≡ Ok (Committed version)
+  told_alone well told =
+      let a = committed_put objects application number at items version told in
+      let batch = a.0 in
+      let was = subst (PutsWell application number at) a.1 well in
+      let named = batch_named batch a.2 in
+      let first : answered objects number (puts batch) ≡ Ok (Committed version) = ap (λ (s : Result Step Refusal). s >>= answered objects number) (sym a.1) ∙ told in
+      subst (λ (s : Result Step Refusal). appended_by false (with_file_alone objects s) application number at items ≡ Ok (Committed version)) (sym a.1)
+      (ap (λ (s : Result Step Refusal). s >>= answered (with_file objects batch) number) (again batch a.2 was named) ∙ answered_again batch named first)
+    where
+      batch_named : (batch : Batch) → IsNew objects application number at items batch → batch.name ≡ data_file_name application number
+      batch_named batch is = (batch_own is.request application number at batch is.made).name
