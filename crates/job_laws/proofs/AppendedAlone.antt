@@ -1,5 +1,5 @@
 -- An append whose data file alone was saved is told the same when it is handed in again.
-use Rattle.std.proofs.Common.{◌≡◌, ◌≢◌, ◌∙◌, ℕ, Bool, true, false, List, [], Option, Some, None, Result, Ok, refl, sym, ap, subst}
+use Rattle.std.proofs.Common.{◌≡◌, ◌∙◌, ℕ, Bool, true, false, List, [], Result, Ok, refl, sym, ap, subst}
 use Rattle.std.specs.Prelude.{if◌then◌else◌}
 use Rattle.lake_bytes.specs.Results.{◌>>=◌}
 use Rattle.serde_json.specs.Data.{Items}
@@ -8,9 +8,8 @@ use Rattle.store_core.specs.ObjectLaws.{IsInOrder-with_object, object_at-with_ob
 use Rattle.delta_actions.specs.Names.{data_file_name}
 use Rattle.table_log.specs.Names.{commit_name}
 use Rattle.table_folder.specs.Loads.{is_loaded, is_of_log, loaded}
-use Rattle.sink_core.specs.Appending.{Batch, IsWellMade, PutsWell, Request, Step, answered, appended_by, batch_of, fitting, new_step, puts, repeated_step, request_of, settled, step_of, unless_there, with_file, with_file_alone}
+use Rattle.sink_core.specs.Appending.{Batch, IsWellMade, PutsWell, Request, Step, answered, appended_by, fitting, new_step, puts, repeated_step, request_of, settled, step_of, unless_there, with_file, with_file_alone}
 use Rattle.sink_core.specs.Refusals.{Refusal}
-use Rattle.sink_core.specs.declared.appending.Appended.{Appended}
 use Rattle.sink_core.specs.declared.appending.Appended.TheVariants.{Committed}
 use Rattle.job_laws.proofs.Added.{two_names}
 use Rattle.job_laws.proofs.AppendedAgain.{IsNew, committed_put}
@@ -18,7 +17,6 @@ use Rattle.job_laws.proofs.AppendedFile.{file_fits}
 use Rattle.job_laws.proofs.AppendedLog.{file_apart}
 use Rattle.job_laws.proofs.Loaded.{loaded_at, loaded_in_order, loaded_not}
 use Rattle.job_laws.proofs.OwnSteps.{batch_own}
-use Rattle.job_laws.proofs.Requests.{both_done}
 use Rattle.job_laws.proofs.SameReads.{same_request}
 
 -- a data file is none of the log
