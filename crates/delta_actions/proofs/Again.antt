@@ -12,8 +12,8 @@ use Rattle.json_fields.proofs.Callers.{over_none, needed_again, optional_again, 
 use Rattle.delta_actions.specs.Wrong.{bad_field}
 use Rattle.delta_actions.specs.Kinds.{Format, file_path, format, parquet}
 use Rattle.delta_actions.specs.KindLaws.{path_stands, format_stands}
-use Rattle.delta_actions.specs.Entry.{Entry, commit_info, protocol, meta_data, add, txn, remove, domain_metadata, checkpoint_metadata, sidecar, other}
-use Rattle.delta_actions.specs.Entry.{ProtocolEntry, MetaDataEntry, AddEntry, TxnEntry, RemoveEntry, DomainMetadataEntry, CheckpointMetadataEntry}
+use Rattle.delta_actions.specs.Action.{Action, commit_info, protocol, meta_data, add, txn, remove, domain_metadata, checkpoint_metadata, sidecar, other}
+use Rattle.delta_actions.specs.Action.{ProtocolAction, MetaDataAction, AddAction, TxnAction, RemoveAction, DomainMetadataAction, CheckpointMetadataAction}
 use Rattle.delta_actions.specs.Actions.{protocol_of, meta_data_of, add_of, txn_of, remove_of, domain_metadata_of, checkpoint_metadata_of, Known, known_actions, action_among, action_of, stands_for}
 use Rattle.delta_actions.specs.Printing.{protocol_fields, meta_data_fields, add_fields, txn_fields, remove_fields, domain_metadata_fields, checkpoint_metadata_fields, format_fields, path_data, format_data}
 use Rattle.delta_actions.specs.Printing.{protocol_data, meta_data_data, add_data, txn_data, remove_data, domain_metadata_data, checkpoint_metadata_data, data_of}
@@ -31,7 +31,7 @@ as_itself (Some d) = refl
 
 -- ---- actions
 
-txn_again : (t : TxnEntry) → IsTxn t → txn_of (txn_data t) ≡ Ok t
+txn_again : (t : TxnAction) → IsTxn t → txn_of (txn_data t) ≡ Ok t
 unfolding txn_of
 txn_again t h =
     let fs = txn_fields t in
@@ -41,7 +41,7 @@ txn_again t h =
       optional_of_kind count count_data IsCount count_stands (codes "lastUpdated") fs t.last_updated h.last_updated (over_none (option_map count_data t.last_updated)),
     ) refl
 
-add_again : (a : AddEntry) → IsAdd a → add_of (add_data a) ≡ Ok a
+add_again : (a : AddAction) → IsAdd a → add_of (add_data a) ≡ Ok a
 unfolding add_of
 add_again a h =
     let fs = add_fields a in
@@ -55,7 +55,7 @@ add_again a h =
       optional_of_kind text_map (λ d. d) (λ d. is_text_map d ≡ true) map_stands (codes "tags") fs a.tags h.tags (over_none a.tags ∙ as_itself a.tags),
     ) refl
 
-meta_data_again : (m : MetaDataEntry) → IsMetaData m → meta_data_of (meta_data_data m) ≡ Ok m
+meta_data_again : (m : MetaDataAction) → IsMetaData m → meta_data_of (meta_data_data m) ≡ Ok m
 unfolding meta_data_of
 meta_data_again m h =
     let fs = meta_data_fields m in
@@ -70,7 +70,7 @@ meta_data_again m h =
       defaulted_again text_map (codes "configuration") no_texts fs m.configuration m.configuration refl (map_stands m.configuration h.configuration),
     ) refl
 
-protocol_again : (p : ProtocolEntry) → IsProtocol p → protocol_of (protocol_data p) ≡ Ok p
+protocol_again : (p : ProtocolAction) → IsProtocol p → protocol_of (protocol_data p) ≡ Ok p
 unfolding protocol_of
 protocol_again p h =
     let fs = protocol_fields p in
@@ -81,7 +81,7 @@ protocol_again p h =
       unless_empty_again (codes "writerFeatures") fs p.writer_features (over_none (unless_empty p.writer_features)),
     ) refl
 
-remove_again : (r : RemoveEntry) → IsRemove r → remove_of (remove_data r) ≡ Ok r
+remove_again : (r : RemoveAction) → IsRemove r → remove_of (remove_data r) ≡ Ok r
 unfolding remove_of
 remove_again r h =
     let fs = remove_fields r in
@@ -91,7 +91,7 @@ remove_again r h =
       optional_of_kind count count_data IsCount count_stands (codes "deletionTimestamp") fs r.deletion_timestamp h.deletion_timestamp (over_none (option_map count_data r.deletion_timestamp)),
     ) refl
 
-domain_metadata_again : (m : DomainMetadataEntry) → domain_metadata_of (domain_metadata_data m) ≡ Ok m
+domain_metadata_again : (m : DomainMetadataAction) → domain_metadata_of (domain_metadata_data m) ≡ Ok m
 unfolding domain_metadata_of
 domain_metadata_again m =
     let fs = domain_metadata_fields m in
@@ -101,7 +101,7 @@ domain_metadata_again m =
       defaulted_again as_bool (codes "removed") false fs (boolean m.removed) m.removed refl (truth_stands m.removed),
     ) refl
 
-checkpoint_metadata_again : (m : CheckpointMetadataEntry) → IsCount m.version → checkpoint_metadata_of (checkpoint_metadata_data m) ≡ Ok m
+checkpoint_metadata_again : (m : CheckpointMetadataAction) → IsCount m.version → checkpoint_metadata_of (checkpoint_metadata_data m) ≡ Ok m
 unfolding checkpoint_metadata_of
 checkpoint_metadata_again m h =
     let fs = checkpoint_metadata_fields m in
@@ -122,16 +122,16 @@ other_again : (key : List ℕ) (d : Data) → is_known key ≡ false → action_
 unfolding action_of
 other_again key d h = among_none known_actions key d h
 
-pub stands_again : (e : Entry) → IsPrintable e → stands_for (data_of e) ≡ Ok e
+pub stands_again : (e : Action) → IsPrintable e → stands_for (data_of e) ≡ Ok e
 unfolding action_of
 stands_again (commit_info d) h = refl
-stands_again (protocol p) h = ap (λ (r : Result ProtocolEntry (List ℕ)). refused_as bad_field (r >>= λ x. Ok (protocol x))) (protocol_again p h)
-stands_again (meta_data m) h = ap (λ (r : Result MetaDataEntry (List ℕ)). refused_as bad_field (r >>= λ x. Ok (meta_data x))) (meta_data_again m h)
-stands_again (add a) h = ap (λ (r : Result AddEntry (List ℕ)). refused_as bad_field (r >>= λ x. Ok (add x))) (add_again a h)
-stands_again (txn t) h = ap (λ (r : Result TxnEntry (List ℕ)). refused_as bad_field (r >>= λ x. Ok (txn x))) (txn_again t h)
-stands_again (remove r) h = ap (λ (r : Result RemoveEntry (List ℕ)). refused_as bad_field (r >>= λ x. Ok (remove x))) (remove_again r h)
-stands_again (domain_metadata m) h = ap (λ (r : Result DomainMetadataEntry (List ℕ)). refused_as bad_field (r >>= λ x. Ok (domain_metadata x))) (domain_metadata_again m)
-stands_again (checkpoint_metadata m) h = ap (λ (r : Result CheckpointMetadataEntry (List ℕ)). refused_as bad_field (r >>= λ x. Ok (checkpoint_metadata x))) (checkpoint_metadata_again m h)
+stands_again (protocol p) h = ap (λ (r : Result ProtocolAction (List ℕ)). refused_as bad_field (r >>= λ x. Ok (protocol x))) (protocol_again p h)
+stands_again (meta_data m) h = ap (λ (r : Result MetaDataAction (List ℕ)). refused_as bad_field (r >>= λ x. Ok (meta_data x))) (meta_data_again m h)
+stands_again (add a) h = ap (λ (r : Result AddAction (List ℕ)). refused_as bad_field (r >>= λ x. Ok (add x))) (add_again a h)
+stands_again (txn t) h = ap (λ (r : Result TxnAction (List ℕ)). refused_as bad_field (r >>= λ x. Ok (txn x))) (txn_again t h)
+stands_again (remove r) h = ap (λ (r : Result RemoveAction (List ℕ)). refused_as bad_field (r >>= λ x. Ok (remove x))) (remove_again r h)
+stands_again (domain_metadata m) h = ap (λ (r : Result DomainMetadataAction (List ℕ)). refused_as bad_field (r >>= λ x. Ok (domain_metadata x))) (domain_metadata_again m)
+stands_again (checkpoint_metadata m) h = ap (λ (r : Result CheckpointMetadataAction (List ℕ)). refused_as bad_field (r >>= λ x. Ok (checkpoint_metadata x))) (checkpoint_metadata_again m h)
 stands_again (sidecar d) h = refl
 stands_again (other key d) h = ap (refused_as bad_field) (other_again key d h.0)
 
@@ -143,34 +143,34 @@ line_depth key d h = omega arith
 body_depth : (d : Data) → depth d ≤ 3 → depth d ≤ 126
 body_depth d h = omega arith
 
-protocol_depth : (p : ProtocolEntry) → AreShallow 2 (protocol_fields p)
+protocol_depth : (p : ProtocolAction) → AreShallow 2 (protocol_fields p)
 protocol_depth p = (omega arith, (omega arith, (unless_empty_depth p.reader_features 2 (omega arith), (unless_empty_depth p.writer_features 2 (omega arith), tt))))
 
 format_depth : (f : Format) → is_text_map f.options ≡ true → AreShallow 1 (format_fields f)
 format_depth f h = (omega arith, (text_map_depth f.options 1 (omega arith) h, tt))
 
-meta_data_depth : (m : MetaDataEntry) → IsMetaData m → AreShallow 2 (meta_data_fields m)
+meta_data_depth : (m : MetaDataAction) → IsMetaData m → AreShallow 2 (meta_data_fields m)
 meta_data_depth m h = (omega arith, (omega arith, (leaf string (λ t. refl) m.name 2, (leaf string (λ t. refl) m.description 2, (fields_depth (format_fields m.format) 1 (format_depth m.format h.options), (texts_depth m.partition_columns 2 (omega arith), (leaf count_data (λ n. refl) m.created_time 2, (text_map_depth m.configuration 2 (omega arith) h.configuration, tt))))))))
 
-add_depth : (a : AddEntry) → IsAdd a → AreShallow 2 (add_fields a)
+add_depth : (a : AddAction) → IsAdd a → AreShallow 2 (add_fields a)
 add_depth a h = (omega arith, (omega arith, (omega arith, (text_map_depth a.partition_values 2 (omega arith) h.partition_values, (omega arith, (leaf string (λ t. refl) a.stats 2, (map_if a.tags 2 (omega arith) h.tags, tt)))))))
 
-txn_depth : (t : TxnEntry) → AreShallow 2 (txn_fields t)
+txn_depth : (t : TxnAction) → AreShallow 2 (txn_fields t)
 txn_depth t = (omega arith, (omega arith, (leaf count_data (λ n. refl) t.last_updated 2, tt)))
 
-remove_depth : (r : RemoveEntry) → AreShallow 2 (remove_fields r)
+remove_depth : (r : RemoveAction) → AreShallow 2 (remove_fields r)
 remove_depth r = (omega arith, (omega arith, (leaf count_data (λ n. refl) r.deletion_timestamp 2, tt)))
 
-domain_metadata_depth : (m : DomainMetadataEntry) → AreShallow 2 (domain_metadata_fields m)
+domain_metadata_depth : (m : DomainMetadataAction) → AreShallow 2 (domain_metadata_fields m)
 domain_metadata_depth m = (omega arith, (omega arith, (omega arith, tt)))
 
-checkpoint_metadata_depth : (m : CheckpointMetadataEntry) → AreShallow 2 (checkpoint_metadata_fields m)
+checkpoint_metadata_depth : (m : CheckpointMetadataAction) → AreShallow 2 (checkpoint_metadata_fields m)
 checkpoint_metadata_depth m = (omega arith, tt)
 
 fields_line_depth : (key : List ℕ) (fs : List Field) → AreShallow 2 fs → depth (one_field key (fields_object fs)) ≤ 127
 fields_line_depth key fs h = line_depth key (fields_object fs) (body_depth (fields_object fs) (fields_depth fs 2 h))
 
-pub is_shallow : (e : Entry) → IsPrintable e → depth (data_of e) ≤ 127
+pub is_shallow : (e : Action) → IsPrintable e → depth (data_of e) ≤ 127
 is_shallow (commit_info d) h = line_depth (codes "commitInfo") d h
 is_shallow (protocol p) h = fields_line_depth (codes "protocol") (protocol_fields p) (protocol_depth p)
 is_shallow (meta_data m) h = fields_line_depth (codes "metaData") (meta_data_fields m) (meta_data_depth m h)

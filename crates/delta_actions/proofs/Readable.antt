@@ -15,14 +15,14 @@ use Rattle.delta_actions.specs.declared.fault.ActionFault.{ActionFault}
 use Rattle.delta_actions.specs.Wrong.{bad_field, Gives}
 use Rattle.delta_actions.specs.Kinds.{file_path, format, parquet}
 use Rattle.delta_actions.specs.KindLaws.{is_path, is_format}
-use Rattle.delta_actions.specs.Entry.{Entry, commit_info, protocol, meta_data, add, txn, remove, domain_metadata, checkpoint_metadata, sidecar, other}
-use Rattle.delta_actions.specs.Entry.{ProtocolEntry, MetaDataEntry, AddEntry, TxnEntry, RemoveEntry, CheckpointMetadataEntry}
+use Rattle.delta_actions.specs.Action.{Action, commit_info, protocol, meta_data, add, txn, remove, domain_metadata, checkpoint_metadata, sidecar, other}
+use Rattle.delta_actions.specs.Action.{ProtocolAction, MetaDataAction, AddAction, TxnAction, RemoveAction, CheckpointMetadataAction}
 use Rattle.delta_actions.specs.Actions.{protocol_of, meta_data_of, add_of, txn_of, remove_of, checkpoint_metadata_of, Known, of_value, of_fields, known_actions, action_among, action_of, one_key, stands_for}
 use Rattle.delta_actions.specs.Printing.{IsShallow, IsProtocol, IsMetaData, IsPath, IsAdd, IsTxn, IsRemove, IsPrintable}
 
 -- ---- actions
 
-txn_holds : (body : Data) (t : TxnEntry) → txn_of body ≡ Ok t → IsTxn t
+txn_holds : (body : Data) (t : TxnAction) → txn_of body ≡ Ok t → IsTxn t
 unfolding txn_of
 txn_holds body t e =
     let a = bind_ok (needed as_str (codes "appId") body) _ t e in
@@ -33,7 +33,7 @@ txn_holds body t e =
       last_updated = optional_holds count IsCount is_count (codes "lastUpdated") body c.0 c.1;
     })
 
-add_holds : (body : Data) (a : AddEntry) → add_of body ≡ Ok a → IsAdd a
+add_holds : (body : Data) (a : AddAction) → add_of body ≡ Ok a → IsAdd a
 unfolding add_of
 add_holds body a e =
     let path = bind_ok (needed file_path (codes "path") body) _ a e in
@@ -51,7 +51,7 @@ add_holds body a e =
       tags = optional_holds text_map (λ d. is_text_map d ≡ true) is_map (codes "tags") body tags.0 tags.1;
     })
 
-meta_data_holds : (body : Data) (m : MetaDataEntry) → meta_data_of body ≡ Ok m → IsMetaData m
+meta_data_holds : (body : Data) (m : MetaDataAction) → meta_data_of body ≡ Ok m → IsMetaData m
 unfolding meta_data_of
 meta_data_holds body m e =
     let id = bind_ok (needed as_str (codes "id") body) _ m e in
@@ -68,7 +68,7 @@ meta_data_holds body m e =
       configuration = defaulted_holds text_map (λ d. is_text_map d ≡ true) is_map (codes "configuration") no_texts body settings.0 refl settings.1;
     })
 
-protocol_holds : (body : Data) (p : ProtocolEntry) → protocol_of body ≡ Ok p → IsProtocol p
+protocol_holds : (body : Data) (p : ProtocolAction) → protocol_of body ≡ Ok p → IsProtocol p
 unfolding protocol_of
 protocol_holds body p e =
     let reader = bind_ok (needed count (codes "minReaderVersion") body) _ p e in
@@ -80,7 +80,7 @@ protocol_holds body p e =
       min_writer_version = needed_holds count IsCount is_count (codes "minWriterVersion") body writer.0 writer.1;
     })
 
-remove_holds : (body : Data) (r : RemoveEntry) → remove_of body ≡ Ok r → IsRemove r
+remove_holds : (body : Data) (r : RemoveAction) → remove_of body ≡ Ok r → IsRemove r
 unfolding remove_of
 remove_holds body r e =
     let path = bind_ok (needed file_path (codes "path") body) _ r e in
@@ -91,22 +91,22 @@ remove_holds body r e =
       deletion_timestamp = optional_holds count IsCount is_count (codes "deletionTimestamp") body deleted.0 deleted.1;
     })
 
-checkpoint_metadata_holds : (body : Data) (m : CheckpointMetadataEntry) → checkpoint_metadata_of body ≡ Ok m → IsCount m.version
+checkpoint_metadata_holds : (body : Data) (m : CheckpointMetadataAction) → checkpoint_metadata_of body ≡ Ok m → IsCount m.version
 unfolding checkpoint_metadata_of
 checkpoint_metadata_holds body m e =
     let version = bind_ok (needed count (codes "version") body) _ m e in
-    subst (λ (m : CheckpointMetadataEntry). IsCount m.version) (ok_is _ m version.2) (needed_holds count IsCount is_count (codes "version") body version.0 version.1)
+    subst (λ (m : CheckpointMetadataAction). IsCount m.version) (ok_is _ m version.2) (needed_holds count IsCount is_count (codes "version") body version.0 version.1)
 
 -- what stands for an action of that key can be printed
 abbrev Holds : Known → Type 0
-Holds known = (value : Data) (e : Entry) → IsShallow value → known.1 value ≡ Ok e → IsPrintable e
+Holds known = (value : Data) (e : Action) → IsShallow value → known.1 value ≡ Ok e → IsPrintable e
 
 -- an action that is any JSON
-value_holds : (key : List ℕ) (wrap : Data → Entry) → ((d : Data) → IsShallow d → IsPrintable (wrap d)) → Holds (of_value key wrap)
+value_holds : (key : List ℕ) (wrap : Data → Action) → ((d : Data) → IsShallow d → IsPrintable (wrap d)) → Holds (of_value key wrap)
 value_holds key wrap holds value e shallow is = subst IsPrintable (ok_is (wrap value) e is) (holds value shallow)
 
 -- an action that is an object of fields
-fields_hold : {A : Type 0} (key : List ℕ) {of : Data → Result A (List ℕ)} (wrap : A → Entry) → ((body : Data) (x : A) → of body ≡ Ok x → IsPrintable (wrap x)) → Holds (of_fields key of wrap)
+fields_hold : {A : Type 0} (key : List ℕ) {of : Data → Result A (List ℕ)} (wrap : A → Action) → ((body : Data) (x : A) → of body ≡ Ok x → IsPrintable (wrap x)) → Holds (of_fields key of wrap)
 fields_hold key {of = of} wrap holds value e shallow is =
     let b = bind_ok (fields_of key value >>= of) (λ x. Ok (wrap x)) e is in
     let c = bind_ok (fields_of key value) of b.0 b.1 in
@@ -117,7 +117,7 @@ known_hold =
     (value_holds (codes "commitInfo") commit_info (λ d h. h), (fields_hold _ protocol protocol_holds, (fields_hold _ meta_data meta_data_holds, (fields_hold _ add add_holds, (fields_hold _ txn txn_holds, (fields_hold _ remove remove_holds, (fields_hold _ domain_metadata (λ body m is. tt), (fields_hold _ checkpoint_metadata checkpoint_metadata_holds, (value_holds (codes "sidecar") sidecar (λ d h. h), tt)))))))))
 
 -- an action among these, or another one
-among_holds : (among : List Known) (key : List ℕ) (value : Data) (e : Entry) → AllByRecursion Holds among → IsShallow value
+among_holds : (among : List Known) (key : List ℕ) (value : Data) (e : Action) → AllByRecursion Holds among → IsShallow value
     → (list_any (λ known. bytes_eq key known.0) among ≡ false → IsPrintable (other key value)) → action_among among key value ≡ Ok e → IsPrintable e
 among_holds [] key value e hold shallow none is = subst IsPrintable (ok_is (other key value) e is) (none refl)
 among_holds (known ∷ more) key value e hold shallow none is =
@@ -126,7 +126,7 @@ among_holds (known ∷ more) key value e hold shallow none is =
       | inr differs ↦ among_holds more key value e hold.1 shallow (λ h. none (rw differs h)) (rw differs at is)
     ]
 
-action_holds : (key : List ℕ) (value : Data) (e : Entry) → IsShallow value → action_of key value ≡ Ok e → IsPrintable e
+action_holds : (key : List ℕ) (value : Data) (e : Action) → IsShallow value → action_of key value ≡ Ok e → IsPrintable e
 unfolding action_of
 action_holds key value e shallow is = among_holds known_actions key value e known_hold shallow (λ none. (none, shallow)) is
 
@@ -135,12 +135,12 @@ refused_ok : {A E F : Type 0} (tell : E → F) (r : Result A E) (x : A) → refu
 refused_ok tell (Ok y) x e = let same : y ≡ x = cc in ap Ok same
 refused_ok tell (Err w) x e = absurd cc
 
-one_key_holds : (ms : Members) (e : Entry) → depth (object ms) ≤ 127 → one_key ms ≡ Ok e → IsPrintable e
+one_key_holds : (ms : Members) (e : Action) → depth (object ms) ≤ 127 → one_key ms ≡ Ok e → IsPrintable e
 one_key_holds no_members e shallow is = absurd cc
 one_key_holds (member key value no_members) e shallow is = action_holds key value e (omega arith) (refused_ok bad_field (action_of key value) e is)
 one_key_holds (member key value (member k d ms)) e shallow is = absurd cc
 
-stands_holds : (d : Data) (e : Entry) → depth d ≤ 127 → stands_for d ≡ Ok e → IsPrintable e
+stands_holds : (d : Data) (e : Action) → depth d ≤ 127 → stands_for d ≡ Ok e → IsPrintable e
 stands_holds null e shallow is = absurd cc
 stands_holds (boolean b) e shallow is = absurd cc
 stands_holds (number n) e shallow is = absurd cc
@@ -148,7 +148,7 @@ stands_holds (string s) e shallow is = absurd cc
 stands_holds (array ds) e shallow is = absurd cc
 stands_holds (object ms) e shallow is = one_key_holds ms e shallow is
 
-pub printable : {X : Type 0} (view : X → Entry) (line : ℕ) (d : Data) (r : Result X ActionFault) → depth d ≤ 127 → Gives view line r (stands_for d) → IfOk r (λ x. IsPrintable (view x))
+pub printable : {X : Type 0} (view : X → Action) (line : ℕ) (d : Data) (r : Result X ActionFault) → depth d ≤ 127 → Gives view line r (stands_for d) → IfOk r (λ x. IsPrintable (view x))
 printable view line d (Ok x) shallow is = stands_holds d (view x) shallow is
 printable view line d (Err e) shallow is = tt
 

@@ -1,7 +1,7 @@
 pub mod Wrong
 pub mod Kinds
 pub mod KindLaws
-pub mod Entry
+pub mod Action
 pub mod In
 pub mod Actions
 pub mod Commit

@@ -4,7 +4,7 @@ ghost use Rattle.std.specs.Prelude.{◌≡◌, true};
 ghost use Rattle.json_fields.specs.Kinds.{is_text_map};
 ghost use Rattle.delta_actions.specs.Kinds.{Path, Format, file_path, format};
 ghost use Rattle.delta_actions.specs.Printing.{IsPath, path_data, format_data};
-ghost use Rattle.delta_actions.specs.Entry.{path_view, format_view};
+ghost use Rattle.delta_actions.specs.Action.{path_view, format_view};
 ghost use Rattle.delta_actions.specs.KindLaws.{path_stands, is_path, format_stands, is_format};
 
 use crate::file_path::FilePath;

@@ -3,7 +3,7 @@
 ghost use Rattle.std.specs.Prelude.{◌≡◌, IfOk, option_map};
 ghost use Rattle.std.specs.Cow.{cow_str_bytes};
 ghost use Rattle.delta_actions.specs.Kinds.{path_of};
-ghost use Rattle.delta_actions.specs.Entry.{path_view};
+ghost use Rattle.delta_actions.specs.Action.{path_view};
 
 use percent_encoding::{DecodeError, percent_decode};
 use std::alloc::{AllocError, Global};

@@ -2,7 +2,7 @@
 
 ghost use Rattle.std.specs.Prelude.{◌≡◌, IfOk};
 ghost use Rattle.delta_actions.specs.Kinds.{parquet};
-ghost use Rattle.delta_actions.specs.Entry.{format_view};
+ghost use Rattle.delta_actions.specs.Action.{format_view};
 
 use json_fields::TextMap;
 use std::alloc::{AllocError, Global};

@@ -4,7 +4,7 @@ use Rattle.std.specs.List.{filter_map, list_any}
 use Rattle.lake_bytes.specs.Outcome.{IsSaid, Said, refuses, says_nothing, never_comes}
 use Rattle.lake_bytes.specs.Results.{◌>>=◌, refused_if}
 use Rattle.delta_actions.specs.Commit.{IsCommit, IsFirstFault, Names}
-use Rattle.delta_actions.specs.Entry.{Entry}
+use Rattle.delta_actions.specs.Action.{Action}
 use Rattle.delta_actions.specs.In.{checkpoint_metadata_in, sidecar_in}
 use Rattle.delta_actions.specs.Wrong as lines
 use Rattle.delta_actions.specs.declared.fault.ActionFault.{ActionFault}
@@ -21,7 +21,7 @@ pub data Wrong : Type 0 where
   has_sidecar : Wrong
 
 -- the versions that the actions tell of the checkpoint
-abbrev pub versions_in : List Entry → List ℕ
+abbrev pub versions_in : List Action → List ℕ
 versions_in actions = filter_map (λ action. option_map (λ m. m.version) (checkpoint_metadata_in action)) actions
 
 -- no other version is told
@@ -30,12 +30,12 @@ unless_other version [] = Ok tt
 unless_other version (found ∷ more) = if found == version then unless_other version more else Err (mismatch found)
 
 -- an action refers to a sidecar
-abbrev pub is_sidecar : Entry → Bool
+abbrev pub is_sidecar : Action → Bool
 is_sidecar action = is_some (sidecar_in action)
 
 -- What is wrong with actions as those of a version's checkpoint: no line tells the version, one tells another, of which
 -- the first counts, or one refers to a sidecar; tested in this order.
-abbrev pub tested : ℕ → List Entry → Result (Unit {0}) Wrong
+abbrev pub tested : ℕ → List Action → Result (Unit {0}) Wrong
 tested version actions = do
   told ← refused_if (not (list_any is_metadata actions)) no_metadata
   same ← unless_other version (versions_in actions)
@@ -67,4 +67,4 @@ IsBadLine bytes (errors.Fault fault) = ⊥
 abbrev pub IsRefusalOf : List ℕ → (version : ℕ) → CheckpointError → Type 0
 IsRefusalOf bytes version errors.Memory = Unit {0}
 IsRefusalOf bytes version (errors.Fault (faults.BadLine fault)) = IsFirstBad bytes fault
-IsRefusalOf bytes version (errors.Fault fault) = (actions : List Entry) × IsCommit bytes actions × IsSaid (fault_says fault) (tested version actions)
+IsRefusalOf bytes version (errors.Fault fault) = (actions : List Action) × IsCommit bytes actions × IsSaid (fault_says fault) (tested version actions)

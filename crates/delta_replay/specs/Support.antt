@@ -5,7 +5,7 @@ use Rattle.std.specs.List.{list_any}
 use Rattle.serde_json.specs.Find.{get}
 use Rattle.lake_bytes.specs.Outcome.{Said, refuses, says_nothing}
 use Rattle.lake_bytes.specs.Results.{◌>>=◌, or_refusal, refused_as, refused_if}
-use Rattle.delta_actions.specs.Entry.{Entry, ProtocolEntry, MetaDataEntry}
+use Rattle.delta_actions.specs.Action.{Action, ProtocolAction, MetaDataAction}
 use Rattle.delta_actions.specs.In.{meta_data_in, protocol_in}
 use Rattle.schema_tree.specs.Fault as schemas
 use Rattle.schema_tree.specs.Reading.{schema_of}
@@ -41,7 +41,7 @@ unless_unknown None = Ok tt
 unless_unknown (Some name) = Err (feature name)
 
 -- Reader version 1, or 3 with known features; features at version 1 aren't looked at.
-abbrev pub readable_protocol : ProtocolEntry → Result (Unit {0}) Unsupported
+abbrev pub readable_protocol : ProtocolAction → Result (Unit {0}) Unsupported
 readable_protocol p =
     if p.min_reader_version == 1 then Ok tt else
     (if p.min_reader_version == 3 then unless_unknown (first_unknown is_known_to_readers p.reader_features) else Err (reader_version p.min_reader_version))
@@ -52,12 +52,12 @@ unless_partitioned [] = Ok tt
 unless_partitioned (column ∷ columns) = Err partitioned
 
 -- the schema of a metadata's text
-abbrev pub schema_told : MetaDataEntry → Result Tree Unsupported
+abbrev pub schema_told : MetaDataAction → Result Tree Unsupported
 schema_told m = refused_as bad_schema (schema_of m.schema_string)
 
 -- The schema of a table with this protocol and this metadata, where it is read, or the first of these: no protocol, no
 -- metadata, the reader's version, a feature, partition columns, and the schema's text.
-abbrev pub readable_by : Option ProtocolEntry → Option MetaDataEntry → Result Tree Unsupported
+abbrev pub readable_by : Option ProtocolAction → Option MetaDataAction → Result Tree Unsupported
 readable_by protocol metadata = do
   p ← or_refusal protocol no_protocol
   m ← or_refusal metadata no_meta_data
@@ -66,14 +66,14 @@ readable_by protocol metadata = do
   schema_told m
 
 -- the newest protocol and the newest metadata of a log
-abbrev pub protocol_of : List (List Entry) → Option ProtocolEntry
+abbrev pub protocol_of : List (List Action) → Option ProtocolAction
 protocol_of log = option_and_then protocol_in (at the_protocol log)
 
-abbrev pub meta_data_of : List (List Entry) → Option MetaDataEntry
+abbrev pub meta_data_of : List (List Action) → Option MetaDataAction
 meta_data_of log = option_and_then meta_data_in (at the_meta_data log)
 
 -- the schema of a table that is read
-abbrev pub readable : List (List Entry) → Result Tree Unsupported
+abbrev pub readable : List (List Action) → Result Tree Unsupported
 readable log = readable_by (protocol_of log) (meta_data_of log)
 
 -- ---- tables that are written
@@ -87,7 +87,7 @@ abbrev pub has_feature : (wanted : List ℕ) → List (List ℕ) → Bool
 has_feature wanted names = list_any (λ name. bytes_eq name wanted) names
 
 -- Writer version 7, with `domainMetadata` among the features and none that isn't known.
-abbrev pub writable_protocol : ProtocolEntry → Result (Unit {0}) Unsupported
+abbrev pub writable_protocol : ProtocolAction → Result (Unit {0}) Unsupported
 writable_protocol p = do
   version ← refused_if (not (p.min_writer_version == 7)) (feature (codes "domainMetadata"))
   domains ← refused_if (not (has_feature (codes "domainMetadata") p.writer_features)) (feature (codes "domainMetadata"))
@@ -106,7 +106,7 @@ abbrev mutual
   have_key_inside key (field name t nullable metadata fs) = is_some (get key metadata) || (has_key_inside key t || have_key_inside key fs)
 
 -- The schema of a table that is written: it is read, its protocol is one that is written, and no field has invariants.
-abbrev pub writable : List (List Entry) → Result Tree Unsupported
+abbrev pub writable : List (List Action) → Result Tree Unsupported
 writable log = do
   schema ← readable log
   p ← or_refusal (protocol_of log) no_protocol
@@ -116,7 +116,7 @@ writable log = do
 
 -- Whether a checkpoint is put: the table is written, and the features of both its readers and its writers have
 -- `v2Checkpoint`.
-abbrev pub checkpointable : List (List Entry) → Result (Unit {0}) Unsupported
+abbrev pub checkpointable : List (List Action) → Result (Unit {0}) Unsupported
 checkpointable log = do
   schema ← writable log
   p ← or_refusal (protocol_of log) no_protocol

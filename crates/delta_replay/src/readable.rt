@@ -3,7 +3,7 @@
 ghost use Rattle.std.specs.Prelude.{List, map, option_map, string_bytes};
 ghost use Rattle.lake_bytes.specs.Outcome.{Gives};
 ghost use Rattle.schema_tree.specs.Schema.{tree_of};
-ghost use Rattle.delta_actions.specs.Entry.{Entry, meta_data_view, protocol_view};
+ghost use Rattle.delta_actions.specs.Action.{Action, meta_data_view, protocol_view};
 ghost use Rattle.delta_replay.specs.Snapshots.{IsSnapshotOf};
 ghost use Rattle.delta_replay.specs.Support.{first_unknown, is_known_to_readers, readable, readable_by, readable_protocol, says, schema_told, unless_unknown};
 
@@ -17,7 +17,7 @@ use std::alloc::Global;
 impl Snapshot {
     /// The schema of the table, if it is read, by [`supports_read`] with the newest protocol and metadata.
     pub fn supports_read(&self, alloc: Global) -> Result<Schema<Global>, SupportError>
-        ensures { (log : List (List Entry)) → IsSnapshotOf log self.now → Gives says tree_of result (readable log) }
+        ensures { (log : List (List Action)) → IsSnapshotOf log self.now → Gives says tree_of result (readable log) }
     {
         supports_read(alloc, self.protocol(), self.meta_data())
     }

@@ -7,7 +7,7 @@ ghost use Rattle.schema_tree.specs.Schema.{tree_of};
 ghost use Rattle.schema_tree.specs.Tree.{fields_of};
 ghost use Rattle.schema_tree.specs.View.{field_views, metadata_of};
 ghost use Rattle.schema_tree.specs.View as trees;
-ghost use Rattle.delta_actions.specs.Entry.{Entry, protocol_view};
+ghost use Rattle.delta_actions.specs.Action.{Action, protocol_view};
 ghost use Rattle.delta_replay.specs.Snapshots.{IsSnapshotOf};
 ghost use Rattle.delta_replay.specs.Support.{checkpointable, first_unknown, has_feature, has_key_inside, have_key_inside, is_known_to_writers, says, unless_unknown, writable, writable_protocol};
 
@@ -29,7 +29,7 @@ impl Snapshot {
     /// feature, C3 for the first other feature, and C3 `invariants` for a field that has them; `Memory` where memory
     /// runs out. The time is linear in the protocol and the schema's text.
     pub fn supports_write(&self, alloc: Global) -> Result<Schema<Global>, SupportError>
-        ensures { (log : List (List Entry)) → IsSnapshotOf log self.now → Gives says tree_of result (writable log) }
+        ensures { (log : List (List Action)) → IsSnapshotOf log self.now → Gives says tree_of result (writable log) }
     {
         let schema = self.supports_read(alloc)?;
         let Some(protocol) = self.protocol() else {
@@ -51,7 +51,7 @@ impl Snapshot {
     /// First the faults of [`Snapshot::supports_write`]; then C3 `v2Checkpoint`; `Memory` where memory runs out. The
     /// time is linear in the protocol and the schema's text.
     pub fn supports_checkpoint(&self, alloc: Global) -> Result<(), SupportError>
-        ensures { (log : List (List Entry)) → IsSnapshotOf log self.now → Gives says (λ u. u) result (checkpointable log) }
+        ensures { (log : List (List Action)) → IsSnapshotOf log self.now → Gives says (λ u. u) result (checkpointable log) }
     {
         let _schema = self.supports_write(alloc)?;
         let Some(protocol) = self.protocol() else {

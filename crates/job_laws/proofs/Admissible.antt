@@ -25,10 +25,10 @@ use Rattle.sink_core.specs.Appending.{Batch, IsWellMade, appending, is_repeat, i
 use Rattle.sink_core.specs.Refusals.{differs, stale}
 use Rattle.lake_bytes.specs.Varint.{IsBytes}
 use Rattle.table_store.proofs.LawfulLogLemmas.{AreMadeFor}
-use Rattle.job_laws.proofs.LogCloses.{log_open}
+use Rattle.lake_script.proofs.LogCloses.{log_open}
 use Rattle.job_laws.proofs.LogEntries.{IsLogOf, sound_count, sound_log}
-use Rattle.job_laws.proofs.LogNumbers.{log_last}
-use Rattle.job_laws.proofs.LogSchema.{one_writable}
+use Rattle.lake_script.proofs.LogNumbers.{log_last}
+use Rattle.lake_script.proofs.LogSchema.{one_writable}
 use Rattle.job_laws.proofs.Requests.{PutsBatch, passed}
 
 -- ---- the table with one more batch

@@ -11,7 +11,7 @@ use Rattle.schema_tree.specs.Tree.{Tree}
 use Rattle.store_core.specs.Objects.{Objects, object_at, with_object}
 use Rattle.store_core.specs.ObjectLaws.{object_at-with_object_other, object_at-with_object_same}
 use Rattle.delta_actions.specs.Commit.{IsCommit}
-use Rattle.delta_actions.specs.Entry as actions
+use Rattle.delta_actions.specs.Action as actions
 use Rattle.delta_actions.specs.In.{meta_data_in, protocol_in, txn_in}
 use Rattle.delta_actions.specs.Names.{data_file_name}
 use Rattle.delta_replay.specs.Keys.{Key, the_meta_data, the_protocol, number_of, kept, newest, last_number}
@@ -26,23 +26,23 @@ use Rattle.table_store.proofs.NamesOnce.{commit_name-once}
 use Rattle.sink_core.specs.Appending.{Batch, IsWellMade, Request, appending, batch_of, checked, count, is_repeat, puts, request_behind, request_of, with_append}
 use Rattle.sink_core.specs.Refusals.{bad_log, read_only}
 use Rattle.sink_core.specs.RowsIn.{rows_from, takes_rows}
-use Rattle.job_laws.proofs.LogNewest.{newest-cons, of_commit, or_none}
+use Rattle.lake_script.proofs.LogNewest.{newest-cons, of_commit, or_none}
 use Rattle.job_laws.proofs.OwnSteps.{batch_own}
 use Rattle.job_laws.proofs.Requests.{IsTaken, batch_asked, behind_number, behind_rows, behind_schema, both_done, given, taken, told_done}
 
 -- ---- the newest actions behind one more commit
 
 -- a commit at the end tells the newest where it has one
-newest_behind : (key : Key) (made : List actions.Entry) (commits : List (List actions.Entry)) → newest key (commits ++ made ∷ []) ≡ option_or (of_commit key made) (newest key commits)
+newest_behind : (key : Key) (made : List actions.Action) (commits : List (List actions.Action)) → newest key (commits ++ made ∷ []) ≡ option_or (of_commit key made) (newest key commits)
 newest_behind key made [] = newest-cons key made [] ∙ sym (or_none (of_commit key made))
 newest_behind key made (first ∷ commits) =
     newest-cons key first (commits ++ made ∷ [])
-    ∙ ap (λ (found : Option actions.Entry). option_or found (of_commit key first)) (newest_behind key made commits)
+    ∙ ap (λ (found : Option actions.Action). option_or found (of_commit key first)) (newest_behind key made commits)
     ∙ or_regroup (of_commit key made) (newest key commits) (of_commit key first)
-    ∙ ap (λ (found : Option actions.Entry). option_or (of_commit key made) found) (sym (newest-cons key first commits))
+    ∙ ap (λ (found : Option actions.Action). option_or (of_commit key made) found) (sym (newest-cons key first commits))
 
 -- the schema of a table that is written, by its protocol and its metadata
-abbrev written_by : (protocol metadata : Option actions.Entry) → Result Tree Unsupported
+abbrev written_by : (protocol metadata : Option actions.Action) → Result Tree Unsupported
 written_by protocol metadata = do
   schema ← readable_by (option_and_then protocol_in (kept protocol)) (option_and_then meta_data_in (kept metadata))
   p ← or_refusal (option_and_then protocol_in (kept protocol)) no_protocol
@@ -50,9 +50,9 @@ written_by protocol metadata = do
   plain ← refused_if (has_key_inside (codes "delta.invariants") schema) (feature (codes "invariants"))
   Ok schema
 
-module _ (application : List ℕ) (number at : ℕ) (name : List ℕ) (size rows : ℕ) (commits : List (List actions.Entry)) where
+module _ (application : List ℕ) (number at : ℕ) (name : List ℕ) (size rows : ℕ) (commits : List (List actions.Action)) where
   -- the actions of an append
-  abbrev own : List actions.Entry
+  abbrev own : List actions.Action
   own = appending application number at name size rows
 
   -- they leave the protocol
@@ -68,14 +68,14 @@ module _ (application : List ℕ) (number at : ℕ) (name : List ℕ) (size rows
   -- so the table is written as before
   same_writable : writable (commits ++ own ∷ []) ≡ writable commits
   same_writable =
-      ap (λ (p : Option actions.Entry). written_by p (newest the_meta_data (commits ++ own ∷ []))) same_protocol
-      ∙ ap (λ (m : Option actions.Entry). written_by (newest the_protocol commits) m) same_meta_data
+      ap (λ (p : Option actions.Action). written_by p (newest the_meta_data (commits ++ own ∷ []))) same_protocol
+      ∙ ap (λ (m : Option actions.Action). written_by (newest the_protocol commits) m) same_meta_data
 
   -- the application has come to the number
   number_behind : last_number application (commits ++ own ∷ []) ≡ Some number
   unfolding appending
   number_behind =
-      ap (λ (e : Option actions.Entry). option_map (λ t. t.version) (option_and_then txn_in (kept e))) (newest_behind (number_of application) own commits)
+      ap (λ (e : Option actions.Action). option_map (λ t. t.version) (option_and_then txn_in (kept e))) (newest_behind (number_of application) own commits)
       ∙ rw ((bytes_eq-Decides application application).1 refl) refl
 
 -- ---- the request behind one more commit
@@ -91,7 +91,7 @@ repeats_itself number =
 goes_to : {A B E : Type 0} (first : Result A E) (next : A → Result B E) (x : A) → first ≡ Ok x → (first >>= next) ≡ next x
 goes_to first next x is = ap (λ (r : Result _ _). r >>= next) is
 
-module _ (next later : ℕ) (commits more : List (List actions.Entry)) (application : List ℕ) (number : ℕ) (items : Items)
+module _ (next later : ℕ) (commits more : List (List actions.Action)) (application : List ℕ) (number : ℕ) (items : Items)
     (written : writable more ≡ writable commits) (last : last_number application more ≡ Some number) where
   -- the request as one that repeats
   abbrev again : Request → Request
@@ -120,19 +120,19 @@ one_more_version objects (suc count) version =
     ∙ ap (λ (v : ℕ). version_at objects version ∷ (versions_from count (version + 1) objects ++ version_at objects v ∷ [])) same
 
 -- the commits of versions with one more
-commits_with : (made : List actions.Entry) (version : ℕ) (versions : List Version) (commits : List (List actions.Entry)) → commits_in version versions ≡ Ok commits → commits_in version (versions ++ commit made ∷ []) ≡ Ok (commits ++ made ∷ [])
+commits_with : (made : List actions.Action) (version : ℕ) (versions : List Version) (commits : List (List actions.Action)) → commits_in version versions ≡ Ok commits → commits_in version (versions ++ commit made ∷ []) ≡ Ok (commits ++ made ∷ [])
 commits_with made version [] commits is =
     let none : [] ≡ commits = given {E = ℕ} [] commits is in
-    subst (λ (cs : List (List actions.Entry)). commits_in version ([] ++ commit made ∷ []) ≡ Ok (cs ++ made ∷ [])) none refl
+    subst (λ (cs : List (List actions.Action)). commits_in version ([] ++ commit made ∷ []) ≡ Ok (cs ++ made ∷ [])) none refl
 commits_with made version (missing ∷ versions) commits is = absurd cc
 commits_with made version (unreadable ∷ versions) commits is = absurd cc
 commits_with made version (commit first ∷ versions) commits is =
     let a = both_done (commits_in (suc version) versions) (λ rest. Ok (first ∷ rest)) commits is in
     let same : first ∷ a.0 ≡ commits = given {E = ℕ} (first ∷ a.0) commits a.2 in
-    subst (λ (cs : List (List actions.Entry)). commits_in version (commit first ∷ (versions ++ commit made ∷ [])) ≡ Ok (cs ++ made ∷ [])) same
+    subst (λ (cs : List (List actions.Action)). commits_in version (commit first ∷ (versions ++ commit made ∷ [])) ≡ Ok (cs ++ made ∷ [])) same
     (goes_to (commits_in (suc version) (versions ++ commit made ∷ [])) (λ rest. Ok (first ∷ rest)) (a.0 ++ made ∷ []) (commits_with made (suc version) versions a.0 a.1))
 
-all_with : (made : List actions.Entry) (versions : List Version) (commits : List (List actions.Entry)) → commits_of versions ≡ Ok commits → commits_of (versions ++ commit made ∷ []) ≡ Ok (commits ++ made ∷ [])
+all_with : (made : List actions.Action) (versions : List Version) (commits : List (List actions.Action)) → commits_of versions ≡ Ok commits → commits_of (versions ++ commit made ∷ []) ≡ Ok (commits ++ made ∷ [])
 all_with made [] commits is = absurd cc
 all_with made (first ∷ versions) commits is = commits_with made 0 (first ∷ versions) commits is
 
@@ -198,7 +198,7 @@ module _ (objects : Objects) (name file bytes : List ℕ) (apart : (version : �
       ∙ ap (λ (more : List Version). version_at objects version ∷ more) (same_before count (version + 1) (omega (arith, low)))
 
   -- The log has one commit more.
-  log_with : (made : List actions.Entry) → IsCommit bytes made → (commits : List (List actions.Entry)) → log_of objects ≡ Ok commits → log_of with_both ≡ Ok (commits ++ made ∷ [])
+  log_with : (made : List actions.Action) → IsCommit bytes made → (commits : List (List actions.Action)) → log_of objects ≡ Ok commits → log_of with_both ≡ Ok (commits ++ made ∷ [])
   unfolding log_of
   log_with made well commits is =
       let place : 0 + next ≡ next = omega arith in
@@ -223,7 +223,7 @@ module _ (objects : Objects) (application : List ℕ) (number at : ℕ) (batch :
   behind = with_append objects (Ok (puts batch))
 
   -- the log has the batch's commit
-  log_behind : batch.version ≡ commit_count objects → batch.version ≤ 999_999_999_999 → batch.name ≡ data_file_name application number → (commits : List (List actions.Entry)) → log_of objects ≡ Ok commits
+  log_behind : batch.version ≡ commit_count objects → batch.version ≤ 999_999_999_999 → batch.name ≡ data_file_name application number → (commits : List (List actions.Action)) → log_of objects ≡ Ok commits
       → log_of behind ≡ Ok (commits ++ appending application number at batch.name (length batch.file) (length batch.rows) ∷ [])
   log_behind version small named commits is =
       subst (λ (v : ℕ). log_of (with_object (with_object objects batch.name batch.file) (commit_name v) batch.commit) ≡ Ok (commits ++ appending application number at batch.name (length batch.file) (length batch.rows) ∷ [])) (sym version)
@@ -250,6 +250,6 @@ appended_request objects application number at items request batch is new asks w
     (number_behind application number at batch.name (length batch.file) (length batch.rows) b.0) request taken_is in (
       commit_count after,
       goes_to (checked application number (count items)) (λ fine. refused_as bad_log (seen false after) >>= λ commits. request_behind (commit_count after) commits application number items) a.0 a.1
-          ∙ goes_to (refused_as bad_log (seen false after)) (λ commits. request_behind (commit_count after) commits application number items) more (ap (λ (r : Result (List (List actions.Entry)) ℕ). refused_as bad_log r) log_more)
+          ∙ goes_to (refused_as bad_log (seen false after)) (λ commits. request_behind (commit_count after) commits application number items) more (ap (λ (r : Result (List (List actions.Action)) ℕ). refused_as bad_log r) log_more)
           ∙ behind_more,
     )

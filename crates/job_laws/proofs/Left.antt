@@ -4,7 +4,7 @@ use Rattle.std.specs.Prelude.{nat_lt, length}
 use Rattle.uuid.specs.Text.{hyphenated_text, lower}
 use Rattle.lake_bytes.specs.Results.{◌>>=◌, refused_as, refused_if}
 use Rattle.store_core.specs.Objects.{Objects, IsInOrder}
-use Rattle.delta_actions.specs.Entry.{MetaDataEntry}
+use Rattle.delta_actions.specs.Action.{MetaDataAction}
 use Rattle.delta_actions.specs.Names.{data_file_name, twenty_digits}
 use Rattle.delta_checkpoint.specs.Names.{checkpoint_id, name_with}
 use Rattle.delta_replay.specs.Support.{meta_data_of}
@@ -18,9 +18,9 @@ use Rattle.snapshot_core.specs.Taking.{most_bytes}
 use Rattle.sink_core.specs.Appending.{Step, puts, stands, settled, with_append, with_file_alone}
 use Rattle.sink_core.specs.Refusals.{Refusal}
 use Rattle.lake_script.specs.Checkpoints.{Checkpoint, NotPut, by_log, too_large, checkpoint_by, checkpoint_of, newest_version, with_checkpoint}
-use Rattle.lake_script.specs.Lines.{append, checkpoint, Wish, create, task, foreign}
-use Rattle.lake_script.specs.Runs.{Grants, MayLeave}
-use Rattle.lake_script.specs.Told.{left_by_wish}
+use Rattle.lake_script.specs.Lines.{append, checkpoint, Statement, create, task, foreign}
+use Rattle.lake_script.specs.Runs.{Executes, MayLeave}
+use Rattle.lake_script.specs.Told.{left_by_statement}
 use Rattle.job_laws.specs.Looking.{LooksWithin}
 use Rattle.job_laws.specs.Saved.{with_added}
 use Rattle.job_laws.proofs.Added.{IsAlike, added_alike, alike_before, alike_put}
@@ -70,7 +70,7 @@ loaded_behind : {A : Type 0} (files : List (List ℕ)) (r : Result A NotPut) (f 
 loaded_behind files (Ok a) f all = all a
 loaded_behind files (Err why) f all = tt
 
-of_version : (files : List (List ℕ)) (version : ℕ) (meta_data : Option MetaDataEntry) → PutsLoaded files (checkpoint_of version meta_data)
+of_version : (files : List (List ℕ)) (version : ℕ) (meta_data : Option MetaDataAction) → PutsLoaded files (checkpoint_of version meta_data)
 of_version files version None = tt
 of_version files version (Some m) = named_loaded files version (hyphenated_text lower (checkpoint_id version m.id))
 
@@ -84,7 +84,7 @@ checkpoint_alike files objects bytes (Err why) order is = alike_before files obj
 
 -- ---- what a line leaves
 
-left_alike : (objects : Objects) (wish : Wish) (files : List (List ℕ)) (printed : List ℕ) → IsInOrder objects → LooksWithin objects wish files → IsAlike files objects (left_by_wish (loaded files objects) wish printed) (left_by_wish objects wish printed)
+left_alike : (objects : Objects) (statement : Statement) (files : List (List ℕ)) (printed : List ℕ) → IsInOrder objects → LooksWithin objects statement files → IsAlike files objects (left_by_statement (loaded files objects) statement printed) (left_by_statement objects statement printed)
 left_alike objects (create id at schema) files printed order within = created_alike files objects (commit_from id at schema printed) order
 left_alike objects (task (append application number at rows)) files printed order within =
     subst (λ (step : Result Step Refusal). IsAlike files objects (with_append (loaded files objects) step) (with_append objects (settled false objects application number at rows)))
@@ -99,8 +99,8 @@ left_alike objects (foreign version action) files printed order within =
 left_alike objects _ files printed order within = alike_before files objects order
 
 -- what a line leaves is loaded of what it leaves over all objects
-pub left_loaded : (objects : Objects) (wish : Wish) (files : List (List ℕ)) (printed : List ℕ) → IsInOrder objects → LooksWithin objects wish files → left_by_wish (loaded files objects) wish printed ≡ loaded files (left_by_wish objects wish printed)
-left_loaded objects wish files printed order within = (left_alike objects wish files printed order within).is
+pub left_loaded : (objects : Objects) (statement : Statement) (files : List (List ℕ)) (printed : List ℕ) → IsInOrder objects → LooksWithin objects statement files → left_by_statement (loaded files objects) statement printed ≡ loaded files (left_by_statement objects statement printed)
+left_loaded objects statement files printed order within = (left_alike objects statement files printed order within).is
 
 -- where nothing was put, nothing is added
 none_added : (files : List (List ℕ)) (objects after : Objects) → IsInOrder objects → after ≡ loaded files objects → with_added (loaded files objects) after objects ≡ objects
@@ -108,7 +108,7 @@ none_added files objects after order same =
     ap (λ (o : Objects). with_added (loaded files objects) o objects) same ∙ added_alike files objects (loaded files objects) objects order (alike_before files objects order)
 
 -- what a line leaves whose growth was refused
-may_leave : (objects after : Objects) (wish : Wish) (files : List (List ℕ)) → IsInOrder objects → LooksWithin objects wish files → MayLeave (loaded files objects) wish after → MayLeave objects wish (with_added (loaded files objects) after objects)
+may_leave : (objects after : Objects) (statement : Statement) (files : List (List ℕ)) → IsInOrder objects → LooksWithin objects statement files → MayLeave (loaded files objects) statement after → MayLeave objects statement (with_added (loaded files objects) after objects)
 may_leave objects after (task (append application number at rows)) files order within (inl same) = inl (none_added files objects after order same)
 may_leave objects after (task (append application number at rows)) files order within (inr alone) =
     inr (ap (λ (o : Objects). with_added (loaded files objects) o objects)
@@ -117,15 +117,15 @@ may_leave objects after (task (append application number at rows)) files order w
     (file_alike files objects application number (settled false objects application number at rows) order (within (data_file_name application number) refl) (settled_own false objects application number at rows)))
 may_leave objects after _ files order within same = none_added files objects after order same
 
--- what a line is granted over the files that are loaded is granted over all objects
-pub granted : (objects after : Objects) (wish : Wish) (files : List (List ℕ)) (reply : List ℕ) → IsInOrder objects → LooksWithin objects wish files → Grants (loaded files objects) wish reply after
-    → Grants objects wish reply (with_added (loaded files objects) after objects)
-granted objects after wish files reply order within (inl has) =
+-- what a line is executed over the files that are loaded is executed over all objects
+pub executed : (objects after : Objects) (statement : Statement) (files : List (List ℕ)) (reply : List ℕ) → IsInOrder objects → LooksWithin objects statement files → Executes (loaded files objects) statement reply after
+    → Executes objects statement reply (with_added (loaded files objects) after objects)
+executed objects after statement files reply order within (inl has) =
     inl (
       has.0,
-      same_printed objects wish files has.0 within has.1,
-      has.2 ∙ same_reply objects wish files has.0 within,
+      same_printed objects statement files has.0 within has.1,
+      has.2 ∙ same_reply objects statement files has.0 within,
       ap (λ (o : Objects). with_added (loaded files objects) o objects) has.3
-          ∙ added_alike files objects (left_by_wish (loaded files objects) wish has.0) (left_by_wish objects wish has.0) order (left_alike objects wish files has.0 order within),
+          ∙ added_alike files objects (left_by_statement (loaded files objects) statement has.0) (left_by_statement objects statement has.0) order (left_alike objects statement files has.0 order within),
     )
-granted objects after wish files reply order within (inr short) = inr (short.0, may_leave objects after wish files order within short.1)
+executed objects after statement files reply order within (inr short) = inr (short.0, may_leave objects after statement files order within short.1)

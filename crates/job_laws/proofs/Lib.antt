@@ -8,11 +8,8 @@ pub mod Callers
 mod Left
 mod Loaded
 mod LoadedItems
-mod LogCloses
+mod KeptLaws
 mod LogEntries
-mod LogNewest
-mod LogNumbers
-mod LogSchema
 mod NameKinds
 mod OwnSteps
 mod PutNames
@@ -27,4 +24,5 @@ mod SavedNames
 mod SavedPuts
 mod SoundGrowth
 mod SoundLines
+mod TextReads
 mod WholeReads

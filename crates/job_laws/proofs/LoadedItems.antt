@@ -14,7 +14,7 @@ use Rattle.table_log.specs.InForce.{Told}
 use Rattle.table_log.specs.Reads.{first_standing}
 use Rattle.table_log.specs.Versions.{Version, version_at, versions_from, versions_of}
 use Rattle.table_log.specs.Counts.{commit_count}
-use Rattle.table_model.specs.declared.reading.Place.{Place}
+use Rattle.table_model.specs.declared.reading.Offset.{Offset}
 use Rattle.table_store.specs.Groups.{new_files}
 use Rattle.table_folder.specs.Loads.{is_loaded, loaded}
 use Rattle.source_core.specs.Tailing.{Handed, Item, LogFile, Refusal, actions_in, behind, data_file, end_of, fault_of, hand, hand_on, handed_by, is_before, is_done, item_before, items_at, items_from, items_in, missing_file, numbered, or_bad_file, paths_in, rows_behind, rows_left, rows_of, schema_at, schema_for, unless_beyond, unless_gone, unless_no_file, unless_removed, version_fault, versions_at}
@@ -40,19 +40,19 @@ AreLoaded files (data_file f ∷ items) = (is_loaded files f.path.key ≡ true) 
 AreLoaded files (version_fault version refusal ∷ items) = AreLoaded files items
 
 -- the same of the versions from a place's on
-abbrev AreLoadedFrom : (place : Place) (files : List (List ℕ)) → List Item → Type 0
+abbrev AreLoadedFrom : (place : Offset) (files : List (List ℕ)) → List Item → Type 0
 AreLoadedFrom place files [] = Unit {0}
 AreLoadedFrom place files (data_file f ∷ items) = (place.version ≤ f.version → is_loaded files f.path.key ≡ true) × AreLoadedFrom place files items
 AreLoadedFrom place files (version_fault version refusal ∷ items) = AreLoadedFrom place files items
 
 -- one list behind another
-both_loaded : (place : Place) (files : List (List ℕ)) (items more : List Item) → AreLoadedFrom place files items → AreLoadedFrom place files more → AreLoadedFrom place files (items ++ more)
+both_loaded : (place : Offset) (files : List (List ℕ)) (items more : List Item) → AreLoadedFrom place files items → AreLoadedFrom place files more → AreLoadedFrom place files (items ++ more)
 both_loaded place files [] more are others = others
 both_loaded place files (data_file f ∷ items) more are others = (are.0, both_loaded place files items more are.1 others)
 both_loaded place files (version_fault version refusal ∷ items) more are others = both_loaded place files items more are others
 
 -- a file that isn't before a place is of its version or a later one
-not_before : (place : Place) (version file : ℕ) → is_before place version file ≡ false → place.version ≤ version
+not_before : (place : Offset) (version file : ℕ) → is_before place version file ≡ false → place.version ≤ version
 not_before place version file is = ltb-false version place.version (neither _ _ is)
   where
     neither : (b c : Bool) → (b || c) ≡ false → b ≡ false
@@ -60,7 +60,7 @@ not_before place version file is = ltb-false version place.version (neither _ _ 
     neither false c e = refl
 
 -- so the items from a place on are loaded
-loaded_from_place : (place : Place) (files : List (List ℕ)) (items : List Item) → AreLoadedFrom place files items → AreLoaded files (filter (λ item. not (item_before place item)) items)
+loaded_from_place : (place : Offset) (files : List (List ℕ)) (items : List Item) → AreLoadedFrom place files items → AreLoaded files (filter (λ item. not (item_before place item)) items)
 loaded_from_place place files [] are = tt
 loaded_from_place place files (data_file f ∷ items) are = by_case (is_before place f.version f.file) refl (loaded_from_place place files items are.1)
   where
@@ -78,24 +78,24 @@ loaded_from_place place files (version_fault version refusal ∷ items) are = by
 -- ---- the files that a log's versions add
 
 -- those of one version, counted from one on
-numbered_loaded : (place : Place) (files : List (List ℕ)) (version file : ℕ) (paths : List Path) → ((name : List ℕ) → Contains (map (λ path. path.key) paths) name → place.version ≤ version → is_loaded files name ≡ true)
+numbered_loaded : (place : Offset) (files : List (List ℕ)) (version file : ℕ) (paths : List Path) → ((name : List ℕ) → Contains (map (λ path. path.key) paths) name → place.version ≤ version → is_loaded files name ≡ true)
     → AreLoadedFrom place files (map data_file (numbered version file paths))
 numbered_loaded place files version file [] all = tt
 numbered_loaded place files version file (path ∷ paths) all =
     (all path.key (first_in path.key (map (λ p. p.key) paths)), numbered_loaded place files version (suc file) paths (λ name has. all name (behind_first path.key (map (λ p. p.key) paths) name has)))
 
 -- a version's fault, or its files
-version_loaded : (place : Place) (files : List (List ℕ)) (version : ℕ) (fault : Option Refusal) (paths : List Path) → ((name : List ℕ) → Contains (map (λ path. path.key) paths) name → place.version ≤ version → is_loaded files name ≡ true)
+version_loaded : (place : Offset) (files : List (List ℕ)) (version : ℕ) (fault : Option Refusal) (paths : List Path) → ((name : List ℕ) → Contains (map (λ path. path.key) paths) name → place.version ≤ version → is_loaded files name ≡ true)
     → AreLoadedFrom place files (items_in version fault paths)
 version_loaded place files version (Some refusal) paths all = tt
 version_loaded place files version None paths all = numbered_loaded place files version 0 paths all
 
 -- The files that a log's versions from a place's on add are loaded.
-pub record AddsLoaded (objects : Objects) (place : Place) (files : List (List ℕ)) : Type 0 where
+pub record AddsLoaded (objects : Objects) (place : Offset) (files : List (List ℕ)) : Type 0 where
   pub each : (version : ℕ) (name : List ℕ) → Contains (map (λ path. path.key) (paths_in (version_at objects version))) name → place.version ≤ version → version < commit_count objects → is_loaded files name ≡ true
 
 -- those of so many versions of the log
-versions_loaded : (objects : Objects) (place : Place) (files : List (List ℕ)) (told : Told) → AddsLoaded objects place files → (count version : ℕ) → version + count ≤ commit_count objects → AreLoadedFrom place files (items_from told place version (versions_from count version objects))
+versions_loaded : (objects : Objects) (place : Offset) (files : List (List ℕ)) (told : Told) → AddsLoaded objects place files → (count version : ℕ) → version + count ≤ commit_count objects → AreLoadedFrom place files (items_from told place version (versions_from count version objects))
 unfolding versions_from
 versions_loaded objects place files told adds zero version within = tt
 versions_loaded objects place files told adds (suc count) version within =
@@ -105,7 +105,7 @@ versions_loaded objects place files told adds (suc count) version within =
     (subst (λ (v : ℕ). AreLoadedFrom place files (items_from told place (suc version) (versions_from count v objects))) (sym (add-one version)) (versions_loaded objects place files told adds count (suc version) (omega (arith, within))))
 
 -- all that a read from the place on meets
-items_loaded : (objects : Objects) (place : Place) (files : List (List ℕ)) (told : Told) → AddsLoaded objects place files → AreLoaded files (items_at told place (versions_at false objects place))
+items_loaded : (objects : Objects) (place : Offset) (files : List (List ℕ)) (told : Told) → AddsLoaded objects place files → AreLoaded files (items_at told place (versions_at false objects place))
 items_loaded objects place files told adds =
     loaded_from_place place files (items_from told place 0 (versions_of objects)) (versions_loaded objects place files told adds (commit_count objects) 0 (omega arith))
 
@@ -122,7 +122,7 @@ pub left_alike : (files : List (List ℕ)) (objects : Objects) (schema : Tree) (
 left_alike files objects schema file skip own = ap (λ (read : Result (List Row) Refusal). read >>= rows_behind skip file.version) (rows_alike files objects schema file own)
 
 -- the rows of items that are loaded
-hand_alike : (files : List (List ℕ)) (objects : Objects) (schema : Tree) (end : Place) (items : List Item) → AreLoaded files items → (most skip : ℕ) (rows : List Row) (next : Place)
+hand_alike : (files : List (List ℕ)) (objects : Objects) (schema : Tree) (end : Offset) (items : List Item) → AreLoaded files items → (most skip : ℕ) (rows : List Row) (next : Offset)
     → hand (loaded files objects) schema end most skip rows next items ≡ hand objects schema end most skip rows next items
 unfolding hand
 hand_alike files objects schema end [] are most skip rows next = refl
@@ -134,7 +134,7 @@ hand_alike files objects schema end (data_file f ∷ items) are most skip rows n
     ∙ (λ i. cond (is_done most skip) (Ok (record { rows = rows; next = next })) (hand_on most rows next (rows_left objects schema f skip) (λ part. later part i)))
 
 -- rows of a log from a place on
-pub handed_alike : (files : List (List ℕ)) (objects : Objects) (told : Told) (max : ℕ) (place : Place) → AddsLoaded objects place files
+pub handed_alike : (files : List (List ℕ)) (objects : Objects) (told : Told) (max : ℕ) (place : Offset) → AddsLoaded objects place files
     → handed_by (loaded files objects) told (versions_at false objects place) max place ≡ handed_by objects told (versions_at false objects place) max place
 unfolding handed_by
 handed_alike files objects told max place adds =
@@ -144,8 +144,8 @@ handed_alike files objects told max place adds =
 
 -- ---- the versions and the schema that a read goes by
 
-pub versions_alike : (files : List (List ℕ)) (objects : Objects) (place : Place) → versions_at false (loaded files objects) place ≡ versions_at false objects place
+pub versions_alike : (files : List (List ℕ)) (objects : Objects) (place : Offset) → versions_at false (loaded files objects) place ≡ versions_at false objects place
 versions_alike files objects place = ap (looked_at place.version no_start) (same_versions files objects)
 
-pub schema_alike : (files : List (List ℕ)) (objects : Objects) (place : Place) → schema_at false (loaded files objects) place ≡ schema_at false objects place
+pub schema_alike : (files : List (List ℕ)) (objects : Objects) (place : Offset) → schema_at false (loaded files objects) place ≡ schema_at false objects place
 schema_alike files objects place = ap (λ (versions : List Version). schema_for no_start versions place) (versions_alike files objects place)

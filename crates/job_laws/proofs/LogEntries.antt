@@ -2,7 +2,7 @@
 use Rattle.std.proofs.Common.{◌≡◌, ℕ, suc, ◌+◌, ◌<◌, ◌≤◌, false, true, List, [], ◌∷◌, map, length, IsSome, Ok, refl, sym, ap, subst, ◌∙◌, add-one, arith, inl, inr}
 use Rattle.std.proofs.lemmas.Bool.{cases_eq, cases_lt}
 use Rattle.store_core.specs.Objects.{Objects, object_at}
-use Rattle.delta_actions.specs.Entry as actions
+use Rattle.delta_actions.specs.Action as actions
 use Rattle.delta_actions.specs.Names as names
 use Rattle.table_log.specs.Counts.{commit_count}
 use Rattle.table_log.specs.Names.{commit_name}
@@ -59,7 +59,7 @@ module _ (objects : Objects) (sound : IsSound objects) (small : commit_count obj
 
 module _ (objects : Objects) (schema : Schema) where
   -- the actions of the commits that stand
-  abbrev made_of : (version : ℕ) (entries : List Entry) → HoldsFrom objects schema version entries → List (List actions.Entry)
+  abbrev made_of : (version : ℕ) (entries : List Entry) → HoldsFrom objects schema version entries → List (List actions.Action)
   made_of version [] holds = []
   made_of version (entry ∷ entries) holds = holds.0.2.actions ∷ made_of (suc version) entries holds.2
 
@@ -79,18 +79,18 @@ module _ (objects : Objects) (schema : Schema) where
 -- ---- the log
 
 -- where each version has a commit, there are all of them
-all_commits : (version : ℕ) (commits : List (List actions.Entry)) → commits_in version (map commit commits) ≡ Ok commits
+all_commits : (version : ℕ) (commits : List (List actions.Action)) → commits_in version (map commit commits) ≡ Ok commits
 all_commits version [] = refl
 all_commits version (made ∷ commits) = rw (all_commits (suc version) commits) refl
 
 -- The commits of a log that can be read: they stand for the entries, of which the first is the creation.
-pub record IsLogOf (objects : Objects) (schema : Schema) (entries : List Entry) (commits : List (List actions.Entry)) : Type 0 where
+pub record IsLogOf (objects : Objects) (schema : Schema) (entries : List Entry) (commits : List (List actions.Action)) : Type 0 where
   pub rest : List Entry
   pub begins : entries ≡ creation ∷ rest
   pub made : AreMadeFor objects schema entries commits
 
 -- commits that are read for entries are a log of them
-log_by : (objects : Objects) (schema : Schema) (entries : List Entry) (made commits : List (List actions.Entry)) → BeginsWithCreation entries → AreMadeFor objects schema entries made
+log_by : (objects : Objects) (schema : Schema) (entries : List Entry) (made commits : List (List actions.Action)) → BeginsWithCreation entries → AreMadeFor objects schema entries made
     → commits_of (map commit made) ≡ Ok commits → IsLogOf objects schema entries commits
 log_by objects schema [] [] commits begins are told = absurd cc
 log_by objects schema [] (first ∷ made) commits begins are told = absurd are
@@ -103,7 +103,7 @@ log_by objects schema (group bs ∷ rest) made commits begins are told = absurd 
 log_by objects schema (close application ∷ rest) made commits begins are told = absurd begins
 
 -- The log of a sound store, where it can be read, has a commit for each entry.
-pub sound_log : (objects : Objects) (sound : IsSound objects) → commit_count objects < greatest_version → (commits : List (List actions.Entry)) → log_of objects ≡ Ok commits → IsLogOf objects sound.schema sound.entries commits
+pub sound_log : (objects : Objects) (sound : IsSound objects) → commit_count objects < greatest_version → (commits : List (List actions.Action)) → log_of objects ≡ Ok commits → IsLogOf objects sound.schema sound.entries commits
 unfolding log_of
 sound_log objects sound small commits told =
     let made = made_of objects sound.schema 0 sound.entries sound.holds in

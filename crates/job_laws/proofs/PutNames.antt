@@ -15,7 +15,7 @@ use Rattle.commit_core.specs.Texts.{line_of}
 use Rattle.sink_core.specs.Appending.{MayAppend, Step, settled, with_append, with_file_alone}
 use Rattle.sink_core.specs.Refusals.{Refusal}
 use Rattle.lake_script.specs.Growth.{MayPut}
-use Rattle.lake_script.specs.Lines.{append, checkpoint, Wish, create, task, foreign}
+use Rattle.lake_script.specs.Lines.{append, checkpoint, Statement, create, task, foreign}
 use Rattle.job_laws.specs.Looking.{LooksWithin}
 use Rattle.job_laws.proofs.Added.{IsAlike, alike_before, alike_put}
 use Rattle.job_laws.proofs.Left.{append_alike, created_alike, file_alike}
@@ -28,14 +28,14 @@ use Rattle.job_laws.proofs.SavedNames.{not_both}
 -- ---- what was put over the files that are loaded, put over all objects
 
 -- The line may leave these objects, which are those that it left, as far as they are loaded.
-record IsPutOverAll (files : List (List ℕ)) (objects : Objects) (wish : Wish) (after : Objects) : Type 0 where
+record IsPutOverAll (files : List (List ℕ)) (objects : Objects) (statement : Statement) (after : Objects) : Type 0 where
   pub whole : Objects
-  pub put : MayPut objects wish whole
+  pub put : MayPut objects statement whole
   pub alike : IsAlike files objects after whole
 
 -- some objects that are alike, for what was left
-over_all : (files : List (List ℕ)) (objects small after whole : Objects) (wish : Wish) → after ≡ small → MayPut objects wish whole → IsAlike files objects small whole → IsPutOverAll files objects wish after
-over_all files objects small after whole wish is put alike = record {
+over_all : (files : List (List ℕ)) (objects small after whole : Objects) (statement : Statement) → after ≡ small → MayPut objects statement whole → IsAlike files objects small whole → IsPutOverAll files objects statement after
+over_all files objects small after whole statement is put alike = record {
   whole = whole;
   put = put;
   alike = subst (λ (o : Objects). IsAlike files objects o whole) (sym is) alike;
@@ -52,7 +52,7 @@ append_over_all files objects after application number at step order is own (inr
 append_over_all files objects after application number at step order is own (inr (well, inr both)) =
     (with_append objects step, inr (well, inr refl), subst (λ (o : Objects). IsAlike files objects o (with_append objects step)) (sym both) (append_alike files objects application number step order is own))
 
-put_over_all : (objects after : Objects) (wish : Wish) (files : List (List ℕ)) → IsInOrder objects → LooksWithin objects wish files → MayPut (loaded files objects) wish after → IsPutOverAll files objects wish after
+put_over_all : (objects after : Objects) (statement : Statement) (files : List (List ℕ)) → IsInOrder objects → LooksWithin objects statement files → MayPut (loaded files objects) statement after → IsPutOverAll files objects statement after
 put_over_all objects after (create id at schema) files order within (inl same) = over_all files objects (loaded files objects) after objects (create id at schema) same (inl refl) (alike_before files objects order)
 put_over_all objects after (create id at schema) files order within (inr (printed, put)) =
     over_all files objects (with_creation (loaded files objects) (commit_from id at schema printed)) after (with_creation objects (commit_from id at schema printed)) (create id at schema) put.1
@@ -71,7 +71,7 @@ put_over_all objects after (foreign version action) files order within (inl same
 put_over_all objects after (foreign version action) files order within (inr put) =
     over_all files objects (with_object (loaded files objects) (commit_name version) (line_of action)) after (with_object objects (commit_name version) (line_of action)) (foreign version action) put
     (inr refl) (alike_put files objects (loaded files objects) objects (commit_name version) (line_of action) (commit_loaded files version) (alike_before files objects order))
-put_over_all objects after wish files order within same = over_all files objects (loaded files objects) after objects wish same refl (alike_before files objects order)
+put_over_all objects after statement files order within same = over_all files objects (loaded files objects) after objects statement same refl (alike_before files objects order)
 
 -- ---- the names that are new
 
@@ -89,10 +89,10 @@ none_found None none = refl
 none_found (Some bytes) none = absurd (not_both (sym none))
 
 -- a name that's new stood nowhere, and stands where the line puts over all objects
-pub put_under : (objects after : Objects) (wish : Wish) (files : List (List ℕ)) (name : List ℕ) → IsInOrder objects → LooksWithin objects wish files → MayPut (loaded files objects) wish after
-    → Contains (to_save (names_of (loaded files objects)) (names_of after)) name → (whole : Objects) × MayPut objects wish whole × (object_at objects name ≡ None) × IsSome (object_at whole name)
-put_under objects after wish files name order within put new =
-    let all = put_over_all objects after wish files order within put in
+pub put_under : (objects after : Objects) (statement : Statement) (files : List (List ℕ)) (name : List ℕ) → IsInOrder objects → LooksWithin objects statement files → MayPut (loaded files objects) statement after
+    → Contains (to_save (names_of (loaded files objects)) (names_of after)) name → (whole : Objects) × MayPut objects statement whole × (object_at objects name ≡ None) × IsSome (object_at whole name)
+put_under objects after statement files name order within put new =
+    let all = put_over_all objects after statement files order within put in
     let both = and_parts (not (is_some (object_at (loaded files objects) name))) (is_some (object_at after name))
     ((λ i. not (sym (list_any-names (loaded files objects) name) i) && sym (list_any-names after name) i)
     ∙ sym (list_any-to_save (names_of (loaded files objects)) (names_of after) name)

@@ -5,7 +5,7 @@ use Rattle.lake_bytes.specs.Results.{◌>>=◌, refused_as, refused_if}
 use Rattle.serde_json.specs.Data.{Items}
 use Rattle.schema_tree.specs.Tree.{Tree}
 use Rattle.store_core.specs.Objects.{Objects, object_at}
-use Rattle.delta_actions.specs.Entry as actions
+use Rattle.delta_actions.specs.Action as actions
 use Rattle.delta_actions.specs.Names.{data_file_name}
 use Rattle.delta_replay.specs.Closes.{is_closed}
 use Rattle.delta_replay.specs.Keys.{last_number}
@@ -49,7 +49,7 @@ passed false why x is = refl
 
 -- A request that was taken: of a table that is written, with rows that it takes, for the next version, and with a number
 -- that isn't below the last.
-pub record IsTaken (next : ℕ) (commits : List (List actions.Entry)) (application : List ℕ) (number : ℕ) (items : Items) (request : Request) : Type 0 where
+pub record IsTaken (next : ℕ) (commits : List (List actions.Action)) (application : List ℕ) (number : ℕ) (items : Items) (request : Request) : Type 0 where
   pub schema : writable commits ≡ Ok request.schema
   pub supported : takes_rows request.schema ≡ Ok tt
   pub rows : rows_from 0 request.schema items ≡ Ok request.rows
@@ -57,7 +57,7 @@ pub record IsTaken (next : ℕ) (commits : List (List actions.Entry)) (applicati
   goes_on : (not request.repeats && is_closed application commits) ≡ false
   pub version : request.version ≡ next
 
-module _ (next : ℕ) (commits : List (List actions.Entry)) (application : List ℕ) (number : ℕ) (items : Items) where
+module _ (next : ℕ) (commits : List (List actions.Action)) (application : List ℕ) (number : ℕ) (items : Items) where
   abbrev asked : Tree → List Row → Bool → Request
   asked schema rows repeats = record { version = next; schema = schema; rows = rows; repeats = repeats }
 
@@ -132,7 +132,7 @@ module _ (request : Request) (application : List ℕ) (number at : ℕ) where
 
 -- A batch that is put: the commits of the log, and what was found in them.
 pub record PutsBatch (objects : Objects) (application : List ℕ) (number : ℕ) (batch : Batch) : Type 0 where
-  pub commits : List (List actions.Entry)
+  pub commits : List (List actions.Action)
   pub log : log_of objects ≡ Ok commits
   pub schema : writable commits ≡ Ok batch.schema
   pub new : is_repeat number (last_number application commits) ≡ Ok false
@@ -173,7 +173,7 @@ module _ (objects : Objects) (application : List ℕ) (number at : ℕ) (batch :
   new_step_of request is = by_repeats request request.repeats refl is
 
   -- the parts of what was found
-  joined : (commits : List (List actions.Entry)) (items : Items) (request : Request) → log_of objects ≡ Ok commits → IsTaken (commit_count objects) commits application number items request → NewStep request → PutsBatch objects application number batch
+  joined : (commits : List (List actions.Action)) (items : Items) (request : Request) → log_of objects ≡ Ok commits → IsTaken (commit_count objects) commits application number items request → NewStep request → PutsBatch objects application number batch
   joined commits items request log is step = record {
     commits = commits;
     log = log;

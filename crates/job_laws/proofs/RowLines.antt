@@ -20,7 +20,7 @@ use Rattle.json_fields.proofs.Callers.{compact_is_one_line}
 use Rattle.schema_tree.specs.Tree.{Tree}
 use Rattle.row_core.specs.Printing.{data_of_row}
 use Rattle.row_core.specs.Rows.{Row}
-use Rattle.table_model.specs.declared.reading.Place.{Place}
+use Rattle.table_model.specs.declared.reading.Offset.{Offset}
 use Rattle.commit_core.specs.Texts.{line_of}
 use Rattle.source_core.specs.Offsets.{offset_data, offset_text}
 use Rattle.source_core.specs.Tailing.{Handed, handed_text, next_line, row_line, rows_text}
@@ -135,7 +135,7 @@ rows_lines schema (row ∷ rows) =
     lines_joined (row_line schema row) (rows_text schema rows) ∙ ap₂ ◌+◌ first (rows_lines schema rows) ∙ omega arith
 
 -- one line tells where the next read begins
-next_is_a_line : (place : Place) → line_count (next_line place) ≡ 1
+next_is_a_line : (place : Offset) → line_count (next_line place) ≡ 1
 next_is_a_line place = one_line (codes "next " ++ offset_text place) (joined (codes "next ") (offset_text place) refl (compact_line (offset_data place)))
 
 -- a reply that hands out rows has a line for each, and one more

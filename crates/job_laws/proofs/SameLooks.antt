@@ -3,12 +3,12 @@ use Rattle.std.proofs.Common.{ℕ, List, Contains, sym, subst, ◌<◌}
 use Rattle.store_core.specs.Objects.{Objects}
 use Rattle.table_folder.specs.Loads.{loaded}
 use Rattle.table_log.specs.Versions.{Version}
-use Rattle.lake_script.specs.Lines.{Wish, task, append, tail, hex}
+use Rattle.lake_script.specs.Lines.{Statement, task, append, tail, hex}
 use Rattle.job_laws.specs.Looking.{files_in, LooksWithin, MayLookAt}
 use Rattle.job_laws.proofs.SameLogs.{same_count, same_version}
 
 -- what it may look at over all objects it may look at over the log
-looks_same : (own : List (List ℕ)) (objects : Objects) (wish : Wish) (name : List ℕ) → MayLookAt objects wish name → MayLookAt (loaded own objects) wish name
+looks_same : (own : List (List ℕ)) (objects : Objects) (statement : Statement) (name : List ℕ) → MayLookAt objects statement name → MayLookAt (loaded own objects) statement name
 looks_same own objects (task (append application number at items)) name is = is
 looks_same own objects (task (tail max offset)) name read = record {
   place = read.place;
@@ -22,5 +22,5 @@ looks_same own objects (hex shown) name is = is
 looks_same own objects _ name none = absurd none
 
 -- files that hold all that it may look at over what was loaded do so over all objects
-pub looks_within : (own : List (List ℕ)) (objects : Objects) (wish : Wish) (files : List (List ℕ)) → LooksWithin (loaded own objects) wish files → LooksWithin objects wish files
-looks_within own objects wish files within = λ name may. within name (looks_same own objects wish name may)
+pub looks_within : (own : List (List ℕ)) (objects : Objects) (statement : Statement) (files : List (List ℕ)) → LooksWithin (loaded own objects) statement files → LooksWithin objects statement files
+looks_within own objects statement files within = λ name may. within name (looks_same own objects statement name may)

@@ -6,14 +6,14 @@ use Rattle.lake_bytes.specs.Results.{◌>>=◌, or_refusal, refused_as}
 use Rattle.serde_json.specs.Data.{Items}
 use Rattle.store_core.specs.Objects.{Objects, object_at, with_object}
 use Rattle.store_core.specs.ObjectLaws.{object_at-with_object_other, object_at-with_object_same}
-use Rattle.delta_actions.specs.Entry.{Entry}
+use Rattle.delta_actions.specs.Action.{Action}
 use Rattle.delta_actions.specs.Names.{data_file_name}
 use Rattle.delta_replay.specs.Support.{checkpointable, readable}
 use Rattle.table_log.specs.Counts.{commit_count}
 use Rattle.table_log.specs.Names.{commit_name}
 use Rattle.table_log.specs.Restoring.{seen}
 use Rattle.table_log.specs.InForce.{Told}
-use Rattle.table_model.specs.declared.reading.Place.{Place}
+use Rattle.table_model.specs.declared.reading.Offset.{Offset}
 use Rattle.table_folder.specs.Loads.{is_loaded, loaded}
 use Rattle.commit_core.specs.Creating.{commit_from, created_by, unless_there}
 use Rattle.commit_core.specs.Histories.{history_in, history_of}
@@ -54,7 +54,7 @@ file_named application number = refl
 pub same_request : (files : List (List ℕ)) (objects : Objects) (application : List ℕ) (number : ℕ) (items : Items) → request_of false (loaded files objects) application number items ≡ request_of false objects application number items
 unfolding request_of
 same_request files objects application number items =
-    ap (λ (log : Result (List (List Entry)) ℕ). checked application number (count items) >>= λ fine. refused_as bad_log log >>= λ commits. request_behind (commit_count (loaded files objects)) commits application number items) (same_seen files objects)
+    ap (λ (log : Result (List (List Action)) ℕ). checked application number (count items) >>= λ fine. refused_as bad_log log >>= λ commits. request_behind (commit_count (loaded files objects)) commits application number items) (same_seen files objects)
     ∙ ap (λ (next : ℕ). checked application number (count items) >>= λ fine. refused_as bad_log (seen false objects) >>= λ commits. request_behind next commits application number items) (same_count files objects)
 
 -- a batch that is made in steps has its name
@@ -135,12 +135,12 @@ same_appended files objects application number at items own =
 -- the commits of which a checkpoint may be put
 pub same_checked : (files : List (List ℕ)) (objects : Objects) → faults.checked false (loaded files objects) ≡ faults.checked false objects
 same_checked files objects =
-    ap (λ (log : Result (List (List Entry)) ℕ). refused_as faults.bad_log log >>= λ commits. refused_as faults.unsupported (checkpointable commits) >>= λ fine. Ok commits) (same_seen files objects)
+    ap (λ (log : Result (List (List Action)) ℕ). refused_as faults.bad_log log >>= λ commits. refused_as faults.unsupported (checkpointable commits) >>= λ fine. Ok commits) (same_seen files objects)
 
 -- the commits of a log whose table is read
 pub same_readable : (files : List (List ℕ)) (objects : Objects) → faults.readable_log false (loaded files objects) ≡ faults.readable_log false objects
 same_readable files objects =
-    ap (λ (log : Result (List (List Entry)) ℕ). refused_as faults.bad_log log >>= λ commits. refused_as faults.unsupported (readable commits) >>= λ schema. Ok commits) (same_seen files objects)
+    ap (λ (log : Result (List (List Action)) ℕ). refused_as faults.bad_log log >>= λ commits. refused_as faults.unsupported (readable commits) >>= λ schema. Ok commits) (same_seen files objects)
 
 -- what is told of its versions
 pub same_history : (files : List (List ℕ)) (objects : Objects) → history_of (loaded files objects) ≡ history_of objects
@@ -149,22 +149,22 @@ same_history files objects = ap history_in (same_versions files objects)
 -- ---- reads from an offset on
 
 -- a text that is an offset spells its place
-place_told : (offset : List ℕ) (place : Place) → or_refusal (offset_of offset) bad_offset ≡ Ok place → offset_of offset ≡ Some place
+place_told : (offset : List ℕ) (place : Offset) → or_refusal (offset_of offset) bad_offset ≡ Ok place → offset_of offset ≡ Some place
 place_told offset place is = by_case (offset_of offset) is
   where
-    by_case : (found : Option Place) → or_refusal found bad_offset ≡ Ok place → found ≡ Some place
+    by_case : (found : Option Offset) → or_refusal found bad_offset ≡ Ok place → found ≡ Some place
     by_case None e = absurd cc
     by_case (Some other) e = cc
 
 -- the files that a read from a place on meets are loaded, where those are that a read from its offset on looks at
-adds_loaded : (files : List (List ℕ)) (objects : Objects) (offset : List ℕ) (place : Place) → offset_of offset ≡ Some place → ((name : List ℕ) → IsReadFrom objects offset name → is_loaded files name ≡ true) → AddsLoaded objects place files
+adds_loaded : (files : List (List ℕ)) (objects : Objects) (offset : List ℕ) (place : Offset) → offset_of offset ≡ Some place → ((name : List ℕ) → IsReadFrom objects offset name → is_loaded files name ≡ true) → AddsLoaded objects place files
 adds_loaded files objects offset place read all = record { each = λ version name has from small. all name (record { place = place; read = read; version = version; from = from; small = small; added = has }) }
 
 -- what a read is told from a place on
-abbrev tailed_from : Objects → (max : ℕ) → Place → Result (List ℕ) tails.Refusal
+abbrev tailed_from : Objects → (max : ℕ) → Offset → Result (List ℕ) tails.Refusal
 tailed_from objects max place = schema_at false objects place >>= λ told. handed_by objects told (versions_at false objects place) max place >>= λ handed. Ok (handed_text told.schema handed)
 
-same_from : (files : List (List ℕ)) (objects : Objects) (max : ℕ) (place : Place) → AddsLoaded objects place files → tailed_from (loaded files objects) max place ≡ tailed_from objects max place
+same_from : (files : List (List ℕ)) (objects : Objects) (max : ℕ) (place : Offset) → AddsLoaded objects place files → tailed_from (loaded files objects) max place ≡ tailed_from objects max place
 same_from files objects max place adds =
     let handed : (told : Told) → handed_by (loaded files objects) told (versions_at false objects place) max place ≡ handed_by objects told (versions_at false objects place) max place = λ told. handed_alike files objects told max place adds in
     (λ i. schema_alike files objects place i >>= λ told. handed_by (loaded files objects) told (versions_alike files objects place i) max place >>= λ handed. Ok (handed_text told.schema handed))

@@ -3,7 +3,7 @@ use Rattle.std.proofs.Common.{◌≡◌, ◌∙◌, ◌-◌, ℕ, false, List, O
 use Rattle.std.specs.Prelude.{nat_lt}
 use Rattle.lake_bytes.specs.Results.{◌>>=◌, refused_as, refused_if}
 use Rattle.store_core.specs.Objects.{Objects, object_at}
-use Rattle.delta_actions.specs.Entry.{Entry}
+use Rattle.delta_actions.specs.Action.{Action}
 use Rattle.delta_replay.specs.Support.{meta_data_of}
 use Rattle.table_log.specs.Names.{commit_name}
 use Rattle.table_folder.specs.Loads.{loaded}
@@ -12,9 +12,9 @@ use Rattle.snapshot_core.specs.Faults.{readable_log}
 use Rattle.snapshot_core.specs.Taking.{IsNewestCheckpoint, most_bytes}
 use Rattle.snapshot_core.specs.Telling.{TellsSnapshot}
 use Rattle.lake_script.specs.Checkpoints.{by_log, checkpoint_by, checkpoint_of, checkpoint_reply, newest_version, snapshot_reply, too_large}
-use Rattle.lake_script.specs.Lines.{append, checkpoint, close, tail, Wish, create, die, fault, finish, foreign, hex, history, land, show, snapshot, start, step, task, tries, until}
+use Rattle.lake_script.specs.Lines.{append, checkpoint, close, tail, Statement, create, die, fault, finish, foreign, hex, history, land, show, snapshot, start, step, task, tries, until}
 use Rattle.lake_script.specs.Replies.{put_word}
-use Rattle.lake_script.specs.Told.{appended_reply, created_reply, in_hex, reply_to_wish, shown, tailed_reply, IsPrintedWish}
+use Rattle.lake_script.specs.Told.{appended_reply, created_reply, in_hex, reply_to_statement, shown, tailed_reply, IsPrintedStatement}
 use Rattle.commit_core.specs.Texts.{line_of}
 use Rattle.job_laws.specs.Looking.{LooksWithin}
 use Rattle.job_laws.proofs.Loaded.{commit_loaded, loaded_at}
@@ -36,13 +36,13 @@ pub same_checkpoint : (files : List (List ℕ)) (objects : Objects) (bytes : Lis
 same_checkpoint files objects bytes =
     λ i. refused_as by_log (same_checked files objects i) >>= λ commits. refused_if (nat_lt most_bytes (length bytes)) too_large >>= λ fits. checkpoint_of (same_newest files objects i) (meta_data_of commits)
 
-pub same_reply : (objects : Objects) (wish : Wish) (files : List (List ℕ)) (printed : List ℕ) → LooksWithin objects wish files → reply_to_wish (loaded files objects) wish printed ≡ reply_to_wish objects wish printed
+pub same_reply : (objects : Objects) (statement : Statement) (files : List (List ℕ)) (printed : List ℕ) → LooksWithin objects statement files → reply_to_statement (loaded files objects) statement printed ≡ reply_to_statement objects statement printed
 same_reply objects (create id at schema) files printed within = ap created_reply (same_created files objects id at schema printed)
 same_reply objects (task (append application number at rows)) files printed within = ap appended_reply (same_appended files objects application number at rows (within _ refl))
 same_reply objects (task (close application at)) files printed within = refl
 same_reply objects (task checkpoint) files printed within = ap checkpoint_reply (same_checkpoint files objects printed)
 same_reply objects (task (tail max offset)) files printed within = ap tailed_reply (same_tailed files objects max offset within)
-same_reply objects snapshot files printed within = ap (λ (log : Result (List (List Entry)) faults.Reason). snapshot_reply log printed) (same_readable files objects)
+same_reply objects snapshot files printed within = ap (λ (log : Result (List (List Action)) faults.Reason). snapshot_reply log printed) (same_readable files objects)
 same_reply objects history files printed within = same_history files objects
 same_reply objects (show version) files printed within = ap shown (same_commit files objects version)
 same_reply objects (hex name) files printed within = ap in_hex (loaded_at files objects name (within name refl))
@@ -67,7 +67,7 @@ if_both {A} {E} one other P Q is all holds = by_case other (subst (λ (r : Resul
     by_case (Err e) has = tt
 
 -- the newest version's checkpoint
-newest_printed : (files : List (List ℕ)) (objects : Objects) (log : List (List Entry)) (bytes : List ℕ) → IsNewestCheckpoint (loaded files objects) log (newest_version (loaded files objects)) bytes → IsNewestCheckpoint objects log (newest_version objects) bytes
+newest_printed : (files : List (List ℕ)) (objects : Objects) (log : List (List Action)) (bytes : List ℕ) → IsNewestCheckpoint (loaded files objects) log (newest_version (loaded files objects)) bytes → IsNewestCheckpoint objects log (newest_version objects) bytes
 newest_printed files objects log bytes is =
     subst (λ (version : ℕ). IsNewestCheckpoint objects log version bytes) (same_newest files objects) (record { newest = is.newest ∙ same_count files objects; checkpoint = is.checkpoint; ordered = is.ordered })
 
@@ -87,7 +87,7 @@ snapshot_printed files objects text tells = record {
   lists = tells.lists;
 }
 
-pub same_printed : (objects : Objects) (wish : Wish) (files : List (List ℕ)) (printed : List ℕ) → LooksWithin objects wish files → IsPrintedWish (loaded files objects) wish printed → IsPrintedWish objects wish printed
+pub same_printed : (objects : Objects) (statement : Statement) (files : List (List ℕ)) (printed : List ℕ) → LooksWithin objects statement files → IsPrintedStatement (loaded files objects) statement printed → IsPrintedStatement objects statement printed
 same_printed objects (create id at schema) files printed within is = is
 same_printed objects (task checkpoint) files printed within is =
     if_both (faults.checked false (loaded files objects)) (faults.checked false objects) _ _ (same_checked files objects) (λ commits. newest_printed files objects commits printed) is

@@ -14,7 +14,7 @@ use Rattle.snapshot_core.specs.Taking.{HasPut, PutsCheckpoint}
 use Rattle.sink_core.specs.Appending.{MayAppend, Step, puts, stands, settled}
 use Rattle.sink_core.specs.Refusals.{Refusal}
 use Rattle.lake_script.specs.Growth.{MayPut, MayPutCheckpoint}
-use Rattle.lake_script.specs.Lines.{append, checkpoint, Wish, create, task, foreign}
+use Rattle.lake_script.specs.Lines.{append, checkpoint, Statement, create, task, foreign}
 use Rattle.job_laws.specs.Looking.{LooksWithin}
 use Rattle.job_laws.proofs.Loaded.{checkpoint_loaded, commit_loaded}
 use Rattle.job_laws.proofs.NameKinds.{commit_is_commit, file_is_data}
@@ -102,7 +102,7 @@ checkpoint_saved files objects after new version order put front =
 
 -- ---- what a line may put
 
-pub saved : (objects after new : Objects) (wish : Wish) (files : List (List ℕ)) → IsInOrder objects → LooksWithin objects wish files → MayPut (loaded files objects) wish after → IsSaved files objects after new → MayPut objects wish new
+pub saved : (objects after new : Objects) (statement : Statement) (files : List (List ℕ)) → IsInOrder objects → LooksWithin objects statement files → MayPut (loaded files objects) statement after → IsSaved files objects after new → MayPut objects statement new
 saved objects after new (create id at schema) files order within (inl same) front = inl (none_saved files objects after new same front)
 saved objects after new (create id at schema) files order within (inr (printed, put)) front = creation_saved files objects after new id at schema printed order put front
 saved objects after new (task (append application number at items)) files order within put front = (

@@ -6,14 +6,14 @@ use Rattle.table_log.specs.Counts.{commit_count}
 use Rattle.table_store.specs.Sound.{IsSound, greatest_version}
 use Rattle.commit_core.specs.Sound.{IsSoundStore}
 use Rattle.lake_script.specs.Growth.{MayPut}
-use Rattle.lake_script.specs.Lines.{Wish, append, asks, checkpoint, create, foreign, task}
+use Rattle.lake_script.specs.Lines.{Statement, append, asks, checkpoint, create, foreign, task}
 use Rattle.lake_script.specs.Told.{IsPutHere}
 use Rattle.lake_script.proofs.SoundPuts.{puts_sound}
 use Rattle.job_laws.specs.Bytes.{AreBytes, LooksAtBytes}
 use Rattle.job_laws.proofs.SoundGrowth.{append_sound, create_sound, no_checkpoint, sound_beside}
 
 -- the table that stands behind a line
-line_sound : (objects : Objects) (wish : Wish) (after : Objects) → LooksAtBytes objects wish → IsPutHere (asks wish) → commit_count objects < greatest_version → IsSound objects → MayPut objects wish after → IsSound after
+line_sound : (objects : Objects) (statement : Statement) (after : Objects) → LooksAtBytes objects statement → IsPutHere (asks statement) → commit_count objects < greatest_version → IsSound objects → MayPut objects statement after → IsSound after
 line_sound objects (create id at schema) after are here small sound put = create_sound objects after id at schema put sound
 line_sound objects (task (append application number at items)) after are here small sound put = append_sound objects sound small application number at items (λ bytes there. are (data_file_name application number) bytes refl there) after put.1
 line_sound objects (task checkpoint) after are here small sound (inl same) = subst IsSound (sym same) sound
@@ -24,10 +24,10 @@ line_sound objects _ after are here small sound same = subst IsSound (sym same) 
 
 -- Whatever this program puts for a line leaves a sound store sound, where the data files that it may
 -- look at are of bytes.
-pub line_keeps_sound : (objects after : Objects) (wish : Wish) → LooksAtBytes objects wish → IsPutHere (asks wish) → commit_count objects < greatest_version → IsSoundStore objects → MayPut objects wish after → IsSoundStore after
-line_keeps_sound objects after wish are here small sound put =
-    record { table = line_sound objects wish after are here small sound.table put; checkpoints = puts_sound true objects wish after put sound.checkpoints }
+pub line_keeps_sound : (objects after : Objects) (statement : Statement) → LooksAtBytes objects statement → IsPutHere (asks statement) → commit_count objects < greatest_version → IsSoundStore objects → MayPut objects statement after → IsSoundStore after
+line_keeps_sound objects after statement are here small sound put =
+    record { table = line_sound objects statement after are here small sound.table put; checkpoints = puts_sound true objects statement after put sound.checkpoints }
 
 -- the same where each object is of bytes
-pub line_keeps_sound_bytes : (objects after : Objects) (wish : Wish) → AreBytes objects → IsPutHere (asks wish) → commit_count objects < greatest_version → IsSoundStore objects → MayPut objects wish after → IsSoundStore after
-line_keeps_sound_bytes objects after wish are here small sound put = line_keeps_sound objects after wish (λ name bytes looked there. are name bytes there) here small sound put
+pub line_keeps_sound_bytes : (objects after : Objects) (statement : Statement) → AreBytes objects → IsPutHere (asks statement) → commit_count objects < greatest_version → IsSoundStore objects → MayPut objects statement after → IsSoundStore after
+line_keeps_sound_bytes objects after statement are here small sound put = line_keeps_sound objects after statement (λ name bytes looked there. are name bytes there) here small sound put

@@ -11,14 +11,14 @@ use Rattle.commit_core.specs.Texts.{line_of, refused}
 use Rattle.table_log.specs.InForce.{Told}
 use Rattle.table_log.specs.Reads.{first_standing}
 use Rattle.table_log.specs.Versions.{Version}
-use Rattle.table_model.specs.declared.reading.Place.{Place}
+use Rattle.table_model.specs.declared.reading.Offset.{Offset}
 use Rattle.table_store.specs.Groups.{new_files}
 use Rattle.table_folder.specs.Loads.{is_loaded, loaded}
 use Rattle.source_core.specs.Offsets.{offset_of}
 use Rattle.source_core.specs.TailFaults.{refusal_text}
 use Rattle.source_core.specs.Tailing.{Handed, Item, LogFile, Refusal, actions_in, bad_offset, behind, data_file, end_of, ended, hand, hand_on, handed_by, handed_text, is_done, items_at, memory, missing_file, or_bad_file, rows_behind, rows_left, rows_of, schema_at, tailed, unless_beyond, unless_gone, unless_no_file, unless_removed, version_fault, versions_at}
 use Rattle.lake_script.specs.Lines.{task, tail}
-use Rattle.lake_script.specs.Runs.{Grants}
+use Rattle.lake_script.specs.Runs.{Executes}
 use Rattle.lake_script.specs.Told.{tailed_reply}
 use Rattle.job_laws.specs.Enough.{HasRows, line_count}
 use Rattle.job_laws.proofs.Loaded.{found_loaded}
@@ -42,7 +42,7 @@ not_loaded files objects schema file skip not =
     ap (λ (found : Option (List ℕ)). (or_refusal found (missing_file file.path.text) >>= λ bytes. or_bad_file file (rows_at bytes schema)) >>= rows_behind skip file.version) none
 
 -- A read that isn't done doesn't come behind a missing file to all its rows, but at the first file.
-ends_short : (most skip : ℕ) (rows : List Row) (next : Place) (path : List ℕ) (handed : Handed) → is_done most skip ≡ false → (rows ≡ []) ⊎ (skip ≡ 0)
+ends_short : (most skip : ℕ) (rows : List Row) (next : Offset) (path : List ℕ) (handed : Handed) → is_done most skip ≡ false → (rows ≡ []) ⊎ (skip ≡ 0)
     → hand_on most rows next (Err (missing_file path)) (λ part. Ok handed) ≡ Ok handed → length rows + most ≤ length handed.rows → ⊥
 ends_short most skip [] next path handed going first is all = cc
 ends_short most skip (row ∷ rows) next path handed going (inl none) is all = cc
@@ -58,7 +58,7 @@ ends_short most skip (row ∷ rows) next path handed going (inr at) is all =
     by_most (suc n) going none = absurd (omega (arith, none))
 
 -- what is handed out of items over some data files, where all rows were found, is handed out over all
-hand_part : (files : List (List ℕ)) (objects : Objects) (schema : Tree) (end : Place) (items : List Item) (most skip : ℕ) (rows : List Row) (next : Place) (handed : Handed) → (rows ≡ []) ⊎ (skip ≡ 0)
+hand_part : (files : List (List ℕ)) (objects : Objects) (schema : Tree) (end : Offset) (items : List Item) (most skip : ℕ) (rows : List Row) (next : Offset) (handed : Handed) → (rows ≡ []) ⊎ (skip ≡ 0)
     → hand (loaded files objects) schema end most skip rows next items ≡ Ok handed → length rows + most ≤ length handed.rows
     → hand objects schema end most skip rows next items ≡ Ok handed
 unfolding hand
@@ -96,7 +96,7 @@ hand_part files objects schema end (data_file f ∷ items) most skip rows next h
     by_done later false d is = by_loaded later d (is_loaded files f.path.key) refl is
 
 -- the rows of a log from a place on
-handed_part : (files : List (List ℕ)) (objects : Objects) (told : Told) (versions : List Version) (max : ℕ) (place : Place) (handed : Handed) → handed_by (loaded files objects) told versions max place ≡ Ok handed → max ≤ length handed.rows
+handed_part : (files : List (List ℕ)) (objects : Objects) (told : Told) (versions : List Version) (max : ℕ) (place : Offset) (handed : Handed) → handed_by (loaded files objects) told versions max place ≡ Ok handed → max ≤ length handed.rows
     → handed_by objects told versions max place ≡ Ok handed
 unfolding handed_by
 handed_part files objects told versions max place handed is all =
@@ -110,7 +110,7 @@ handed_part files objects told versions max place handed is all =
 -- ---- a read from the text of an offset on
 
 -- a read's text that tells all its rows is handed out over all
-text_part : (files : List (List ℕ)) (objects : Objects) (told : Told) (versions : List Version) (max : ℕ) (place : Place) (text : List ℕ) → max < line_count text
+text_part : (files : List (List ℕ)) (objects : Objects) (told : Told) (versions : List Version) (max : ℕ) (place : Offset) (text : List ℕ) → max < line_count text
     → (handed_by (loaded files objects) told versions max place >>= λ handed. Ok (handed_text told.schema handed)) ≡ Ok text
     → (handed_by objects told versions max place >>= λ handed. Ok (handed_text told.schema handed)) ≡ Ok text
 text_part files objects told versions max place text more = by_handed (handed_by (loaded files objects) told versions max place) refl
@@ -149,6 +149,6 @@ reply_part files objects max offset reply has = by_read (tailed false (loaded fi
     by_read (Ok text) was is = is ∙ ap tailed_reply (sym (tailed_part files objects max offset text (subst (λ r. max < line_count r) is has.1) was))
     by_read (Err refusal) was is = absurd (no_refusal _ reply has.0 is)
 
-pub whole : (objects after : Objects) (files : List (List ℕ)) (max : ℕ) (offset reply : List ℕ) → HasRows max reply → Grants (loaded files objects) (task (tail max offset)) reply after → Grants objects (task (tail max offset)) reply objects
+pub whole : (objects after : Objects) (files : List (List ℕ)) (max : ℕ) (offset reply : List ℕ) → HasRows max reply → Executes (loaded files objects) (task (tail max offset)) reply after → Executes objects (task (tail max offset)) reply objects
 whole objects after files max offset reply has (inl (printed, is, told, left)) = inl (printed, tt, reply_part files objects max offset reply has told, refl)
 whole objects after files max offset reply has (inr (short, left)) = absurd (no_refusal (refusal_text memory) reply has.0 short)

@@ -2,7 +2,7 @@
 use Rattle.std.specs.Prelude.{◌≡◌, ℕ, List, Some}
 use Rattle.lake_bytes.specs.Varint.{IsBytes}
 use Rattle.store_core.specs.Objects.{Objects, object_at}
-use Rattle.lake_script.specs.Lines.{Wish}
+use Rattle.lake_script.specs.Lines.{Statement}
 use Rattle.job_laws.specs.Looking.{MayLookAt}
 
 -- each object is of numbers of eight bits
@@ -10,5 +10,5 @@ abbrev pub AreBytes : Objects → Type 0
 AreBytes objects = (name bytes : List ℕ) → object_at objects name ≡ Some bytes → IsBytes bytes
 
 -- each data file that a line may look at is
-abbrev pub LooksAtBytes : Objects → Wish → Type 0
-LooksAtBytes objects wish = (name bytes : List ℕ) → MayLookAt objects wish name → object_at objects name ≡ Some bytes → IsBytes bytes
+abbrev pub LooksAtBytes : Objects → Statement → Type 0
+LooksAtBytes objects statement = (name bytes : List ℕ) → MayLookAt objects statement name → object_at objects name ≡ Some bytes → IsBytes bytes

@@ -1,4 +1,6 @@
 pub mod Bytes
 pub mod Enough
 pub mod Looking
+pub mod Readable
 pub mod Saved
+pub mod TextReads

@@ -6,10 +6,10 @@ use Rattle.delta_actions.specs.Names.{data_file_name}
 use Rattle.table_log.specs.Counts.{commit_count}
 use Rattle.table_log.specs.Versions.{Version, version_at}
 use Rattle.table_folder.specs.Loads.{is_loaded}
-use Rattle.table_model.specs.declared.reading.Place.{Place}
+use Rattle.table_model.specs.declared.reading.Offset.{Offset}
 use Rattle.source_core.specs.Offsets.{offset_of}
 use Rattle.source_core.specs.Tailing.{paths_in}
-use Rattle.lake_script.specs.Lines.{Wish, task, append, tail, hex}
+use Rattle.lake_script.specs.Lines.{Statement, task, append, tail, hex}
 
 -- the keys of paths
 abbrev pub keys_of : List Path → List (List ℕ)
@@ -21,7 +21,7 @@ files_in found = keys_of (paths_in found)
 
 -- A version of the log from an offset on has a commit that adds the file of this name.
 pub record IsReadFrom (objects : Objects) (offset name : List ℕ) : Type 0 where
-  pub place : Place
+  pub place : Offset
   pub read : offset_of offset ≡ Some place
   pub version : ℕ
   pub from : place.version ≤ version
@@ -30,12 +30,12 @@ pub record IsReadFrom (objects : Objects) (offset name : List ℕ) : Type 0 wher
 
 -- The data file is one that a line may look at over these objects: an append looks at its batch's, and a read at those that
 -- commits from its offset's version on add.
-abbrev pub MayLookAt : Objects → Wish → (name : List ℕ) → Type 0
+abbrev pub MayLookAt : Objects → Statement → (name : List ℕ) → Type 0
 MayLookAt objects (task (append application number at items)) name = name ≡ data_file_name application number
 MayLookAt objects (task (tail max offset)) name = IsReadFrom objects offset name
 MayLookAt objects (hex own) name = name ≡ own
-MayLookAt objects wish name = ⊥
+MayLookAt objects statement name = ⊥
 
 -- a line looks at nothing but what is loaded with these data files
-abbrev pub LooksWithin : Objects → Wish → (files : List (List ℕ)) → Type 0
-LooksWithin objects wish files = (name : List ℕ) → MayLookAt objects wish name → is_loaded files name ≡ true
+abbrev pub LooksWithin : Objects → Statement → (files : List (List ℕ)) → Type 0
+LooksWithin objects statement files = (name : List ℕ) → MayLookAt objects statement name → is_loaded files name ≡ true

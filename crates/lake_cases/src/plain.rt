@@ -7,7 +7,7 @@ use row_core::Value;
 use std::alloc::Global;
 use std::io::Write;
 use std::str;
-use table_model::{Answer, Appended, Batch, Closing, Place, Table, is_lawful};
+use table_model::{Answer, Appended, Batch, Closing, Offset, Table, is_lawful};
 
 /// Answers the lines of a script over a plain table that was just created: `append APP NUMBER ROW ..`, `close APP` and
 /// `read MAX VERSION FILE ROW`. Blank lines have no answer.
@@ -74,10 +74,10 @@ fn batch_of(alloc: Global, text: &str) -> Result<Batch, Failure> {
     })
 }
 
-fn place_of(text: &str) -> Result<Place, Failure> {
+fn place_of(text: &str) -> Result<Offset, Failure> {
     let (version, rest) = text.split_once(' ').ok_or(Failure::Misspelled)?;
     let (file, row) = rest.split_once(' ').ok_or(Failure::Misspelled)?;
-    Ok(Place {
+    Ok(Offset {
         version: number(version)?,
         file: number(file)?,
         row: number(row)?,

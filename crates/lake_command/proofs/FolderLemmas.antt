@@ -16,15 +16,15 @@ use Rattle.table_folder.specs.declared.fault.SaveFault.{SaveFault}
 use Rattle.table_folder.specs.declared.fault.SaveFault.TheVariants as saves
 use Rattle.json_lines.specs.Rows.{input_lines, object_of}
 use Rattle.lake_script.specs.Growth.{MayPut}
-use Rattle.lake_script.specs.Lines.{Wish, asks, wish_view}
+use Rattle.lake_script.specs.Lines.{Statement, asks, statement_view}
 use Rattle.lake_script.specs.ReplyView.{reply_text}
-use Rattle.lake_script.specs.Runs.{Grants}
+use Rattle.lake_script.specs.Runs.{Executes}
 use Rattle.lake_script.specs.Told.{IsPutHere}
 use Rattle.lake_script.specs.declared.line.Line.{Line}
 use Rattle.lake_script.specs.declared.reply.Reply.{Reply}
 use Rattle.job_laws.specs.Bytes.{AreBytes}
 use Rattle.job_laws.specs.Looking.{LooksWithin}
-use Rattle.job_laws.proofs.Callers.{granted as line_granted, line_keeps_sound_bytes, looks_within, put_under, restores, saved as line_saved}
+use Rattle.job_laws.proofs.Callers.{executed as line_executed, line_keeps_sound_bytes, looks_within, put_under, restores, saved as line_saved}
 use Rattle.lake_words.specs.Asked.{Work}
 use Rattle.lake_words.specs.Asked as words
 use Rattle.lake_command.specs.Failures.{ComesOfACall, IsOfFolder, Leaves, NamesPut}
@@ -35,53 +35,53 @@ use Rattle.lake_command.specs.declared.failure.Failure.TheVariants.{Loading, Sav
 -- ---- what was loaded
 
 -- The objects that were loaded are those of the folder's log and some of its data files, with all that a line looks at.
-pub record IsLoadedFor (objects : Objects) (wish : Wish) (loaded_objects : Objects) : Type 0 where
+pub record IsLoadedFor (objects : Objects) (statement : Statement) (loaded_objects : Objects) : Type 0 where
   pub files : List (List ℕ)
-  pub within : LooksWithin objects wish files
+  pub within : LooksWithin objects statement files
   pub same : loaded_objects ≡ loaded files objects
 
 -- so it is where the log was loaded at first, and then the data files that a line may look at
-pub loaded_for : (base mid first log start : Objects) (wish : Wish) (names read : List (List ℕ)) → mid ≡ base → log ≡ loaded [] base → first ≡ log → LooksWithin log wish names → read ≡ names
-    → (first ≡ loaded [] mid → start ≡ loaded read mid) → IsLoadedFor base wish start
-loaded_for base mid first log start wish names read same is untouched within all load = record {
+pub loaded_for : (base mid first log start : Objects) (statement : Statement) (names read : List (List ℕ)) → mid ≡ base → log ≡ loaded [] base → first ≡ log → LooksWithin log statement names → read ≡ names
+    → (first ≡ loaded [] mid → start ≡ loaded read mid) → IsLoadedFor base statement start
+loaded_for base mid first log start statement names read same is untouched within all load = record {
   files = names;
-  within = looks_within [] base wish names (subst (λ (o : Objects). LooksWithin o wish names) is within);
+  within = looks_within [] base statement names (subst (λ (o : Objects). LooksWithin o statement names) is within);
   same = load (untouched ∙ is ∙ ap (loaded []) (sym same)) ∙ ap (λ (ns : List (List ℕ)). loaded ns mid) all ∙ ap (loaded names) same;
 }
 
 -- a read that was told before all were loaded is told over the folder, which is as it was
-pub told_early : (base mid new : Objects) (wish : Wish) (found : Option Reply) (reply : Reply) → mid ≡ base → new ≡ mid → found ≡ Some reply → IfSome found (λ r. Grants mid wish (reply_text r) mid) → Grants base wish (reply_text reply) new
-told_early base mid new wish found reply same untouched is told =
-    subst (λ (o : Objects). Grants o wish (reply_text reply) new) same
-    (subst (λ (o : Objects). Grants mid wish (reply_text reply) o) (sym untouched) (subst (λ (f : Option Reply). IfSome f (λ r. Grants mid wish (reply_text r) mid)) is told))
+pub told_early : (base mid new : Objects) (statement : Statement) (found : Option Reply) (reply : Reply) → mid ≡ base → new ≡ mid → found ≡ Some reply → IfSome found (λ r. Executes mid statement (reply_text r) mid) → Executes base statement (reply_text reply) new
+told_early base mid new statement found reply same untouched is told =
+    subst (λ (o : Objects). Executes o statement (reply_text reply) new) same
+    (subst (λ (o : Objects). Executes mid statement (reply_text reply) o) (sym untouched) (subst (λ (f : Option Reply). IfSome f (λ r. Executes mid statement (reply_text r) mid)) is told))
 
 -- their checkpoints are sound where the folder's are
-pub loaded_well : (restore : Bool) (old start : Objects) (wish : Wish) → IsLoadedFor old wish start → RestoresWell restore old → RestoresWell restore start
-loaded_well restore old start wish is well = subst (RestoresWell restore) (sym is.same) (restores old is.files restore well)
+pub loaded_well : (restore : Bool) (old start : Objects) (statement : Statement) → IsLoadedFor old statement start → RestoresWell restore old → RestoresWell restore start
+loaded_well restore old start statement is well = subst (RestoresWell restore) (sym is.same) (restores old is.files restore well)
 
 -- a line that has what it asks for over what was loaded has it over the folder's objects, once its own are saved
-pub line_done : (old start end new : Objects) (wish : Wish) (reply : List ℕ) (names : List (List ℕ)) → IsInOrder old → IsLoadedFor old wish start → names ≡ names_of start → Grants start wish reply end
-    → new ≡ with_copies end old (to_save names (names_of end)) → Grants old wish reply new
-line_done old start end new wish reply names order is listed granted saved =
+pub line_done : (old start end new : Objects) (statement : Statement) (reply : List ℕ) (names : List (List ℕ)) → IsInOrder old → IsLoadedFor old statement start → names ≡ names_of start → Executes start statement reply end
+    → new ≡ with_copies end old (to_save names (names_of end)) → Executes old statement reply new
+line_done old start end new statement reply names order is listed executed saved =
     let added : new ≡ with_copies end old (to_save (names_of (loaded is.files old)) (names_of end)) = saved ∙ ap (λ ns. with_copies end old (to_save ns (names_of end))) (listed ∙ ap names_of is.same) in
-    subst (λ o. Grants old wish reply o) (sym added) (line_granted old end wish is.files reply order is.within (subst (λ o. Grants o wish reply end) is.same granted))
+    subst (λ o. Executes old statement reply o) (sym added) (line_executed old end statement is.files reply order is.within (subst (λ o. Executes o statement reply end) is.same executed))
 
 -- a front of what a line put over what was loaded may have been put over the folder's objects
-pub front_saved : (old start end new : Objects) (wish : Wish) (names : List (List ℕ)) → IsInOrder old → IsLoadedFor old wish start → names ≡ names_of start → MayPut start wish end
-    → HasSavedFront end (to_save names (names_of end)) old new → MayHavePut old wish new
-front_saved old start end new wish names order is listed put front =
-    inr (line_saved old end new wish is.files order is.within (subst (λ o. MayPut o wish end) is.same put)
+pub front_saved : (old start end new : Objects) (statement : Statement) (names : List (List ℕ)) → IsInOrder old → IsLoadedFor old statement start → names ≡ names_of start → MayPut start statement end
+    → HasSavedFront end (to_save names (names_of end)) old new → MayHavePut old statement new
+front_saved old start end new statement names order is listed put front =
+    inr (line_saved old end new statement is.files order is.within (subst (λ o. MayPut o statement end) is.same put)
     (subst (λ ns. HasSavedFront end (to_save ns (names_of end)) old new) (listed ∙ ap names_of is.same) front))
 
 -- an object that isn't saved is one that the line puts over the folder's objects, where nothing stood
-pub named_put : (fault : SaveFault) (old start end : Objects) (wish : Wish) (names : List (List ℕ)) → IsInOrder old → IsLoadedFor old wish start → names ≡ names_of start → MayPut start wish end
-    → SaveFailsAmong {X = Unit {0}} (to_save names (names_of end)) (Err fault) → NamesPut (Saving fault) wish old
-named_put (saves.NotSaved name reason) old start end wish names order is listed put new =
-    let found = put_under old end wish is.files (string_bytes name) order is.within (subst (λ o. MayPut o wish end) is.same put)
+pub named_put : (fault : SaveFault) (old start end : Objects) (statement : Statement) (names : List (List ℕ)) → IsInOrder old → IsLoadedFor old statement start → names ≡ names_of start → MayPut start statement end
+    → SaveFailsAmong {X = Unit {0}} (to_save names (names_of end)) (Err fault) → NamesPut (Saving fault) statement old
+named_put (saves.NotSaved name reason) old start end statement names order is listed put new =
+    let found = put_under old end statement is.files (string_bytes name) order is.within (subst (λ o. MayPut o statement end) is.same put)
     (subst (λ ns. Contains (to_save ns (names_of end)) (string_bytes name)) (listed ∙ ap names_of is.same) new) in
     record { after = found.0; put = found.1; absent = found.2; stands = found.3 }
-named_put saves.Lost old start end wish names order is listed put new = tt
-named_put saves.Memory old start end wish names order is listed put new = tt
+named_put saves.Lost old start end statement names order is listed put new = tt
+named_put saves.Memory old start end statement names order is listed put new = tt
 
 -- a call that gave this fault failed so
 pub fails_as : {X : Type 0} (result : Result X Failure) (fault : SaveFault) → IsErrAnd result (λ failure. failure ≡ Saving fault) → result ≡ Err (Saving fault)
@@ -89,62 +89,62 @@ fails_as (Ok x) fault is = absurd is
 fails_as (Err failure) fault is = ap Err is
 
 -- its name isn't taken: a call of the folder failed
-alone_of_fault : (X : Type 0) (fault : SaveFault) (steady : Type 0) (old : Objects) (wish : Wish) (before after : ℕ) → steady → NamesPut (Saving fault) wish old → CountsSave {X = Unit {0}} steady old (Err fault) before after
+alone_of_fault : (X : Type 0) (fault : SaveFault) (steady : Type 0) (old : Objects) (statement : Statement) (before after : ℕ) → steady → NamesPut (Saving fault) statement old → CountsSave {X = Unit {0}} steady old (Err fault) before after
     → ComesOfACall {X = X} (Err (Saving fault)) before after
-alone_of_fault X (saves.NotSaved name reason) steady old wish before after on names (inl risen) = risen
-alone_of_fault X (saves.NotSaved name reason) steady old wish before after on names (inr taken) = let both : true ≡ false = sym (taken.2 on) ∙ ap is_some names.absent in cc
-alone_of_fault X saves.Lost steady old wish before after on names counts = tt
-alone_of_fault X saves.Memory steady old wish before after on names counts = tt
+alone_of_fault X (saves.NotSaved name reason) steady old statement before after on names (inl risen) = risen
+alone_of_fault X (saves.NotSaved name reason) steady old statement before after on names (inr taken) = let both : true ≡ false = sym (taken.2 on) ∙ ap is_some names.absent in cc
+alone_of_fault X saves.Lost steady old statement before after on names counts = tt
+alone_of_fault X saves.Memory steady old statement before after on names counts = tt
 
 -- the same where the folder was as it was until then
-pub saved_alone : {X : Type 0} (result : Result X Failure) (fault : SaveFault) (steady : Type 0) (held old : Objects) (wish : Wish) (before mid after : ℕ) → result ≡ Err (Saving fault) → held ≡ old → mid ≡ before → steady
-    → IfErr result (λ failure. NamesPut failure wish old) → CountsSave {X = Unit {0}} steady held (Err fault) mid after → ComesOfACall result before after
-saved_alone {X} result fault steady held old wish before mid after is same level on names counts =
+pub saved_alone : {X : Type 0} (result : Result X Failure) (fault : SaveFault) (steady : Type 0) (held old : Objects) (statement : Statement) (before mid after : ℕ) → result ≡ Err (Saving fault) → held ≡ old → mid ≡ before → steady
+    → IfErr result (λ failure. NamesPut failure statement old) → CountsSave {X = Unit {0}} steady held (Err fault) mid after → ComesOfACall result before after
+saved_alone {X} result fault steady held old statement before mid after is same level on names counts =
     subst (λ (r : Result X Failure). ComesOfACall r before after) (sym is)
-    (alone_of_fault X fault steady old wish before after on (subst (λ (r : Result X Failure). IfErr r (λ failure. NamesPut failure wish old)) is names)
+    (alone_of_fault X fault steady old statement before after on (subst (λ (r : Result X Failure). IfErr r (λ failure. NamesPut failure statement old)) is names)
     (subst (λ n. CountsSave {X = Unit {0}} steady old (Err fault) n after) level (subst (λ o. CountsSave {X = Unit {0}} steady o (Err fault) mid after) same counts)))
 
 -- ---- what a job leaves
 
 -- what a line leaves, for the job that it was asked for
-pub may_leave : (work : Work) (text : Option (List ℕ)) (wish : Wish) (old new : Objects) → IsAskedBy work text wish → MayHavePut old wish new → JobMayLeave work text old new
-may_leave work text wish old new asked (inl same) = inl same
-may_leave work text wish old new asked (inr put) = inr (wish, asked, put)
+pub may_leave : (work : Work) (text : Option (List ℕ)) (statement : Statement) (old new : Objects) → IsAskedBy work text statement → MayHavePut old statement new → JobMayLeave work text old new
+may_leave work text statement old new asked (inl same) = inl same
+may_leave work text statement old new asked (inr put) = inr (statement, asked, put)
 
 -- a failure of the folder, for the job whose line was asked for
-pub left_for_job : (failure : Failure) (work : Work) (text : Option (List ℕ)) (wish : Wish) (old new : Objects) → IsAskedBy work text wish → IsOfFolder failure old new → MayHavePut old wish new
-    → NamesPut failure wish old → Leaves failure work text old new
-left_for_job (Loading fault) work text wish old new asked same put names = same
-left_for_job (Saving (saves.NotSaved name reason)) work text wish old new asked of put names = (may_leave work text wish old new asked put, (wish, asked, names))
-left_for_job (Saving saves.Lost) work text wish old new asked of put names = may_leave work text wish old new asked put
-left_for_job (Saving saves.Memory) work text wish old new asked of put names = may_leave work text wish old new asked put
-left_for_job _ work text wish old new asked none put names = absurd none
+pub left_for_job : (failure : Failure) (work : Work) (text : Option (List ℕ)) (statement : Statement) (old new : Objects) → IsAskedBy work text statement → IsOfFolder failure old new → MayHavePut old statement new
+    → NamesPut failure statement old → Leaves failure work text old new
+left_for_job (Loading fault) work text statement old new asked same put names = same
+left_for_job (Saving (saves.NotSaved name reason)) work text statement old new asked of put names = (may_leave work text statement old new asked put, (statement, asked, names))
+left_for_job (Saving saves.Lost) work text statement old new asked of put names = may_leave work text statement old new asked put
+left_for_job (Saving saves.Memory) work text statement old new asked of put names = may_leave work text statement old new asked put
+left_for_job _ work text statement old new asked none put names = absurd none
 
 -- the same where a call gave a reply or failed
-pub replies_to_job : (result : Result Reply Failure) (work : Work) (text : Option (List ℕ)) (wish : Wish) (old new : Objects) → IsAskedBy work text wish → IfOk result (λ reply. Grants old wish (reply_text reply) new) → IfOk result (λ reply. IsAnswer work text old (reply_text reply) new)
-replies_to_job (Ok reply) work text wish old new asked granted = inr (wish, asked, granted)
-replies_to_job (Err failure) work text wish old new asked granted = tt
+pub replies_to_job : (result : Result Reply Failure) (work : Work) (text : Option (List ℕ)) (statement : Statement) (old new : Objects) → IsAskedBy work text statement → IfOk result (λ reply. Executes old statement (reply_text reply) new) → IfOk result (λ reply. IsAnswer work text old (reply_text reply) new)
+replies_to_job (Ok reply) work text statement old new asked executed = inr (statement, asked, executed)
+replies_to_job (Err failure) work text statement old new asked executed = tt
 
-pub fails_for_job : (result : Result Reply Failure) (work : Work) (text : Option (List ℕ)) (wish : Wish) (old new : Objects) → IsAskedBy work text wish → IfErr result (λ failure. IsOfFolder failure old new) → MayHavePut old wish new
-    → IfErr result (λ failure. NamesPut failure wish old) → IfErr result (λ failure. Leaves failure work text old new)
-fails_for_job (Ok reply) work text wish old new asked of put names = tt
-fails_for_job (Err failure) work text wish old new asked of put names = left_for_job failure work text wish old new asked of put names
+pub fails_for_job : (result : Result Reply Failure) (work : Work) (text : Option (List ℕ)) (statement : Statement) (old new : Objects) → IsAskedBy work text statement → IfErr result (λ failure. IsOfFolder failure old new) → MayHavePut old statement new
+    → IfErr result (λ failure. NamesPut failure statement old) → IfErr result (λ failure. Leaves failure work text old new)
+fails_for_job (Ok reply) work text statement old new asked of put names = tt
+fails_for_job (Err failure) work text statement old new asked of put names = left_for_job failure work text statement old new asked of put names
 
 -- no job puts another tool's commit
-put_here : (work : Work) (text : Option (List ℕ)) (wish : Wish) → IsAskedBy work text wish → IsPutHere (asks wish)
-put_here (words.create id schema at) text wish is = rw is tt
-put_here (words.append application number at tries) text wish is = rw is.2 tt
-put_here (words.close application at tries) text wish is = absurd is
-put_here (words.load workers at tries) text wish is = absurd is
-put_here (words.tail max offset) text wish is = rw is tt
-put_here words.snapshot text wish is = rw is tt
-put_here words.checkpoint text wish is = rw is tt
-put_here words.history text wish is = rw is tt
+put_here : (work : Work) (text : Option (List ℕ)) (statement : Statement) → IsAskedBy work text statement → IsPutHere (asks statement)
+put_here (words.create id schema at) text statement is = rw is tt
+put_here (words.append application number at tries) text statement is = rw is.2 tt
+put_here (words.close application at tries) text statement is = absurd is
+put_here (words.load workers at tries) text statement is = absurd is
+put_here (words.tail max offset) text statement is = rw is tt
+put_here words.snapshot text statement is = rw is tt
+put_here words.checkpoint text statement is = rw is tt
+put_here words.history text statement is = rw is tt
 
 -- so a sound table stays sound
-pub stays_sound : (work : Work) (text : Option (List ℕ)) (wish : Wish) (old new : Objects) → AreBytes old → IsAskedBy work text wish → commit_count old < greatest_version → IsSoundStore old → MayHavePut old wish new → IsSoundStore new
-stays_sound work text wish old new are asked few sound (inl same) = subst IsSoundStore (sym same) sound
-stays_sound work text wish old new are asked few sound (inr put) = line_keeps_sound_bytes old new wish are (put_here work text wish asked) few sound put
+pub stays_sound : (work : Work) (text : Option (List ℕ)) (statement : Statement) (old new : Objects) → AreBytes old → IsAskedBy work text statement → commit_count old < greatest_version → IsSoundStore old → MayHavePut old statement new → IsSoundStore new
+stays_sound work text statement old new are asked few sound (inl same) = subst IsSoundStore (sym same) sound
+stays_sound work text statement old new are asked few sound (inr put) = line_keeps_sound_bytes old new statement are (put_here work text statement asked) few sound put
 
 -- the checkpoints of a sound table are
 pub sound_restores : (restore : Bool) (objects : Objects) → IsSoundStore objects → RestoresWell restore objects
@@ -153,8 +153,8 @@ sound_restores restore objects sound = λ used. well_sound true objects sound.ch
 -- ---- failures, and rows of an input
 
 -- what is asked by a line that was found
-pub found_asked : (found : Option Line) (line : Line) (work : Work) (text : Option (List ℕ)) → found ≡ Some line → IfSome found (λ l. IsAskedBy work text (wish_view l)) → IsAskedBy work text (wish_view line)
-found_asked found line work text is asked = subst (λ f. IfSome f (λ l. IsAskedBy work text (wish_view l))) is asked
+pub found_asked : (found : Option Line) (line : Line) (work : Work) (text : Option (List ℕ)) → found ≡ Some line → IfSome found (λ l. IsAskedBy work text (statement_view l)) → IsAskedBy work text (statement_view line)
+found_asked found line work text is asked = subst (λ f. IfSome f (λ l. IsAskedBy work text (statement_view l))) is asked
 
 -- the rows that were read are those of the input
 pub rows_are : (text : List ℕ) (objects : List Value) → map object_of (input_lines text) ≡ map (λ object. Some (view object)) objects → AreRows text (map view objects)

@@ -6,32 +6,32 @@ use Rattle.store_core.specs.Objects.{Objects}
 use Rattle.table_log.specs.Restoring.{RestoresWell}
 use Rattle.table_folder.specs.Loads.{loaded}
 use Rattle.lake_script.specs.Lines.{task, tail}
-use Rattle.lake_script.specs.Runs.{Grants}
+use Rattle.lake_script.specs.Runs.{Executes}
 use Rattle.job_laws.specs.Enough.{HasRows}
 use Rattle.job_laws.proofs.Callers.{restores, whole}
 use Rattle.lake_command.specs.Folders.{file_names}
 use Rattle.lake_command.specs.declared.looking.DataFile.{DataFile}
 
 -- what a read is told over them, where it may go by their checkpoints
-over_some : (restore : Bool) (start end objects : Objects) (files : List (List ℕ)) (max : ℕ) (offset reply : List ℕ) → start ≡ loaded files objects → (RestoresWell restore start → Grants start (task (tail max offset)) reply end) → RestoresWell restore objects
-    → Grants (loaded files objects) (task (tail max offset)) reply end
-over_some restore start end objects files max offset reply is granted well =
-    subst (λ o. Grants o (task (tail max offset)) reply end) is (granted (subst (RestoresWell restore) (sym is) (restores objects files restore well)))
+over_some : (restore : Bool) (start end objects : Objects) (files : List (List ℕ)) (max : ℕ) (offset reply : List ℕ) → start ≡ loaded files objects → (RestoresWell restore start → Executes start (task (tail max offset)) reply end) → RestoresWell restore objects
+    → Executes (loaded files objects) (task (tail max offset)) reply end
+over_some restore start end objects files max offset reply is executed well =
+    subst (λ o. Executes o (task (tail max offset)) reply end) is (executed (subst (RestoresWell restore) (sym is) (restores objects files restore well)))
 
 -- a read that has all its rows is the one over all objects
-pub read_whole : (restore : Bool) (start end objects : Objects) (files : List (List ℕ)) (max : ℕ) (offset reply : List ℕ) → start ≡ loaded files objects → (RestoresWell restore start → Grants start (task (tail max offset)) reply end) → RestoresWell restore objects
-    → HasRows max reply → Grants objects (task (tail max offset)) reply objects
-read_whole restore start end objects files max offset reply is granted well has =
-    whole objects end files max offset reply has (over_some restore start end objects files max offset reply is granted well)
+pub read_whole : (restore : Bool) (start end objects : Objects) (files : List (List ℕ)) (max : ℕ) (offset reply : List ℕ) → start ≡ loaded files objects → (RestoresWell restore start → Executes start (task (tail max offset)) reply end) → RestoresWell restore objects
+    → HasRows max reply → Executes objects (task (tail max offset)) reply objects
+read_whole restore start end objects files max offset reply is executed well has =
+    whole objects end files max offset reply has (over_some restore start end objects files max offset reply is executed well)
 
 -- a read leaves what it is done over
-leaves : (objects after : Objects) (max : ℕ) (offset reply : List ℕ) → Grants objects (task (tail max offset)) reply after → after ≡ objects
+leaves : (objects after : Objects) (max : ℕ) (offset reply : List ℕ) → Executes objects (task (tail max offset)) reply after → after ≡ objects
 leaves objects after max offset reply (inl (printed, is, told, left)) = left
 leaves objects after max offset reply (inr (short, left)) = left
 
-pub read_leaves : (restore : Bool) (start end objects : Objects) (files : List (List ℕ)) (max : ℕ) (offset reply : List ℕ) → start ≡ loaded files objects → (RestoresWell restore start → Grants start (task (tail max offset)) reply end) → RestoresWell restore objects → end ≡ start
-read_leaves restore start end objects files max offset reply is granted well =
-    leaves (loaded files objects) end max offset reply (over_some restore start end objects files max offset reply is granted well) ∙ sym is
+pub read_leaves : (restore : Bool) (start end objects : Objects) (files : List (List ℕ)) (max : ℕ) (offset reply : List ℕ) → start ≡ loaded files objects → (RestoresWell restore start → Executes start (task (tail max offset)) reply end) → RestoresWell restore objects → end ≡ start
+read_leaves restore start end objects files max offset reply is executed well =
+    leaves (loaded files objects) end max offset reply (over_some restore start end objects files max offset reply is executed well) ∙ sym is
 
 -- one file more is loaded
 pub names_more : (files : List DataFile) (i : ℕ) (file : DataFile) → i < length files → file ≡ get_or files i file → file_names (take (i + 1) files) ≡ file_names (take i files) ++ string_bytes file.name ∷ []

@@ -5,9 +5,11 @@ use Rattle.delta_actions.specs.Commit.{lines_of}
 use Rattle.store_core.specs.Objects.{Objects}
 use Rattle.lake_script.specs.declared.engine.End.{End}
 use Rattle.lake_script.specs.declared.engine.End.TheVariants.{Done, BadLine, NotRead, NotWritten}
-use Rattle.lake_script.specs.Runs.{Tells}
+use Rattle.lake_script.specs.Runs.{FallsShort, Tells}
 use Rattle.lake_script.specs.Sound.{IsRun}
-use Rattle.lake_script.specs.Told.{ArePrinted, IsTold, told, Finishes}
+use Rattle.lake_script.specs.Scripts.{IsScript, IsExpectedOver}
+use Rattle.lake_script.specs.Tables.{nothing, AreOfTable, expected_output as expected_by_table}
+use Rattle.lake_script.specs.Told.{ArePrinted, ArePutHere, IsTold, expected_output, Finishes}
 use Rattle.lake_words.specs.Asked.{Spells, replaying, restoring}
 use Rattle.lake_words.specs.declared.command.Command.{Command}
 use Rattle.lake_words.specs.declared.command.Command.TheVariants.{Table}
@@ -17,7 +19,7 @@ use Rattle.lake_command.specs.Status.{status_of}
 -- what is written over nothing is what the script is told
 tells_of_run : (old new : Option (List ℕ)) (text : List ℕ) (before after : Objects) → before ≡ [] → IsRun before text old new after → Tells old new (IsTold [] text)
 tells_of_run old new text before after empty run =
-    (told [] text run.texts, subst (λ u. Appends old new u) (ap (λ objects. told objects text run.texts) empty) run.told, (run.texts, subst (λ objects. ArePrinted objects (lines_of text) run.texts) empty run.printed, refl))
+    (expected_output [] text run.texts, subst (λ u. Appends old new u) (ap (λ objects. expected_output objects text run.texts) empty) run.told, (run.texts, subst (λ objects. ArePrinted objects (lines_of text) run.texts) empty run.printed, refl))
 
 -- the same of a run that isn't refused, where its text is known
 pub told_of_run : (end : End) (input old new : Option (List ℕ)) (before after : Objects) → status_of end ≢ 1 → Finishes end (λ _. IfSome input (λ text. IsRun before text old new after)) → before ≡ []
@@ -28,6 +30,34 @@ told_of_run (BadLine number) None old new before after fine run empty = tt
 told_of_run (BadLine number) (Some text) old new before after fine run empty = tells_of_run old new text before after empty run
 told_of_run NotRead input old new before after fine run empty = absurd (fine refl)
 told_of_run NotWritten input old new before after fine run empty = absurd (fine refl)
+
+-- a run that isn't refused is told by the plain table, where its text is known
+pub script_of_run : (end : End) (input old new : Option (List ℕ)) (before after : Objects) → status_of end ≢ 1 → Finishes end (λ _. IfSome input (λ text. IsScript nothing old new text before after))
+    → IfSome input (λ text. IsScript nothing old new text before after)
+script_of_run Done input old new before after fine run = run
+script_of_run (BadLine number) input old new before after fine run = run
+script_of_run NotRead input old new before after fine run = absurd (fine refl)
+script_of_run NotWritten input old new before after fine run = absurd (fine refl)
+
+-- by what asks the table alone
+pub by_table_of : (input old new : Option (List ℕ)) (before after : Objects) → IfSome input (λ text. IsScript nothing old new text before after)
+    → IfSome input (λ text. AreOfTable (lines_of text) → Appends old new (expected_by_table nothing text))
+by_table_of None old new before after run = tt
+by_table_of (Some text) old new before after run = run.by_table
+
+-- and with the objects that are shown
+pub over_of : (input old new : Option (List ℕ)) (before after : Objects) → before ≡ [] → IfSome input (λ text. IsScript nothing old new text before after)
+    → IfSome input (λ text. ArePutHere (lines_of text) → IsExpectedOver old new nothing [] (lines_of text))
+over_of None old new before after empty run = tt
+over_of (Some text) old new before after empty run = λ here. subst (λ objects. IsExpectedOver old new nothing objects (lines_of text)) empty (run.over here)
+
+-- a run that isn't refused is short where a reply tells so, where its text is known
+pub short_of_run : (end : End) (input old new : Option (List ℕ)) (before : Objects) → status_of end ≢ 1 → Finishes end (λ _. IfSome input (λ text. Tells old new (FallsShort 1 before (lines_of text)))) → before ≡ []
+    → IfSome input (λ text. Tells old new (FallsShort 1 [] (lines_of text)))
+short_of_run Done input old new before fine run empty = subst (λ objects. IfSome input (λ text. Tells old new (FallsShort 1 objects (lines_of text)))) empty run
+short_of_run (BadLine number) input old new before fine run empty = subst (λ objects. IfSome input (λ text. Tells old new (FallsShort 1 objects (lines_of text)))) empty run
+short_of_run NotRead input old new before fine run empty = absurd (fine refl)
+short_of_run NotWritten input old new before fine run empty = absurd (fine refl)
 
 -- words that ask for a script ask for no job on a folder
 pub no_job : (words : List (List ℕ)) (c : Command) (t : TableCommand) → Spells words c → Table t ≡ c → ⊥

@@ -6,7 +6,7 @@ use Rattle.store_core.specs.Objects.{Objects}
 use Rattle.table_log.specs.Counts.{commit_count}
 use Rattle.table_log.specs.Logs.{standing_by, standing_from}
 use Rattle.table_log.specs.Versions.{Version, missing, unreadable, commit, version_at, versions_from, versions_of}
-use Rattle.table_model.specs.declared.reading.Place.{Place}
+use Rattle.table_model.specs.declared.reading.Offset.{Offset}
 use Rattle.source_core.specs.Offsets.{offset_of}
 use Rattle.job_laws.specs.Looking.{files_in, IsReadFrom}
 
@@ -111,13 +111,13 @@ listed_all objects from versions i held end listed version name low high among =
 -- ---- a read
 
 -- the files that a read may look at are held, where those of its offset's version and later ones are
-pub read_held : (objects : Objects) (offset : List ℕ) (place : Place) (held : List (List ℕ)) → Some place ≡ offset_of offset
+pub read_held : (objects : Objects) (offset : List ℕ) (place : Offset) (held : List (List ℕ)) → Some place ≡ offset_of offset
     → ((version : ℕ) (name : List ℕ) → place.version ≤ version → version < commit_count objects → Contains (files_in (version_at objects version)) name → Contains held name)
     → (name : List ℕ) → IsReadFrom objects offset name → Contains held name
 read_held objects offset place held is all name read =
     let both : Some place ≡ Some read.place = is ∙ read.read in
     let same : place ≡ read.place = cc in
-    all read.version name (subst (λ (p : Place). p.version ≤ read.version) (sym same) read.from) read.small read.added
+    all read.version name (subst (λ (p : Offset). p.version ≤ read.version) (sym same) read.from) read.small read.added
 
 -- an offset that isn't one begins no read
 pub none_read : (objects : Objects) (offset : List ℕ) (held : List (List ℕ)) → offset_of offset ≡ None → (name : List ℕ) → IsReadFrom objects offset name → Contains held name

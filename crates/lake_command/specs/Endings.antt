@@ -22,7 +22,8 @@ abbrev pub IsOutcome : Result Reply Failure → Work → (text : Option (List �
 IsOutcome (Ok reply) work text old new = IsAnswer work text old (reply_text reply) new
 IsOutcome (Err failure) work text old new = Leaves failure work text old new
 
--- what is told where replies go: a reply, a bad line, or that no room was left for the input or its rows; all else goes to standard error
+-- what is told where replies go: a reply, a bad line, or that no room was left for the input or its rows; all else goes
+-- to standard error
 abbrev pub told_of : Result Reply Failure → Option (List ℕ)
 told_of (Ok reply) = Some (reply_text reply)
 told_of (Err (BadLine number)) = Some (line_of (failure_text (BadLine number)))
@@ -39,8 +40,8 @@ abbrev pub is_short_outcome : Result Reply Failure → Bool
 is_short_outcome (Ok reply) = replies.is_short reply
 is_short_outcome (Err failure) = is_want_of_memory failure
 
--- With a text: it is on the output, behind what was there, and standard error is as it was. Without one the output is as it
--- was, and standard error isn't looked at.
+-- With a text: it is on the output, behind what was there, and standard error is as it was. Without one the output is
+-- as it was, and standard error isn't looked at.
 abbrev pub IsWritten : {W E : Type 0} → (W → Option (List ℕ)) → Option (List ℕ) → (old new : Output W) → (err_old err_new : E) → Type 0
 IsWritten contents (Some text) old new err_old err_new = Appends (held contents old) (contents new.writer) text × (err_new ≡ err_old)
 IsWritten contents None old new err_old err_new = new ≡ old
@@ -63,8 +64,8 @@ abbrev pub EndsWith : {W E : Type 0} → (W → Option (List ℕ)) → Work → 
 EndsWith contents work outcome old new err_old err_new exit =
     IsToldWhole contents work outcome old new err_old err_new exit ⊎ IsUntold contents outcome old new exit
 
--- What comes of a job, some reply or a failure, is told; a failure has its cause in the words or the input, or comes from the
--- folder.
+-- What comes of a job, some reply or a failure, is told; a failure has its cause in the words or the input, or comes
+-- from the folder.
 pub record IsJobTold {W E : Type 0} (contents : W → Option (List ℕ)) (work : Work) (text : Option (List ℕ)) (is_broken : Bool) (old new : Output W) (err_old err_new : E) (exit : Exit) : Type 0 where
   pub outcome : Result Reply Failure
   pub cause : IfErr outcome (λ failure. HasCause failure work text is_broken)

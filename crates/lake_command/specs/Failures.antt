@@ -14,7 +14,7 @@ use Rattle.lake_script.specs.declared.inputs.InputError.{InputError}
 use Rattle.lake_script.specs.declared.inputs.InputError.TheVariants as inputs
 use Rattle.lake_script.specs.declared.inputs.TheConstants.{MOST_BYTES, MOST_READS}
 use Rattle.lake_script.specs.Growth.{MayPut}
-use Rattle.lake_script.specs.Lines.{Wish}
+use Rattle.lake_script.specs.Lines.{Statement}
 use Rattle.lake_words.specs.Asked.{Work}
 use Rattle.lake_words.specs.Asked as words
 use Rattle.lake_command.specs.declared.failure.Failure.{Failure}
@@ -59,11 +59,11 @@ moment_of _ = 0
 
 -- a job that is there asks for something; an append does where each line of its text, if that is known, is an object
 abbrev pub AsksSomething : Work → (text : Option (List ℕ)) → Type 0
-AsksSomething work text = (wish : Wish) × IsAskedBy work text wish
+AsksSomething work text = (statement : Statement) × IsAskedBy work text statement
 
--- The failure comes from the words or from an append's input of that text: a moment past the last one, a read that failed, or
--- an input of 1,048,576 bytes or more, which may have taken as many reads, the first line that is no object, or no memory for
--- the input or its rows. Of a text that isn't known nothing is asked.
+-- The failure comes from the words or from an append's input of that text: a moment past the last one, a read that
+-- failed, or an input of 1,048,576 bytes or more, which may have taken as many reads, the first line that is no object,
+-- or no memory for the input or its rows. Of a text that isn't known nothing is asked.
 abbrev pub IsOfInput : Failure → Work → (text : Option (List ℕ)) → (is_broken : Bool) → Type 0
 IsOfInput Misused work text is_broken = 999_999_999_999_999 < moment_of work
 IsOfInput NotRead work text is_broken = (reads_input work ≡ true) × ((is_broken ≡ true) ⊎ IfSome text (λ bytes. MOST_READS ≤ length bytes))
@@ -97,8 +97,9 @@ CountsFolderFault (Err (Loading (loads.NotLoaded name reason))) old new = HasRis
 CountsFolderFault (Err (Saving (saves.NotSaved name reason))) old new = HasRisen old new ⊎ ((new ≡ old) × (reason ≡ Taken))
 CountsFolderFault _ old new = new ≡ old
 
--- What comes of a job has its cause, where the input's last read failed or didn't, and the folder counted so many faults
--- before and after: a read that failed and a text of more than 1 GiB are told, and so is a call of the folder that failed.
+-- What comes of a job has its cause, where the input's last read failed or didn't, and the folder counted so many
+-- faults before and after: a read that failed and a text of more than 1 GiB are told, and so is a call of the folder
+-- that failed.
 pub record IsCaused {X : Type 0} (outcome : Result X Failure) (work : Work) (text : Option (List ℕ)) (is_broken : Bool) (old new : ℕ) : Type 0 where
   pub cause : IfErr outcome (λ failure. HasCause failure work text is_broken)
   pub broken : reads_input work ≡ true → is_broken ≡ true → IsNotRead outcome
@@ -106,27 +107,27 @@ pub record IsCaused {X : Type 0} (outcome : Result X Failure) (work : Work) (tex
   pub counts : CountsFolderFault outcome old new
 
 -- A line puts an object under this name, where nothing stood.
-pub record LinePutsUnder (wish : Wish) (old : Objects) (name : List ℕ) : Type 0 where
+pub record LinePutsUnder (statement : Statement) (old : Objects) (name : List ℕ) : Type 0 where
   pub after : Objects
-  pub put : MayPut old wish after
+  pub put : MayPut old statement after
   pub absent : object_at old name ≡ None
   pub stands : IsSome (object_at after name)
 
 -- so does a job, by the line that it asks for
 abbrev pub PutsUnder : Work → (text : Option (List ℕ)) → (old : Objects) → (name : List ℕ) → Type 0
-PutsUnder work text old name = (wish : Wish) × IsAskedBy work text wish × LinePutsUnder wish old name
+PutsUnder work text old name = (statement : Statement) × IsAskedBy work text statement × LinePutsUnder statement old name
 
--- What a folder holds behind a failure: what it held, or where the table wasn't saved whole what the job may have put. An
--- object that isn't saved is one that the job puts where nothing stood.
+-- What a folder holds behind a failure: what it held, or where the table wasn't saved whole what the job may have put.
+-- An object that isn't saved is one that the job puts where nothing stood.
 abbrev pub Leaves : Failure → Work → (text : Option (List ℕ)) → (old new : Objects) → Type 0
 Leaves (Saving (saves.NotSaved name reason)) work text old new = JobMayLeave work text old new × PutsUnder work text old (string_bytes name)
 Leaves (Saving fault) work text old new = JobMayLeave work text old new
 Leaves _ work text old new = new ≡ old
 
 -- an object that isn't saved is one that the line puts where nothing stood
-abbrev pub NamesPut : Failure → Wish → (old : Objects) → Type 0
-NamesPut (Saving (saves.NotSaved name reason)) wish old = LinePutsUnder wish old (string_bytes name)
-NamesPut _ wish old = Unit {0}
+abbrev pub NamesPut : Failure → Statement → (old : Objects) → Type 0
+NamesPut (Saving (saves.NotSaved name reason)) statement old = LinePutsUnder statement old (string_bytes name)
+NamesPut _ statement old = Unit {0}
 
 -- nobody else takes a name in a steady folder: a file that isn't saved comes of a call that failed
 abbrev pub ComesOfACall : {X : Type 0} → Result X Failure → (old new : ℕ) → Type 0

@@ -8,8 +8,8 @@ use Rattle.json_lines.specs.Rows.{input_lines, object_of}
 use Rattle.lake_words.specs.Asked.{Work}
 use Rattle.lake_words.specs.Asked as words
 use Rattle.lake_script.specs.Growth.{MayPut}
-use Rattle.lake_script.specs.Lines.{Wish, create, task, append, checkpoint, tail, snapshot, history}
-use Rattle.lake_script.specs.Runs.{Grants}
+use Rattle.lake_script.specs.Lines.{Statement, create, task, append, checkpoint, tail, snapshot, history}
+use Rattle.lake_script.specs.Runs.{Executes}
 use Rattle.lake_script.specs.ReplyView.{reply_text}
 use Rattle.lake_script.specs.Told.{not_yet}
 use Rattle.lake_script.specs.declared.reply.Reply.{Reply}
@@ -29,17 +29,18 @@ abbrev pub reads_input : Work → Bool
 reads_input (words.append application number at tries) = true
 reads_input _ = false
 
--- What a job asks for. An append's rows are those of the input's lines; where the reader doesn't tell its bytes, any rows.
-abbrev pub IsAskedBy : Work → (text : Option (List ℕ)) → Wish → Type 0
-IsAskedBy (words.create id schema at) text wish = wish ≡ create id at schema
-IsAskedBy (words.append application number at tries) text wish =
-    (rows : List Data) × IfSome text (λ bytes. AreRows bytes rows) × (wish ≡ task (append application number at (items_of rows)))
-IsAskedBy (words.close application at tries) text wish = ⊥
-IsAskedBy (words.load workers at tries) text wish = ⊥
-IsAskedBy (words.tail max offset) text wish = wish ≡ task (tail max offset)
-IsAskedBy words.snapshot text wish = wish ≡ snapshot
-IsAskedBy words.checkpoint text wish = wish ≡ task checkpoint
-IsAskedBy words.history text wish = wish ≡ history
+-- What a job asks for. An append's rows are those of the input's lines; where the reader doesn't tell its bytes, any
+-- rows.
+abbrev pub IsAskedBy : Work → (text : Option (List ℕ)) → Statement → Type 0
+IsAskedBy (words.create id schema at) text statement = statement ≡ create id at schema
+IsAskedBy (words.append application number at tries) text statement =
+    (rows : List Data) × IfSome text (λ bytes. AreRows bytes rows) × (statement ≡ task (append application number at (items_of rows)))
+IsAskedBy (words.close application at tries) text statement = ⊥
+IsAskedBy (words.load workers at tries) text statement = ⊥
+IsAskedBy (words.tail max offset) text statement = statement ≡ task (tail max offset)
+IsAskedBy words.snapshot text statement = statement ≡ snapshot
+IsAskedBy words.checkpoint text statement = statement ≡ task checkpoint
+IsAskedBy words.history text statement = statement ≡ history
 
 -- the job isn't there yet
 abbrev pub IsNotYet : Work → Type 0
@@ -50,7 +51,7 @@ IsNotYet _ = ⊥
 -- the reply to a job, and the objects behind it: those of a line of a script, over the same objects
 abbrev pub IsAnswer : Work → (text : Option (List ℕ)) → (old : Objects) → (reply : List ℕ) → (new : Objects) → Type 0
 IsAnswer work text old reply new =
-    (IsNotYet work × (reply ≡ not_yet) × (new ≡ old)) ⊎ ((wish : Wish) × IsAskedBy work text wish × Grants old wish reply new)
+    (IsNotYet work × (reply ≡ not_yet) × (new ≡ old)) ⊎ ((statement : Statement) × IsAskedBy work text statement × Executes old statement reply new)
 
 -- A job is done: its reply is written behind what was held, doesn't refuse it, and the folder holds what it leaves.
 pub record IsAnswered (work : Work) (text : Option (List ℕ)) (old : Objects) (before after : Option (List ℕ)) (new : Objects) : Type 0 where
@@ -61,9 +62,9 @@ pub record IsAnswered (work : Work) (text : Option (List ℕ)) (old : Objects) (
 
 -- behind a line, however it ends: what stood, or what the line may put, all of it or
 -- its data file alone
-abbrev pub MayHavePut : (old : Objects) → Wish → (new : Objects) → Type 0
-MayHavePut old wish new = (new ≡ old) ⊎ MayPut old wish new
+abbrev pub MayHavePut : (old : Objects) → Statement → (new : Objects) → Type 0
+MayHavePut old statement new = (new ≡ old) ⊎ MayPut old statement new
 
 -- the same of a line that asks for what a job asks for
 abbrev pub JobMayLeave : Work → (text : Option (List ℕ)) → (old new : Objects) → Type 0
-JobMayLeave work text old new = (new ≡ old) ⊎ ((wish : Wish) × IsAskedBy work text wish × MayPut old wish new)
+JobMayLeave work text old new = (new ≡ old) ⊎ ((statement : Statement) × IsAskedBy work text statement × MayPut old statement new)

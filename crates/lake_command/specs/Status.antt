@@ -65,8 +65,8 @@ abbrev pub ends_early : Work → List ℕ → Bool
 ends_early words.history text = has_refusal text
 ends_early _ text = false
 
--- A reply to a job refuses it: a text and digits by their bytes; a creation, an append, a checkpoint or a put that was done doesn't, and each
--- other reply does.
+-- A reply to a job refuses it: a text and digits by their bytes; a creation, an append, a checkpoint or a put that was
+-- done doesn't, and each other reply does.
 abbrev pub refuses : Work → Reply → Bool
 refuses work (Bytes text) = is_refusal text.items || ends_early work text.items
 refuses work Created = false

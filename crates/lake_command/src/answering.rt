@@ -7,7 +7,7 @@ ghost use Rattle.table_log.specs.Counts.{commit_count};
 ghost use Rattle.table_store.specs.Sound.{greatest_version};
 ghost use Rattle.table_log.specs.Restoring.{RestoresWell};
 ghost use Rattle.lake_words.specs.Asked.{work_view};
-ghost use Rattle.lake_script.specs.Lines.{wish_view, IsTimely};
+ghost use Rattle.lake_script.specs.Lines.{statement_view, IsTimely};
 ghost use Rattle.lake_script.specs.ReplyView.{reply_text};
 ghost use Rattle.lake_script.specs.Streams.{read_failed, unread};
 ghost use Rattle.lake_command.specs.Failures.{ComesOfACall, IsByFolder, IsCaused, IsNotRead, IsOfInput, Leaves};
@@ -16,7 +16,7 @@ ghost use Rattle.lake_script.specs.declared.inputs.TheConstants.{MOST_BYTES};
 ghost use Rattle.lake_command.specs.Folders.{IsAnswer, IsAskedBy, IsNotYet, JobMayLeave, reads_input};
 
 use crate::Failure;
-use crate::saving::grant_in;
+use crate::saving::execute_in;
 use json_lines::objects_in;
 use lake_script::{Fault, Input, Line, Reply};
 use lake_words::{Job, TableCommand};
@@ -70,7 +70,7 @@ pub fn answer<F: Folder, R: Read>(
     ensures steady { F.is_steady folder.old → F.is_steady folder.new }
 {
     match line_of(alloc, command.job, input)? {
-        Some(line) => grant_in(alloc, folder, line, command.restore),
+        Some(line) => execute_in(alloc, folder, line, command.restore),
         None => Ok(Reply::Refused(Fault::NotYet)),
     }
 }
@@ -81,8 +81,8 @@ fn line_of<'a, R: Read>(
     job: Job<'a>,
     input: &mut Input<R>,
 ) -> Result<Option<Line<'a>>, Failure>
-    ensures asked { IfOk result (λ found. IfSome found (λ line. IsAskedBy (work_view job.entry) (unread R.remaining input.old) (wish_view line))) }
-    ensures timely { IfOk result (λ found. IfSome found (λ line. IsTimely (wish_view line))) }
+    ensures asked { IfOk result (λ found. IfSome found (λ line. IsAskedBy (work_view job.entry) (unread R.remaining input.old) (statement_view line))) }
+    ensures timely { IfOk result (λ found. IfSome found (λ line. IsTimely (statement_view line))) }
     ensures broken { reads_input (work_view job.entry) ≡ true → read_failed input.new ≡ true → IsNotRead result }
     ensures too_long { reads_input (work_view job.entry) ≡ true
         → IfSome (unread R.remaining input.old) (λ text. MOST_BYTES < length text → IsNotRead result) }

@@ -4,12 +4,13 @@ ghost use Rattle.std.specs.Io.KnownBytes.{Appends};
 ghost use Rattle.clap.specs.Words.{fault_of, kind_of};
 ghost use Rattle.delta_actions.specs.Commit.{lines_of};
 ghost use Rattle.lake_words.specs.declared.command.Command.{Command};
-ghost use Rattle.lake_script.specs.Runs.{MayBeTold, Tells};
+ghost use Rattle.lake_script.specs.Runs.{FallsShort, MayBeTold, Tells};
 ghost use Rattle.lake_command.specs.Status.{status_of, status_at, status_of_kind, IsStatusOf};
 ghost use Rattle.lake_script.specs.declared.inputs.TheConstants.{MOST_READS};
 ghost use Rattle.lake_script.specs.Streams.{held, unread, read_failed, write_failed};
-ghost use Rattle.lake_script.specs.Tables.{told as told_by_table, AreOfTable};
-ghost use Rattle.lake_script.specs.Told.{IsTold, first_bad};
+ghost use Rattle.lake_script.specs.Scripts.{IsExpectedOver};
+ghost use Rattle.lake_script.specs.Tables.{nothing, expected_output as expected_by_table, AreOfTable};
+ghost use Rattle.lake_script.specs.Told.{ArePutHere, IsTold, first_bad};
 ghost use Rattle.lake_words.specs.Asked.{Spells, Work, table, work_view};
 ghost use Rattle.lake_words.specs.Spelling.{SpellsJob};
 ghost use Rattle.lake_command.specs.Endings.{TellsJob};
@@ -104,7 +105,15 @@ pub fn command<H: Files + AllocGlobal + Clone + Drop, S: AsStr, R: Read, W: Writ
     // plain table tells.
     ensures tables { (c : Command) → Spells (map S.text words.now) c → result.status ≢ REFUSED → result.is_short ≡ false
         → IfSome (unread R.remaining input.old) (λ text. AreOfTable (lines_of text)
-        → Appends (held W.contents output.old) (W.contents output.new.writer) (told_by_table text)) }
+        → Appends (held W.contents output.old) (W.contents output.new.writer) (expected_by_table nothing text)) }
+    // Where none puts another tool's commit, that is what the plain table tells, but for what is shown.
+    ensures shown { (c : Command) → Spells (map S.text words.now) c → result.status ≢ REFUSED → result.is_short ≡ false
+        → IfSome (unread R.remaining input.old) (λ text. ArePutHere (lines_of text)
+        → IsExpectedOver (held W.contents output.old) (W.contents output.new.writer) nothing [] (lines_of text)) }
+    // It is short only where a reply that is written tells so.
+    ensures short { (c : Command) → Spells (map S.text words.now) c → result.status ≢ REFUSED → result.is_short ≡ true
+        → IfSome (unread R.remaining input.old) (λ text.
+        Tells (held W.contents output.old) (W.contents output.new.writer) (FallsShort 1 [] (lines_of text))) }
     ensures tells { (c : Command) → Spells (map S.text words.now) c → result.status ≢ REFUSED
         → IfSome (unread R.remaining input.old) (λ text.
         Tells (held W.contents output.old) (W.contents output.new.writer) (MayBeTold [] text)) }

@@ -3,9 +3,9 @@ ghost use Rattle.std.specs.Prelude.{◌≡◌, [], ℕ, List, Some, None, Ok, tr
 ghost use Rattle.store_core.specs.Memory.{stored_objects};
 ghost use Rattle.store_core.specs.Objects.{object_at, Objects};
 ghost use Rattle.table_log.specs.Restoring.{RestoresWell};
-ghost use Rattle.lake_script.specs.Lines.{wish_view, task, tail, IsTimely};
+ghost use Rattle.lake_script.specs.Lines.{statement_view, task, tail, IsTimely};
 ghost use Rattle.lake_script.specs.ReplyView.{reply_text};
-ghost use Rattle.lake_script.specs.Runs.{Grants};
+ghost use Rattle.lake_script.specs.Runs.{Executes};
 ghost use Rattle.lake_command.specs.Failures.{ComesOfACall, CountsFolderFault, IsByFolder, IsLoading, IsOfFolder, NamesPut};
 ghost use Rattle.lake_command.specs.Folders.{file_names, MayHavePut};
 ghost use Rattle.table_folder.specs.Loads.{loaded};
@@ -14,7 +14,7 @@ ghost use Rattle.job_laws.specs.Enough.{HasRows, line_count};
 use crate::Failure;
 use crate::looking::{DataFile, files_for};
 use crate::telling::is_refusal;
-use lake_script::{Job, Line, Reply, grant};
+use lake_script::{Job, Line, Reply, execute};
 use std::alloc::Global;
 use std::slice;
 use store_core::{MemoryStore, Store};
@@ -27,19 +27,19 @@ const FIRST_BYTES: u64 = 8 << 20;
 /// loaded, and of the data files those that the line may look at, for a read no more than it needs by bytes, but for the first
 /// 8 MiB and a factor of four; the new objects are saved before the reply is told: data files, then commits, then checkpoints.
 /// However it ends, what stood stands.
-pub(crate) fn grant_in<F: Folder>(
+pub(crate) fn execute_in<F: Folder>(
     alloc: Global,
     folder: &mut F,
     line: Line<'_>,
     restore: bool,
 ) -> Result<Reply, Failure>
-    requires { IsTimely (wish_view line) }
+    requires { IsTimely (statement_view line) }
     ensures told { F.is_steady folder.old → RestoresWell restore (F.objects folder.old)
-        → IfOk result (λ reply. Grants (F.objects folder.old) (wish_view line.entry) (reply_text reply) (F.objects folder.new)) }
+        → IfOk result (λ reply. Executes (F.objects folder.old) (statement_view line.entry) (reply_text reply) (F.objects folder.new)) }
     ensures puts { F.is_steady folder.old → RestoresWell restore (F.objects folder.old)
-        → MayHavePut (F.objects folder.old) (wish_view line.entry) (F.objects folder.new) }
+        → MayHavePut (F.objects folder.old) (statement_view line.entry) (F.objects folder.new) }
     ensures named { F.is_steady folder.old → RestoresWell restore (F.objects folder.old)
-        → IfErr result (λ failure. NamesPut failure (wish_view line.entry) (F.objects folder.old)) }
+        → IfErr result (λ failure. NamesPut failure (statement_view line.entry) (F.objects folder.old)) }
     ensures alone { F.is_steady folder.old → RestoresWell restore (F.objects folder.old)
         → ComesOfACall result (F.fault_count folder.old) (F.fault_count folder.new) }
     ensures failed { F.is_steady folder.old → IfErr result (λ failure. IsOfFolder failure (F.objects folder.old) (F.objects folder.new)) }
@@ -55,7 +55,7 @@ pub(crate) fn grant_in<F: Folder>(
         return Ok(reply);
     }
     let loaded = store.list()?;
-    let reply = grant(alloc, line, &mut store, restore);
+    let reply = execute(alloc, line, &mut store, restore);
     save(alloc, folder, &mut store, &loaded)?;
     Ok(reply)
 }
@@ -70,11 +70,11 @@ fn load_until_read<F: Folder>(
     line: &Line<'_>,
     restore: bool,
 ) -> Result<Option<Reply>, Failure>
-    requires { IsTimely (wish_view line.now) }
+    requires { IsTimely (statement_view line.now) }
     ensures loaded { F.is_steady folder.old → RestoresWell restore (F.objects folder.old) → stored_objects store.old ≡ loaded [] (F.objects folder.old)
         → result ≡ Ok None → stored_objects store.new ≡ loaded (file_names files.now) (F.objects folder.old) }
     ensures read { F.is_steady folder.old → RestoresWell restore (F.objects folder.old) → stored_objects store.old ≡ loaded [] (F.objects folder.old)
-        → IfOk result (λ found. IfSome found (λ reply. Grants (F.objects folder.old) (wish_view line.now) (reply_text reply) (F.objects folder.old))) }
+        → IfOk result (λ found. IfSome found (λ reply. Executes (F.objects folder.old) (statement_view line.now) (reply_text reply) (F.objects folder.old))) }
     ensures failed { F.is_steady folder.old → IfErr result (λ failure. IsOfFolder failure (F.objects folder.old) (F.objects folder.new)) }
     ensures untouched { F.is_steady folder.old → F.objects folder.new ≡ F.objects folder.old }
     ensures caused { IfErr result (λ failure. IsLoading failure) }
@@ -104,12 +104,12 @@ fn whole_read(
     restore: bool,
 ) -> Option<Reply>
     ensures read { (objects : Objects) (files : List (List ℕ)) → stored_objects store.old ≡ loaded files objects → RestoresWell restore objects
-        → IfSome result (λ reply. Grants objects (wish_view line.now) (reply_text reply) objects) }
+        → IfSome result (λ reply. Executes objects (statement_view line.now) (reply_text reply) objects) }
     ensures same { (objects : Objects) (files : List (List ℕ)) → stored_objects store.old ≡ loaded files objects → RestoresWell restore objects
         → stored_objects store.new ≡ stored_objects store.old }
 {
     let (max, offset) = read_of(line)?;
-    let reply = grant(alloc, Line::Job(Job::Tail { max, offset }), store, restore);
+    let reply = execute(alloc, Line::Job(Job::Tail { max, offset }), store, restore);
     if has_rows(&reply, max) {
         Some(reply)
     } else {
@@ -119,7 +119,7 @@ fn whole_read(
 
 // How many rows a line reads, and from which offset on, where it is a read.
 fn read_of<'a>(line: &Line<'a>) -> Option<(u64, &'a str)>
-    ensures { IfSome result (λ read. wish_view line.now ≡ task (tail read.0 read.1.now)) }
+    ensures { IfSome result (λ read. statement_view line.now ≡ task (tail read.0 read.1.now)) }
 {
     match line {
         Line::Job(Job::Tail { max, offset }) => Some((*max, *offset)),

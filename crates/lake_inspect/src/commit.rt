@@ -1,7 +1,7 @@
 //! Delta commits in lines.
 
 ghost use Rattle.std.specs.List.{AllByRecursion};
-ghost use Rattle.delta_actions.specs.Entry.{views};
+ghost use Rattle.delta_actions.specs.Action.{views};
 ghost use Rattle.delta_actions.specs.Printing.{IsPrintable};
 
 use crate::refusal::Refusal;

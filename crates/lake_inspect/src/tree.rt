@@ -2,7 +2,7 @@
 
 use std::alloc::{AllocError, Allocator};
 use std::str::from_utf8;
-use thrift_core::{Entry, Field, TValue};
+use thrift_core::{Field, MapEntry, TValue};
 
 /// A value: a struct as `{1: .., 2: ..}`, a list as `[.., ..]`, a map as `<..: ..>`, a binary as text in
 /// quotes or as `x'..'`, a double as `double`.
@@ -31,7 +31,7 @@ fn push_members<A: Allocator>(out: &mut String, members: &[TValue<A>]) -> Result
 }
 
 #[cycle(show)]
-fn push_entries<A: Allocator>(out: &mut String, entries: &[Entry<A>]) -> Result<(), AllocError> {
+fn push_entries<A: Allocator>(out: &mut String, entries: &[MapEntry<A>]) -> Result<(), AllocError> {
     let mut gap = "<";
     for entry in entries {
         out.push_str(gap)?;

@@ -7,7 +7,7 @@ use crate::refusal::Refusal;
 use delta_actions::{print_commit, read_commit};
 use lake_bytes::{Cursor, write_i32_le, write_i64_le, write_u32_le, write_varint, write_zigzag};
 use std::alloc::Global;
-use thrift_core::{FieldShape, Shape, read_struct, write_struct};
+use thrift_core::{FieldForm, Form, read_struct, write_struct};
 
 /// The bytes that are written: of a number for `varint N`, `zigzag N`, `u32 N`, `i32 N` and `i64 N`; for
 /// `rows COLUMN N ..` the file of these rows, where `N..M` stands for the rows from N up to M, which isn't one, and for
@@ -42,36 +42,36 @@ pub fn written(alloc: Global, names: &Names, text: &str) -> Result<Vec<u8>, Refu
 }
 
 /// A struct with a field of each type that is written.
-const SAMPLE: Shape = Shape::Struct(&[
-    FieldShape {
+const SAMPLE: Form = Form::Struct(&[
+    FieldForm {
         id: 1,
-        shape: Shape::Bool,
+        form: Form::Bool,
     },
-    FieldShape {
+    FieldForm {
         id: 2,
-        shape: Shape::Map(&Shape::Byte, &Shape::Int16),
+        form: Form::Map(&Form::Byte, &Form::Int16),
     },
-    FieldShape {
+    FieldForm {
         id: 3,
-        shape: Shape::Int32,
+        form: Form::Int32,
     },
-    FieldShape {
+    FieldForm {
         id: 4,
-        shape: Shape::Int64,
+        form: Form::Int64,
     },
-    FieldShape {
+    FieldForm {
         id: 5,
-        shape: Shape::Binary,
+        form: Form::Binary,
     },
-    FieldShape {
+    FieldForm {
         id: 6,
-        shape: Shape::Struct(&[FieldShape {
+        form: Form::Struct(&[FieldForm {
             id: 1,
-            shape: Shape::Bool,
+            form: Form::Bool,
         }]),
     },
-    FieldShape {
+    FieldForm {
         id: 20,
-        shape: Shape::List(&Shape::Bool),
+        form: Form::List(&Form::Bool),
     },
 ]);

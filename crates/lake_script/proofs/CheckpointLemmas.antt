@@ -18,10 +18,10 @@ use Rattle.snapshot_core.specs.declared.fault.SnapshotFault.{SnapshotFault}
 use Rattle.snapshot_core.specs.declared.fault.SnapshotFault.TheVariants as faults
 use Rattle.lake_script.specs.declared.reply.Reply.TheVariants.{Checkpointed, NoSnapshot}
 use Rattle.lake_script.specs.Checkpoints.{checkpoint_by, newest_version}
-use Rattle.lake_script.specs.Lines.{Wish, checkpoint, snapshot, task}
+use Rattle.lake_script.specs.Lines.{Statement, checkpoint, snapshot, task}
 use Rattle.lake_script.specs.ReplyView.{reply_text, is_short}
-use Rattle.lake_script.specs.Runs.{Grants, Has, IsShort, no_room_to_tell}
-use Rattle.lake_script.specs.Sound.{IsGranted}
+use Rattle.lake_script.specs.Runs.{Executes, Has, IsShort, no_room_to_tell}
+use Rattle.lake_script.specs.Sound.{IsExecuted}
 
 -- the two texts of what a table lacks are the same
 support_is : (why : SupportFault) → supports.fault_text why ≡ support_text (fault_of why)
@@ -42,8 +42,8 @@ module _ (objects : Objects) (version : ℕ) (name bytes : List ℕ) (puts : Put
       (ap (λ (text : List ℕ). Ok (record { version = version; name = text })) (sym (puts.named ∙ ap (checkpoint_name version) puts.of_table.is)))
 
   -- a checkpoint that was put is told, and what was put is well made
-  pub put_granted : (after : Objects) → after ≡ with_object objects name bytes → IsGranted objects (task checkpoint) (reply_text (Checkpointed version)) after
-  put_granted after left = record {
+  pub put_executed : (after : Objects) → after ≡ with_object objects name bytes → IsExecuted objects (task checkpoint) (reply_text (Checkpointed version)) after
+  put_executed after left = record {
     text = bytes;
     printed = rw (puts.read, puts.supported, newest_is) puts.checkpoint;
     told = rw put_is refl;
@@ -52,38 +52,38 @@ module _ (objects : Objects) (version : ℕ) (name bytes : List ℕ) (puts : Put
   }
 
 -- what stands in the log is told, and nothing is put
-log_granted : (objects : Objects) (fault : SnapshotFault) → IsSaid (says fault) (checked false objects) → is_short (NoSnapshot fault) ≡ false → fault ≢ faults.Lost
-    → IsGranted objects (task checkpoint) (reply_text (NoSnapshot fault)) objects
-log_granted objects (faults.BadLog version) said enough kept = record {
+log_executed : (objects : Objects) (fault : SnapshotFault) → IsSaid (says fault) (checked false objects) → is_short (NoSnapshot fault) ≡ false → fault ≢ faults.Lost
+    → IsExecuted objects (task checkpoint) (reply_text (NoSnapshot fault)) objects
+log_executed objects (faults.BadLog version) said enough kept = record {
   text = [];
   printed = rw said tt;
   told = rw said refl;
   left = rw said refl;
   sound = rw said tt;
 }
-log_granted objects (faults.Unsupported why) said enough kept = record {
+log_executed objects (faults.Unsupported why) said enough kept = record {
   text = [];
   printed = rw said tt;
   told = rw said (ap (λ (text : List ℕ). line_of (refused (codes "K8 Unsupported " ++ text))) (support_is why));
   left = rw said refl;
   sound = rw said tt;
 }
-log_granted objects faults.Lost said enough kept = absurd (kept refl)
-log_granted objects faults.Memory said enough kept = absurd cc
-log_granted objects faults.TooLarge said enough kept = absurd said
+log_executed objects faults.Lost said enough kept = absurd (kept refl)
+log_executed objects faults.Memory said enough kept = absurd cc
+log_executed objects faults.TooLarge said enough kept = absurd said
 
 -- the same of each refusal of a checkpoint that isn't short
-pub refusal_granted : (objects : Objects) (fault : SnapshotFault) → IsRefusal false fault objects → is_short (NoSnapshot fault) ≡ false → fault ≢ faults.Lost
-    → IsGranted objects (task checkpoint) (reply_text (NoSnapshot fault)) objects
-refusal_granted objects faults.TooLarge refusal enough kept = absurd cc
-refusal_granted objects (faults.BadLog version) refusal enough kept = log_granted objects (faults.BadLog version) refusal enough kept
-refusal_granted objects (faults.Unsupported why) refusal enough kept = log_granted objects (faults.Unsupported why) refusal enough kept
-refusal_granted objects faults.Lost refusal enough kept = absurd (kept refl)
-refusal_granted objects faults.Memory refusal enough kept = absurd cc
+pub refusal_executed : (objects : Objects) (fault : SnapshotFault) → IsRefusal false fault objects → is_short (NoSnapshot fault) ≡ false → fault ≢ faults.Lost
+    → IsExecuted objects (task checkpoint) (reply_text (NoSnapshot fault)) objects
+refusal_executed objects faults.TooLarge refusal enough kept = absurd cc
+refusal_executed objects (faults.BadLog version) refusal enough kept = log_executed objects (faults.BadLog version) refusal enough kept
+refusal_executed objects (faults.Unsupported why) refusal enough kept = log_executed objects (faults.Unsupported why) refusal enough kept
+refusal_executed objects faults.Lost refusal enough kept = absurd (kept refl)
+refusal_executed objects faults.Memory refusal enough kept = absurd cc
 
--- a line that is granted has what it asks for
-pub has_granted : (objects : Objects) (wish : Wish) (reply : List ℕ) (after : Objects) → IsGranted objects wish reply after → Grants objects wish reply after
-has_granted objects wish reply after granted = inl (granted.text, granted.printed, granted.told, granted.left)
+-- a line that is executed has what it asks for
+pub has_executed : (objects : Objects) (statement : Statement) (reply : List ℕ) (after : Objects) → IsExecuted objects statement reply after → Executes objects statement reply after
+has_executed objects statement reply after executed = inl (executed.text, executed.printed, executed.told, executed.left)
 
 -- a checkpoint that is too large is told so
 large_told : (objects : Objects) → IsTooLarge false objects → Has objects (task checkpoint) (reply_text (NoSnapshot faults.TooLarge)) objects
@@ -97,10 +97,10 @@ large_told objects large =
     )
 
 -- A checkpoint that isn't put is told what its refusal says, or of want of memory.
-pub refusal_told : (objects : Objects) (fault : SnapshotFault) → IsRefusal false fault objects → fault ≢ faults.Lost → Grants objects (task checkpoint) (reply_text (NoSnapshot fault)) objects
+pub refusal_told : (objects : Objects) (fault : SnapshotFault) → IsRefusal false fault objects → fault ≢ faults.Lost → Executes objects (task checkpoint) (reply_text (NoSnapshot fault)) objects
 refusal_told objects faults.TooLarge refusal kept = inl (large_told objects refusal)
-refusal_told objects (faults.BadLog version) refusal kept = has_granted objects (task checkpoint) _ objects (log_granted objects (faults.BadLog version) refusal refl kept)
-refusal_told objects (faults.Unsupported why) refusal kept = has_granted objects (task checkpoint) _ objects (log_granted objects (faults.Unsupported why) refusal refl kept)
+refusal_told objects (faults.BadLog version) refusal kept = has_executed objects (task checkpoint) _ objects (log_executed objects (faults.BadLog version) refusal refl kept)
+refusal_told objects (faults.Unsupported why) refusal kept = has_executed objects (task checkpoint) _ objects (log_executed objects (faults.Unsupported why) refusal refl kept)
 refusal_told objects faults.Lost refusal kept = absurd (kept refl)
 refusal_told objects faults.Memory refusal kept = inr (refl, refl)
 
@@ -113,8 +113,8 @@ refusal_short objects _ refusal short = cc
 -- ---- a snapshot
 
 -- a snapshot that is told
-pub snapshot_granted : (objects : Objects) (text : List ℕ) → TellsSnapshot false objects text → IsGranted objects snapshot text objects
-snapshot_granted objects text tells = record {
+pub snapshot_executed : (objects : Objects) (text : List ℕ) → TellsSnapshot false objects text → IsExecuted objects snapshot text objects
+snapshot_executed objects text tells = record {
   text = text;
   printed = rw (tells.read, tells.supported) tells;
   told = rw (tells.read, tells.supported) refl;
@@ -123,30 +123,30 @@ snapshot_granted objects text tells = record {
 }
 
 -- a snapshot that isn't
-pub unread_granted : (objects : Objects) (fault : SnapshotFault) → IsSaid (says fault) (readable_log false objects) → is_short (NoSnapshot fault) ≡ false → fault ≢ faults.Lost
-    → IsGranted objects snapshot (reply_text (NoSnapshot fault)) objects
-unread_granted objects (faults.BadLog version) said enough kept = record {
+pub unread_executed : (objects : Objects) (fault : SnapshotFault) → IsSaid (says fault) (readable_log false objects) → is_short (NoSnapshot fault) ≡ false → fault ≢ faults.Lost
+    → IsExecuted objects snapshot (reply_text (NoSnapshot fault)) objects
+unread_executed objects (faults.BadLog version) said enough kept = record {
   text = [];
   printed = rw said tt;
   told = rw said refl;
   left = refl;
   sound = tt;
 }
-unread_granted objects (faults.Unsupported why) said enough kept = record {
+unread_executed objects (faults.Unsupported why) said enough kept = record {
   text = [];
   printed = rw said tt;
   told = rw said (ap (λ (text : List ℕ). line_of (refused (codes "K8 Unsupported " ++ text))) (support_is why));
   left = refl;
   sound = tt;
 }
-unread_granted objects faults.Lost said enough kept = absurd (kept refl)
-unread_granted objects faults.Memory said enough kept = absurd cc
-unread_granted objects faults.TooLarge said enough kept = absurd said
+unread_executed objects faults.Lost said enough kept = absurd (kept refl)
+unread_executed objects faults.Memory said enough kept = absurd cc
+unread_executed objects faults.TooLarge said enough kept = absurd said
 
 -- it is told what the refusal says, or of want of memory
-pub unread_told : (objects : Objects) (fault : SnapshotFault) → IsSaid (says fault) (readable_log false objects) → fault ≢ faults.Lost → Grants objects snapshot (reply_text (NoSnapshot fault)) objects
-unread_told objects (faults.BadLog version) said kept = has_granted objects snapshot _ objects (unread_granted objects (faults.BadLog version) said refl kept)
-unread_told objects (faults.Unsupported why) said kept = has_granted objects snapshot _ objects (unread_granted objects (faults.Unsupported why) said refl kept)
+pub unread_told : (objects : Objects) (fault : SnapshotFault) → IsSaid (says fault) (readable_log false objects) → fault ≢ faults.Lost → Executes objects snapshot (reply_text (NoSnapshot fault)) objects
+unread_told objects (faults.BadLog version) said kept = has_executed objects snapshot _ objects (unread_executed objects (faults.BadLog version) said refl kept)
+unread_told objects (faults.Unsupported why) said kept = has_executed objects snapshot _ objects (unread_executed objects (faults.Unsupported why) said refl kept)
 unread_told objects faults.Lost said kept = absurd (kept refl)
 unread_told objects faults.Memory said kept = inr (refl, refl)
 unread_told objects faults.TooLarge said kept = absurd said

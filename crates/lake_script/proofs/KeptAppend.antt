@@ -11,14 +11,15 @@ use Rattle.parquet_footer.specs.declared.fault.FileFault.{FileFault}
 use Rattle.parquet_rows.specs.Reading.{rows_at}
 use Rattle.parquet_rows.specs.Writing.{written_file}
 use Rattle.table_model.specs.Appends.{appended, with_batch}
-use Rattle.table_model.specs.declared.table.Appended.TheVariants.{Committed, Already, Differs}
+use Rattle.table_model.specs.declared.table.Appended.TheVariants.{Committed, Already, Differs, StreamClosed}
 use Rattle.table_model.specs.Lawful.{IsLawful}
 use Rattle.delta_actions.specs.Names.{data_file_name}
 use Rattle.delta_actions.specs.Names as names
 use Rattle.row_core.specs.Rows.{Row, same_rows}
 use Rattle.delta_replay.specs.Support.{has_key_inside}
 use Rattle.table_model.specs.Table as model
-use Rattle.table_model.specs.Table.{Entry, creation, group, close, last_batch, is_closed}
+use Rattle.table_model.specs.Table.{Entry, creation, group, last_batch, is_closed}
+use Rattle.table_store.specs.Commits.{IsCommitOf}
 use Rattle.table_store.proofs.Callers.{commit_name-data_file_name}
 use Rattle.table_model.proofs.Callers.{append_keeps}
 use Rattle.sink_core.specs.Appending.{Batch, Request, Step, puts, stands, checked, count, appending, file_name, is_repeat, request_of, file_or_refusal, batch_of, fitting, new_step, repeated_step, step_of, settled, answered, with_append, IsWellMade, PutsWell}
@@ -28,16 +29,17 @@ use Rattle.sink_core.specs.Refusals.{Refusal, bad_app, too_large, file_too_large
 use Rattle.commit_core.specs.Texts.{line_of}
 use Rattle.lake_bytes.specs.Results.{◌>>=◌, refused_if}
 use Rattle.sink_core.specs.RowsIn.{rows_from, takes_rows}
-use Rattle.lake_script.specs.Sound.{IsSoundWish}
+use Rattle.lake_script.specs.Sound.{IsSoundStatement}
 use Rattle.lake_script.specs.Tables as tables
 use Rattle.lake_script.specs.Tables.{State, nothing, table}
-use Rattle.lake_script.specs.Told.{reply_to_wish, left_by_wish, appended_reply}
-use Rattle.lake_script.proofs.Kept.{IsFileOf, FileKept, IsCommitMade, KeptFrom, IsKept, HasNoOther, Keeps}
+use Rattle.lake_script.specs.Told.{reply_to_statement, left_by_statement, appended_reply}
+use Rattle.lake_script.specs.Keeps.{IsReadableFile, FileKept, IsKept, HasNoOther, Keeps}
 use Rattle.lake_script.proofs.KeptFile.{last_stands, last_own, same_either_way, file_read}
+use Rattle.lake_script.proofs.KeptHolds.{append_stands}
 use Rattle.lake_script.proofs.KeptLog.{made_of, are_made, none_behind}
 use Rattle.lake_script.proofs.KeptNames.{same_name, same_file_name, batch_stands, no_file}
 use Rattle.lake_script.proofs.KeptPuts.{kept_more, no_other_more}
-use Rattle.lake_script.proofs.KeptRequest.{asked, unless_invariant, request_is}
+use Rattle.lake_script.proofs.KeptRequest.{asked, goes_on, unless_invariant, request_is}
 use Rattle.lake_script.proofs.KeptVersions.{count_kept, log_kept, log_of_nothing}
 
 -- what an append does agrees with the batch that is handed in at the plain table
@@ -60,13 +62,6 @@ small_number application number rows fine = by_tests (length application == 0 ||
     by_tests true big many is fine = absurd cc
     by_tests false true many is fine = absurd cc
     by_tests false false many is fine = ltb-false 999_999_999_999 number is
-
--- no stream of a kept table is closed
-pub stays_open : (objects : Objects) (schema : Tree) (version : ℕ) (entries : List Entry) (application : List ℕ) → KeptFrom objects schema version entries → is_closed application entries ≡ false
-stays_open objects schema version [] application kept = refl
-stays_open objects schema version (creation ∷ entries) application kept = stays_open objects schema _ entries application kept.2
-stays_open objects schema version (group bs ∷ entries) application kept = stays_open objects schema _ entries application kept.2
-stays_open objects schema version (close other ∷ entries) application kept = absurd kept.0.2.is
 
 -- the table behind an append is lawful
 pub lawful_after : (objects : Objects) (schema : Tree) (entries : List Entry) (b : model.Batch) → IsKept objects schema entries → IsLawful (with_batch (appended b entries) b entries)
@@ -94,17 +89,12 @@ handed_in application number rows = record { application = application; number =
 
 module _ (schema : Tree) (version : ℕ) (rows : List Row) (application : List ℕ) (number at : ℕ) (file : List ℕ) where
   -- the file of a batch that is well made is one of its rows
-  pub file_made : IsWellMade application number at (made_with version schema rows application number at file) → IsFileOf schema (handed_in application number rows) file
+  pub file_made : IsWellMade application number at (made_with version schema rows application number at file) → IsReadableFile schema (handed_in application number rows) file
   file_made well = record { file = well.file; limits = well.limits }
 
   -- and its commit is one of the batch that is handed in
-  pub commit_made : IsUtf8 application → number ≤ 999_999_999_999 → IsWellMade application number at (made_with version schema rows application number at file)
-      → IsCommitMade schema (group (handed_in application number rows ∷ [])) (made_with version schema rows application number at file).commit
-  commit_made utf8 fits well = record {
-    made = appending application number at (file_name application number) (length file) (length rows);
-    commit = well.commit;
-    is = record { at = at; size = length file; rows = length rows; utf8 = utf8; small = fits; are = ap (λ (name : List ℕ). appending application number at name (length file) (length rows)) (same_file_name application number) };
-  }
+  pub commit_made : IsWellMade application number at (made_with version schema rows application number at file) → IsCommitOf schema (group (handed_in application number rows ∷ [])) (made_with version schema rows application number at file).commit
+  commit_made well = append_stands schema (handed_in application number rows) at (length file) (length rows) (file_name application number) _ (same_file_name application number) well.commit
 
 module _ (objects : Objects) (schema : Tree) (entries : List Entry) (kept : IsKept objects schema entries) (own : HasNoOther objects entries) (few : length entries < 2 ^ 32) (application : List ℕ) (number at : ℕ) (utf8 : IsUtf8 application)
     (fits : number ≤ 999_999_999_999) (rows : List Row) where
@@ -118,11 +108,11 @@ module _ (objects : Objects) (schema : Tree) (entries : List Entry) (kept : IsKe
       let b = handed_in application number rows in
       let none = none_behind objects schema entries kept few in
       let is_file = file_made schema (length entries) rows application number at file well in
-      let is_commit = commit_made schema (length entries) rows application number at file utf8 fits well in
+      let is_commit = commit_made schema (length entries) rows application number at file well in
       let lawful : IsLawful (entries ++ group (b ∷ []) ∷ []) = rw new at (lawful_after objects schema entries b kept) in
       let more = kept_more objects schema entries b file made.commit kept lawful free none is_file is_commit in
       let apart = object_at-with_object_other objects (data_file_name application number) file (names.commit_name (length entries)) (commit_name-data_file_name (length entries) application number) ∙ none in
-      let alone = no_other_more objects entries b file made.commit own in
+      let alone = no_other_more objects entries b file made.commit utf8 own in
       rw (same_file_name application number, same_name (length entries), new) (rw apart refl, (rw (same_file_name application number) at more, rw (same_file_name application number) at alone))
 
   -- what is done for a new number
@@ -161,13 +151,20 @@ module _ (objects : Objects) (schema : Tree) (entries : List Entry) (kept : IsKe
 
   -- what is done behind the application's last number
   abbrev behind_last : Option ℕ → Result Step Refusal
-  behind_last last = (is_repeat number last >>= λ repeats. Ok (asked (length entries) schema rows repeats)) >>= step_of objects application number at
+  behind_last last = (is_repeat number last >>= λ repeats. goes_on (is_closed application entries) repeats >>= λ open_. Ok (asked (length entries) schema rows repeats)) >>= step_of objects application number at
+
+  -- what is done for a new number, where the stream may be closed
+  open_agrees : (closed : Bool) → appended (handed_in application number rows) entries ≡ cond closed StreamClosed (Committed (length entries)) → object_at objects (data_file_name application number) ≡ None
+      → IsSoundStep application number at ((goes_on closed false >>= λ open_. Ok (asked (length entries) schema rows false)) >>= step_of objects application number at)
+      → Agrees objects schema entries number ((goes_on closed false >>= λ open_. Ok (asked (length entries) schema rows false)) >>= step_of objects application number at) (Ok (handed_in application number rows))
+  open_agrees true new free sound = rw new (refl, (kept, own))
+  open_agrees false new free sound = new_agrees new free sound
 
   -- the file of the last batch does stand, and is read
   last_agrees : (before : model.Batch) → last_batch application entries ≡ Some before → ltb number before.number ≡ false → eqb number before.number ≡ true
       → Agrees objects schema entries number (repeated_step objects (asked (length entries) schema rows true) application number) (Ok (handed_in application number rows))
   last_agrees before last over equal =
-      let file : FileKept objects schema before = (batch_stands objects schema 0 entries before kept.kept (last_stands application entries before last)).1 in
+      let file : FileKept objects schema before = batch_stands objects schema 0 entries before kept.kept (last_stands application entries before last) in
       let name : data_file_name application number ≡ data_file_name before.application before.number =
       ap (λ (a : List ℕ). data_file_name a number) (sym (last_own application entries before last)) ∙ ap (data_file_name before.application) (eqb-true number before.number equal) in
       again_agrees before file.0 last over equal (ap (object_at objects) name ∙ file.1) (file_read schema before file.0 file.2)
@@ -175,45 +172,42 @@ module _ (objects : Objects) (schema : Tree) (entries : List Entry) (kept : IsKe
   -- what is done behind the last batch, if there is one
   behind_agrees : (last : Option model.Batch) → last_batch application entries ≡ last → IsSoundStep application number at (behind_last (option_map (λ (b : model.Batch). b.number) last))
       → Agrees objects schema entries number (behind_last (option_map (λ (b : model.Batch). b.number) last)) (Ok (handed_in application number rows))
-  behind_agrees None is sound =
-      let open_ = stays_open objects schema 0 entries application kept.kept in
-      new_agrees (rw (is, open_) refl) (no_file objects schema entries application number kept own utf8 (omega arith) (rw is tt)) sound
+  behind_agrees None is sound = open_agrees (is_closed application entries) (rw is refl) (no_file objects schema entries application number kept own utf8 fits (rw is tt)) sound
   behind_agrees (Some before) is sound = by_tests (ltb number before.number) (eqb number before.number) refl refl sound
     where
       by_tests : (below equal : Bool) → ltb number before.number ≡ below → eqb number before.number ≡ equal
-          → IsSoundStep application number at ((cond below (Err (stale before.number)) (Ok equal) >>= λ repeats. Ok (asked (length entries) schema rows repeats)) >>= step_of objects application number at)
-          → Agrees objects schema entries number ((cond below (Err (stale before.number)) (Ok equal) >>= λ repeats. Ok (asked (length entries) schema rows repeats)) >>= step_of objects application number at) (Ok (handed_in application number rows))
+          → IsSoundStep application number at ((cond below (Err (stale before.number)) (Ok equal) >>= λ repeats. goes_on (is_closed application entries) repeats >>= λ open_. Ok (asked (length entries) schema rows repeats)) >>= step_of objects application number at)
+          → Agrees objects schema entries number ((cond below (Err (stale before.number)) (Ok equal) >>= λ repeats. goes_on (is_closed application entries) repeats >>= λ open_. Ok (asked (length entries) schema rows repeats)) >>= step_of objects application number at) (Ok (handed_in application number rows))
       by_tests true equal under same sound = rw (is, under) (refl, (kept, own))
       by_tests false true over same sound = last_agrees before is over same
       by_tests false false over other sound =
-          let open_ = stays_open objects schema 0 entries application kept.kept in
           let least : before.number ≤ number = ltb-false number before.number over in
           let apart : number ≡ before.number → ⊥ = eqb-false number before.number other in
           let above : before.number < number = omega arith in
-          new_agrees (rw (is, over, other, open_) refl) (no_file objects schema entries application number kept own utf8 (omega arith) (rw is above)) sound
+          open_agrees (is_closed application entries) (rw (is, over, other) refl) (no_file objects schema entries application number kept own utf8 fits (rw is above)) sound
 
 -- ---- a line that appends
 
 -- what is done with rows that were read
 abbrev pub step_with : (objects : Objects) (entries : List Entry) (application : List ℕ) (number at : ℕ) (schema : Tree) → Result (List Row) Refusal → Result Step Refusal
 step_with objects entries application number at schema read =
-    (read >>= λ rows. is_repeat number (option_map (λ (b : model.Batch). b.number) (last_batch application entries)) >>= λ repeats. Ok (asked (length entries) schema rows repeats))
+    (read >>= λ rows. is_repeat number (option_map (λ (b : model.Batch). b.number) (last_batch application entries)) >>= λ repeats. goes_on (is_closed application entries) repeats >>= λ open_. Ok (asked (length entries) schema rows repeats))
     >>= step_of objects application number at
 
 -- what a line asks of a kept table
 abbrev pub step_behind : (objects : Objects) (schema : Tree) (entries : List Entry) (application : List ℕ) (number at : ℕ) (items : Items) → Result (Unit {0}) Refusal → (barred : Bool) → Result (Unit {0}) Refusal → Result Step Refusal
 step_behind objects schema entries application number at items fine barred takes =
     (fine >>= λ passed. unless_invariant barred >>= λ plain. takes >>= λ supported. rows_from 0 schema items >>= λ rows. is_repeat number (option_map (λ (b : model.Batch). b.number) (last_batch application entries)) >>= λ repeats.
-    Ok (asked (length entries) schema rows repeats)) >>= step_of objects application number at
+    goes_on (is_closed application entries) repeats >>= λ open_. Ok (asked (length entries) schema rows repeats)) >>= step_of objects application number at
 
 -- that is what an append does over the objects
-pub step_is : (objects : Objects) (schema : Tree) (entries : List Entry) (application : List ℕ) (number at : ℕ) (items : Items) → IsKept objects schema entries → length entries < 2 ^ 32
+pub step_is : (objects : Objects) (schema : Tree) (entries : List Entry) (application : List ℕ) (number at : ℕ) (items : Items) → IsUtf8 application → IsKept objects schema entries → length entries < 2 ^ 32
     → settled false objects application number at items
     ≡ step_behind objects schema entries application number at items (checked application number (count items)) (has_key_inside (codes "delta.invariants") schema) (takes_rows schema)
 unfolding request_of
-step_is objects schema entries application number at items kept few =
+step_is objects schema entries application number at items utf8 kept few =
     let commits = made_of objects schema 0 entries kept.kept in
-    rw (log_kept objects schema entries kept few, count_kept objects schema entries kept few, request_is (length entries) schema entries kept.rest commits application number items kept.begins (are_made objects schema 0 entries kept.kept)) refl
+    rw (log_kept objects schema entries kept few, count_kept objects schema entries kept few, request_is objects (length entries) schema entries kept.rest commits application number items utf8 kept.begins (are_made objects schema 0 entries kept.kept)) refl
 
 -- where a table is kept, the answer is the plain table's
 table_agrees : (objects : Objects) (schema : Tree) (entries : List Entry) (application : List ℕ) (number at : ℕ) (items : Items) (fine : Result (Unit {0}) Refusal) (barred : Bool) (takes : Result (Unit {0}) Refusal)
@@ -249,13 +243,13 @@ nothing_agrees application number at (Ok passed) = (refl, refl)
 
 -- the reply to a line that appends a batch is the plain table's, and the store goes on to keep it
 pub append_told : (objects : Objects) (state : State) (application : List ℕ) (number at : ℕ) (items : Items) (printed : List ℕ) → Keeps objects state → length (tables.entries_of state) < 2 ^ 32
-    → IsSoundWish objects (task (append application number at items)) printed
-    → (reply_to_wish objects (task (append application number at items)) printed ≡ tables.reply_to_wish state (task (append application number at items)))
-    × Keeps (left_by_wish objects (task (append application number at items)) printed) (tables.left_by_wish state (task (append application number at items)))
+    → IsSoundStatement objects (task (append application number at items)) printed
+    → (reply_to_statement objects (task (append application number at items)) printed ≡ tables.reply_to_statement state (task (append application number at items)))
+    × Keeps (left_by_statement objects (task (append application number at items)) printed) (tables.left_by_statement state (task (append application number at items)))
 append_told objects nothing application number at items printed keeps few sound =
     rw (keeps, nothing_is application number at items) (nothing_agrees application number at (checked application number (count items)))
 append_told objects (table schema entries) application number at items printed keeps few sound =
-    let is = step_is objects schema entries application number at items keeps.0 few in
+    let is = step_is objects schema entries application number at items sound.0 keeps.0 few in
     let step_sound : IsSoundStep application number at (settled false objects application number at items) = (sound.1, sound.2) in
     let barred = has_key_inside (codes "delta.invariants") schema in
     let told = table_agrees objects schema entries application number at items (checked application number (count items)) barred (takes_rows schema) keeps few sound.0 refl (rw is at step_sound) in

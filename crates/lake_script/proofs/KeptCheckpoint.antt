@@ -3,24 +3,24 @@ use Rattle.std.proofs.Common.{◌≡◌, ℕ, ◌-◌, ◌<◌, ◌^◌, Bool, t
 use Rattle.std.specs.Prelude.{codes, is_some, nat_lt}
 use Rattle.schema_tree.specs.Tree.{Tree}
 use Rattle.store_core.specs.Objects.{Objects, with_object}
-use Rattle.delta_actions.specs.Entry as actions
+use Rattle.delta_actions.specs.Action as actions
 use Rattle.delta_checkpoint.specs.Names.{IsCheckpointName, checkpoint_name}
 use Rattle.delta_replay.specs.Support.{feature, has_key_inside, meta_data_of}
 use Rattle.lake_bytes.specs.Results.{◌>>=◌, refused_as, refused_if}
 use Rattle.table_model.specs.Table.{Entry, creation}
-use Rattle.table_log.specs.Restoring.{seen}
 use Rattle.commit_core.specs.Texts.{refused, line_of}
 use Rattle.snapshot_core.specs.Faults.{bad_log, unsupported}
 use Rattle.snapshot_core.specs.Taking.{most_bytes}
 use Rattle.lake_script.specs.Checkpoints.{Checkpoint, NotPut, by_log, too_large, checkpoint_by, checkpoint_of, checkpoint_reply, checkpointed_at, not_put_text, with_checkpoint, IsWellPut}
 use Rattle.lake_script.specs.Lines.{checkpoint, task}
-use Rattle.lake_script.specs.Sound.{IsSoundWish}
+use Rattle.lake_script.specs.Sound.{IsSoundStatement}
 use Rattle.lake_script.specs.Tables as tables
 use Rattle.lake_script.specs.Tables.{State, nothing, table, entries_of}
 use Rattle.lake_script.specs.Told as told
-use Rattle.lake_script.proofs.Kept.{HasNoOther, IsKept, Keeps}
-use Rattle.lake_script.proofs.KeptCommits.{made_checkpointable, made_meta_data}
-use Rattle.lake_script.proofs.KeptLog.{AreMade, made_of, are_made}
+use Rattle.lake_script.specs.Keeps.{HasNoOther, Keeps}
+use Rattle.table_store.proofs.LawfulLogLemmas.{AreMadeFor}
+use Rattle.lake_script.proofs.KeptLog.{made_of, are_made}
+use Rattle.lake_script.proofs.LogSchema.{log_checkpointable, log_meta_data}
 use Rattle.lake_script.proofs.KeptPuts.{kept_checkpoint, same_files}
 use Rattle.lake_script.proofs.KeptVersions.{count_kept, log_kept, log_of_nothing}
 
@@ -30,25 +30,25 @@ over_nothing bytes = rw log_of_nothing refl
 
 -- a checkpoint that is put is no data file
 no_other : (objects : Objects) (entries : List Entry) (version : ℕ) (name bytes : List ℕ) → IsCheckpointName version name → HasNoOther objects entries → HasNoOther (with_object objects name bytes) entries
-no_other objects entries version name bytes named own = λ application number some.
-    own application number (ap is_some (sym (same_files objects version name bytes named application number)) ∙ some)
+no_other objects entries version name bytes named own = λ application number utf8 small some.
+    own application number utf8 small (ap is_some (sym (same_files objects version name bytes named application number)) ∙ some)
 
 module _ (objects : Objects) (schema : Tree) (entries : List Entry) (keeps : Keeps objects (table schema entries)) (few : length entries < 2 ^ 32) (bytes : List ℕ) where
   -- the commits that were made for the entries
-  abbrev commits : List (List actions.Entry)
+  abbrev commits : List (List actions.Action)
   commits = made_of objects schema 0 entries keeps.0.kept
 
-  made : AreMade schema (creation ∷ keeps.0.rest) commits
-  made = subst (λ (es : List Entry). AreMade schema es commits) keeps.0.begins (are_made objects schema 0 entries keeps.0.kept)
+  made : AreMadeFor objects schema (creation ∷ keeps.0.rest) commits
+  made = subst (λ (es : List Entry). AreMadeFor objects schema es commits) keeps.0.begins (are_made objects schema 0 entries keeps.0.kept)
 
   -- what is put, by whether a field has invariants and the bytes pass the limit
   abbrev put_by : (barred over : Bool) → Result Checkpoint NotPut
   put_by barred over =
-      refused_as by_log (refused_as unsupported (refused_if barred (feature (codes "invariants"))) >>= λ fine. Ok commits) >>= λ (found : List (List actions.Entry)).
+      refused_as by_log (refused_as unsupported (refused_if barred (feature (codes "invariants"))) >>= λ fine. Ok commits) >>= λ (found : List (List actions.Action)).
       refused_if over too_large >>= λ fits. checkpoint_of (length entries - 1) (meta_data_of found)
 
   put_is : checkpoint_by objects bytes ≡ put_by (has_key_inside (codes "delta.invariants") schema) (nat_lt most_bytes (length bytes))
-  put_is = rw (log_kept objects schema entries keeps.0 few, made_checkpointable schema keeps.0.rest commits made, count_kept objects schema entries keeps.0 few) refl
+  put_is = rw (log_kept objects schema entries keeps.0 few, log_checkpointable objects schema keeps.0.rest commits made, count_kept objects schema entries keeps.0 few) refl
 
   -- what it is told, and what is kept behind it
   abbrev IsAsTold : (barred : Bool) → Result Checkpoint NotPut → Type 0
@@ -57,7 +57,7 @@ module _ (objects : Objects) (schema : Tree) (entries : List Entry) (keeps : Kee
       ≡ (if barred then line_of (refused (not_put_text (by_log (unsupported (feature (codes "invariants")))))) else line_of (checkpointed_at (length entries - 1))))
       × Keeps (with_checkpoint objects bytes put) (table schema entries)
 
-  by_metadata : (metadata : actions.MetaDataEntry) (found : Option actions.MetaDataEntry) → found ≡ Some metadata → IsWellPut (checkpoint_of (length entries - 1) found) → IsAsTold false (checkpoint_of (length entries - 1) found)
+  by_metadata : (metadata : actions.MetaDataAction) (found : Option actions.MetaDataAction) → found ≡ Some metadata → IsWellPut (checkpoint_of (length entries - 1) found) → IsAsTold false (checkpoint_of (length entries - 1) found)
   by_metadata metadata None is well = absurd cc
   by_metadata metadata (Some m) is well =
       let version = length entries - 1 in
@@ -68,7 +68,7 @@ module _ (objects : Objects) (schema : Tree) (entries : List Entry) (keeps : Kee
   by_tests true over well = (refl, keeps)
   by_tests false true well = absurd well
   by_tests false false well =
-      let metadata = made_meta_data schema keeps.0.rest commits made in
+      let metadata = log_meta_data objects schema keeps.0.rest commits made in
       by_metadata metadata.0 (meta_data_of commits) metadata.1 well
 
   -- a checkpoint over a table
@@ -76,8 +76,8 @@ module _ (objects : Objects) (schema : Tree) (entries : List Entry) (keeps : Kee
   over_table well = rw put_is (by_tests (has_key_inside (codes "delta.invariants") schema) (nat_lt most_bytes (length bytes)) (rw put_is at well))
 
 -- A checkpoint is told as by the table, and the store goes on to keep it.
-pub checkpoint_told : (objects : Objects) (state : State) (printed : List ℕ) → Keeps objects state → length (entries_of state) < 2 ^ 32 → IsSoundWish objects (task checkpoint) printed
-    → (told.reply_to_wish objects (task checkpoint) printed ≡ tables.reply_to_wish state (task checkpoint))
-    × Keeps (told.left_by_wish objects (task checkpoint) printed) (tables.left_by_wish state (task checkpoint))
+pub checkpoint_told : (objects : Objects) (state : State) (printed : List ℕ) → Keeps objects state → length (entries_of state) < 2 ^ 32 → IsSoundStatement objects (task checkpoint) printed
+    → (told.reply_to_statement objects (task checkpoint) printed ≡ tables.reply_to_statement state (task checkpoint))
+    × Keeps (told.left_by_statement objects (task checkpoint) printed) (tables.left_by_statement state (task checkpoint))
 checkpoint_told objects nothing printed keeps few sound = rw keeps (rw (over_nothing printed) (refl, refl))
 checkpoint_told objects (table schema entries) printed keeps few sound = over_table objects schema entries keeps few printed sound

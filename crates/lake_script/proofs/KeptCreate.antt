@@ -10,19 +10,20 @@ use Rattle.store_core.specs.ObjectLaws.{with_object_stands, with_object_absent}
 use Rattle.delta_actions.specs.Names as names
 use Rattle.table_model.specs.Table.{Entry, creation, closes_of}
 use Rattle.table_model.specs.Lawful.{IsLawful}
-use Rattle.table_store.proofs.Callers.{commit_name-data_file_name}
+use Rattle.table_store.proofs.Callers.{commit_name-data_file_name, commit_name-once}
 use Rattle.commit_core.specs.Commits.{commit_text, creation as created}
 use Rattle.table_log.specs.Names.{commit_name}
 use Rattle.commit_core.specs.Creating.{Refusal, bad_schema, bad_id, too_large, id_of, described, within, most_bytes, commit_from, unless_there, with_creation}
 use Rattle.lake_script.specs.Lines.{create}
 use Rattle.lake_bytes.specs.Results.{◌>>=◌, or_refusal, refused_as}
 use Rattle.commit_core.specs.Creating.{IsWellCreated, CreatesWell}
-use Rattle.lake_script.specs.Sound.{IsSoundWish}
+use Rattle.lake_script.specs.Sound.{IsSoundStatement}
 use Rattle.lake_script.specs.Tables as tables
 use Rattle.lake_script.specs.Tables.{State, nothing, table, creating, with_table}
-use Rattle.lake_script.specs.Told.{reply_to_wish, left_by_wish, created_reply}
-use Rattle.lake_script.proofs.Kept.{IsKept, Keeps, KeptFrom, of_commit}
-use Rattle.lake_script.proofs.KeptNames.{none_in_nothing, same_name}
+use Rattle.lake_script.specs.Told.{reply_to_statement, left_by_statement, created_reply}
+use Rattle.lake_script.specs.Keeps.{IsKept, Keeps, KeptFrom}
+use Rattle.lake_script.proofs.KeptHolds.{creation_stands}
+use Rattle.lake_script.proofs.KeptNames.{none_in_nothing, none_unless, same_name}
 
 -- ---- what a line describes, and what is put for it
 
@@ -90,12 +91,13 @@ kept_creation name at text schema bytes first is well =
     let same : Ok well.read ≡ Ok schema = sym well.described ∙ is in
     let stands : object_at ((name, bytes) ∷ []) (names.commit_name 0) ≡ Some bytes = ap (object_at ((name, bytes) ∷ [])) (sym first) ∙ one_object name bytes in
     record {
-      kept = ((bytes, stands, record { made = created well.id at well.text; commit = well.commit; is = record { id = well.id; at = at; text = well.text; are = refl; readable = well.printed.readable ∙ same } }), tt, tt);
+      kept = ((bytes, stands, creation_stands schema well.id at well.text bytes (well.printed.readable ∙ same) well.commit), tt, tt);
       rest = [];
       begins = refl;
       lawful = lawful_creation;
-      named = λ other some. of_commit 0 (omega arith) (one_name name bytes other (bytes_eq other name) refl some ∙ first);
-      many = omega arith;
+      ends = λ version past small. none_unless (object_at ((name, bytes) ∷ []) (names.commit_name version)) (λ some.
+          let only : names.commit_name version ≡ names.commit_name 0 = one_name name bytes (names.commit_name version) (bytes_eq (names.commit_name version) name) refl some ∙ first in
+          omega (arith, past, commit_name-once version 0 (omega (arith, small)) only));
     }
 
 -- and no data file stands
@@ -119,7 +121,7 @@ told_nothing at text found put (refuses why f p) well = rw (f, p) (refl, refl)
 told_nothing at text found put (puts schema bytes f p is) well =
     let made : IsWellCreated at text bytes = rw p at well in
     let one : with_object [] (commit_name 0) bytes ≡ (commit_name 0, bytes) ∷ [] = with_object_absent [] (commit_name 0) bytes refl in
-    rw (f, p, one) (refl, (kept_creation (commit_name 0) at text schema bytes (same_name 0) is made, λ application number some. absurd (no_data_file (commit_name 0) bytes (same_name 0) application number some)))
+    rw (f, p, one) (refl, (kept_creation (commit_name 0) at text schema bytes (same_name 0) is made, λ application number utf8 small some. absurd (no_data_file (commit_name 0) bytes (same_name 0) application number some)))
 
 -- where a table stands, no other is created
 told_table : (text : List ℕ) (old : Tree) (entries : List Entry) (there : Option (List ℕ)) (found : Result Tree Refusal) (put : Result (List ℕ) Refusal)
@@ -139,9 +141,9 @@ same_table old entries (Ok schema) = refl
 same_table old entries (Err why) = refl
 
 -- the reply to a line that creates a table is the plain table's, and the store goes on to keep it
-pub create_told : (objects : Objects) (state : State) (id : List ℕ) (at : ℕ) (text printed : List ℕ) → Keeps objects state → IsSoundWish objects (create id at text) printed
-    → (reply_to_wish objects (create id at text) printed ≡ tables.reply_to_wish state (create id at text))
-    × Keeps (left_by_wish objects (create id at text) printed) (tables.left_by_wish state (create id at text))
+pub create_told : (objects : Objects) (state : State) (id : List ℕ) (at : ℕ) (text printed : List ℕ) → Keeps objects state → IsSoundStatement objects (create id at text) printed
+    → (reply_to_statement objects (create id at text) printed ≡ tables.reply_to_statement state (create id at text))
+    × Keeps (left_by_statement objects (create id at text) printed) (tables.left_by_statement state (create id at text))
 create_told objects nothing id at text printed keeps sound =
     rw keeps (told_nothing at text (described id text) (commit_from id at text printed) (is_told text printed id at sound.1) sound.0)
 create_told objects (table schema entries) id at text printed keeps sound =

@@ -8,7 +8,7 @@ use Rattle.row_core.specs.Rows.{Row, same_rows}
 use Rattle.table_model.specs.Table.{Batch, Entry, batches, last_batch}
 use Rattle.row_core.proofs.Callers.{same_rows-is}
 use Rattle.table_model.proofs.Callers.{last_stands as last_is_there}
-use Rattle.lake_script.proofs.Kept.{IsFileOf}
+use Rattle.lake_script.specs.Keeps.{IsReadableFile}
 
 -- ---- the last batch of an application
 
@@ -32,5 +32,5 @@ same_either_way xs ys =
 -- ---- a file that is read
 
 -- a batch's file is read as the batch's rows
-pub file_read : (schema : Tree) (b : Batch) (bytes : List ℕ) → IsFileOf schema b bytes → rows_at bytes schema ≡ Ok b.rows
+pub file_read : (schema : Tree) (b : Batch) (bytes : List ℕ) → IsReadableFile schema b bytes → rows_at bytes schema ≡ Ok b.rows
 file_read schema b bytes is = rows_only bytes schema b.rows is.file.within is.file.file is.limits

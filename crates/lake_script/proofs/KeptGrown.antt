@@ -1,27 +1,24 @@
--- However the lines of a script end, they leave a sound store, where none puts another tool's commit.
-use Rattle.std.proofs.Common.{◌≡◌, ◌⊎◌, inl, inr, ℕ, suc, ◌+◌, ◌≤◌, ◌^◌, List, [], ◌∷◌, length, Option, None, Some, IfSome, Result, Ok, Err, Bool, true, false, refl, sym, ap, subst, ◌∙◌, arith}
+-- However the lines of a script end, they leave a sound store sound, where none puts another tool's commit.
+use Rattle.std.proofs.Common.{◌≡◌, ◌⊎◌, inl, inr, ℕ, suc, ◌+◌, ◌<◌, ◌≤◌, ◌^◌, List, [], ◌∷◌, length, Option, None, Some, IfSome, Result, Ok, Err, Bool, true, false, refl, sym, ap, subst, ◌∙◌, arith}
 use Rattle.std.specs.Prelude.{is_some}
 use Rattle.std.specs.Str.{IsUtf8}
 use Rattle.serde_json.specs.Data.{Items}
 use Rattle.delta_actions.specs.Commit.{lines_of}
-use Rattle.delta_actions.specs.Entry.{Entry}
+use Rattle.delta_actions.specs.Action.{Action}
 use Rattle.store_core.specs.Objects.{Objects, with_object}
 use Rattle.store_core.specs.ObjectLaws.{with_object_absent}
 use Rattle.table_store.specs.Sound.{IsSound}
-use Rattle.table_store.specs.LawfulLogs.{HasLawfulLog}
 use Rattle.table_model.specs.Table.{creation}
 use Rattle.table_store.proofs.Callers.{lawful_log}
 use Rattle.sink_core.specs.Appending.{checked, count, settled, with_append, with_file_alone}
 use Rattle.table_log.specs.Names.{commit_name}
 use Rattle.commit_core.specs.Creating as creations
-use Rattle.commit_core.specs.Sound.{IsSoundStore}
 use Rattle.commit_core.specs.Creating.{commit_from, with_creation}
 use Rattle.sink_core.specs.Appending.{MayAppend}
 use Rattle.lake_script.specs.Growth.{MayPut}
 use Rattle.table_log.specs.Restoring.{AreCheckpointsSound, HasOnlySoundCheckpoints, seen}
-use Rattle.table_log.proofs.Callers.{sound_empty}
 use Rattle.snapshot_core.specs.Taking.{HasPut}
-use Rattle.lake_script.specs.Lines.{append, checkpoint, Wish, create, task, foreign, Reading, skipped, bad, asks, reading_of}
+use Rattle.lake_script.specs.Lines.{append, checkpoint, Statement, create, task, foreign, Reading, skipped, bad, asks, reading_of}
 use Rattle.sink_core.specs.Refusals.{Refusal}
 use Rattle.lake_script.specs.Runs.{Replies, RunsInPart, waits, begins, follows}
 use Rattle.lake_script.specs.Told.{IsPutHere, ArePutHere}
@@ -32,7 +29,10 @@ use Rattle.lake_script.proofs.KeptHolds.{kept_sound, nothing_sound}
 use Rattle.lake_script.proofs.KeptNames.{same_name}
 use Rattle.lake_script.proofs.KeptPuts.{kept_checkpoint, same_files}
 use Rattle.lake_script.proofs.KeptVersions.{log_of_nothing}
-use Rattle.lake_script.proofs.KeptStep.{Stays, bare, keeps, GoesOn, append_goes_on}
+use Rattle.lake_script.specs.Keeps.{KeepsBeside}
+use Rattle.lake_script.specs.Scripts.{StaysSound}
+use Rattle.lake_script.specs.Tables.{State, entries_of}
+use Rattle.lake_script.proofs.KeptStep.{Stays, bare, keeps, GoesOn, append_goes_on, ends, starts}
 
 -- ---- a line
 
@@ -51,7 +51,7 @@ created_over_nothing most at text (Ok bytes) well =
     let name = commit_name 0 in
     let one : with_object [] name bytes ≡ (name, bytes) ∷ [] = with_object_absent [] name bytes refl in
     rw one (keeps well.read (creation ∷ []) (kept_creation name at text well.read bytes (same_name 0) well.described well)
-    (λ application number found stands. absurd (no_data_file name bytes (same_name 0) application number (ap is_some stands))) (omega arith))
+    (λ application number found utf8 small stands. absurd (no_data_file name bytes (same_name 0) application number (ap is_some stands))) (omega arith))
 
 -- a creation
 created_stays : (most : ℕ) (objects : Objects) (at : ℕ) (text : List ℕ) (commit : Result (List ℕ) creations.Refusal) → CreatesWell at text commit → Stays most objects → Stays (suc most) (with_creation objects commit)
@@ -65,7 +65,7 @@ append_over_nothing most application number at (Ok passed) = (bare refl, bare re
 append_over_nothing most application number at (Err why) = (bare refl, bare refl)
 
 -- an append
-append_stays : (most : ℕ) (objects : Objects) (application : List ℕ) (number at : ℕ) (items : Items) (new : Objects) → most ≤ 2 ^ 31 → IsUtf8 application
+append_stays : (most : ℕ) (objects : Objects) (application : List ℕ) (number at : ℕ) (items : Items) (new : Objects) → most < 2 ^ 32 → IsUtf8 application
     → MayAppend application number at (settled false objects application number at items) objects new → Stays most objects → Stays (suc most) new
 append_stays most objects application number at items new small utf8 (inl same) stays = rw same (still most objects stays)
 append_stays most objects application number at items new small utf8 (inr (well, put)) stays = by_put put (goes stays)
@@ -80,12 +80,12 @@ append_stays most objects application number at items new small utf8 (inr (well,
     by_put (inr whole) goes = subst (Stays (suc most)) (sym whole) goes.1
 
 -- what can't be read isn't read
-not_read : (commits : List (List Entry)) (version : ℕ) (read : Result (List (List Entry)) ℕ) → read ≡ Err version → read ≡ Ok commits → ⊥
+not_read : (commits : List (List Action)) (version : ℕ) (read : Result (List (List Action)) ℕ) → read ≡ Err version → read ≡ Ok commits → ⊥
 not_read commits version (Ok found) wrong is = absurd cc
 not_read commits version (Err first) wrong is = absurd cc
 
 -- a store of nothing has no log that is read
-no_log : (commits : List (List Entry)) → seen false [] ≡ Ok commits → ⊥
+no_log : (commits : List (List Action)) → seen false [] ≡ Ok commits → ⊥
 no_log commits is = not_read commits 0 (seen false []) log_of_nothing is
 
 -- a checkpoint
@@ -94,10 +94,10 @@ checkpoint_stays most objects new version put (bare none) = absurd (no_log put.p
 checkpoint_stays most objects new version put (keeps schema entries kept files few) =
     let named = put.puts.found in
     rw put.put (keeps schema entries (kept_checkpoint objects version put.name put.bytes named schema entries kept)
-    (λ application number found stands. files application number found (sym (same_files objects version put.name put.bytes named application number) ∙ stands)) (omega (arith, few)))
+    (λ application number found utf8 small stands. files application number found utf8 small (sym (same_files objects version put.name put.bytes named application number) ∙ stands)) (omega (arith, few)))
 
 -- what a line asks for
-put_stays : (most : ℕ) (old : Objects) (wish : Wish) (new : Objects) → most ≤ 2 ^ 31 → IsPutHere (asks wish) → MayPut old wish new → Stays most old → Stays (suc most) new
+put_stays : (most : ℕ) (old : Objects) (statement : Statement) (new : Objects) → most < 2 ^ 32 → IsPutHere (asks statement) → MayPut old statement new → Stays most old → Stays (suc most) new
 put_stays most old (create id at schema) new small here (inl same) stays = rw same (still most old stays)
 put_stays most old (create id at schema) new small here (inr (printed, put)) stays = rw put.1 (created_stays most old at schema (commit_from id at schema printed) put.0 stays)
 put_stays most old (task (append application number at items)) new small here put stays = append_stays most old application number at items new small put.0 put.1 stays
@@ -107,15 +107,15 @@ put_stays most old (foreign version action) new small here put stays = absurd he
 put_stays most old _ new small here put stays = rw put (still most old stays)
 
 -- any line
-line_stays : (most number : ℕ) (old : Objects) (r : Reading) (reply : List ℕ) (new : Objects) → most ≤ 2 ^ 31 → IsPutHere r → Replies number old r reply new → Stays most old → Stays (suc most) new
+line_stays : (most number : ℕ) (old : Objects) (r : Reading) (reply : List ℕ) (new : Objects) → most < 2 ^ 32 → IsPutHere r → Replies number old r reply new → Stays most old → Stays (suc most) new
 line_stays most number old skipped reply new small here is stays = rw is.1 (still most old stays)
 line_stays most number old bad reply new small here is stays = rw is.1 (still most old stays)
-line_stays most number old (asks wish) reply new small here is stays = put_stays most old wish new small here is.1 stays
+line_stays most number old (asks statement) reply new small here is stays = put_stays most old statement new small here is.1 stays
 
 -- ---- lines
 
 -- behind lines there are as many entries more as lines, at most
-lines_stay : (most number : ℕ) (old : Objects) (lines : List (List ℕ)) (written : List ℕ) (new : Objects) → most + length lines ≤ 2 ^ 31 → ArePutHere lines → Stays most old → RunsInPart number old lines written new
+lines_stay : (most number : ℕ) (old : Objects) (lines : List (List ℕ)) (written : List ℕ) (new : Objects) → most + length lines < 2 ^ 32 → ArePutHere lines → Stays most old → RunsInPart number old lines written new
     → Stays (most + length lines) new
 lines_stay most number old lines written new small here stays waits = more_room most (most + length lines) old (omega arith) stays
 lines_stay most number old (line ∷ lines) written new small here stays (begins is) =
@@ -125,22 +125,28 @@ lines_stay most number old (line ∷ lines) written new small here stays (follow
     more_room (suc most + length lines) (most + length (line ∷ lines)) new (omega arith) (lines_stay (suc most) (number + 1) after lines rest new (omega (arith, small)) here.1 first others)
 
 -- what stays is sound
-stays_sound : (most : ℕ) (objects : Objects) → most ≤ 2 ^ 31 → Stays most objects → IsSound objects
+stays_sound : (most : ℕ) (objects : Objects) → most < 2 ^ 32 → Stays most objects → IsSound objects
 stays_sound most objects small (bare none) = subst IsSound (sym none) nothing_sound
 stays_sound most objects small (keeps schema entries kept files up) = kept_sound objects schema entries kept (omega (arith, up, small))
 
--- where each checkpoint of an empty store is one of the log, so is each of the store that is left
-still_sound : (old new : Objects) → old ≡ [] → ((every : Bool) → AreCheckpointsSound every old → AreCheckpointsSound every new) → HasOnlySoundCheckpoints new
-still_sound old new empty keeps_sound = keeps_sound true (subst (AreCheckpointsSound true) (sym empty) (sound_empty true))
+-- Over a store that keeps a table and whose checkpoints are sound, lines that put no other tool's commit leave such a store,
+-- however many of them are answered.
+pub part_is_sound : (state : State) (old : Objects) (lines : List (List ℕ)) (written : List ℕ) (new : Objects) → length (entries_of state) + length lines < 2 ^ 32 → KeepsBeside old state → HasOnlySoundCheckpoints old
+    → ArePutHere lines → RunsInPart 1 old lines written new → ((every : Bool) → AreCheckpointsSound every old → AreCheckpointsSound every new) → StaysSound state (length lines) new
+part_is_sound state old lines written new few kept sound here runs keeps_sound =
+    let most = length (entries_of state) + length lines in
+    let stays = lines_stay (length (entries_of state)) 1 old lines written new few here (starts old state kept) runs in
+    let table = stays_sound most new few stays in
+    record {
+      sound = record { table = table; checkpoints = keeps_sound true sound };
+      lawful = lawful_log new (record { schema = table.schema; entries = table.entries; holds = table.holds; lawful = table.lawful });
+      keeps = ends most new stays;
+    }
 
--- Over a store of nothing, lines that put no other tool's commit leave a sound store, however many of them are answered.
-pub part_is_sound : (old : Objects) (lines : List (List ℕ)) (written : List ℕ) (new : Objects) → length lines ≤ 2 ^ 31 → old ≡ [] → ArePutHere lines → RunsInPart 1 old lines written new
-    → ((every : Bool) → AreCheckpointsSound every old → AreCheckpointsSound every new) → IsSoundStore new × HasLawfulLog new
-part_is_sound old lines written new few empty here runs keeps_sound =
-    let table = stays_sound (0 + length lines) new (omega (arith, few)) (lines_stay 0 1 old lines written new (omega (arith, few)) here (bare empty) runs) in
-    (record { table = table; checkpoints = still_sound old new empty keeps_sound }, lawful_log new (record { schema = table.schema; entries = table.entries; holds = table.holds; lawful = table.lawful }))
-
--- Where a text isn't read, a store of nothing stays as it is, and sound.
-pub unread_is_sound : (known : Option (List ℕ)) (objects : Objects) → objects ≡ [] → IfSome known (λ text. ArePutHere (lines_of text) → IsSoundStore objects × HasLawfulLog objects)
-unread_is_sound None objects empty = tt
-unread_is_sound (Some text) objects empty = λ here. part_is_sound objects [] [] objects (omega arith) empty tt waits (λ every sound. sound)
+-- Where a text isn't read, such a store stays as it is.
+pub unread_is_sound : (known : Option (List ℕ)) (state : State) (objects : Objects) → length (entries_of state) ≤ 2 ^ 31 → KeepsBeside objects state → HasOnlySoundCheckpoints objects
+    → IfSome known (λ text. ArePutHere (lines_of text) → StaysSound state (length (lines_of text)) objects)
+unread_is_sound None state objects few kept sound = tt
+unread_is_sound (Some text) state objects few kept sound = λ here.
+    let still = part_is_sound state objects [] [] objects (omega arith) kept sound tt waits (λ every same. same) in
+    record { sound = still.sound; lawful = still.lawful; keeps = (still.keeps.0, still.keeps.1, omega (arith, still.keeps.2)) }

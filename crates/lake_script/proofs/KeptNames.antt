@@ -1,6 +1,7 @@
 -- What stands for the batches of a kept table, and that the name of a new number's file is free.
-use Rattle.std.proofs.Common.{◌≡◌, ℕ, zero, suc, ◌^◌, ◌<◌, ◌≤◌, ◌⊎◌, Bool, true, false, List, [], ◌∷◌, length, map, Option, Some, None, Contains, inl, inr, refl, sym, ap, subst, arith}
+use Rattle.std.proofs.Common.{◌≡◌, ℕ, zero, suc, ◌<◌, ◌≤◌, ◌⊎◌, Bool, true, false, List, [], ◌∷◌, ◌++◌, length, map, Option, Some, None, Contains, inl, inr, refl, sym, ap, subst, arith}
 use Rattle.std.specs.Prelude.{bytes_eq, cond, filter, is_some, option_map, slice_index_or}
+use Rattle.std.specs.List.{AllByRecursion}
 use Rattle.std.specs.Str.{IsUtf8}
 use Rattle.std.proofs.lemmas.Slice.Eq.{bytes_eq-Decides}
 use Rattle.schema_tree.specs.Tree.{Tree}
@@ -8,12 +9,11 @@ use Rattle.store_core.specs.Objects.{Objects, object_at}
 use Rattle.delta_actions.specs.Names.{data_file_name}
 use Rattle.delta_actions.specs.Names as names
 use Rattle.table_model.specs.Lawful.{Rises}
-use Rattle.table_model.specs.Table.{Batch, Entry, creation, group, close, batches, numbers_by, last, last_batch}
+use Rattle.table_model.specs.Table.{Batch, Entry, batches_of, batches, numbers_by, last, last_batch}
 use Rattle.table_model.proofs.Callers.{IsAbove, last_none, last_number, numbers_in}
-use Rattle.table_store.proofs.Callers.{data_file_name-once}
 use Rattle.sink_core.specs.Appending.{file_name}
 use Rattle.table_log.specs.Names.{commit_name}
-use Rattle.lake_script.proofs.Kept.{IsKept, IsOwn, HasNoOther, KeptFrom, FileKept}
+use Rattle.lake_script.specs.Keeps.{IsKept, IsOwn, HasNoOther, KeptFrom, FileKept}
 
 -- ---- the names that contracts don't look into
 
@@ -51,19 +51,32 @@ none_in_nothing y has = omega (arith, has.1)
 
 -- ---- the batches of a kept table
 
--- each batch's application is text, and its file stands
-pub batch_stands : (objects : Objects) (schema : Tree) (version : ℕ) (entries : List Entry) (b : Batch) → KeptFrom objects schema version entries → Contains (batches entries) b
-    → IsUtf8 b.application × FileKept objects schema b
+-- a batch of an entry has its file
+file_in : (objects : Objects) (schema : Tree) (bs : List Batch) (b : Batch) → AllByRecursion (FileKept objects schema) bs → Contains bs b → FileKept objects schema b
+file_in objects schema [] b kept has = absurd (none_in_nothing b has)
+file_in objects schema (c ∷ bs) b kept has =
+    elim (first_or_behind c bs b has) [
+      | inl same ↦ subst (FileKept objects schema) same kept.0
+      | inr later ↦ file_in objects schema bs b kept.1 later
+    ]
+
+-- an element of two lists is one of either
+in_either : {A : Type 0} (xs ys : List A) (y : A) → Contains (xs ++ ys) y → Contains xs y ⊎ Contains ys y
+in_either [] ys y has = inr has
+in_either (x ∷ xs) ys y has =
+    elim (first_or_behind x (xs ++ ys) y has) [
+      | inl same ↦ inl (subst (Contains (x ∷ xs)) same (first_in x xs))
+      | inr later ↦ elim (in_either xs ys y later) [ inl front ↦ inl (behind_first x xs y front) | inr back ↦ inr back ]
+    ]
+
+-- the file of each batch stands
+pub batch_stands : (objects : Objects) (schema : Tree) (version : ℕ) (entries : List Entry) (b : Batch) → KeptFrom objects schema version entries → Contains (batches entries) b → FileKept objects schema b
 batch_stands objects schema version [] b kept has = absurd (none_in_nothing b has)
-batch_stands objects schema version (creation ∷ entries) b kept has = batch_stands objects schema (suc version) entries b kept.2 has
-batch_stands objects schema version (group [] ∷ entries) b kept has = absurd kept.0.2.is
-batch_stands objects schema version (group (c ∷ []) ∷ entries) b kept has =
-    elim (first_or_behind c (batches entries) b has) [
-      | inl same ↦ subst (λ (d : Batch). IsUtf8 d.application × FileKept objects schema d) same (kept.0.2.is.utf8, kept.1.0)
+batch_stands objects schema version (entry ∷ entries) b kept has =
+    elim (in_either (batches_of entry) (batches entries) b has) [
+      | inl here ↦ file_in objects schema (batches_of entry) b kept.1 here
       | inr later ↦ batch_stands objects schema (suc version) entries b kept.2 later
     ]
-batch_stands objects schema version (group (c ∷ d ∷ bs) ∷ entries) b kept has = absurd kept.0.2.is
-batch_stands objects schema version (close application ∷ entries) b kept has = absurd kept.0.2.is
 
 -- a batch's number is one of its application's
 number_among : (bs : List Batch) (b : Batch) → Contains bs b → Contains (numbers_in b.application bs) b.number
@@ -104,18 +117,17 @@ none_above ns n (Some m) is rises has above = omega (arith, up_to_last ns n m ri
 -- ---- the names that are free
 
 -- what isn't there is `None`
-none_unless : {A : Type 0} (found : Option A) → (is_some found ≡ true → ⊥) → found ≡ None
+pub none_unless : {A : Type 0} (found : Option A) → (is_some found ≡ true → ⊥) → found ≡ None
 none_unless None never = refl
 none_unless (Some x) never = absurd (never refl)
 
 -- no file stands under a number above the application's last one
-pub no_file : (objects : Objects) (schema : Tree) (entries : List Entry) (application : List ℕ) (number : ℕ) → IsKept objects schema entries → HasNoOther objects entries → IsUtf8 application → number < 10 ^ 63
+pub no_file : (objects : Objects) (schema : Tree) (entries : List Entry) (application : List ℕ) (number : ℕ) → IsKept objects schema entries → HasNoOther objects entries → IsUtf8 application → number ≤ 999_999_999_999
     → IsAbove number (option_map (λ (b : Batch). b.number) (last_batch application entries)) → object_at objects (data_file_name application number) ≡ None
 no_file objects schema entries application number kept own utf8 small above =
-    none_unless (object_at objects (data_file_name application number)) (λ some. never (own application number some))
+    none_unless (object_at objects (data_file_name application number)) (λ some. never (own application number utf8 small some))
   where
-    never : IsOwn entries (data_file_name application number) → ⊥
-    never (b, has, is) =
-        let parts = data_file_name-once application b.application number b.number utf8 (batch_stands objects schema 0 entries b kept.kept has).0 small is in
-        let there : Contains (numbers_by application entries) number = rw (parts.0, parts.1) (number_among (batches entries) b has) in
+    never : IsOwn entries application number → ⊥
+    never (b, has, named, numbered) =
+        let there : Contains (numbers_by application entries) number = subst (Contains (numbers_by application entries)) numbered (subst (λ (a : List ℕ). Contains (numbers_by a entries) b.number) named (number_among (batches entries) b has)) in
         none_above (numbers_by application entries) number _ (last_number application entries) (kept.lawful.rises application) there above

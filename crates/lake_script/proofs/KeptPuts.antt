@@ -1,25 +1,24 @@
 -- What the puts of a batch leave of a store that keeps a table.
 use Rattle.std.proofs.Common.{◌≡◌, ◌≢◌, ℕ, suc, ◌+◌, ◌≤◌, Bool, true, false, List, [], ◌∷◌, ◌++◌, length, get_or, Option, Some, None, IsSome, refl, sym, ap, subst, ◌∙◌, arith, length-append}
 use Rattle.std.specs.Prelude.{bytes_eq, is_some, unwrap_or}
-use Rattle.std.specs.declared.cmp.Ordering.{Ordering}
-use Rattle.std.specs.declared.cmp.Ordering.TheVariants.{Less, Equal, Greater}
-use Rattle.std.specs.Ordering.{is_eq, match_ordering}
-use Rattle.std.specs.BTreeMap.{insert_entry}
 use Rattle.std.specs.List.{AllByRecursion}
+use Rattle.std.specs.Str.{IsUtf8}
 use Rattle.std.proofs.lemmas.List.Elements.{Contains-append_left, Contains-append_right}
-use Rattle.std.proofs.lemmas.Map.Text.{is_eq-slice_cmp}
 use Rattle.std.proofs.lemmas.Slice.Eq.{bytes_eq-Decides}
 use Rattle.schema_tree.specs.Tree.{Tree}
-use Rattle.store_core.specs.Objects.{Objects, name_order, object_at, names_of, with_object}
-use Rattle.store_core.specs.ObjectLaws.{with_object_absent, with_object_stands, object_at-with_object_same, object_at-with_object_other, object_at-with_object_kept}
+use Rattle.store_core.specs.Objects.{Objects, object_at, with_object}
+use Rattle.store_core.specs.ObjectLaws.{object_at-with_object_same, object_at-with_object_other, object_at-with_object_kept}
 use Rattle.delta_actions.specs.Names.{commit_name, data_file_name}
 use Rattle.delta_checkpoint.specs.Names.{IsCheckpointName}
+use Rattle.table_store.specs.Commits.{IsCommitOf}
 use Rattle.table_store.specs.Holds.{Stands}
+use Rattle.table_store.specs.Sound.{greatest_version}
 use Rattle.table_model.specs.Lawful.{IsLawful}
 use Rattle.table_model.specs.Table.{Batch, Entry, group, batches_of, batches}
 use Rattle.table_model.proofs.Callers.{batches-append}
-use Rattle.table_store.proofs.Callers.{commit_name-data_file_name}
-use Rattle.lake_script.proofs.Kept.{IsFileOf, FileKept, FilesKept, IsCommitMade, KeptFrom, IsNamed, of_commit, of_file, of_checkpoint, IsKept, IsOwn, HasNoOther}
+use Rattle.table_store.proofs.Callers.{commit_name-data_file_name, commit_name-once, data_file_name-once}
+use Rattle.lake_script.specs.Keeps.{IsReadableFile, FileKept, FilesKept, KeptFrom, IsKept, IsOwn, HasNoOther}
+use Rattle.lake_script.proofs.KeptLog.{no_checkpoint}
 use Rattle.lake_script.proofs.KeptNames.{first_in}
 
 -- ---- what stood still stands
@@ -31,7 +30,7 @@ module _ (objects : Objects) (name bytes : List ℕ) where
 
   -- and so does a batch's file
   FileKept-put : (schema : Tree) (b : Batch) → FileKept objects schema b → FileKept (with_object objects name bytes) schema b
-  FileKept-put schema b kept = Stands-put (data_file_name b.application b.number) (IsFileOf schema b) kept
+  FileKept-put schema b kept = Stands-put (data_file_name b.application b.number) (IsReadableFile schema b) kept
 
   -- and so do those of several
   each_put : (schema : Tree) (bs : List Batch) → AllByRecursion (FileKept objects schema) bs → AllByRecursion (FileKept (with_object objects name bytes) schema) bs
@@ -42,7 +41,7 @@ module _ (objects : Objects) (name bytes : List ℕ) where
   KeptFrom-put : (schema : Tree) (version : ℕ) (entries : List Entry) → KeptFrom objects schema version entries → KeptFrom (with_object objects name bytes) schema version entries
   KeptFrom-put schema version [] kept = tt
   KeptFrom-put schema version (entry ∷ entries) kept =
-      (Stands-put (commit_name version) (IsCommitMade schema entry) kept.0, each_put schema (batches_of entry) kept.1, KeptFrom-put schema (suc version) entries kept.2)
+      (Stands-put (commit_name version) (IsCommitOf schema entry) kept.0, each_put schema (batches_of entry) kept.1, KeptFrom-put schema (suc version) entries kept.2)
 
   -- what is put under a free name stands
   pub put_stands : object_at objects name ≡ None → object_at (with_object objects name bytes) name ≡ Some bytes
@@ -58,42 +57,27 @@ module _ (objects : Objects) (name bytes : List ℕ) where
 
 -- the next version's commit, with its files, is one entry more
 KeptFrom-push : (objects : Objects) (schema : Tree) (version next : ℕ) (entries : List Entry) (entry : Entry) → next ≡ version + length entries → KeptFrom objects schema version entries
-    → Stands objects (commit_name next) (IsCommitMade schema entry) → FilesKept objects schema entry → KeptFrom objects schema version (entries ++ entry ∷ [])
+    → Stands objects (commit_name next) (IsCommitOf schema entry) → FilesKept objects schema entry → KeptFrom objects schema version (entries ++ entry ∷ [])
 KeptFrom-push objects schema version next [] entry at kept commit files =
     let same : next ≡ version = omega (arith, at) in
-    (subst (λ (v : ℕ). Stands objects (commit_name v) (IsCommitMade schema entry)) same commit, files, tt)
+    (subst (λ (v : ℕ). Stands objects (commit_name v) (IsCommitOf schema entry)) same commit, files, tt)
 KeptFrom-push objects schema version next (first ∷ entries) entry at kept commit files =
     (kept.0, kept.1, KeptFrom-push objects schema (suc version) next entries entry (omega (arith, at)) kept.2 commit files)
 
--- ---- how many names there are
+-- ---- the end of the log
 
--- an entry under a free name is one name more
-names_inserted : (objects : Objects) (name bytes : List ℕ) → object_at objects name ≡ None → length (names_of (insert_entry name_order objects name bytes)) ≡ suc (length (names_of objects))
-names_inserted [] name bytes free = refl
-names_inserted (e ∷ es) name bytes free = by_order (names_inserted es name bytes) (name_order name e.0) refl
-  where
-    by_order : (object_at es name ≡ None → length (names_of (insert_entry name_order es name bytes)) ≡ suc (length (names_of es))) → (o : Ordering) → name_order name e.0 ≡ o → length (names_of (match_ordering o ((name, bytes) ∷ e ∷ es) ((e.0, bytes) ∷ es) (e ∷ insert_entry name_order es name bytes))) ≡ suc (suc (length (names_of es)))
-    by_order more Less is = refl
-    by_order more Equal is =
-        let same : bytes_eq name e.0 ≡ true = sym (is_eq-slice_cmp name e.0) ∙ ap is_eq is in
-        let found : Some e.1 ≡ None = rw same at free in
-        absurd cc
-    by_order more Greater is =
-        let other : bytes_eq name e.0 ≡ false = sym (is_eq-slice_cmp name e.0) ∙ ap is_eq is in
-        let later : object_at es name ≡ None = rw other at free in
-        ap suc (more later)
+-- where no commit stands from a version on, none does behind the put of another name
+ends_put : (objects : Objects) (name bytes : List ℕ) (end : ℕ) → ((version : ℕ) → version ≤ greatest_version → commit_name version ≢ name)
+    → ((version : ℕ) → end ≤ version → version ≤ greatest_version → object_at objects (commit_name version) ≡ None)
+    → (version : ℕ) → end ≤ version → version ≤ greatest_version → object_at (with_object objects name bytes) (commit_name version) ≡ None
+ends_put objects name bytes end apart ends version past small = object_at-with_object_other objects name bytes (commit_name version) (apart version small) ∙ ends version past small
 
--- a put of a free name is one name more
-names_put : (objects : Objects) (name bytes : List ℕ) → object_at objects name ≡ None → length (names_of (with_object objects name bytes)) ≡ suc (length (names_of objects))
-names_put objects name bytes free = ap (λ (os : Objects). length (names_of os)) (with_object_absent objects name bytes (ap is_some free)) ∙ names_inserted objects name bytes free
-
--- a put takes no name away
-names_kept : (objects : Objects) (name bytes : List ℕ) → length (names_of objects) ≤ length (names_of (with_object objects name bytes))
-names_kept objects name bytes = by_found (object_at objects name) refl
-  where
-    by_found : (found : Option (List ℕ)) → object_at objects name ≡ found → length (names_of objects) ≤ length (names_of (with_object objects name bytes))
-    by_found None is = omega (arith, names_put objects name bytes is)
-    by_found (Some old) is = omega (arith, ap (λ (os : Objects). length (names_of os)) (with_object_stands objects name bytes (ap is_some is)))
+-- and behind that of its commit none does from the next one on
+ends_behind : (objects : Objects) (bytes : List ℕ) (end : ℕ) → ((version : ℕ) → end ≤ version → version ≤ greatest_version → object_at objects (commit_name version) ≡ None)
+    → (version : ℕ) → suc end ≤ version → version ≤ greatest_version → object_at (with_object objects (commit_name end) bytes) (commit_name version) ≡ None
+ends_behind objects bytes end ends version past small =
+    object_at-with_object_other objects (commit_name end) bytes (commit_name version) (λ same. let one : version ≡ end = commit_name-once version end (omega (arith, small)) same in omega (arith, one, past))
+    ∙ ends version (omega (arith, past)) small
 
 -- ---- one file more
 
@@ -107,8 +91,7 @@ kept_file objects schema entries application number file kept =
       rest = kept.rest;
       begins = kept.begins;
       lawful = kept.lawful;
-      named = named_put objects name file (IsNamed entries) kept.named (of_file application number refl);
-      many = omega (arith, kept.many, names_kept objects name file);
+      ends = ends_put objects name file (length entries) (λ version small. commit_name-data_file_name version application number) kept.ends;
     }
 
 -- ---- one checkpoint more
@@ -127,8 +110,7 @@ module _ (objects : Objects) (version : ℕ) (name bytes : List ℕ) (checkpoint
     rest = kept.rest;
     begins = kept.begins;
     lawful = kept.lawful;
-    named = named_put objects name bytes (IsNamed entries) kept.named (of_checkpoint version checkpoint);
-    many = omega (arith, kept.many, names_kept objects name bytes);
+    ends = ends_put objects name bytes (length entries) (λ other small. no_checkpoint other version name small checkpoint) kept.ends;
   }
 
   -- the data files stay as they are
@@ -137,15 +119,9 @@ module _ (objects : Objects) (version : ℕ) (name bytes : List ℕ) (checkpoint
 
 -- ---- one batch more
 
--- a name of a table is one of a table with an entry more
-named_more : (entries : List Entry) (b : Batch) (name : List ℕ) → IsNamed entries name → IsNamed (entries ++ group (b ∷ []) ∷ []) name
-named_more entries b name (of_commit version lt is) = of_commit version (omega (arith, lt, length-append entries (group (b ∷ []) ∷ []))) is
-named_more entries b name (of_file application number is) = of_file application number is
-named_more entries b name (of_checkpoint version is) = of_checkpoint version is
-
 -- Where a batch's file stands, the next version's commit, put under a free name, is one entry more.
 pub kept_commit : (objects : Objects) (schema : Tree) (entries : List Entry) (b : Batch) (commit : List ℕ) → IsKept objects schema entries → IsLawful (entries ++ group (b ∷ []) ∷ [])
-    → FileKept objects schema b → object_at objects (commit_name (length entries)) ≡ None → IsCommitMade schema (group (b ∷ [])) commit
+    → FileKept objects schema b → object_at objects (commit_name (length entries)) ≡ None → IsCommitOf schema (group (b ∷ [])) commit
     → IsKept (with_object objects (commit_name (length entries)) commit) schema (entries ++ group (b ∷ []) ∷ [])
 kept_commit objects schema entries b commit kept lawful file free is_commit =
     let next = commit_name (length entries) in
@@ -156,13 +132,12 @@ kept_commit objects schema entries b commit kept lawful file free is_commit =
       rest = kept.rest ++ group (b ∷ []) ∷ [];
       begins = ap (λ (es : List Entry). es ++ group (b ∷ []) ∷ []) kept.begins;
       lawful = lawful;
-      named = named_put objects next commit (IsNamed (entries ++ group (b ∷ []) ∷ [])) (λ other some. named_more entries b other (kept.named other some)) (of_commit (length entries) (omega (arith, more)) refl);
-      many = omega (arith, more, kept.many, names_put objects next commit free);
+      ends = λ version past small. ends_behind objects commit (length entries) kept.ends version (omega (arith, more, past)) small;
     }
 
 -- A batch's file and then the next version's commit, put under free names, are one entry more.
 pub kept_more : (objects : Objects) (schema : Tree) (entries : List Entry) (b : Batch) (file commit : List ℕ) → IsKept objects schema entries → IsLawful (entries ++ group (b ∷ []) ∷ [])
-    → object_at objects (data_file_name b.application b.number) ≡ None → object_at objects (commit_name (length entries)) ≡ None → IsFileOf schema b file → IsCommitMade schema (group (b ∷ [])) commit
+    → object_at objects (data_file_name b.application b.number) ≡ None → object_at objects (commit_name (length entries)) ≡ None → IsReadableFile schema b file → IsCommitOf schema (group (b ∷ [])) commit
     → IsKept (with_object (with_object objects (data_file_name b.application b.number) file) (commit_name (length entries)) commit) schema (entries ++ group (b ∷ []) ∷ [])
 kept_more objects schema entries b file commit kept lawful no_file no_commit is_file is_commit =
     let name = data_file_name b.application b.number in
@@ -172,23 +147,25 @@ kept_more objects schema entries b file commit kept lawful no_file no_commit is_
     kept_commit filed schema entries b commit (kept_file objects schema entries b.application b.number file kept) lawful (file, put_stands objects name file no_file, is_file) free is_commit
 
 -- And no data file stands then that is no batch's, where none stood before.
-pub no_other_more : (objects : Objects) (entries : List Entry) (b : Batch) (file commit : List ℕ) → HasNoOther objects entries
+pub no_other_more : (objects : Objects) (entries : List Entry) (b : Batch) (file commit : List ℕ) → IsUtf8 b.application → HasNoOther objects entries
     → HasNoOther (with_object (with_object objects (data_file_name b.application b.number) file) (commit_name (length entries)) commit) (entries ++ group (b ∷ []) ∷ [])
-no_other_more objects entries b file commit own application number some =
+no_other_more objects entries b file commit text own application number utf8 small some =
     let name = data_file_name b.application b.number in
     let next = commit_name (length entries) in
     named_put (with_object objects name file) next commit IsOwned (named_put objects name file IsOwned old new) none (data_file_name application number) some refl
   where
     IsOwned : List ℕ → Type 0
-    IsOwned other = other ≡ data_file_name application number → IsOwn (entries ++ group (b ∷ []) ∷ []) other
+    IsOwned other = other ≡ data_file_name application number → IsOwn (entries ++ group (b ∷ []) ∷ []) application number
 
     old : (other : List ℕ) → IsSome (object_at objects other) → IsOwned other
     old other some is =
-        let found = own application number (subst (λ (name : List ℕ). IsSome (object_at objects name)) is some) in
-        (found.0, rw batches-append (Contains-append_left (batches entries) (b ∷ []) found.0 found.1), is ∙ found.2)
+        let found = own application number utf8 small (subst (λ (name : List ℕ). IsSome (object_at objects name)) is some) in
+        (found.0, rw batches-append (Contains-append_left (batches entries) (b ∷ []) found.0 found.1), found.2, found.3)
 
     new : IsOwned (data_file_name b.application b.number)
-    new is = (b, rw batches-append (Contains-append_right (batches entries) (b ∷ []) b (first_in b [])), refl)
+    new is =
+        let parts = data_file_name-once application b.application number b.number utf8 text (omega (arith, small)) (sym is) in
+        (b, rw batches-append (Contains-append_right (batches entries) (b ∷ []) b (first_in b [])), sym parts.0, sym parts.1)
 
     none : IsOwned (commit_name (length entries))
     none is = absurd (commit_name-data_file_name (length entries) application number is)

@@ -11,30 +11,31 @@ use Rattle.table_model.specs.declared.table.Appended.{Appended}
 use Rattle.table_model.specs.declared.table.Appended.TheVariants.{Committed, Already, Stale, Differs, StreamClosed}
 use Rattle.commit_core.specs.Creating as creations
 use Rattle.commit_core.specs.Histories.{history_of, bad_log}
-use Rattle.lake_script.specs.Lines.{Wish, create, task, history, show, hex, snapshot, foreign, append, checkpoint, tail, Reading, skipped, bad, asks, reading_of}
+use Rattle.lake_script.specs.Lines.{Statement, create, task, history, show, hex, snapshot, foreign, append, checkpoint, tail, Reading, skipped, bad, asks, reading_of}
 use Rattle.source_core.specs.Offsets.{offset_of}
 use Rattle.sink_core.specs.Refusals.{Refusal}
-use Rattle.lake_script.specs.Sound.{IsSoundWish, IsSound, AreSound}
+use Rattle.lake_script.specs.Sound.{IsSoundStatement, IsSound, AreSound}
+use Rattle.lake_script.specs.Scripts.{line_over, reply_over, expected_over}
 use Rattle.lake_script.specs.Tables as tables
 use Rattle.lake_script.specs.Tables.{State, nothing, table, entries_of, AsksTable, IsOfTable, AreOfTable}
 use Rattle.source_core.specs.Tailing.{tailed}
 use Rattle.lake_script.specs.Told as told
 use Rattle.lake_script.specs.Told.{tailed_reply, is_bad, UnlessBad, ArePrinted, IsPutHere, ArePutHere}
-use Rattle.lake_script.proofs.Kept.{IsKept, Keeps}
+use Rattle.lake_script.specs.Keeps.{IsKept, Keeps}
 
 -- what is known of single lines
 pub record Given : Type 0 where
   pub create_told : (objects : Objects) (state : State) (id : List ℕ) (at : ℕ) (schema printed : List ℕ) → Keeps objects state → length (entries_of state) < 2 ^ 32
-      → IsSoundWish objects (create id at schema) printed
-      → (told.reply_to_wish objects (create id at schema) printed ≡ tables.reply_to_wish state (create id at schema))
-      × Keeps (told.left_by_wish objects (create id at schema) printed) (tables.left_by_wish state (create id at schema))
+      → IsSoundStatement objects (create id at schema) printed
+      → (told.reply_to_statement objects (create id at schema) printed ≡ tables.reply_to_statement state (create id at schema))
+      × Keeps (told.left_by_statement objects (create id at schema) printed) (tables.left_by_statement state (create id at schema))
   pub append_told : (objects : Objects) (state : State) (application : List ℕ) (number at : ℕ) (items : Items) (printed : List ℕ) → Keeps objects state → length (entries_of state) < 2 ^ 32
-      → IsSoundWish objects (task (append application number at items)) printed
-      → (told.reply_to_wish objects (task (append application number at items)) printed ≡ tables.reply_to_wish state (task (append application number at items)))
-      × Keeps (told.left_by_wish objects (task (append application number at items)) printed) (tables.left_by_wish state (task (append application number at items)))
-  pub checkpoint_told : (objects : Objects) (state : State) (printed : List ℕ) → Keeps objects state → length (entries_of state) < 2 ^ 32 → IsSoundWish objects (task checkpoint) printed
-      → (told.reply_to_wish objects (task checkpoint) printed ≡ tables.reply_to_wish state (task checkpoint))
-      × Keeps (told.left_by_wish objects (task checkpoint) printed) (tables.left_by_wish state (task checkpoint))
+      → IsSoundStatement objects (task (append application number at items)) printed
+      → (told.reply_to_statement objects (task (append application number at items)) printed ≡ tables.reply_to_statement state (task (append application number at items)))
+      × Keeps (told.left_by_statement objects (task (append application number at items)) printed) (tables.left_by_statement state (task (append application number at items)))
+  pub checkpoint_told : (objects : Objects) (state : State) (printed : List ℕ) → Keeps objects state → length (entries_of state) < 2 ^ 32 → IsSoundStatement objects (task checkpoint) printed
+      → (told.reply_to_statement objects (task checkpoint) printed ≡ tables.reply_to_statement state (task checkpoint))
+      × Keeps (told.left_by_statement objects (task checkpoint) printed) (tables.left_by_statement state (task checkpoint))
   pub tail_told : (objects : Objects) (schema : Tree) (entries : List Entry) → IsKept objects schema entries → length entries < 2 ^ 32 → (max : ℕ) (offset : List ℕ)
       → tailed_reply (tailed false objects max offset) ≡ tables.tail_reply (table schema entries) max (offset_of offset)
   pub tail_of_nothing : (max : ℕ) (offset : List ℕ) → tailed_reply (tailed false [] max offset) ≡ tables.tail_reply nothing max (offset_of offset)
@@ -63,16 +64,16 @@ appended_one (table schema entries) (Ok b) = batch_one (appended b entries) b en
 appended_one (table schema entries) (Err refusal) = omega arith
 
 -- what a line asks for adds one entry at most
-wish_one : (state : State) (wish : Wish) → length (entries_of (tables.left_by_wish state wish)) ≤ suc (length (entries_of state))
-wish_one state (create id at schema) = created_one state (tables.creating state (creations.described id schema))
-wish_one state (task (append application number at items)) = appended_one state (tables.batch_in state application number items)
-wish_one state _ = omega arith
+statement_one : (state : State) (statement : Statement) → length (entries_of (tables.left_by_statement state statement)) ≤ suc (length (entries_of state))
+statement_one state (create id at schema) = created_one state (tables.creating state (creations.described id schema))
+statement_one state (task (append application number at items)) = appended_one state (tables.batch_in state application number items)
+statement_one state _ = omega arith
 
 -- the table behind a line has one entry more at most
 pub left_by_one : (state : State) (r : Reading) → length (entries_of (tables.left_by state r)) ≤ suc (length (entries_of state))
 left_by_one state skipped = omega arith
 left_by_one state bad = omega arith
-left_by_one state (asks wish) = wish_one state wish
+left_by_one state (asks statement) = statement_one state statement
 
 -- lines add as many entries as they are, at most
 left_from_short : (state : State) (lines : List (List ℕ)) → length (entries_of (tables.left_from state lines)) ≤ length (entries_of state) + length lines
@@ -85,8 +86,8 @@ left_from_short state (line ∷ lines) =
     ]
 
 -- few lines leave a table of few entries
-pub left_is_short : (lines : List (List ℕ)) → length lines ≤ 2 ^ 31 → length (entries_of (tables.left_from nothing lines)) < 2 ^ 32
-left_is_short lines few = omega (arith, left_from_short nothing lines)
+pub left_is_short : (state : State) (lines : List (List ℕ)) → length (entries_of state) + length lines < 2 ^ 32 → length (entries_of (tables.left_from state lines)) < 2 ^ 32
+left_is_short state lines few = omega (arith, few, left_from_short state lines)
 
 -- ---- sound lines
 
@@ -119,14 +120,14 @@ no_text objects line lines none = none
 -- ---- lines that put what this program makes
 
 -- a line that asks the table alone puts no other tool's commit
-wish_put_here : (wish : Wish) → AsksTable wish → IsPutHere (asks wish)
-wish_put_here (foreign version action) only = only
-wish_put_here _ only = tt
+statement_put_here : (statement : Statement) → AsksTable statement → IsPutHere (asks statement)
+statement_put_here (foreign version action) only = only
+statement_put_here _ only = tt
 
 put_here : (r : Reading) → IsOfTable r → IsPutHere r
 put_here skipped only = tt
 put_here bad only = tt
-put_here (asks wish) only = wish_put_here wish only
+put_here (asks statement) only = statement_put_here statement only
 
 -- ---- one line
 
@@ -143,48 +144,48 @@ module _ (given : Given) where
   history_state objects (table schema entries) keeps small = given.history_told objects schema entries keeps.0 small
 
   -- what a line asks for is told as by the table
-  wish_told : (objects : Objects) (state : State) (wish : Wish) (printed : List ℕ) → Keeps objects state → length (entries_of state) < 2 ^ 32 → IsSoundWish objects wish printed → AsksTable wish
-      → told.reply_to_wish objects wish printed ≡ tables.reply_to_wish state wish
-  wish_told objects state (create id at schema) printed keeps small sound only = (given.create_told objects state id at schema printed keeps small sound).0
-  wish_told objects state (task (append application number at items)) printed keeps small sound only = (given.append_told objects state application number at items printed keeps small sound).0
-  wish_told objects state (task checkpoint) printed keeps small sound only = (given.checkpoint_told objects state printed keeps small sound).0
-  wish_told objects state (task (tail max offset)) printed keeps small sound only = tail_state objects state keeps small max offset
-  wish_told objects state history printed keeps small sound only = history_state objects state keeps small
-  wish_told objects state snapshot printed keeps small sound only = absurd only
-  wish_told objects state (show version) printed keeps small sound only = absurd only
-  wish_told objects state (hex name) printed keeps small sound only = absurd only
-  wish_told objects state (foreign version action) printed keeps small sound only = absurd only
-  wish_told objects state _ printed keeps small sound only = refl
+  statement_told : (objects : Objects) (state : State) (statement : Statement) (printed : List ℕ) → Keeps objects state → length (entries_of state) < 2 ^ 32 → IsSoundStatement objects statement printed → AsksTable statement
+      → told.reply_to_statement objects statement printed ≡ tables.reply_to_statement state statement
+  statement_told objects state (create id at schema) printed keeps small sound only = (given.create_told objects state id at schema printed keeps small sound).0
+  statement_told objects state (task (append application number at items)) printed keeps small sound only = (given.append_told objects state application number at items printed keeps small sound).0
+  statement_told objects state (task checkpoint) printed keeps small sound only = (given.checkpoint_told objects state printed keeps small sound).0
+  statement_told objects state (task (tail max offset)) printed keeps small sound only = tail_state objects state keeps small max offset
+  statement_told objects state history printed keeps small sound only = history_state objects state keeps small
+  statement_told objects state snapshot printed keeps small sound only = absurd only
+  statement_told objects state (show version) printed keeps small sound only = absurd only
+  statement_told objects state (hex name) printed keeps small sound only = absurd only
+  statement_told objects state (foreign version action) printed keeps small sound only = absurd only
+  statement_told objects state _ printed keeps small sound only = refl
 
   -- behind it the store keeps the table behind it
-  wish_kept : (objects : Objects) (state : State) (wish : Wish) (printed : List ℕ) → Keeps objects state → length (entries_of state) < 2 ^ 32 → IsSoundWish objects wish printed → IsPutHere (asks wish)
-      → Keeps (told.left_by_wish objects wish printed) (tables.left_by_wish state wish)
-  wish_kept objects state (create id at schema) printed keeps small sound here = (given.create_told objects state id at schema printed keeps small sound).1
-  wish_kept objects state (task (append application number at items)) printed keeps small sound here = (given.append_told objects state application number at items printed keeps small sound).1
-  wish_kept objects state (task checkpoint) printed keeps small sound here = (given.checkpoint_told objects state printed keeps small sound).1
-  wish_kept objects state (foreign version action) printed keeps small sound here = absurd here
-  wish_kept objects state _ printed keeps small sound here = keeps
+  pub statement_kept : (objects : Objects) (state : State) (statement : Statement) (printed : List ℕ) → Keeps objects state → length (entries_of state) < 2 ^ 32 → IsSoundStatement objects statement printed → IsPutHere (asks statement)
+      → Keeps (told.left_by_statement objects statement printed) (tables.left_by_statement state statement)
+  statement_kept objects state (create id at schema) printed keeps small sound here = (given.create_told objects state id at schema printed keeps small sound).1
+  statement_kept objects state (task (append application number at items)) printed keeps small sound here = (given.append_told objects state application number at items printed keeps small sound).1
+  statement_kept objects state (task checkpoint) printed keeps small sound here = (given.checkpoint_told objects state printed keeps small sound).1
+  statement_kept objects state (foreign version action) printed keeps small sound here = absurd here
+  statement_kept objects state _ printed keeps small sound here = keeps
 
   -- a line that asks the table alone is told what the table tells
   pub line_told : (number : ℕ) (objects : Objects) (state : State) (r : Reading) (printed : List ℕ) → Keeps objects state → length (entries_of state) < 2 ^ 32 → IsSound objects r printed → IsOfTable r
       → told.reply_to number objects r printed ≡ tables.reply_to number state r
   line_told number objects state skipped printed keeps small sound only = refl
   line_told number objects state bad printed keeps small sound only = refl
-  line_told number objects state (asks wish) printed keeps small sound only = wish_told objects state wish printed keeps small sound only
+  line_told number objects state (asks statement) printed keeps small sound only = statement_told objects state statement printed keeps small sound only
 
   -- behind a line that puts no other tool's commit the store keeps the table behind it
   pub line_kept : (objects : Objects) (state : State) (r : Reading) (printed : List ℕ) → Keeps objects state → length (entries_of state) < 2 ^ 32 → IsSound objects r printed → IsPutHere r
       → Keeps (told.left_by objects r printed) (tables.left_by state r)
   line_kept objects state skipped printed keeps small sound here = keeps
   line_kept objects state bad printed keeps small sound here = keeps
-  line_kept objects state (asks wish) printed keeps small sound here = wish_kept objects state wish printed keeps small sound here
+  line_kept objects state (asks statement) printed keeps small sound here = statement_kept objects state statement printed keeps small sound here
 
   -- ---- several lines
 
   -- what lines are told where the store keeps a table
   pub told_on : (number : ℕ) (objects : Objects) (state : State) (lines texts : List (List ℕ)) → Keeps objects state → length (entries_of state) + length lines ≤ 2 ^ 32
-      → ArePrinted objects lines texts → AreSound objects lines texts → AreOfTable lines → told.told_from number objects lines texts ≡ tables.told_from number state lines
-  unfolding told.told_from tables.told_from
+      → ArePrinted objects lines texts → AreSound objects lines texts → AreOfTable lines → told.expected_from number objects lines texts ≡ tables.expected_from number state lines
+  unfolding told.expected_from tables.expected_from
   told_on number objects state [] texts keeps few printed sound only = refl
   told_on number objects state (line ∷ lines) [] keeps few printed sound only = absurd (no_text objects line lines printed)
   told_on number objects state (line ∷ lines) (text ∷ texts) keeps few printed sound only =
@@ -203,9 +204,9 @@ module _ (given : Given) where
 
   -- lines begin as the plain table tells those in front of the first that doesn't ask it alone
   pub told_in_front : (number : ℕ) (objects : Objects) (state : State) (front rest texts : List (List ℕ)) → Keeps objects state → length (entries_of state) + length front ≤ 2 ^ 32
-      → ArePrinted objects (front ++ rest) texts → AreSound objects (front ++ rest) texts → AreOfTable front → (more : List ℕ) × (told.told_from number objects (front ++ rest) texts ≡ tables.told_from number state front ++ more)
-  unfolding told.told_from tables.told_from
-  told_in_front number objects state [] rest texts keeps few printed sound only = (told.told_from number objects rest texts, refl)
+      → ArePrinted objects (front ++ rest) texts → AreSound objects (front ++ rest) texts → AreOfTable front → (more : List ℕ) × (told.expected_from number objects (front ++ rest) texts ≡ tables.expected_from number state front ++ more)
+  unfolding told.expected_from tables.expected_from
+  told_in_front number objects state [] rest texts keeps few printed sound only = (told.expected_from number objects rest texts, refl)
   told_in_front number objects state (line ∷ front) rest [] keeps few printed sound only = absurd (no_text objects line (front ++ rest) printed)
   told_in_front number objects state (line ∷ front) rest (text ∷ texts) keeps few printed sound only =
       let r = reading_of line in
@@ -219,7 +220,7 @@ module _ (given : Given) where
         | inl ends ↦ ([], rw (ends, same) (sym (append-nil (tables.reply_to number state r ++ []))))
         | inr on ↦
             let behind = told_in_front (number + 1) (told.left_by objects r text) (tables.left_by state r) front rest texts kept fewer (rest_printed line text lines texts objects printed on) (rest_sound line text lines texts objects sound on) only.1 in
-            (behind.0, rw (on, same, behind.1) (sym (append_assoc (tables.reply_to number state r) (tables.told_from (number + 1) (tables.left_by state r) front) behind.0)))
+            (behind.0, rw (on, same, behind.1) (sym (append_assoc (tables.reply_to number state r) (tables.expected_from (number + 1) (tables.left_by state r) front) behind.0)))
       ]
 
   -- the store keeps the table that lines leave where it keeps one before them
@@ -238,17 +239,42 @@ module _ (given : Given) where
         | inr on ↦ rw on (left_on (told.left_by objects r text) (tables.left_by state r) lines texts kept fewer (rest_printed line text lines texts objects printed on) (rest_sound line text lines texts objects sound on) here.1)
       ]
 
-  -- ---- a whole script
+  -- what a line asks for is told by the table, or by the objects that it shows
+  pub statement_over : (objects : Objects) (state : State) (statement : Statement) (printed : List ℕ) → Keeps objects state → length (entries_of state) < 2 ^ 32 → IsSoundStatement objects statement printed
+      → told.reply_to_statement objects statement printed ≡ reply_over state objects statement printed
+  statement_over objects state (create id at schema) printed keeps small sound = statement_told objects state (create id at schema) printed keeps small sound tt
+  statement_over objects state (task (append application number at items)) printed keeps small sound = statement_told objects state (task (append application number at items)) printed keeps small sound tt
+  statement_over objects state (task checkpoint) printed keeps small sound = statement_told objects state (task checkpoint) printed keeps small sound tt
+  statement_over objects state (task (tail max offset)) printed keeps small sound = statement_told objects state (task (tail max offset)) printed keeps small sound tt
+  statement_over objects state history printed keeps small sound = statement_told objects state history printed keeps small sound tt
+  statement_over objects state snapshot printed keeps small sound = refl
+  statement_over objects state (show version) printed keeps small sound = refl
+  statement_over objects state (hex name) printed keeps small sound = refl
+  statement_over objects state (foreign version action) printed keeps small sound = refl
+  statement_over objects state _ printed keeps small sound = refl
 
-  -- a script is told what the plain table tells
-  pub told_by_tables : (lines texts : List (List ℕ)) → length lines ≤ 2 ^ 31 → ArePrinted [] lines texts → AreSound [] lines texts → AreOfTable lines → told.told_from 1 [] lines texts ≡ tables.told_from 1 nothing lines
-  told_by_tables lines texts few printed sound only = told_on 1 [] nothing lines texts refl (omega arith) printed sound only
+  line_told_over : (number : ℕ) (objects : Objects) (state : State) (r : Reading) (printed : List ℕ) → Keeps objects state → length (entries_of state) < 2 ^ 32 → IsSound objects r printed
+      → told.reply_to number objects r printed ≡ line_over number state objects r printed
+  line_told_over number objects state skipped printed keeps small sound = refl
+  line_told_over number objects state bad printed keeps small sound = refl
+  line_told_over number objects state (asks statement) printed keeps small sound = statement_over objects state statement printed keeps small sound
 
-  -- and begins as the plain table tells its first lines that ask it alone
-  pub begins_by_tables : (front rest texts : List (List ℕ)) → length front ≤ 2 ^ 31 → ArePrinted [] (front ++ rest) texts → AreSound [] (front ++ rest) texts → AreOfTable front
-      → (more : List ℕ) × (told.told_from 1 [] (front ++ rest) texts ≡ tables.told_from 1 nothing front ++ more)
-  begins_by_tables front rest texts few printed sound only = told_in_front 1 [] nothing front rest texts refl (omega arith) printed sound only
-
-  -- a script without other tools' commits leaves a store that keeps the table that it leaves
-  pub left_is_kept : (lines texts : List (List ℕ)) → length lines ≤ 2 ^ 31 → ArePrinted [] lines texts → AreSound [] lines texts → ArePutHere lines → Keeps (told.left_from [] lines texts) (tables.left_from nothing lines)
-  left_is_kept lines texts few printed sound here = left_on [] nothing lines texts refl (omega arith) printed sound here
+  -- lines that put no other tool's commit are told by the table, or by the objects that they show
+  pub told_with_objects : (number : ℕ) (objects : Objects) (state : State) (lines texts : List (List ℕ)) → Keeps objects state → length (entries_of state) + length lines ≤ 2 ^ 32
+      → ArePrinted objects lines texts → AreSound objects lines texts → ArePutHere lines → told.expected_from number objects lines texts ≡ expected_over number state objects lines texts
+  unfolding told.expected_from expected_over
+  told_with_objects number objects state [] texts keeps few printed sound here = refl
+  told_with_objects number objects state (line ∷ lines) [] keeps few printed sound here = absurd (no_text objects line lines printed)
+  told_with_objects number objects state (line ∷ lines) (text ∷ texts) keeps few printed sound here =
+      let r = reading_of line in
+      let small : length (entries_of state) < 2 ^ 32 = omega arith in
+      let first = first_sound line text lines texts objects sound in
+      let same = line_told_over number objects state r text keeps small first in
+      let kept = line_kept objects state r text keeps small first here.0 in
+      let fewer : length (entries_of (tables.left_by state r)) + length lines ≤ 2 ^ 32 = omega (arith, left_by_one state r) in
+      elim (cases_Bool (is_bad r)) [
+        | inl ends ↦ rw (ends, same) refl
+        | inr on ↦
+            let behind = told_with_objects (number + 1) (told.left_by objects r text) (tables.left_by state r) lines texts kept fewer (rest_printed line text lines texts objects printed on) (rest_sound line text lines texts objects sound on) here.1 in
+            rw (on, same, behind) refl
+      ]

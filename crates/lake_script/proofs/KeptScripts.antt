@@ -5,10 +5,10 @@ use Rattle.table_model.specs.Reads.{Answer, handed, beyond, bad_place}
 use Rattle.source_core.specs.Tailing.{Handed, Refusal, bad_log, schema_for}
 use Rattle.table_log.specs.FromCheckpoints.{no_start}
 use Rattle.table_log.specs.Versions.{commit, versions_of}
-use Rattle.table_model.specs.declared.reading.Place.{Place}
+use Rattle.table_model.specs.declared.reading.Offset.{Offset}
 use Rattle.lake_script.specs.Scripts.{HoldsState, AnswersReads, ReadsOut}
 use Rattle.lake_script.specs.Tables.{State, nothing, table, entries_of}
-use Rattle.lake_script.proofs.Kept.{Keeps}
+use Rattle.lake_script.specs.Keeps.{Keeps}
 use Rattle.lake_script.proofs.KeptAppend.{append_told}
 use Rattle.lake_script.proofs.KeptCheckpoint.{checkpoint_told}
 use Rattle.lake_script.proofs.KeptCreate.{create_told}
@@ -38,7 +38,7 @@ read_told (beyond next) said is = is
 read_told (bad_place version) said is = is
 
 -- a store of nothing has no schema
-nothing_told : (place : Place) → schema_for no_start (versions_of []) place ≡ Err (bad_log 0)
+nothing_told : (place : Offset) → schema_for no_start (versions_of []) place ≡ Err (bad_log 0)
 unfolding schema_for
 nothing_told place = rw versions_of_nothing refl
 

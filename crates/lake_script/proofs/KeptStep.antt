@@ -1,6 +1,6 @@
 -- What an append leaves, however far it comes, of a store that keeps a table.
 use Rattle.std.proofs.Common.{◌≡◌, ℕ, suc, ◌<◌, ◌≤◌, ◌^◌, ◌⊎◌, inl, inr, Bool, true, false, not, List, [], ◌∷◌, ◌++◌, length, Option, Some, None, Result, Ok, Err, eqb, ltb, refl, sym, ap, subst, ◌∙◌, arith, length-append}
-use Rattle.std.specs.Prelude.{bytes_eq, codes, cond, option_map, unwrap_or}
+use Rattle.std.specs.Prelude.{bytes_eq, codes, cond, is_some, option_map, unwrap_or}
 use Rattle.std.specs.Str.{IsUtf8}
 use Rattle.std.proofs.lemmas.Slice.Eq.{bytes_eq-Decides}
 use Rattle.serde_json.specs.Data.{Items}
@@ -11,7 +11,7 @@ use Rattle.parquet_footer.specs.declared.fault.FileFault.{FileFault}
 use Rattle.parquet_rows.specs.Reading.{rows_at}
 use Rattle.parquet_rows.specs.Writing.{written_file}
 use Rattle.table_model.specs.Appends.{appended}
-use Rattle.table_model.specs.declared.table.Appended.TheVariants.{Committed}
+use Rattle.table_model.specs.declared.table.Appended.TheVariants.{Committed, StreamClosed}
 use Rattle.table_model.specs.Lawful.{IsLawful}
 use Rattle.delta_actions.specs.Names.{data_file_name}
 use Rattle.delta_actions.specs.Names as names
@@ -19,28 +19,49 @@ use Rattle.delta_replay.specs.Support.{has_key_inside}
 use Rattle.row_core.specs.Rows.{Row}
 use Rattle.row_core.proofs.Callers.{same_rows-is}
 use Rattle.table_model.specs.Table as model
-use Rattle.table_model.specs.Table.{Entry, group, last_batch}
+use Rattle.table_model.specs.Table.{Entry, group, is_closed, last_batch}
 use Rattle.table_store.proofs.Callers.{commit_name-data_file_name}
 use Rattle.sink_core.specs.Appending.{Batch, Step, puts, stands, checked, count, file_name, is_repeat, is_same, unless_other, where_same, file_or_refusal, batch_of, fitting, new_step, step_of, settled, with_append, with_file_alone, IsWellMade, PutsWell}
 use Rattle.sink_core.specs.Refusals.{Refusal, stale, differs}
 use Rattle.lake_bytes.specs.Results.{◌>>=◌, refused_if}
 use Rattle.sink_core.specs.RowsIn.{rows_from, takes_rows}
-use Rattle.lake_script.proofs.Kept.{IsFileOf, FileKept, IsKept}
-use Rattle.lake_script.proofs.KeptAppend.{small_number, stays_open, lawful_after, version_fits, made_with, handed_in, file_made, commit_made, step_with, step_behind, step_is}
+use Rattle.lake_script.specs.Keeps.{AreFiles, IsReadableFile, FileKept, HasNoOther, IsKept, Keeps, KeepsBeside}
+use Rattle.lake_script.specs.Tables.{State, nothing, table, entries_of}
+use Rattle.lake_script.proofs.KeptAppend.{small_number, lawful_after, version_fits, made_with, handed_in, file_made, commit_made, step_with, step_behind, step_is}
 use Rattle.lake_script.proofs.KeptFile.{file_read}
 use Rattle.lake_script.proofs.KeptLog.{none_behind}
-use Rattle.lake_script.proofs.KeptNames.{same_name, same_file_name}
-use Rattle.lake_script.proofs.KeptRequest.{asked}
+use Rattle.lake_script.proofs.KeptNames.{batch_stands, same_name, same_file_name}
+use Rattle.lake_script.proofs.KeptRequest.{asked, goes_on}
 use Rattle.lake_script.proofs.KeptPuts.{Stands-put, put_stands, kept_file, kept_commit}
-
--- each data file that stands is one of rows
-abbrev pub AreFiles : Objects → (schema : Tree) → Type 0
-AreFiles objects schema = (application : List ℕ) (number : ℕ) (bytes : List ℕ) → object_at objects (data_file_name application number) ≡ Some bytes → (b : model.Batch) × IsFileOf schema b bytes
 
 -- what stands behind some lines: nothing, or a table of so many entries at most, with data files besides
 pub data Stays (most : ℕ) (objects : Objects) : Type 0 where
   bare : objects ≡ [] → Stays most objects
   keeps : (schema : Tree) (entries : List Entry) → IsKept objects schema entries → AreFiles objects schema → length entries ≤ most → Stays most objects
+
+-- where no other data file stands, each is one of rows
+pub files_of_kept : (objects : Objects) (schema : Tree) (entries : List Entry) → IsKept objects schema entries → HasNoOther objects entries → AreFiles objects schema
+files_of_kept objects schema entries kept own application number bytes utf8 small there =
+    let found = own application number utf8 small (ap is_some there) in
+    let b = found.0 in
+    let file : FileKept objects schema b = batch_stands objects schema 0 entries b kept.kept found.1 in
+    let name : data_file_name b.application b.number ≡ data_file_name application number = rw (found.2, found.3) refl in
+    let same : Some file.0 ≡ Some bytes = sym file.1 ∙ (ap (object_at objects) name ∙ there) in
+    let one : file.0 ≡ bytes = cc in
+    (b, subst (IsReadableFile schema b) one file.2)
+
+pub beside : (objects : Objects) (state : State) → Keeps objects state → KeepsBeside objects state
+beside objects nothing kept = kept
+beside objects (table schema entries) kept = (kept.0, files_of_kept objects schema entries kept.0 kept.1)
+
+-- what is kept stays, and what stays is kept
+pub starts : (objects : Objects) (state : State) → KeepsBeside objects state → Stays (length (entries_of state)) objects
+starts objects nothing kept = bare kept
+starts objects (table schema entries) kept = keeps schema entries kept.0 kept.1 (omega arith)
+
+pub ends : (most : ℕ) (objects : Objects) → Stays most objects → (state : State) × KeepsBeside objects state × (length (entries_of state) ≤ most)
+ends most objects (bare none) = (nothing, none, omega arith)
+ends most objects (keeps schema entries kept files up) = (table schema entries, (kept, files), up)
 
 -- ---- a put over such a store
 
@@ -61,18 +82,18 @@ stood_or_put objects name bytes other found is = by_name (bytes_eq other name) r
     by_name false e = inl (sym (object_at-with_object_other objects name bytes other (λ same. let one = (bytes_eq-Decides other name).1 same in cc)) ∙ is)
 
 -- a file of rows may be put
-files_put : (objects : Objects) (schema : Tree) (name : List ℕ) (b : model.Batch) (bytes : List ℕ) → AreFiles objects schema → IsFileOf schema b bytes → AreFiles (with_object objects name bytes) schema
-files_put objects schema name b bytes files is application number found there =
+files_put : (objects : Objects) (schema : Tree) (name : List ℕ) (b : model.Batch) (bytes : List ℕ) → AreFiles objects schema → IsReadableFile schema b bytes → AreFiles (with_object objects name bytes) schema
+files_put objects schema name b bytes files is application number found utf8 small there =
     elim (stood_or_put objects name bytes (data_file_name application number) found there) [
-      | inl before ↦ files application number found before
-      | inr put ↦ (b, subst (IsFileOf schema b) put.1 is)
+      | inl before ↦ files application number found utf8 small before
+      | inr put ↦ (b, subst (IsReadableFile schema b) put.1 is)
     ]
 
 -- and any commit
 files_commit : (objects : Objects) (schema : Tree) (version : ℕ) (bytes : List ℕ) → AreFiles objects schema → AreFiles (with_object objects (names.commit_name version) bytes) schema
-files_commit objects schema version bytes files application number found there =
+files_commit objects schema version bytes files application number found utf8 small there =
     elim (stood_or_put objects (names.commit_name version) bytes (data_file_name application number) found there) [
-      | inl before ↦ files application number found before
+      | inl before ↦ files application number found utf8 small before
       | inr put ↦ absurd (commit_name-data_file_name version application number (sym put.0))
     ]
 
@@ -90,26 +111,26 @@ module _ (objects : Objects) (schema : Tree) (entries : List Entry) (kept : IsKe
 
   -- what is done where the number is the application's last one again, or not
   abbrev behind : Result Bool Refusal → Result Step Refusal
-  behind repeats = (repeats >>= λ repeats. Ok (asked (length entries) schema rows repeats)) >>= step_of objects application number at
+  behind repeats = (repeats >>= λ repeats. goes_on (is_closed application entries) repeats >>= λ open_. Ok (asked (length entries) schema rows repeats)) >>= step_of objects application number at
 
   -- where nothing is put, the table is kept
   unchanged : Stays (suc most) objects
   unchanged = keeps schema entries kept files (omega (arith, up))
 
   -- a file that is read as these rows is one of them
-  same_file : (old : List ℕ) → object_at objects (data_file_name application number) ≡ Some old → is_same rows (rows_at old schema) ≡ true → IsFileOf schema (handed_in application number rows) old
+  same_file : (old : List ℕ) → object_at objects (data_file_name application number) ≡ Some old → is_same rows (rows_at old schema) ≡ true → IsReadableFile schema (handed_in application number rows) old
   same_file old there same =
-      let known = files application number old there in
+      let known = files application number old utf8 fits there in
       let read : rows_at old schema ≡ Ok known.0.rows = file_read schema known.0 old known.1 in
       let alike : known.0.rows ≡ rows = (same_rows-is known.0.rows rows).0 (sym (ap (is_same rows) read) ∙ same) in
       record { file = rw alike at known.1.file; limits = rw alike at known.1.limits }
 
   -- behind the put of a file of rows, one stands under the name
   file_behind : (file : List ℕ) (found : Option (List ℕ)) → object_at objects (data_file_name application number) ≡ found → unless_other schema rows (data_file_name application number) found ≡ Ok tt
-      → IsFileOf schema (handed_in application number rows) file → FileKept (with_object objects (data_file_name application number) file) schema (handed_in application number rows)
+      → IsReadableFile schema (handed_in application number rows) file → FileKept (with_object objects (data_file_name application number) file) schema (handed_in application number rows)
   file_behind file None there free is = (file, put_stands objects (data_file_name application number) file there, is)
   file_behind file (Some old) there free is =
-      Stands-put objects (data_file_name application number) file (data_file_name application number) (IsFileOf schema (handed_in application number rows)) (old, there, same_file old there (passes (is_same rows (rows_at old schema)) free))
+      Stands-put objects (data_file_name application number) file (data_file_name application number) (IsReadableFile schema (handed_in application number rows)) (old, there, same_file old there (passes (is_same rows (rows_at old schema)) free))
     where
       passes : (same : Bool) → refused_if (not same) (differs (data_file_name application number)) ≡ Ok tt → same ≡ true
       passes true free = refl
@@ -126,7 +147,7 @@ module _ (objects : Objects) (schema : Tree) (entries : List Entry) (kept : IsKe
       let next = names.commit_name (length entries) in
       let filed : Objects = with_object objects name file in
       let is_file = file_made schema (length entries) rows application number at file well in
-      let is_commit = commit_made schema (length entries) rows application number at file utf8 fits well in
+      let is_commit = commit_made schema (length entries) rows application number at file well in
       let lawful : IsLawful (entries ++ group (b ∷ []) ∷ []) = rw new at (lawful_after objects schema entries b kept) in
       let filed_kept : IsKept filed schema entries = kept_file objects schema entries application number file kept in
       let filed_files : AreFiles filed schema = files_put objects schema name b file files is_file in
@@ -157,6 +178,13 @@ module _ (objects : Objects) (schema : Tree) (entries : List Entry) (kept : IsKe
       by_file (Err fault) well = (unchanged, unchanged)
       by_file (Ok file) well = by_fit file (unless_other schema rows (file_name application number) (object_at objects (file_name application number))) refl well
 
+  -- the same where the stream may be closed
+  open_goes_on : (closed : Bool) → appended (handed_in application number rows) entries ≡ cond closed StreamClosed (Committed (length entries))
+      → PutsWell application number at ((goes_on closed false >>= λ open_. Ok (asked (length entries) schema rows false)) >>= step_of objects application number at)
+      → GoesOn (suc most) objects ((goes_on closed false >>= λ open_. Ok (asked (length entries) schema rows false)) >>= step_of objects application number at)
+  open_goes_on true new well = (unchanged, unchanged)
+  open_goes_on false new well = new_goes_on new well
+
   -- for the last number again nothing is put
   again_goes_on : (same : Result (Unit {0}) Refusal) → GoesOn (suc most) objects (same >>= λ same. Ok stands)
   again_goes_on (Ok same) = (unchanged, unchanged)
@@ -166,9 +194,7 @@ module _ (objects : Objects) (schema : Tree) (entries : List Entry) (kept : IsKe
   behind_goes_on : (last : Option model.Batch) → last_batch application entries ≡ last
       → PutsWell application number at (behind (is_repeat number (option_map (λ (b : model.Batch). b.number) last)))
       → GoesOn (suc most) objects (behind (is_repeat number (option_map (λ (b : model.Batch). b.number) last)))
-  behind_goes_on None is well =
-      let open_ = stays_open objects schema 0 entries application kept.kept in
-      new_goes_on (rw (is, open_) refl) well
+  behind_goes_on None is well = open_goes_on (is_closed application entries) (rw is refl) well
   behind_goes_on (Some before) is well = by_tests (ltb number before.number) (eqb number before.number) refl refl well
     where
       by_tests : (below equal : Bool) → ltb number before.number ≡ below → eqb number before.number ≡ equal
@@ -176,15 +202,13 @@ module _ (objects : Objects) (schema : Tree) (entries : List Entry) (kept : IsKe
           → GoesOn (suc most) objects (behind (cond below (Err (stale before.number)) (Ok equal)))
       by_tests true equal under same well = (unchanged, unchanged)
       by_tests false true over same well = again_goes_on (where_same schema rows (file_name application number) (object_at objects (file_name application number)))
-      by_tests false false over other well =
-          let open_ = stays_open objects schema 0 entries application kept.kept in
-          new_goes_on (rw (is, over, other, open_) refl) well
+      by_tests false false over other well = open_goes_on (is_closed application entries) (rw (is, over, other) refl) well
 
 -- An append over a table that is kept leaves one that is kept, however far it comes.
 pub append_goes_on : (objects : Objects) (schema : Tree) (entries : List Entry) → IsKept objects schema entries → AreFiles objects schema → length entries < 2 ^ 32 → (most : ℕ) → length entries ≤ most
     → (application : List ℕ) (number at : ℕ) (items : Items) → IsUtf8 application → PutsWell application number at (settled false objects application number at items) → GoesOn (suc most) objects (settled false objects application number at items)
 append_goes_on objects schema entries kept files few most up application number at items utf8 well =
-    let is = step_is objects schema entries application number at items kept few in
+    let is = step_is objects schema entries application number at items utf8 kept few in
     rw is (by_tests (checked application number (count items)) (has_key_inside (codes "delta.invariants") schema) (takes_rows schema) refl (rw is at well))
   where
     same : GoesOn (suc most) objects (Ok stands)

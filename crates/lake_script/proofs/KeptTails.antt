@@ -5,19 +5,19 @@ use Rattle.schema_tree.specs.Tree.{Tree}
 use Rattle.store_core.specs.Objects.{Objects}
 use Rattle.row_core.specs.Rows.{Row}
 use Rattle.table_model.specs.Table.{Entry, rows}
-use Rattle.table_model.specs.Reads.{Answer, handed, beyond, bad_place, position, is_place, read}
+use Rattle.table_model.specs.Reads.{Answer, handed, beyond, bad_place, position, is_offset, read}
 use Rattle.table_model.specs.Resumed as resumed
 use Rattle.table_model.specs.Resumed.{reads_on, growth, beginning}
-use Rattle.table_model.specs.declared.reading.Place.{Place}
-use Rattle.table_model.proofs.Callers.{beginning_is_place, is_answered}
+use Rattle.table_model.specs.declared.reading.Offset.{Offset}
+use Rattle.table_model.proofs.Callers.{beginning_is_offset, is_answered}
 use Rattle.table_model.proofs.Callers.{final_grows, log_from_beginning, onward_in_the_log, all_after_short}
 use Rattle.table_log.specs.Versions.{Version, versions_of}
 use Rattle.table_log.specs.FromCheckpoints.{no_start}
 use Rattle.table_log.specs.InForce.{Told}
 use Rattle.lake_script.specs.Tables.{State, nothing, table, entries_of}
 use Rattle.source_core.specs.Tailing.{Handed, Refusal, bad_log, handed_by, read_by, schema_for, beyond_log, bad_place as bad_place_told}
-use Rattle.source_core.specs.Tails.{Tails, rows_handed, place_after, with_earlier, tails, HandOutTheLog, HandOutAll, AreAnswered}
-use Rattle.lake_script.proofs.Kept.{IsKept, Keeps}
+use Rattle.source_core.specs.Tails.{Tails, rows_handed, offset_after, with_earlier, tails, HandOutTheLog, HandOutAll, AreAnswered}
+use Rattle.lake_script.specs.Keeps.{IsKept, Keeps}
 
 -- the store answers what the table answers
 abbrev pub IsRead : Result Handed Refusal → Answer → Type 0
@@ -27,7 +27,7 @@ IsRead answered (bad_place version) = answered ≡ Err (bad_place_told version)
 
 -- each read over the objects answers what the table answers
 abbrev pub ReadsAs : Objects → List Entry → Type 0
-ReadsAs objects entries = (max : ℕ) (place : Place) → IsRead (read_by false objects max place) (read max place entries)
+ReadsAs objects entries = (max : ℕ) (place : Offset) → IsRead (read_by false objects max place) (read max place entries)
 
 -- ---- one read
 
@@ -38,13 +38,13 @@ rows_as answered (beyond next) is = rw is refl
 rows_as answered (bad_place version) is = rw is refl
 
 -- and its next read begins where the table's does
-next_as : (place : Place) (answered : Result Handed Refusal) (answer : Answer) → IsRead answered answer → place_after place answered ≡ resumed.next_after place answer
+next_as : (place : Offset) (answered : Result Handed Refusal) (answer : Answer) → IsRead answered answer → offset_after place answered ≡ resumed.next_after place answer
 next_as place answered (handed out next) is = rw is refl
 next_as place answered (beyond next) is = rw is refl
 next_as place answered (bad_place version) is = rw is refl
 
 -- where the table hands out rows, the read isn't refused
-handed_is_answered : (answered : Result Handed Refusal) (answer : Answer) (out : List Row) (next : Place) → IsRead answered answer → answer ≡ handed out next → IsOk answered
+handed_is_answered : (answered : Result Handed Refusal) (answer : Answer) (out : List Row) (next : Offset) → IsRead answered answer → answer ≡ handed out next → IsOk answered
 handed_is_answered answered answer out next is e =
     let there : IsRead answered (handed out next) = subst (λ (a : Answer). IsRead answered a) e is in
     rw there refl
@@ -61,11 +61,11 @@ growth_still [] = refl
 growth_still (max ∷ limits) = growth_still limits
 
 -- and is in the end what it was
-final_still : (limits : List ℕ) (place : Place) (entries : List Entry) → (reads_on (still limits) place entries).final ≡ entries
+final_still : (limits : List ℕ) (place : Offset) (entries : List Entry) → (reads_on (still limits) place entries).final ≡ entries
 final_still limits place entries = final_grows (still limits) place entries ∙ ap (λ (es : List Entry). entries ++ es) (growth_still limits) ∙ append-nil entries
 
 -- the first of such reads, and those behind it
-reads_on_still : (max : ℕ) (limits : List ℕ) (place : Place) (entries : List Entry)
+reads_on_still : (max : ℕ) (limits : List ℕ) (place : Offset) (entries : List Entry)
     → reads_on (still (max ∷ limits)) place entries ≡ resumed.with_earlier (resumed.rows_of (read max place entries)) (reads_on (still limits) (resumed.next_after place (read max place entries)) entries)
 reads_on_still max limits place entries =
     ap (λ (es : List Entry). resumed.with_earlier (resumed.rows_of (read max place es)) (reads_on (still limits) (resumed.next_after place (read max place es)) es)) (append-nil entries)
@@ -81,30 +81,30 @@ earlier_same rows out all said is same = record { rows = rw (is, same.rows) refl
 
 module _ (objects : Objects) (entries : List Entry) (reads : ReadsAs objects entries) where
   -- reads over objects hand out what those of the table do
-  all_same : (limits : List ℕ) (place : Place) → AreSame (tails objects limits place) (reads_on (still limits) place entries)
+  all_same : (limits : List ℕ) (place : Offset) → AreSame (tails objects limits place) (reads_on (still limits) place entries)
   unfolding tails
   all_same [] place = record { rows = refl; next = refl }
   all_same (max ∷ limits) place =
       let answered = read_by false objects max place in
       let answer = read max place entries in
-      let later : AreSame (tails objects limits (place_after place answered)) (reads_on (still limits) (resumed.next_after place answer) entries) =
-      subst (λ (p : Place). AreSame (tails objects limits (place_after place answered)) (reads_on (still limits) p entries)) (next_as place answered answer (reads max place)) (all_same limits (place_after place answered)) in
-      let all = earlier_same (rows_handed answered) (resumed.rows_of answer) (tails objects limits (place_after place answered)) (reads_on (still limits) (resumed.next_after place answer) entries) (rows_as answered answer (reads max place)) later in
+      let later : AreSame (tails objects limits (offset_after place answered)) (reads_on (still limits) (resumed.next_after place answer) entries) =
+      subst (λ (p : Offset). AreSame (tails objects limits (offset_after place answered)) (reads_on (still limits) p entries)) (next_as place answered answer (reads max place)) (all_same limits (offset_after place answered)) in
+      let all = earlier_same (rows_handed answered) (resumed.rows_of answer) (tails objects limits (offset_after place answered)) (reads_on (still limits) (resumed.next_after place answer) entries) (rows_as answered answer (reads max place)) later in
       subst (λ (h : resumed.Handed). AreSame (tails objects (max ∷ limits) place) h) (sym (reads_on_still max limits place entries)) all
 
   -- they hand out the rows in order
-  reads_log : HandOutTheLog objects entries
+  pub reads_log : HandOutTheLog objects entries
   reads_log limits =
       let all = tails objects limits beginning in
       let said = reads_on (still limits) beginning entries in
       let same = all_same limits beginning in
-      let same_next : position said.next said.final ≡ position all.next entries = ap (λ (es : List Entry). position said.next es) (final_still limits beginning entries) ∙ ap (λ (p : Place). position p entries) (sym same.next) in
+      let same_next : position said.next said.final ≡ position all.next entries = ap (λ (es : List Entry). position said.next es) (final_still limits beginning entries) ∙ ap (λ (p : Offset). position p entries) (sym same.next) in
       same.rows ∙ log_from_beginning (still limits) entries ∙ ap (λ (n : ℕ). take n (rows said.final)) same_next ∙ ap (λ (es : List Entry). take (position all.next entries) (rows es)) (final_still limits beginning entries)
 
   -- the read behind others is answered with rows
   record HandsRows (earlier : List ℕ) (max : ℕ) : Type 0 where
     out : List Row
-    next : Place
+    next : Offset
     is : read max (tails objects earlier beginning).next entries ≡ handed out next
 
   -- since it begins at a place of the table
@@ -112,11 +112,11 @@ module _ (objects : Objects) (entries : List Entry) (reads : ReadsAs objects ent
   hands_rows earlier max =
       let said = reads_on (still earlier) beginning entries in
       let final = final_still earlier beginning entries in
-      let good : is_place said.next said.final ≡ true = (onward_in_the_log (still earlier) beginning entries (beginning_is_place entries)).1 in
-      let here : is_place said.next entries ≡ true = subst (λ (es : List Entry). is_place said.next es ≡ true) final good in
+      let good : is_offset said.next said.final ≡ true = (onward_in_the_log (still earlier) beginning entries (beginning_is_offset entries)).1 in
+      let here : is_offset said.next entries ≡ true = subst (λ (es : List Entry). is_offset said.next es ≡ true) final good in
       let answer = is_answered max said.next entries [] here in
       let is : read max (tails objects earlier beginning).next entries ≡ handed answer.0 answer.1 =
-      ap (λ (p : Place). read max p entries) (all_same earlier beginning).next ∙ ap (λ (es : List Entry). read max said.next es) (sym (append-nil entries)) ∙ answer.2 in
+      ap (λ (p : Offset). read max p entries) (all_same earlier beginning).next ∙ ap (λ (es : List Entry). read max said.next es) (sym (append-nil entries)) ∙ answer.2 in
       record { out = answer.0; next = answer.1; is = is }
 
   -- so it isn't refused
@@ -136,7 +136,7 @@ module _ (objects : Objects) (entries : List Entry) (reads : ReadsAs objects ent
       let joined : still (earlier ++ max ∷ []) ≡ still earlier ++ (max, []) ∷ [] = map-append (λ (n : ℕ). (n, [])) earlier (max ∷ []) in
       let table_then : said.final ++ [] ≡ entries = append-nil said.final ∙ final_still earlier beginning entries in
       let is : read max said.next (said.final ++ []) ≡ handed h.out h.next =
-      ap (λ (es : List Entry). read max said.next es) table_then ∙ ap (λ (p : Place). read max p entries) (sym (all_same earlier beginning).next) ∙ h.is in
+      ap (λ (es : List Entry). read max said.next es) table_then ∙ ap (λ (p : Offset). read max p entries) (sym (all_same earlier beginning).next) ∙ h.is in
       let rows_are : rows_handed (read_by false objects max place) ≡ h.out = rows_as (read_by false objects max place) (read max place entries) (reads max place) ∙ ap resumed.rows_of h.is in
       let as_many : length h.out ≡ length (rows_handed (read_by false objects max place)) = ap (λ (rs : List Row). length rs) (sym rows_are) in
       let less : length h.out < max = omega (arith, short, as_many) in
@@ -151,8 +151,8 @@ pub record IsReadAs (objects : Objects) (entries : List Entry) : Type 0 where
   pub told : Told
   pub versions : List Version
   pub log : versions_of objects ≡ versions
-  pub goes_by : (place : Place) → schema_for no_start versions place ≡ Ok told
-  pub answers : (max : ℕ) (place : Place) → IsRead (handed_by objects told versions max place) (read max place entries)
+  pub goes_by : (place : Offset) → schema_for no_start versions place ≡ Ok told
+  pub answers : (max : ℕ) (place : Offset) → IsRead (handed_by objects told versions max place) (read max place entries)
 
 -- then each read over the objects does
 pub reads_as : (objects : Objects) (entries : List Entry) → IsReadAs objects entries → ReadsAs objects entries
@@ -161,19 +161,19 @@ reads_as objects entries is max place = rw (is.log, is.goes_by place) (is.answer
 -- what is known of single reads
 pub record GivenReads : Type 0 where
   pub handed_told : (objects : Objects) (schema : Tree) (entries : List Entry) → IsKept objects schema entries → length entries < 2 ^ 32 → IsReadAs objects entries
-  pub nothing_told : (place : Place) → schema_for no_start (versions_of []) place ≡ Err (bad_log 0)
+  pub nothing_told : (place : Offset) → schema_for no_start (versions_of []) place ≡ Err (bad_log 0)
 
 module _ (given : GivenReads) where
   -- a store that keeps a table reads as it
-  kept_reads : (objects : Objects) (schema : Tree) (entries : List Entry) → IsKept objects schema entries → length entries < 2 ^ 32 → ReadsAs objects entries
+  pub kept_reads : (objects : Objects) (schema : Tree) (entries : List Entry) → IsKept objects schema entries → length entries < 2 ^ 32 → ReadsAs objects entries
   kept_reads objects schema entries kept small = reads_as objects entries (given.handed_told objects schema entries kept small)
 
   -- where nothing stands, a read is refused
-  nothing_read : (max : ℕ) (place : Place) → read_by false [] max place ≡ Err (bad_log 0)
+  nothing_read : (max : ℕ) (place : Offset) → read_by false [] max place ≡ Err (bad_log 0)
   nothing_read max place = rw (given.nothing_told place) refl
 
   -- so that reads hand out no rows
-  nothing_handed : (limits : List ℕ) (place : Place) → (tails [] limits place).rows ≡ []
+  nothing_handed : (limits : List ℕ) (place : Offset) → (tails [] limits place).rows ≡ []
   unfolding tails
   nothing_handed [] place = refl
   nothing_handed (max ∷ limits) place = rw (nothing_read max place) (nothing_handed limits place)

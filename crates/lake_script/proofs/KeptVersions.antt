@@ -1,16 +1,17 @@
 -- The versions of a store that keeps a table: a commit for each entry, and so its log.
-use Rattle.std.proofs.Common.{◌≡◌, ℕ, suc, ◌+◌, ◌<◌, ◌≤◌, ◌^◌, List, [], ◌∷◌, map, length, IsSome, Ok, Err, refl, ap, ◌∙◌, add-one, arith}
+use Rattle.std.proofs.Common.{◌≡◌, ℕ, suc, ◌+◌, ◌<◌, ◌≤◌, ◌^◌, List, [], ◌∷◌, map, length, IsSome, Ok, Err, refl, ap, ◌∙◌, add-one, arith, false, true, inl, inr}
+use Rattle.std.proofs.lemmas.Bool.{cases_lt}
 use Rattle.schema_tree.specs.Tree.{Tree}
 use Rattle.store_core.specs.Objects.{Objects, object_at}
-use Rattle.delta_actions.specs.Entry as actions
+use Rattle.delta_actions.specs.Action as actions
 use Rattle.delta_actions.specs.Names as names
 use Rattle.table_model.specs.Table.{Entry}
 use Rattle.table_log.specs.Counts.{commit_count}
 use Rattle.table_log.specs.Names.{commit_name}
 use Rattle.table_log.specs.Versions.{commit, versions_from, versions_of, commits_in, commits_of, log_of}
 use Rattle.table_log.proofs.Callers.{count_is}
-use Rattle.lake_script.proofs.Kept.{KeptFrom, IsKept}
-use Rattle.lake_script.proofs.KeptLog.{commit_read, made_of, are_made, made_length, named_below}
+use Rattle.lake_script.specs.Keeps.{KeptFrom, IsKept}
+use Rattle.lake_script.proofs.KeptLog.{commit_read, made_of, are_made, made_length}
 
 -- ---- how many versions there are
 
@@ -28,7 +29,11 @@ unfolding commit_name
 count_kept objects schema entries kept few = count_is objects (length entries) (omega arith) below stands
   where
     below : (version : ℕ) → version ≤ 999_999_999_999 → IsSome (object_at objects (names.commit_name version)) → version < length entries
-    below version small there = named_below entries version (omega arith) (kept.named (names.commit_name version) there)
+    below version small there =
+        elim (cases_lt version (length entries)) [
+          | inl low ↦ low
+          | inr past ↦ let none : false ≡ true = rw (kept.ends version past small) at there in absurd cc
+        ]
 
     stands : (version : ℕ) → suc version ≡ length entries → IsSome (object_at objects (names.commit_name version))
     stands version is = last_stands objects schema 0 version entries kept.kept (omega arith) (omega (arith, is))
@@ -42,9 +47,9 @@ unfolding versions_from commit_name
 commits_stand objects schema version [] kept = refl
 commits_stand objects schema version (entry ∷ entries) kept =
     let more : versions_from (length entries) (suc version) objects ≡ map commit (made_of objects schema (suc version) entries kept.2) = commits_stand objects schema (suc version) entries kept.2 in
-    rw (kept.0.1, commit_read kept.0.0 kept.0.2.made kept.0.2.commit, add-one, more) refl
+    rw (kept.0.1, commit_read kept.0.0 kept.0.2.actions kept.0.2.commit, add-one, more) refl
 
--- Each version of a store that keeps a table is a commit of what was made for the entry at its place.
+-- Each version of a store that keeps a table is a commit that stands for the entry at its place.
 pub versions_kept : (objects : Objects) (schema : Tree) (entries : List Entry) (kept : IsKept objects schema entries) → length entries < 2 ^ 32
     → versions_of objects ≡ map commit (made_of objects schema 0 entries kept.kept)
 versions_kept objects schema entries kept few =
@@ -58,19 +63,19 @@ versions_of_nothing = refl
 -- ---- the log
 
 -- where each version has a commit, there are all of them
-all_commits : (version : ℕ) (commits : List (List actions.Entry)) → commits_in version (map commit commits) ≡ Ok commits
+all_commits : (version : ℕ) (commits : List (List actions.Action)) → commits_in version (map commit commits) ≡ Ok commits
 all_commits version [] = refl
 all_commits version (made ∷ commits) = rw (all_commits (suc version) commits) refl
 
 -- and they are a log's, where there is one
-some_commits : (commits : List (List actions.Entry)) → 0 < length commits → commits_of (map commit commits) ≡ Ok commits
+some_commits : (commits : List (List actions.Action)) → 0 < length commits → commits_of (map commit commits) ≡ Ok commits
 some_commits [] some = absurd (omega arith)
 some_commits (made ∷ commits) some = all_commits 0 (made ∷ commits)
 
 -- a table that is kept has a commit at least
 pub has_commits : (objects : Objects) (schema : Tree) (entries : List Entry) (kept : IsKept objects schema entries) → 0 < length (made_of objects schema 0 entries kept.kept)
 has_commits objects schema entries kept =
-    let all : length (made_of objects schema 0 entries kept.kept) ≡ length entries = made_length schema entries _ (are_made objects schema 0 entries kept.kept) in
+    let all : length (made_of objects schema 0 entries kept.kept) ≡ length entries = made_length objects schema entries _ (are_made objects schema 0 entries kept.kept) in
     let some : length entries ≡ suc (length kept.rest) = ap (λ (es : List Entry). length es) kept.begins in
     omega arith
 

@@ -1,9 +1,7 @@
 pub mod Callers
 pub mod CheckpointLemmas
-pub mod Kept
 pub mod KeptAppend
 pub mod KeptCheckpoint
-pub mod KeptCommits
 pub mod KeptCreate
 pub mod KeptFile
 pub mod KeptGrown
@@ -20,6 +18,10 @@ pub mod KeptTail
 pub mod KeptTails
 pub mod KeptVersions
 pub mod LineLemmas
+pub mod LogCloses
+pub mod LogNewest
+pub mod LogNumbers
+pub mod LogSchema
 pub mod Moments
 pub mod Numbers
 pub mod RestoredLemmas

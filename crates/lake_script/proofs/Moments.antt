@@ -6,7 +6,7 @@ use Rattle.lake_script.specs.declared.verb.Verb.TheVariants as verb
 use Rattle.lake_bytes.specs.Options.{◌>>=◌}
 use Rattle.lake_script.specs.Fields.{word_and_rest, number_of, number_between, moment_of, max_of, array_of}
 use Rattle.delta_actions.specs.Commit.{is_blank}
-use Rattle.lake_script.specs.Lines.{Wish, append_head, append_from, close_from, tail_from, Task, IsTimelyTask, IsTimely, append, close, tail, create, task, show, tries, fault, start, step, land, foreign, asks, asked, bare_wish, wish_from, wish_split, wish_of, create_from, start_from, step_from, foreign_from, text_of, is_comment, reading_of}
+use Rattle.lake_script.specs.Lines.{Statement, append_head, append_from, close_from, tail_from, Task, IsTimelyTask, IsTimely, append, close, tail, create, task, show, tries, fault, start, step, land, foreign, asks, asked, bare_statement, statement_from, statement_split, statement_of, create_from, start_from, step_from, foreign_from, text_of, is_comment, reading_of}
 
 kept_high : (low high : ℕ) (found : Option ℕ) (n : ℕ) → (found >>= λ m. if nat_le low m && nat_le m high then Some m else None) ≡ Some n → n ≤ high
 kept_high low high None n h = cc
@@ -24,14 +24,14 @@ moment_small : (text : List ℕ) (n : ℕ) → moment_of text ≡ Some n → n <
 unfolding number_between
 moment_small text n h = let high = kept_high 0 999_999_999_999_999 (number_of text) n h in omega arith
 
-some_timely : (v w : Wish) → IsTimely v → Some v ≡ Some w → IsTimely w
+some_timely : (v w : Statement) → IsTimely v → Some v ≡ Some w → IsTimely w
 some_timely v w t h = let is : v ≡ w = cc in subst IsTimely is t
 
-bind_timely : {A : Type 0} (x : Option A) (f : A → Option Wish) → ((a : A) (w : Wish) → x ≡ Some a → f a ≡ Some w → IsTimely w) → (w : Wish) → (x >>= f) ≡ Some w → IsTimely w
+bind_timely : {A : Type 0} (x : Option A) (f : A → Option Statement) → ((a : A) (w : Statement) → x ≡ Some a → f a ≡ Some w → IsTimely w) → (w : Statement) → (x >>= f) ≡ Some w → IsTimely w
 bind_timely None f all w h = cc
 bind_timely (Some a) f all w h = all a w refl h
 
-map_timely : {A : Type 0} (x : Option A) (f : A → Wish) → ((a : A) → IsTimely (f a)) → (w : Wish) → option_map f x ≡ Some w → IsTimely w
+map_timely : {A : Type 0} (x : Option A) (f : A → Statement) → ((a : A) → IsTimely (f a)) → (w : Statement) → option_map f x ≡ Some w → IsTimely w
 map_timely None f all w h = cc
 map_timely (Some a) f all w h = some_timely (f a) w (all a) h
 
@@ -43,7 +43,7 @@ bind_all P (Some a) f all b h = all a b refl h
 some_all : {B : Type 0} (P : B → Type 0) (v b : B) → P v → Some v ≡ Some b → P b
 some_all P v b t h = let is : v ≡ b = cc in subst P is t
 
-task_timely : (x : Option Task) → ((t : Task) → x ≡ Some t → IsTimelyTask t) → (w : Wish) → option_map task x ≡ Some w → IsTimely w
+task_timely : (x : Option Task) → ((t : Task) → x ≡ Some t → IsTimelyTask t) → (w : Statement) → option_map task x ≡ Some w → IsTimely w
 task_timely None all w h = cc
 task_timely (Some t) all w h = some_timely (task t) w (all t refl) h
 
@@ -78,7 +78,7 @@ tail_timely text t h =
     (λ digits u _ h1. bind_all IsTimelyTask (max_of digits.0) _
     (λ max v _ h2. some_all IsTimelyTask (tail max digits.1) v tt h2) u h1) t h
 
-create_timely : (text : List ℕ) (w : Wish) → create_from text ≡ Some w → IsTimely w
+create_timely : (text : List ℕ) (w : Statement) → create_from text ≡ Some w → IsTimely w
 unfolding create_from
 create_timely text w h =
     bind_timely (word_and_rest text) _
@@ -86,22 +86,22 @@ create_timely text w h =
     (λ moment v _ h2. bind_timely (moment_of moment.0) _
     (λ at x is h3. some_timely (create id.0 at moment.1) x (moment_small moment.0 at is) h3) v h2) u h1) w h
 
-start_timely : (text : List ℕ) (w : Wish) → start_from text ≡ Some w → IsTimely w
+start_timely : (text : List ℕ) (w : Statement) → start_from text ≡ Some w → IsTimely w
 unfolding start_from
 start_timely text w h =
     bind_timely (word_and_rest text) _ (λ actor u _ h1. bind_timely _ _ (λ job x _ h2. some_timely (start actor.0 job) x tt h2) u h1) w h
 
-step_timely : (text : List ℕ) (w : Wish) → step_from text ≡ Some w → IsTimely w
+step_timely : (text : List ℕ) (w : Statement) → step_from text ≡ Some w → IsTimely w
 unfolding step_from
 step_timely text w h =
     bind_timely (word_and_rest text) _ (λ actor u _ h1. bind_timely _ _ (λ kind x _ h2. some_timely (step actor.0 kind) x tt h2) u h1) w h
 
-foreign_timely : (text : List ℕ) (w : Wish) → foreign_from text ≡ Some w → IsTimely w
+foreign_timely : (text : List ℕ) (w : Statement) → foreign_from text ≡ Some w → IsTimely w
 unfolding foreign_from
 foreign_timely text w h =
     bind_timely (word_and_rest text) _ (λ digits u _ h1. bind_timely _ _ (λ version x _ h2. some_timely (foreign version digits.1) x tt h2) u h1) w h
 
-bare_timely : (v : Verb) (w : Wish) → bare_wish v ≡ Some w → IsTimely w
+bare_timely : (v : Verb) (w : Statement) → bare_statement v ≡ Some w → IsTimely w
 bare_timely verb.Create w h = cc
 bare_timely verb.Append w h = cc
 bare_timely verb.Close w h = cc
@@ -121,7 +121,7 @@ bare_timely verb.Die w h = cc
 bare_timely verb.Land w h = cc
 bare_timely verb.Foreign w h = cc
 
-from_timely : (v : Verb) (text : List ℕ) (w : Wish) → wish_from v text ≡ Some w → IsTimely w
+from_timely : (v : Verb) (text : List ℕ) (w : Statement) → statement_from v text ≡ Some w → IsTimely w
 from_timely verb.Create text w h = create_timely text w h
 from_timely verb.Append text w h = task_timely _ (append_timely text) w h
 from_timely verb.Close text w h = task_timely _ (close_timely text) w h
@@ -141,23 +141,23 @@ from_timely verb.Die text w h = some_timely _ w tt h
 from_timely verb.Land text w h = map_timely _ land (λ _. tt) w h
 from_timely verb.Foreign text w h = foreign_timely text w h
 
-split_timely : (text : List ℕ) (split : Option (List ℕ × List ℕ)) (w : Wish) → wish_split text split ≡ Some w → IsTimely w
-split_timely text None w h = bind_timely _ bare_wish (λ v u _ h1. bare_timely v u h1) w h
-split_timely text (Some p) w h = bind_timely _ (λ v. wish_from v p.1) (λ v u _ h1. from_timely v p.1 u h1) w h
+split_timely : (text : List ℕ) (split : Option (List ℕ × List ℕ)) (w : Statement) → statement_split text split ≡ Some w → IsTimely w
+split_timely text None w h = bind_timely _ bare_statement (λ v u _ h1. bare_timely v u h1) w h
+split_timely text (Some p) w h = bind_timely _ (λ v. statement_from v p.1) (λ v u _ h1. from_timely v p.1 u h1) w h
 
-wish_timely : (text : List ℕ) (w : Wish) → wish_of text ≡ Some w → IsTimely w
-unfolding wish_of
-wish_timely text w h = split_timely text (word_and_rest text) w h
+statement_timely : (text : List ℕ) (w : Statement) → statement_of text ≡ Some w → IsTimely w
+unfolding statement_of
+statement_timely text w h = split_timely text (word_and_rest text) w h
 
-asked_timely : (x : Option Wish) → ((u : Wish) → x ≡ Some u → IsTimely u) → (w : Wish) → asked x ≡ asks w → IsTimely w
+asked_timely : (x : Option Statement) → ((u : Statement) → x ≡ Some u → IsTimely u) → (w : Statement) → asked x ≡ asks w → IsTimely w
 asked_timely None all w h = cc
 asked_timely (Some u) all w h = let is : u ≡ w = cc in subst IsTimely is (all u refl)
 
 -- what a line asks for has a moment that fits
-pub reading_timely : (bytes : List ℕ) (w : Wish) → asks w ≡ reading_of bytes → IsTimely w
+pub reading_timely : (bytes : List ℕ) (w : Statement) → asks w ≡ reading_of bytes → IsTimely w
 unfolding reading_of
 reading_timely bytes w h =
     elim (cases_Bool (is_blank bytes || is_comment bytes)) [
       | inl t ↦ let wrong = h ∙ cond-true _ _ _ t in cc
-      | inr f ↦ asked_timely _ (λ u e. bind_timely (text_of bytes) wish_of (λ text v _ h1. wish_timely text v h1) u e) w (sym (h ∙ cond-false _ _ _ f))
+      | inr f ↦ asked_timely _ (λ u e. bind_timely (text_of bytes) statement_of (λ text v _ h1. statement_timely text v h1) u e) w (sym (h ∙ cond-false _ _ _ f))
     ]

@@ -1,11 +1,11 @@
 -- Of a log that is read from sound checkpoints what is told and left is what all its commits say.
-use Rattle.std.proofs.Common.{◌≡◌, ◌≢◌, ℕ, Bool, true, false, List, [], Option, Result, Ok, Err, inl, inr, refl, sym, ap, subst, ◌∙◌}
+use Rattle.std.proofs.Common.{◌≡◌, ◌≢◌, ℕ, Bool, false, List, [], Option, Result, Ok, Err, inl, inr, refl, sym, ap, subst, ◌∙◌}
 use Rattle.std.specs.Str.{IsUtf8}
 use Rattle.serde_json.specs.Data.{Items}
 use Rattle.lake_bytes.specs.Outcome.{IsSaid}
 use Rattle.lake_bytes.specs.Results.{◌>>=◌}
 use Rattle.store_core.specs.Objects.{Objects}
-use Rattle.table_log.specs.Restoring.{AreCheckpointsSound, HasSoundCheckpoints, RestoresWell}
+use Rattle.table_log.specs.Restoring.{HasOnlySoundCheckpoints, AreCheckpointsSound, HasSoundCheckpoints, RestoresWell}
 use Rattle.commit_core.specs.Texts.{refused, line_of}
 use Rattle.sink_core.specs.Appending.{Step, appended_by, answered, settled, with_append, MayHoldFile, PutsWell}
 use Rattle.sink_core.specs.Refusals.{Refusal, refusal_text, refusal_view, says, file_too_large}
@@ -17,14 +17,18 @@ use Rattle.lake_script.specs.declared.reply.Reply.TheVariants as replies
 use Rattle.lake_script.specs.declared.reply.Reply.TheVariants.{NotAppended}
 use Rattle.lake_script.specs.Lines.{append, task}
 use Rattle.lake_script.specs.ReplyView.{reply_text, is_short}
-use Rattle.lake_script.specs.Runs.{Grants}
-use Rattle.lake_script.specs.Sound.{IsGranted}
+use Rattle.lake_script.specs.Runs.{Executes}
+use Rattle.lake_script.specs.Sound.{IsExecuted}
 use Rattle.lake_script.specs.Told.{appended_reply}
 use Rattle.table_log.proofs.Callers.{sound_empty}
 
 -- in an empty store no checkpoint stands
 pub well_of_empty : (restore : Bool) (objects : Objects) → objects ≡ [] → RestoresWell restore objects
 well_of_empty restore objects empty = λ is. subst HasSoundCheckpoints (sym empty) (sound_empty false)
+
+-- where each checkpoint is one of the log, those that read well are
+pub well_of_sound : (restore : Bool) (objects : Objects) → HasOnlySoundCheckpoints objects → RestoresWell restore objects
+well_of_sound restore objects sound = λ is name version bytes named there asked. sound name version bytes named there tt
 
 -- where checkpoints go on to be sound, a log goes on to be read from them
 pub still_well : (restore : Bool) (old new : Objects) → RestoresWell restore old → ((every : Bool) → AreCheckpointsSound every old → AreCheckpointsSound every new) → RestoresWell restore new
@@ -54,8 +58,8 @@ kept_memory _ enough = λ wrong. cc
 module _ (objects : Objects) (application : List ℕ) (number at : ℕ) (items : Items) (after : Objects) where
   module _ (left : after ≡ with_append objects (settled false objects application number at items)) (text : IsUtf8 application) (made : PutsWell application number at (settled false objects application number at items)) where
     -- a batch that is appended, or stands already, is told so
-    pub append_granted : (answer : Appended) → appended_by false objects application number at items ≡ Ok answer → IsGranted objects (task (append application number at items)) (reply_text (replies.Appended answer)) after
-    append_granted answer told = record {
+    pub append_executed : (answer : Appended) → appended_by false objects application number at items ≡ Ok answer → IsExecuted objects (task (append application number at items)) (reply_text (replies.Appended answer)) after
+    append_executed answer told = record {
       text = [];
       printed = tt;
       told = answer_text answer ∙ ap appended_reply (sym told);
@@ -64,8 +68,8 @@ module _ (objects : Objects) (application : List ℕ) (number at : ℕ) (items :
     }
 
     -- so is a refusal
-    refused_granted : (refusal : Refusal) → appended_by false objects application number at items ≡ Err refusal → refusal ≢ file_too_large → IsGranted objects (task (append application number at items)) (line_of (refused (refusal_text refusal))) after
-    refused_granted refusal told small = record {
+    refused_executed : (refusal : Refusal) → appended_by false objects application number at items ≡ Err refusal → refusal ≢ file_too_large → IsExecuted objects (task (append application number at items)) (line_of (refused (refusal_text refusal))) after
+    refused_executed refusal told small = record {
       text = [];
       printed = tt;
       told = ap appended_reply (sym told);
@@ -74,32 +78,32 @@ module _ (objects : Objects) (application : List ℕ) (number at : ℕ) (items :
     }
 
     -- each that isn't short
-    pub append_refusal_granted : (fault : AppendFault) → IsSaid (says (refusal_view fault)) (appended_by false objects application number at items) → is_short (NotAppended fault) ≡ false → ((version : Option ℕ) → fault ≢ faults.Lost version)
-        → IsGranted objects (task (append application number at items)) (reply_text (NotAppended fault)) after
-    append_refusal_granted faults.BadApp said enough kept = refused_granted _ said (λ wrong. cc)
-    append_refusal_granted faults.TooLarge said enough kept = refused_granted _ said (λ wrong. cc)
-    append_refusal_granted faults.FileTooLarge said enough kept = absurd cc
-    append_refusal_granted (faults.BadLog version) said enough kept = refused_granted _ said (λ wrong. cc)
-    append_refusal_granted (faults.ReadOnly fault) said enough kept = refused_granted _ said (λ wrong. cc)
-    append_refusal_granted (faults.BadRow index fault) said enough kept = refused_granted _ said (λ wrong. cc)
-    append_refusal_granted (faults.Stale last) said enough kept = refused_granted _ said (λ wrong. cc)
-    append_refusal_granted faults.StreamClosed said enough kept = refused_granted _ said (λ wrong. cc)
-    append_refusal_granted (faults.Differs name) said enough kept = refused_granted _ said (λ wrong. cc)
-    append_refusal_granted (faults.Contended version) said enough kept = refused_granted _ said (λ wrong. cc)
-    append_refusal_granted (faults.Lost version) said enough kept = absurd (kept version refl)
-    append_refusal_granted faults.Memory said enough kept = absurd cc
+    pub append_refusal_executed : (fault : AppendFault) → IsSaid (says (refusal_view fault)) (appended_by false objects application number at items) → is_short (NotAppended fault) ≡ false → ((version : Option ℕ) → fault ≢ faults.Lost version)
+        → IsExecuted objects (task (append application number at items)) (reply_text (NotAppended fault)) after
+    append_refusal_executed faults.BadApp said enough kept = refused_executed _ said (λ wrong. cc)
+    append_refusal_executed faults.TooLarge said enough kept = refused_executed _ said (λ wrong. cc)
+    append_refusal_executed faults.FileTooLarge said enough kept = absurd cc
+    append_refusal_executed (faults.BadLog version) said enough kept = refused_executed _ said (λ wrong. cc)
+    append_refusal_executed (faults.ReadOnly fault) said enough kept = refused_executed _ said (λ wrong. cc)
+    append_refusal_executed (faults.BadRow index fault) said enough kept = refused_executed _ said (λ wrong. cc)
+    append_refusal_executed (faults.Stale last) said enough kept = refused_executed _ said (λ wrong. cc)
+    append_refusal_executed faults.StreamClosed said enough kept = refused_executed _ said (λ wrong. cc)
+    append_refusal_executed (faults.Differs name) said enough kept = refused_executed _ said (λ wrong. cc)
+    append_refusal_executed (faults.Contended version) said enough kept = refused_executed _ said (λ wrong. cc)
+    append_refusal_executed (faults.Lost version) said enough kept = absurd (kept version refl)
+    append_refusal_executed faults.Memory said enough kept = absurd cc
 
   module _ (left : after ≡ with_append objects (settled false objects application number at items)) where
-    pub has_append : (answer : Appended) → appended_by false objects application number at items ≡ Ok answer → Grants objects (task (append application number at items)) (reply_text (replies.Appended answer)) after
+    pub has_append : (answer : Appended) → appended_by false objects application number at items ≡ Ok answer → Executes objects (task (append application number at items)) (reply_text (replies.Appended answer)) after
     has_append answer told = inl ([], tt, answer_text answer ∙ ap appended_reply (sym told), left)
 
-    has_refused : (refusal : Refusal) → appended_by false objects application number at items ≡ Err refusal → Grants objects (task (append application number at items)) (line_of (refused (refusal_text refusal))) after
+    has_refused : (refusal : Refusal) → appended_by false objects application number at items ≡ Err refusal → Executes objects (task (append application number at items)) (line_of (refused (refusal_text refusal))) after
     has_refused refusal told = inl ([], tt, ap appended_reply (sym told), left)
 
   -- an append that is refused is told so, or of want of memory
   pub append_refusal_told : (fault : AppendFault) → IsSaid (says (refusal_view fault)) (appended_by false objects application number at items) → (fault ≢ faults.Memory → after ≡ with_append objects (settled false objects application number at items))
       → (fault ≡ faults.Memory → MayHoldFile objects (settled false objects application number at items) after) → ((version : Option ℕ) → fault ≢ faults.Lost version)
-      → Grants objects (task (append application number at items)) (reply_text (NotAppended fault)) after
+      → Executes objects (task (append application number at items)) (reply_text (NotAppended fault)) after
   append_refusal_told faults.BadApp said left short kept = has_refused (left (λ wrong. cc)) _ said
   append_refusal_told faults.TooLarge said left short kept = has_refused (left (λ wrong. cc)) _ said
   append_refusal_told faults.FileTooLarge said left short kept = has_refused (left (λ wrong. cc)) _ said

@@ -4,22 +4,22 @@ use Rattle.std.specs.Io.KnownBytes.{Appends, append_known}
 use Rattle.std.proofs.lemmas.Bool.{cond-true, cond-false}
 use Rattle.delta_actions.specs.Commit.{lines_of}
 use Rattle.store_core.specs.Objects.{Objects}
-use Rattle.lake_script.specs.Lines.{Wish, Reading, skipped, bad, asks, reading_of}
-use Rattle.lake_script.specs.Sound.{IsGranted, IsAnswered, AreSound, IsRun, IsRunInPart}
+use Rattle.lake_script.specs.Lines.{Statement, Reading, skipped, bad, asks, reading_of}
+use Rattle.lake_script.specs.Sound.{IsExecuted, IsAnswered, AreSound, IsRun, IsRunInPart}
 use Rattle.lake_script.specs.Streams.{StandsIn}
-use Rattle.lake_script.specs.Told.{reply_to, left_by, is_bad, UnlessBad, ArePrinted, ArePrintedInPart, told_from, left_from, first_bad_from, lines_left}
+use Rattle.lake_script.specs.Told.{reply_to, left_by, is_bad, UnlessBad, ArePrinted, ArePrintedInPart, expected_from, left_from, first_bad_from, lines_left}
 use Rattle.lake_script.proofs.StreamLemmas.{Appends-none, Appends-both, nothing_known, stands_in_whole}
 
 -- a line that has what it asks for is answered
-pub answered : (number : ℕ) (objects after : Objects) (wish : Wish) (reading : Reading) (reply : List ℕ) (old new : Option (List ℕ)) → asks wish ≡ reading → IsGranted objects wish reply after → Appends old new reply
+pub answered : (number : ℕ) (objects after : Objects) (statement : Statement) (reading : Reading) (reply : List ℕ) (old new : Option (List ℕ)) → asks statement ≡ reading → IsExecuted objects statement reply after → Appends old new reply
     → IsAnswered number objects reading old new after
-answered number objects after wish reading reply old new asked granted said =
+answered number objects after statement reading reply old new asked executed said =
     subst (λ r. IsAnswered number objects r old new after) asked (record {
-      text = granted.text;
-      printed = granted.printed;
-      told = subst (λ u. Appends old new u) granted.told said;
-      left = granted.left;
-      sound = granted.sound;
+      text = executed.text;
+      printed = executed.printed;
+      told = subst (λ u. Appends old new u) executed.told said;
+      left = executed.left;
+      sound = executed.sound;
     })
 
 -- What is known of a script behind some lines: whatever texts stand beside the lines that are left, the whole script is
@@ -30,7 +30,7 @@ pub record SoFar (start : Objects) (script : List ℕ) (old now : Option (List �
   pub added : Appends old now front
   pub printed : (rest : List (List ℕ)) → ArePrinted objects lines rest → ArePrinted start (lines_of script) (texts rest)
   pub in_part : (rest : List (List ℕ)) → ArePrintedInPart objects lines rest → ArePrintedInPart start (lines_of script) (texts rest)
-  pub told : (rest : List (List ℕ)) → told_from 1 start (lines_of script) (texts rest) ≡ front ++ told_from number objects lines rest
+  pub told : (rest : List (List ℕ)) → expected_from 1 start (lines_of script) (texts rest) ≡ front ++ expected_from number objects lines rest
   pub left : (rest : List (List ℕ)) → left_from start (lines_of script) (texts rest) ≡ left_from objects lines rest
   pub sound : (rest : List (List ℕ)) → AreSound objects lines rest → AreSound start (lines_of script) (texts rest)
 
@@ -48,8 +48,8 @@ at_first start script old = record {
 }
 
 -- nothing is told where no text stands
-told_nothing : (number : ℕ) (objects : Objects) (lines : List (List ℕ)) → told_from number objects lines [] ≡ []
-unfolding told_from
+told_nothing : (number : ℕ) (objects : Objects) (lines : List (List ℕ)) → expected_from number objects lines [] ≡ []
+unfolding expected_from
 told_nothing number objects [] = refl
 told_nothing number objects (line ∷ lines) = refl
 
@@ -62,7 +62,7 @@ none_printed objects (line ∷ lines) = tt
 left_by_bad : (objects : Objects) (r : Reading) (printed : List ℕ) → is_bad r ≡ true → left_by objects r printed ≡ objects
 left_by_bad objects skipped printed h = refl
 left_by_bad objects bad printed h = refl
-left_by_bad objects (asks wish) printed h = cc
+left_by_bad objects (asks statement) printed h = cc
 
 module _ (start : Objects) (script : List ℕ) (old now new : Option (List ℕ)) (number : ℕ) (objects : Objects) (lines : List (List ℕ)) where
   -- where a reply isn't given, what stands is a front of what was told so far
@@ -83,7 +83,7 @@ module _ (start : Objects) (script : List ℕ) (old now new : Option (List ℕ))
 
     module _ (goes_on : is_bad (reading_of line) ≡ false) where
       behind : SoFar start script old new (number + 1) (left_by objects (reading_of line) here.text) lines
-      unfolding ArePrinted ArePrintedInPart AreSound told_from left_from
+      unfolding ArePrinted ArePrintedInPart AreSound expected_from left_from
       behind = record {
         front = so_far.front ++ reply_to number objects (reading_of line) here.text;
         texts = λ rest. so_far.texts (here.text ∷ rest);
@@ -104,12 +104,12 @@ module _ (start : Objects) (script : List ℕ) (old now new : Option (List ℕ))
     -- behind a bad line nothing is told
     module _ (ends : is_bad (reading_of line) ≡ true) where
       pub so_far_stops : IsRun start script old new after
-      unfolding ArePrinted AreSound told_from left_from
+      unfolding ArePrinted AreSound expected_from left_from
       so_far_stops = record {
         texts = so_far.texts (here.text ∷ []);
         printed = so_far.printed (here.text ∷ []) (here.printed, subst (λ is. UnlessBad is (ArePrinted (left_by objects (reading_of line) here.text) lines [])) (sym ends) tt);
         told =
-            let last = ap (λ u. reply_to number objects (reading_of line) here.text ++ u) (cond-true (is_bad (reading_of line)) [] (told_from (number + 1) (left_by objects (reading_of line) here.text) lines []) ends) ∙ append-nil _ in
+            let last = ap (λ u. reply_to number objects (reading_of line) here.text ++ u) (cond-true (is_bad (reading_of line)) [] (expected_from (number + 1) (left_by objects (reading_of line) here.text) lines []) ends) ∙ append-nil _ in
             subst (λ u. Appends old new u) (sym (so_far.told (here.text ∷ []) ∙ ap (λ u. so_far.front ++ u) last)) said;
         left = here.left ∙ left_by_bad objects (reading_of line) here.text ends ∙ sym (so_far.left (here.text ∷ []) ∙ cond-true _ _ _ ends);
         sound = so_far.sound (here.text ∷ []) (here.sound, subst (λ is. UnlessBad is (AreSound (left_by objects (reading_of line) here.text) lines [])) (sym ends) tt);
@@ -117,7 +117,7 @@ module _ (start : Objects) (script : List ℕ) (old now new : Option (List ℕ))
 
 -- all lines were told
 pub so_far_done : (start : Objects) (script : List ℕ) (old now : Option (List ℕ)) (number : ℕ) (objects : Objects) → SoFar start script old now number objects [] → IsRun start script old now objects
-unfolding ArePrinted AreSound told_from left_from
+unfolding ArePrinted AreSound expected_from left_from
 so_far_done start script old now number objects so_far = record {
   texts = so_far.texts [];
   printed = so_far.printed [] tt;
@@ -147,11 +147,11 @@ module _ (start : Objects) (script : List ℕ) (old mid : Option (List ℕ)) (af
   run_through contents pending flushed none =
       let now = append_known contents pending in
       let all = Appends-both old mid now _ [] run.told flushed in
-      let same : Appends old now (told_from 1 start (lines_of script) run.texts) = subst (λ u. Appends old now u) (append-nil _) all in
+      let same : Appends old now (expected_from 1 start (lines_of script) run.texts) = subst (λ u. Appends old now u) (append-nil _) all in
       record {
         texts = run.texts;
         printed = run.printed;
-        told = subst (λ u. Appends old u (told_from 1 start (lines_of script) run.texts)) (ap (append_known contents) none ∙ nothing_known contents) same;
+        told = subst (λ u. Appends old u (expected_from 1 start (lines_of script) run.texts)) (ap (append_known contents) none ∙ nothing_known contents) same;
         left = run.left;
         sound = run.sound;
       }

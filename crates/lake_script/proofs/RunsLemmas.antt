@@ -11,18 +11,18 @@ use Rattle.sink_core.specs.declared.refusal.AppendFault.TheVariants as appending
 use Rattle.sink_core.specs.Appending.{settled}
 use Rattle.sink_core.specs.Puts.{IsSaidBy}
 use Rattle.lake_script.specs.declared.reply.Reply.TheVariants.{NotCreated, NotAppended}
-use Rattle.lake_script.specs.Lines.{append, Wish, create, task, reading_of}
+use Rattle.lake_script.specs.Lines.{append, Statement, create, task, reading_of}
 use Rattle.lake_script.specs.ReplyView.{reply_text, is_short}
-use Rattle.lake_script.specs.Runs.{IsShort, IsWantOfMemory, MayLeave, Grants, IsCutOff, Replies, Runs, done, stops, goes_on, RunsInPart, waits, begins, follows, FallsShort, here, later, Tells, TellsFront, TellsShort}
+use Rattle.lake_script.specs.Runs.{IsShort, IsWantOfMemory, MayLeave, Executes, IsCutOff, Replies, Runs, done, stops, goes_on, RunsInPart, waits, begins, follows, FallsShort, here, later, Tells, TellsFront, TellsShort}
 use Rattle.lake_script.specs.Streams.{StandsIn}
-use Rattle.lake_script.specs.Told.{is_bad, IsPrintedWish, reply_to_wish, left_by_wish}
+use Rattle.lake_script.specs.Told.{is_bad, IsPrintedStatement, reply_to_statement, left_by_statement}
 use Rattle.lake_script.proofs.StreamLemmas.{Appends-both, nothing_known, Towards, stands_in_whole}
 
 -- a line that creates no table has what it asks for with any text
-pub granted_without_text : (objects : Objects) (wish : Wish) (reply : List ℕ) (after : Objects) → IsPrintedWish objects wish []
-    → ((reply ≡ reply_to_wish objects wish []) × (after ≡ left_by_wish objects wish [])) ⊎ (IsWantOfMemory wish reply × MayLeave objects wish after) → Grants objects wish reply after
-granted_without_text objects wish reply after none (inl has) = inl ([], none, has.0, has.1)
-granted_without_text objects wish reply after none (inr wants) = inr wants
+pub executed_without_text : (objects : Objects) (statement : Statement) (reply : List ℕ) (after : Objects) → IsPrintedStatement objects statement []
+    → ((reply ≡ reply_to_statement objects statement []) × (after ≡ left_by_statement objects statement [])) ⊎ (IsWantOfMemory statement reply × MayLeave objects statement after) → Executes objects statement reply after
+executed_without_text objects statement reply after none (inl has) = inl ([], none, has.0, has.1)
+executed_without_text objects statement reply after none (inr wants) = inr wants
 
 -- which faults are short
 pub creation_short : (fault : CreateFault) (objects : Objects) (id : List ℕ) (at : ℕ) (schema : List ℕ) → is_short (NotCreated fault) ≡ true

@@ -1,16 +1,15 @@
 -- What a line puts leaves each checkpoint one of the log's commits.
-use Rattle.std.proofs.Common.{◌≡◌, ◌⊎◌, inl, inr, ℕ, List, None, Bool, true, false, Result, Ok, Err, refl, sym, ap, subst, ◌∙◌, if◌then◌else◌}
-use Rattle.serde_json.specs.Data.{Items}
+use Rattle.std.proofs.Common.{◌≡◌, inl, inr, ℕ, List, None, Bool, true, false, Result, Ok, Err, refl, sym, ap, subst, ◌∙◌, if◌then◌else◌}
 use Rattle.lake_bytes.specs.Results.{◌>>=◌}
 use Rattle.store_core.specs.Objects.{Objects, with_object}
 use Rattle.table_log.specs.Names.{commit_name}
 use Rattle.table_log.specs.Restoring.{AreCheckpointsSound, checkpoint_version}
 use Rattle.commit_core.specs.Creating as creations
 use Rattle.commit_core.specs.Creating.{with_creation, commit_from}
-use Rattle.sink_core.specs.Appending.{Batch, Request, Step, puts, stands, batch_of, file_name, file_or_refusal, fitting, new_step, repeated_step, request_of, settled, step_of, unless_other, where_same, with_append, with_file_alone, MayAppend}
+use Rattle.sink_core.specs.Appending.{Batch, Request, Step, puts, stands, batch_of, file_name, fitting, new_step, repeated_step, request_of, settled, step_of, unless_other, where_same, with_append, with_file_alone, MayAppend}
 use Rattle.sink_core.specs.Refusals.{Refusal}
 use Rattle.lake_script.specs.Growth.{MayPut}
-use Rattle.lake_script.specs.Lines.{append, checkpoint, Wish, create, task, foreign}
+use Rattle.lake_script.specs.Lines.{append, checkpoint, Statement, create, task, foreign}
 use Rattle.snapshot_core.proofs.Callers.{put_sound}
 use Rattle.table_log.proofs.Callers.{commit_is_none, data_file_is_none, sound_beside}
 use Rattle.lake_script.proofs.KeptNames.{same_file_name}
@@ -82,7 +81,7 @@ by_append every old new application number at step named (inr (well, inl alone))
 by_append every old new application number at step named (inr (well, inr whole)) sound = subst (AreCheckpointsSound every) (sym whole) (append_sound every old application number step named sound)
 
 -- what a line asks for
-pub puts_sound : (every : Bool) (old : Objects) (wish : Wish) (new : Objects) → MayPut old wish new → AreCheckpointsSound every old → AreCheckpointsSound every new
+pub puts_sound : (every : Bool) (old : Objects) (statement : Statement) (new : Objects) → MayPut old statement new → AreCheckpointsSound every old → AreCheckpointsSound every new
 puts_sound every old (create id at schema) new (inl same) sound = subst (AreCheckpointsSound every) (sym same) sound
 puts_sound every old (create id at schema) new (inr (printed, put)) sound = subst (AreCheckpointsSound every) (sym put.1) (created_sound every old (commit_from id at schema printed) sound)
 puts_sound every old (task (append application number at items)) new put sound =

@@ -1,11 +1,11 @@
--- What lines that put a checkpoint and that tell a snapshot are told and leave. The bytes of a checkpoint, and the text of a
--- snapshot, stand beside the line. What the log says, all its commits say: that it may be read from a checkpoint doesn't
--- show.
+-- What lines that put a checkpoint and that tell a snapshot are told and leave. The bytes of a checkpoint, and the text
+-- of a snapshot, stand beside the line. What the log says, all its commits say: that it may be read from a checkpoint
+-- doesn't show.
 use Rattle.std.specs.Prelude.{ℕ, ◌-◌, List, ◌++◌, length, false, nat_lt, Option, None, Some, Result, Ok, Err, IfOk, codes}
 use Rattle.std.specs.Fmt.{decimal}
 use Rattle.lake_bytes.specs.Results.{◌>>=◌, refused_as, refused_if}
 use Rattle.store_core.specs.Objects.{Objects, with_object}
-use Rattle.delta_actions.specs.Entry.{Entry, MetaDataEntry}
+use Rattle.delta_actions.specs.Action.{Action, MetaDataAction}
 use Rattle.delta_checkpoint.specs.Names.{IsCheckpointName, checkpoint_name}
 use Rattle.delta_replay.specs.Support.{meta_data_of, no_meta_data}
 use Rattle.table_log.specs.Counts.{commit_count}
@@ -32,7 +32,7 @@ pub data NotPut : Type 0 where
   too_large : NotPut
 
 -- that of a version, for the id of its table
-abbrev pub checkpoint_of : (version : ℕ) → Option MetaDataEntry → Result Checkpoint NotPut
+abbrev pub checkpoint_of : (version : ℕ) → Option MetaDataAction → Result Checkpoint NotPut
 checkpoint_of version None = Err (by_log (unsupported no_meta_data))
 checkpoint_of version (Some m) = Ok (record { version = version; name = checkpoint_name version m.id })
 
@@ -81,6 +81,6 @@ checkpoint_reply (Err why) = line_of (refused (not_put_text why))
 abbrev pub IsItsSnapshot : Objects → (text : List ℕ) → Type 0
 IsItsSnapshot objects text = IfOk (readable_log false objects) (λ commits. TellsSnapshot false objects text)
 
-abbrev pub snapshot_reply : Result (List (List Entry)) Reason → (text : List ℕ) → List ℕ
+abbrev pub snapshot_reply : Result (List (List Action)) Reason → (text : List ℕ) → List ℕ
 snapshot_reply (Ok commits) text = text
 snapshot_reply (Err why) text = line_of (refused (reason_text why))

@@ -7,14 +7,14 @@ use Rattle.commit_core.specs.Creating.{MayCreate}
 use Rattle.commit_core.specs.Texts.{line_of}
 use Rattle.table_log.specs.Names.{commit_name}
 use Rattle.snapshot_core.specs.Taking.{HasPut}
-use Rattle.lake_script.specs.Lines.{append, checkpoint, Wish, create, task, foreign}
+use Rattle.lake_script.specs.Lines.{append, checkpoint, Statement, create, task, foreign}
 
 -- the checkpoint of the newest version was put, or nothing
 abbrev pub MayPutCheckpoint : Objects → Objects → Type 0
 MayPutCheckpoint old new = (new ≡ old) ⊎ ((version : ℕ) × HasPut false version old new)
 
 -- the objects that may stand behind what a line asks for; an application's id is text
-abbrev pub MayPut : Objects → Wish → Objects → Type 0
+abbrev pub MayPut : Objects → Statement → Objects → Type 0
 MayPut old (create id at schema) new = MayCreate id at schema old new
 MayPut old (task (append application number at items)) new = IsUtf8 application × MayAppend application number at (settled false old application number at items) old new
 MayPut old (task checkpoint) new = MayPutCheckpoint old new

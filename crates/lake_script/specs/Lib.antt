@@ -1,6 +1,7 @@
 pub mod Checkpoints
 pub mod Fields
 pub mod Growth
+pub mod Keeps
 pub mod Lines
 pub mod Names
 pub mod Replies

@@ -26,22 +26,22 @@ pub data Task : Type 0 where
   tail : (max : ℕ) (offset : List ℕ) → Task
 
 -- what a line asks for, wherever its texts lie in memory
-pub data Wish : Type 0 where
-  create : (id : List ℕ) (at : ℕ) (schema : List ℕ) → Wish
-  task : Task → Wish
-  snapshot : Wish
-  history : Wish
-  show : (version : ℕ) → Wish
-  hex : (name : List ℕ) → Wish
-  tries : ℕ → Wish
-  fault : Kind → Wish
-  start : (actor : List ℕ) → Task → Wish
-  until : (actor : List ℕ) → Wish
-  step : (actor : List ℕ) → Kind → Wish
-  finish : (actor : List ℕ) → Wish
-  die : (actor : List ℕ) → Wish
-  land : (put : ℕ) → Wish
-  foreign : (version : ℕ) (action : List ℕ) → Wish
+pub data Statement : Type 0 where
+  create : (id : List ℕ) (at : ℕ) (schema : List ℕ) → Statement
+  task : Task → Statement
+  snapshot : Statement
+  history : Statement
+  show : (version : ℕ) → Statement
+  hex : (name : List ℕ) → Statement
+  tries : ℕ → Statement
+  fault : Kind → Statement
+  start : (actor : List ℕ) → Task → Statement
+  until : (actor : List ℕ) → Statement
+  step : (actor : List ℕ) → Kind → Statement
+  finish : (actor : List ℕ) → Statement
+  die : (actor : List ℕ) → Statement
+  land : (put : ℕ) → Statement
+  foreign : (version : ℕ) (action : List ℕ) → Statement
 
 -- APP NUMBER AT, and the text behind them
 unfoldable pub append_head : List ℕ → Option (List ℕ × ℕ × ℕ × List ℕ)
@@ -96,7 +96,7 @@ unfoldable pub task_of : List ℕ → Option Task
 task_of text = task_split text (word_and_rest text)
 
 -- create ID AT SCHEMA
-unfoldable pub create_from : List ℕ → Option Wish
+unfoldable pub create_from : List ℕ → Option Statement
 create_from text = do
   id ← word_and_rest text
   moment ← word_and_rest id.1
@@ -104,35 +104,35 @@ create_from text = do
   Some (create id.0 at moment.1)
 
 -- start ACTOR JOB
-unfoldable pub start_from : List ℕ → Option Wish
+unfoldable pub start_from : List ℕ → Option Statement
 start_from text = do
   actor ← word_and_rest text
   job ← task_of actor.1
   Some (start actor.0 job)
 
 -- step ACTOR KIND
-unfoldable pub step_from : List ℕ → Option Wish
+unfoldable pub step_from : List ℕ → Option Statement
 step_from text = do
   actor ← word_and_rest text
   kind ← kind_of actor.1
   Some (step actor.0 kind)
 
 -- foreign V LINE
-unfoldable pub foreign_from : List ℕ → Option Wish
+unfoldable pub foreign_from : List ℕ → Option Statement
 foreign_from text = do
   digits ← word_and_rest text
   version ← number_of digits.0
   Some (foreign version digits.1)
 
 -- a line that is one word
-abbrev pub bare_wish : Verb → Option Wish
-bare_wish verb.Checkpoint = Some (task checkpoint)
-bare_wish verb.Snapshot = Some snapshot
-bare_wish verb.History = Some history
-bare_wish _ = None
+abbrev pub bare_statement : Verb → Option Statement
+bare_statement verb.Checkpoint = Some (task checkpoint)
+bare_statement verb.Snapshot = Some snapshot
+bare_statement verb.History = Some history
+bare_statement _ = None
 
 -- a line of that verb with this text behind it, where it has no task
-abbrev pub plain_from : Verb → List ℕ → Option Wish
+abbrev pub plain_from : Verb → List ℕ → Option Statement
 plain_from verb.Create text = create_from text
 plain_from verb.Show text = option_map show (number_of text)
 plain_from verb.Hex text = Some (hex text)
@@ -147,27 +147,27 @@ plain_from verb.Foreign text = foreign_from text
 plain_from _ text = None
 
 -- a line of that verb with this text behind it
-abbrev pub wish_from : Verb → List ℕ → Option Wish
-wish_from verb.Append text = option_map task (append_from text)
-wish_from verb.Close text = option_map task (close_from text)
-wish_from verb.Tail text = option_map task (tail_from text)
-wish_from verb.Start text = start_from text
-wish_from v text = plain_from v text
+abbrev pub statement_from : Verb → List ℕ → Option Statement
+statement_from verb.Append text = option_map task (append_from text)
+statement_from verb.Close text = option_map task (close_from text)
+statement_from verb.Tail text = option_map task (tail_from text)
+statement_from verb.Start text = start_from text
+statement_from v text = plain_from v text
 
 -- what a line asks for that is split at its first space, or has none
-abbrev pub wish_split : List ℕ → Option (List ℕ × List ℕ) → Option Wish
-wish_split text None = verb_of text >>= bare_wish
-wish_split text (Some p) = verb_of p.0 >>= (λ v. wish_from v p.1)
+abbrev pub statement_split : List ℕ → Option (List ℕ × List ℕ) → Option Statement
+statement_split text None = verb_of text >>= bare_statement
+statement_split text (Some p) = verb_of p.0 >>= (λ v. statement_from v p.1)
 
 -- what the text of a line asks for
-unfoldable pub wish_of : List ℕ → Option Wish
-wish_of text = wish_split text (word_and_rest text)
+unfoldable pub statement_of : List ℕ → Option Statement
+statement_of text = statement_split text (word_and_rest text)
 
 -- what a line is
 pub data Reading : Type 0 where
   skipped : Reading
   bad : Reading
-  asks : Wish → Reading
+  asks : Statement → Reading
 
 -- a number sign stands first
 abbrev pub is_comment : List ℕ → Bool
@@ -178,16 +178,16 @@ unfoldable pub text_of : List ℕ → Option (List ℕ)
 text_of bytes = if is_utf8 bytes then Some bytes else None
 
 -- a text that asks for nothing is bad
-abbrev pub asked : Option Wish → Reading
+abbrev pub asked : Option Statement → Reading
 asked None = bad
-asked (Some wish) = asks wish
+asked (Some statement) = asks statement
 
 -- a blank line and a comment are skipped, and any other line is text that asks for something, or bad
 unfoldable pub reading_of : List ℕ → Reading
 reading_of bytes =
     if is_blank bytes || is_comment bytes
     then skipped
-    else asked (text_of bytes >>= wish_of)
+    else asked (text_of bytes >>= statement_of)
 
 -- the task that a job of the code stands for
 abbrev pub task_view : Job → Task
@@ -197,29 +197,29 @@ task_view job.Checkpoint = checkpoint
 task_view (job.Tail max offset) = tail max offset.now
 
 -- what a line of the code asks for
-abbrev pub wish_view : Line → Wish
-wish_view (line.Create id at schema) = create id.now at schema.now
-wish_view (line.Job job) = task (task_view job)
-wish_view line.Snapshot = snapshot
-wish_view line.History = history
-wish_view (line.Show version) = show version
-wish_view (line.Hex name) = hex name.now
-wish_view (line.Tries count) = tries count
-wish_view (line.Fault kind) = fault kind
-wish_view (line.Start actor job) = start actor.now (task_view job)
-wish_view (line.Until actor) = until actor.now
-wish_view (line.Step actor kind) = step actor.now kind
-wish_view (line.Finish actor) = finish actor.now
-wish_view (line.Die actor) = die actor.now
-wish_view (line.Land put) = land put
-wish_view (line.Foreign version action) = foreign version action.now
+abbrev pub statement_view : Line → Statement
+statement_view (line.Create id at schema) = create id.now at schema.now
+statement_view (line.Job job) = task (task_view job)
+statement_view line.Snapshot = snapshot
+statement_view line.History = history
+statement_view (line.Show version) = show version
+statement_view (line.Hex name) = hex name.now
+statement_view (line.Tries count) = tries count
+statement_view (line.Fault kind) = fault kind
+statement_view (line.Start actor job) = start actor.now (task_view job)
+statement_view (line.Until actor) = until actor.now
+statement_view (line.Step actor kind) = step actor.now kind
+statement_view (line.Finish actor) = finish actor.now
+statement_view (line.Die actor) = die actor.now
+statement_view (line.Land put) = land put
+statement_view (line.Foreign version action) = foreign version action.now
 
 -- a moment fits where a commit keeps one
 abbrev pub IsTimelyTask : Task → Type 0
 IsTimelyTask (append application number at rows) = at < 2 ^ 63
 IsTimelyTask _ = ⊤
 
-abbrev pub IsTimely : Wish → Type 0
+abbrev pub IsTimely : Statement → Type 0
 IsTimely (create id at schema) = at < 2 ^ 63
 IsTimely (task job) = IsTimelyTask job
 IsTimely _ = ⊤
@@ -228,4 +228,4 @@ IsTimely _ = ⊤
 abbrev pub reading_view : readings.Reading → Reading
 reading_view view.Skipped = skipped
 reading_view view.Bad = bad
-reading_view (view.Asks line) = asks (wish_view line)
+reading_view (view.Asks line) = asks (statement_view line)

@@ -48,3 +48,13 @@ is_short (NoSnapshot snapshot_faults.TooLarge) = true
 is_short (NoHistory stores.Memory) = true
 is_short (Unanswered stores.Memory) = true
 is_short _ = false
+
+-- the store lost a call
+abbrev pub says_lost : Reply → Bool
+says_lost (NotCreated creating.Lost) = true
+says_lost (NotAppended (appending.Lost version)) = true
+says_lost (NotTailed tailing.Lost) = true
+says_lost (NoSnapshot snapshot_faults.Lost) = true
+says_lost (NoHistory stores.Lost) = true
+says_lost (Unanswered stores.Lost) = true
+says_lost _ = false

@@ -11,7 +11,7 @@ use Rattle.lake_script.specs.Growth.{MayPut}
 use Rattle.commit_core.specs.Histories.{unanswered}
 use Rattle.snapshot_core.specs.Taking as checkpoints
 use Rattle.lake_script.specs.Checkpoints.{not_put_text, too_large}
-use Rattle.lake_script.specs.Lines.{append, checkpoint, tail, Wish, create, task, history, show, hex, snapshot, foreign, Reading, skipped, bad, asks, reading_of}
+use Rattle.lake_script.specs.Lines.{append, checkpoint, tail, Statement, create, task, history, show, hex, snapshot, foreign, Reading, skipped, bad, asks, reading_of}
 use Rattle.sink_core.specs.Refusals.{refusal_text, memory, file_too_large}
 use Rattle.commit_core.specs.Texts.{create_fault_text, refused, line_of}
 use Rattle.lake_script.specs.Replies.{bad_line}
@@ -19,7 +19,7 @@ use Rattle.lake_script.specs.Streams.{StandsIn}
 use Rattle.source_core.specs.TailFaults as tail_texts
 use Rattle.source_core.specs.Tailing as tails
 use Rattle.delta_actions.specs.Commit.{lines_of}
-use Rattle.lake_script.specs.Told.{is_bad, IsPrintedWish, reply_to_wish, left_by_wish}
+use Rattle.lake_script.specs.Told.{is_bad, IsPrintedStatement, reply_to_statement, left_by_statement}
 
 -- the replies to lines that create a table, append a batch, show or put an object, read rows, and put a checkpoint or tell
 -- the snapshot or the history, where a growth was refused
@@ -39,7 +39,7 @@ abbrev pub no_room_to_tell : List ℕ
 no_room_to_tell = line_of (refused (unanswered store_faults.Memory))
 
 -- the reply to a line whose growth was refused; no other line is told so
-abbrev pub IsWantOfMemory : Wish → List ℕ → Type 0
+abbrev pub IsWantOfMemory : Statement → List ℕ → Type 0
 IsWantOfMemory (create id at schema) reply = reply ≡ no_room_to_create
 IsWantOfMemory (task (append application number at rows)) reply = reply ≡ no_room_to_append
 IsWantOfMemory (task (tail max offset)) reply = reply ≡ no_room_to_read
@@ -64,40 +64,40 @@ too_large_to_checkpoint = line_of (refused (not_put_text too_large))
 -- the reply to a line over these objects whose object would pass 64 MiB: the text to a creation, which is told so for
 -- nothing else; the text to an append, and the file of its batch would pass them; or that to a checkpoint, and its bytes
 -- would
-abbrev pub IsTooLarge : Objects → Wish → List ℕ → Type 0
+abbrev pub IsTooLarge : Objects → Statement → List ℕ → Type 0
 IsTooLarge objects (create id at schema) reply = reply ≡ too_large_to_create
 IsTooLarge objects (task (append application number at rows)) reply = (reply ≡ too_large_to_append) × (settled false objects application number at rows ≡ Err file_too_large)
 IsTooLarge objects (task checkpoint) reply = (reply ≡ too_large_to_checkpoint) × checkpoints.IsTooLarge false objects
 IsTooLarge objects _ reply = ⊥
 
 -- the reply to a line over these objects tells that a growth was refused, or that an object would pass 64 MiB
-abbrev pub IsShort : Objects → Wish → List ℕ → Type 0
-IsShort objects wish reply = IsWantOfMemory wish reply ⊎ IsTooLarge objects wish reply
+abbrev pub IsShort : Objects → Statement → List ℕ → Type 0
+IsShort objects statement reply = IsWantOfMemory statement reply ⊎ IsTooLarge objects statement reply
 
 -- the objects behind a line whose growth was refused: as they were, or with the file of the batch that it appends
-abbrev pub MayLeave : Objects → Wish → Objects → Type 0
+abbrev pub MayLeave : Objects → Statement → Objects → Type 0
 MayLeave objects (task (append application number at rows)) after = MayHoldFile objects (settled false objects application number at rows) after
 MayLeave objects _ after = after ≡ objects
 
 -- a line has what it asks for, with some text beside it
-abbrev pub Has : Objects → Wish → List ℕ → Objects → Type 0
-Has objects wish reply after = (printed : List ℕ) × IsPrintedWish objects wish printed × (reply ≡ reply_to_wish objects wish printed) × (after ≡ left_by_wish objects wish printed)
+abbrev pub Has : Objects → Statement → List ℕ → Objects → Type 0
+Has objects statement reply after = (printed : List ℕ) × IsPrintedStatement objects statement printed × (reply ≡ reply_to_statement objects statement printed) × (after ≡ left_by_statement objects statement printed)
 
 -- a line has what it asks for, or is told of want of memory and leaves the objects as they were, but for a batch's file
-abbrev pub Grants : Objects → Wish → List ℕ → Objects → Type 0
-Grants objects wish reply after = Has objects wish reply after ⊎ (IsWantOfMemory wish reply × MayLeave objects wish after)
+abbrev pub Executes : Objects → Statement → List ℕ → Objects → Type 0
+Executes objects statement reply after = Has objects statement reply after ⊎ (IsWantOfMemory statement reply × MayLeave objects statement after)
 
 -- the reply to a line of that number, and the objects behind it; what was put is well made
 abbrev pub Replies : ℕ → Objects → Reading → List ℕ → Objects → Type 0
 Replies number objects skipped reply after = (reply ≡ []) × (after ≡ objects)
 Replies number objects bad reply after = (reply ≡ bad_line number) × (after ≡ objects)
-Replies number objects (asks wish) reply after = Grants objects wish reply after × MayPut objects wish after
+Replies number objects (asks statement) reply after = Executes objects statement reply after × MayPut objects statement after
 
 -- the reply to a line tells so
 abbrev pub TellsShort : Objects → Reading → List ℕ → Type 0
 TellsShort objects skipped reply = ⊥
 TellsShort objects bad reply = ⊥
-TellsShort objects (asks wish) reply = IsShort objects wish reply
+TellsShort objects (asks statement) reply = IsShort objects statement reply
 
 -- the objects behind a line that was told nothing: it wasn't read, or its reply wasn't given
 abbrev pub IsCutOff : ℕ → Objects → Reading → Objects → Type 0

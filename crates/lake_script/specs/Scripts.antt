@@ -1,15 +1,22 @@
--- What holds of a whole script that began with an empty store.
-use Rattle.std.specs.Prelude.{◌≡◌, ◌++◌, ℕ, List, [], Option}
+-- What holds of a whole script that begins with a store which keeps a table, or nothing.
+use Rattle.std.specs.Prelude.{◌≡◌, ◌≤◌, ◌+◌, ◌++◌, ℕ, List, [], ◌∷◌, length, Option, if◌then◌else◌}
 use Rattle.std.specs.Io.KnownBytes.{Appends}
 use Rattle.store_core.specs.Objects.{Objects}
 use Rattle.table_store.specs.Holds.{Holds}
 use Rattle.table_model.specs.Lawful.{IsLawful}
-use Rattle.lake_script.specs.Tables.{State, nothing, table, told, told_from, left, entries_of, AreOfTable}
 use Rattle.source_core.specs.Tails.{HandOutTheLog, HandOutAll, AreAnswered}
 use Rattle.delta_actions.specs.Commit.{lines_of}
-use Rattle.lake_script.specs.Told.{ArePutHere}
+use Rattle.table_store.specs.LawfulLogs.{HasLawfulLog}
+use Rattle.commit_core.specs.Sound.{IsSoundStore}
+use Rattle.lake_script.specs.Keeps.{Keeps, KeepsBeside}
+use Rattle.lake_script.specs.Lines.{Statement, hex, show, snapshot, foreign, Reading, skipped, bad, asks, reading_of}
+use Rattle.lake_script.specs.Replies.{bad_line}
+use Rattle.lake_script.specs.Tables as tables
+use Rattle.lake_script.specs.Tables.{State, nothing, table, expected_from, expected_output, left, entries_of, AreOfTable}
+use Rattle.lake_script.specs.Told as told
+use Rattle.lake_script.specs.Told.{is_bad, ArePrinted, ArePutHere}
 
--- the store holds the table that a script has made
+-- the store holds this table, or nothing stands
 abbrev pub HoldsState : Objects → State → Type 0
 HoldsState objects nothing = objects ≡ []
 HoldsState objects (table schema entries) = Holds objects schema entries × IsLawful entries
@@ -26,17 +33,58 @@ pub record ReadsOut (objects : Objects) (state : State) : Type 0 where
   pub up_to : HandOutTheLog objects (entries_of state)
   pub all : HandOutAll objects (entries_of state)
 
+-- ---- objects that are shown
+
+-- The reply to what a line asks for: an object that is shown and the snapshot are those of the objects in front of the
+-- line, and all else is told by the table.
+abbrev pub reply_over : State → Objects → Statement → (printed : List ℕ) → List ℕ
+reply_over state objects snapshot printed = told.reply_to_statement objects snapshot printed
+reply_over state objects (show version) printed = told.reply_to_statement objects (show version) printed
+reply_over state objects (hex name) printed = told.reply_to_statement objects (hex name) printed
+reply_over state objects (foreign version action) printed = told.reply_to_statement objects (foreign version action) printed
+reply_over state objects statement printed = tables.reply_to_statement state statement
+
+-- the same of a line that is read, of that number
+abbrev pub line_over : ℕ → State → Objects → Reading → (printed : List ℕ) → List ℕ
+line_over number state objects skipped printed = []
+line_over number state objects bad printed = bad_line number
+line_over number state objects (asks statement) printed = reply_over state objects statement printed
+
+-- What is told for these lines, of which the first has that number, by a table and the objects that keep it.
+unfoldable pub expected_over : ℕ → State → Objects → (lines texts : List (List ℕ)) → List ℕ
+expected_over number state objects [] texts = []
+expected_over number state objects (line ∷ lines) [] = []
+expected_over number state objects (line ∷ lines) (printed ∷ texts) =
+    line_over number state objects (reading_of line) printed
+    ++ (if is_bad (reading_of line) then [] else expected_over (number + 1) (tables.left_by state (reading_of line)) (told.left_by objects (reading_of line) printed) lines texts)
+
+-- that is what was written, for some texts that stand beside the lines
+abbrev pub IsExpectedOver : (held written : Option (List ℕ)) → State → Objects → (lines : List (List ℕ)) → Type 0
+IsExpectedOver held written state objects lines = (texts : List (List ℕ)) × ArePrinted objects lines texts × Appends held written (expected_over 1 state objects lines texts)
+
+-- ---- a whole script
+
 -- What is written behind what was held begins with what the plain table tells for the lines in front of the first that
 -- shows an object, tells the snapshot or puts another tool's commit.
-abbrev pub BeginsByTable : (held written : Option (List ℕ)) (text : List ℕ) → Type 0
-BeginsByTable held written text =
-    (front rest : List (List ℕ)) → lines_of text ≡ front ++ rest → AreOfTable front → (more : List ℕ) × Appends held written (told_from 1 nothing front ++ more)
+abbrev pub BeginsByTable : State → (held written : Option (List ℕ)) (text : List ℕ) → Type 0
+BeginsByTable state held written text =
+    (front rest : List (List ℕ)) → lines_of text ≡ front ++ rest → AreOfTable front → (more : List ℕ) × Appends held written (expected_from 1 state front ++ more)
 
--- What is written behind what was held is what the plain table tells, where no line shows an object, tells the snapshot or
--- puts another tool's commit, and begins with that in any case. Where none puts such a commit, the objects hold the table that the lines leave,
--- and reads over them that follow one another hand out its rows.
-pub record IsScript (held written : Option (List ℕ)) (text : List ℕ) (objects : Objects) : Type 0 where
-  pub by_table : AreOfTable (lines_of text) → Appends held written (told text)
-  pub begins : BeginsByTable held written text
-  pub holds : ArePutHere (lines_of text) → HoldsState objects (left text)
-  pub reads : ArePutHere (lines_of text) → ReadsOut objects (left text)
+-- Over objects that keep a table, or nothing, what is written behind what was held is what the plain table tells, where
+-- no line shows an object, tells the snapshot or puts another tool's commit, and begins with that in any case. Where
+-- none puts such a commit, what is shown is told by the objects and all else by the table, the objects behind the
+-- script keep the table that the lines leave, and reads over them that follow one another hand out its rows.
+pub record IsScript (state : State) (held written : Option (List ℕ)) (text : List ℕ) (before after : Objects) : Type 0 where
+  pub by_table : AreOfTable (lines_of text) → Appends held written (expected_output state text)
+  pub begins : BeginsByTable state held written text
+  pub over : ArePutHere (lines_of text) → IsExpectedOver held written state before (lines_of text)
+  pub keeps : ArePutHere (lines_of text) → Keeps after (left state text)
+  pub holds : ArePutHere (lines_of text) → HoldsState after (left state text)
+  pub reads : ArePutHere (lines_of text) → ReadsOut after (left state text)
+
+-- However a run ends, the store is sound behind it and its log is lawful, and it keeps a table, of no more new entries
+-- than the script has lines; data files of other batches may stand.
+pub record StaysSound (state : State) (lines : ℕ) (after : Objects) : Type 0 where
+  pub sound : IsSoundStore after
+  pub lawful : HasLawfulLog after
+  pub keeps : (left : State) × KeepsBeside after left × (length (entries_of left) ≤ length (entries_of state) + lines)

@@ -7,33 +7,33 @@ use Rattle.store_core.specs.Objects.{Objects}
 use Rattle.sink_core.specs.Appending.{settled, PutsWell}
 use Rattle.commit_core.specs.Creating.{too_large, commit_from, CreatesWell}
 use Rattle.lake_script.specs.Checkpoints.{checkpoint_by, IsWellPut}
-use Rattle.lake_script.specs.Lines.{append, checkpoint, Wish, create, task, Reading, skipped, bad, asks, reading_of}
+use Rattle.lake_script.specs.Lines.{append, checkpoint, Statement, create, task, Reading, skipped, bad, asks, reading_of}
 use Rattle.sink_core.specs.Refusals.{file_too_large}
 use Rattle.lake_script.specs.Streams.{StandsIn}
-use Rattle.lake_script.specs.Told.{is_bad, UnlessBad, IsPrintedWish, IsPrintedLine, ArePrinted, ArePrintedInPart, reply_to_wish, left_by_wish, reply_to, left_by}
+use Rattle.lake_script.specs.Told.{is_bad, UnlessBad, IsPrintedStatement, IsPrintedLine, ArePrinted, ArePrintedInPart, reply_to_statement, left_by_statement, reply_to, left_by}
 use Rattle.lake_script.specs.Told as scripts
 
 -- what a line puts is well made, and didn't pass 64 MiB; another tool's commit may be anything
-abbrev pub IsSoundWish : Objects → Wish → (printed : List ℕ) → Type 0
-IsSoundWish objects (create id at schema) printed = CreatesWell at schema (commit_from id at schema printed) × (commit_from id at schema printed ≢ Err too_large)
-IsSoundWish objects (task (append application number at items)) printed = IsUtf8 application
+abbrev pub IsSoundStatement : Objects → Statement → (printed : List ℕ) → Type 0
+IsSoundStatement objects (create id at schema) printed = CreatesWell at schema (commit_from id at schema printed) × (commit_from id at schema printed ≢ Err too_large)
+IsSoundStatement objects (task (append application number at items)) printed = IsUtf8 application
     × PutsWell application number at (settled false objects application number at items) × (settled false objects application number at items ≢ Err file_too_large)
-IsSoundWish objects (task checkpoint) printed = IsWellPut (checkpoint_by objects printed)
-IsSoundWish objects _ printed = Unit {0}
+IsSoundStatement objects (task checkpoint) printed = IsWellPut (checkpoint_by objects printed)
+IsSoundStatement objects _ printed = Unit {0}
 
 -- A line is told what it asks for, leaves what it is to leave, and what it puts is well made, with a text beside it.
-pub record IsGranted (objects : Objects) (wish : Wish) (reply : List ℕ) (after : Objects) : Type 0 where
+pub record IsExecuted (objects : Objects) (statement : Statement) (reply : List ℕ) (after : Objects) : Type 0 where
   pub text : List ℕ
-  pub printed : IsPrintedWish objects wish text
-  pub told : reply ≡ reply_to_wish objects wish text
-  pub left : after ≡ left_by_wish objects wish text
-  pub sound : IsSoundWish objects wish text
+  pub printed : IsPrintedStatement objects statement text
+  pub told : reply ≡ reply_to_statement objects statement text
+  pub left : after ≡ left_by_statement objects statement text
+  pub sound : IsSoundStatement objects statement text
 
 -- the same of a line that is read
 abbrev pub IsSound : Objects → Reading → (printed : List ℕ) → Type 0
 IsSound objects skipped printed = Unit {0}
 IsSound objects bad printed = Unit {0}
-IsSound objects (asks wish) printed = IsSoundWish objects wish printed
+IsSound objects (asks statement) printed = IsSoundStatement objects statement printed
 
 -- the same of a line of that number, behind whose reply the output holds `new`
 pub record IsAnswered (number : ℕ) (objects : Objects) (reading : Reading) (old new : Option (List ℕ)) (after : Objects) : Type 0 where
@@ -55,7 +55,7 @@ AreSound objects (line ∷ lines) (printed ∷ texts) =
 pub record IsRun (objects : Objects) (script : List ℕ) (old new : Option (List ℕ)) (after : Objects) : Type 0 where
   pub texts : List (List ℕ)
   pub printed : ArePrinted objects (lines_of script) texts
-  pub told : Appends old new (scripts.told objects script texts)
+  pub told : Appends old new (scripts.expected_output objects script texts)
   pub left : after ≡ scripts.left objects script texts
   pub sound : AreSound objects (lines_of script) texts
 
@@ -63,4 +63,4 @@ pub record IsRun (objects : Objects) (script : List ℕ) (old new : Option (List
 pub record IsRunInPart (objects : Objects) (script : List ℕ) (old new : Option (List ℕ)) : Type 0 where
   pub texts : List (List ℕ)
   pub printed : ArePrintedInPart objects (lines_of script) texts
-  pub stands : StandsIn old new (scripts.told objects script texts)
+  pub stands : StandsIn old new (scripts.expected_output objects script texts)

@@ -1,6 +1,7 @@
--- What a script is told, by a plain table: a schema and a list of entries, one a version. No store, file or commit is
--- spoken of; a data file's name stands in one reply. A checkpoint changes no entry. Lines that show an object, tell the
--- snapshot or put another tool's commit are none of a table's, so nothing is said of them here (`AreOfTable`).
+-- What a script is told, by the plain table that there is: a schema and a list of entries, one a version. No store,
+-- file or commit is spoken of; a data file's name stands in one reply. A checkpoint changes no entry. Lines that show
+-- an object, tell the snapshot or put another tool's commit are none of a table's, so nothing is said of them here
+-- (`AreOfTable`).
 use Rattle.std.specs.Prelude.{ℕ, suc, ◌+◌, ◌-◌, List, length, [], ◌∷◌, ◌++◌, Option, None, Some, Result, Ok, Err, codes, if◌then◌else◌}
 use Rattle.std.specs.Fmt.{decimal}
 use Rattle.std.specs.List.{flat_map}
@@ -10,7 +11,7 @@ use Rattle.delta_actions.specs.Names.{data_file_name}
 use Rattle.table_model.specs.Appends.{appended, with_batch}
 use Rattle.table_model.specs.declared.table.Appended.{Appended}
 use Rattle.table_model.specs.declared.table.Appended.TheVariants.{Committed, Already, Stale, Differs, StreamClosed}
-use Rattle.table_model.specs.declared.reading.Place.{Place}
+use Rattle.table_model.specs.declared.reading.Offset.{Offset}
 use Rattle.table_model.specs.Reads.{Answer, handed, beyond, bad_place, read}
 use Rattle.schema_tree.specs.Tree.{Tree}
 use Rattle.sink_core.specs.Appending.{checked, count}
@@ -20,7 +21,7 @@ use Rattle.commit_core.specs.Histories.{close_told, number_told}
 use Rattle.commit_core.specs.Histories as histories
 use Rattle.snapshot_core.specs.Faults.{bad_log, unsupported}
 use Rattle.lake_script.specs.Checkpoints.{by_log, checkpointed_at, not_put_text}
-use Rattle.lake_script.specs.Lines.{Wish, create, task, history, show, hex, snapshot, foreign, append, checkpoint, tail, Reading, skipped, bad, asks, reading_of}
+use Rattle.lake_script.specs.Lines.{Statement, create, task, history, show, hex, snapshot, foreign, append, checkpoint, tail, Reading, skipped, bad, asks, reading_of}
 use Rattle.source_core.specs.Offsets.{offset_of}
 use Rattle.sink_core.specs.Refusals as appends
 use Rattle.commit_core.specs.Texts as texts
@@ -34,7 +35,7 @@ use Rattle.source_core.specs.TailFaults as tail_texts
 use Rattle.delta_actions.specs.Commit.{lines_of}
 use Rattle.lake_script.specs.Told.{is_bad, not_yet}
 
--- what a script has made so far: no table, or one of a schema and its entries
+-- what there is: no table, or one of a schema and its entries
 pub data State : Type 0 where
   nothing : State
   table : (schema : Tree) → List Entry → State
@@ -96,15 +97,15 @@ read_text schema (handed rows next) = tails.rows_text schema rows ++ tails.next_
 read_text schema (beyond next) = line_of (refused (tail_texts.refusal_text (tails.beyond_log next)))
 read_text schema (bad_place version) = line_of (refused (tail_texts.refusal_text (tails.bad_place version)))
 
--- a read from a place on
-abbrev pub read_from : State → (max : ℕ) → Place → List ℕ
-read_from nothing max place = line_of (refused (tail_texts.refusal_text (tails.bad_log 0)))
-read_from (table schema entries) max place = read_text schema (read max place entries)
+-- a read from an offset on
+abbrev pub read_from : State → (max : ℕ) → Offset → List ℕ
+read_from nothing max offset = line_of (refused (tail_texts.refusal_text (tails.bad_log 0)))
+read_from (table schema entries) max offset = read_text schema (read max offset entries)
 
 -- a read from an offset on, where its text can be read
-abbrev pub tail_reply : State → (max : ℕ) → Option Place → List ℕ
+abbrev pub tail_reply : State → (max : ℕ) → Option Offset → List ℕ
 tail_reply state max None = line_of (refused (tail_texts.refusal_text tails.bad_offset))
-tail_reply state max (Some place) = read_from state max place
+tail_reply state max (Some offset) = read_from state max offset
 
 -- ---- history
 
@@ -133,56 +134,56 @@ checkpoint_reply (table schema entries) =
 -- ---- lines
 
 -- the reply to what a line asks for; a line that isn't there yet is told so
-abbrev pub reply_to_wish : State → Wish → List ℕ
-reply_to_wish state (create id at schema) = created_reply (creating state (described id schema))
-reply_to_wish state (task (append application number at items)) = appended_reply state (batch_in state application number items)
-reply_to_wish state (task (tail max offset)) = tail_reply state max (offset_of offset)
-reply_to_wish state (task checkpoint) = checkpoint_reply state
-reply_to_wish state history = history_reply state
-reply_to_wish state _ = not_yet
+abbrev pub reply_to_statement : State → Statement → List ℕ
+reply_to_statement state (create id at schema) = created_reply (creating state (described id schema))
+reply_to_statement state (task (append application number at items)) = appended_reply state (batch_in state application number items)
+reply_to_statement state (task (tail max offset)) = tail_reply state max (offset_of offset)
+reply_to_statement state (task checkpoint) = checkpoint_reply state
+reply_to_statement state history = history_reply state
+reply_to_statement state _ = not_yet
 
 -- the table behind it
-abbrev pub left_by_wish : State → Wish → State
-left_by_wish state (create id at schema) = with_table state (creating state (described id schema))
-left_by_wish state (task (append application number at items)) = with_append state (batch_in state application number items)
-left_by_wish state _ = state
+abbrev pub left_by_statement : State → Statement → State
+left_by_statement state (create id at schema) = with_table state (creating state (described id schema))
+left_by_statement state (task (append application number at items)) = with_append state (batch_in state application number items)
+left_by_statement state _ = state
 
 -- the reply to a line of that number
 abbrev pub reply_to : ℕ → State → Reading → List ℕ
 reply_to number state skipped = []
 reply_to number state bad = bad_line number
-reply_to number state (asks wish) = reply_to_wish state wish
+reply_to number state (asks statement) = reply_to_statement state statement
 
 -- the table behind a line
 abbrev pub left_by : State → Reading → State
 left_by state skipped = state
 left_by state bad = state
-left_by state (asks wish) = left_by_wish state wish
+left_by state (asks statement) = left_by_statement state statement
 
 -- what is told for these lines, of which the first has that number; nothing is told behind a bad line
-unfoldable pub told_from : ℕ → State → List (List ℕ) → List ℕ
-told_from number state [] = []
-told_from number state (line ∷ lines) =
+unfoldable pub expected_from : ℕ → State → List (List ℕ) → List ℕ
+expected_from number state [] = []
+expected_from number state (line ∷ lines) =
     reply_to number state (reading_of line)
-    ++ (if is_bad (reading_of line) then [] else told_from (number + 1) (left_by state (reading_of line)) lines)
+    ++ (if is_bad (reading_of line) then [] else expected_from (number + 1) (left_by state (reading_of line)) lines)
 
 -- the table behind these lines; a bad line ends them
 unfoldable pub left_from : State → List (List ℕ) → State
 left_from state [] = state
 left_from state (line ∷ lines) = if is_bad (reading_of line) then state else left_from (left_by state (reading_of line)) lines
 
--- what is told for a script, its lines counted from 1, when there is no table at first
-abbrev pub told : List ℕ → List ℕ
-told script = told_from 1 nothing (lines_of script)
+-- what is told for a script, its lines counted from 1
+abbrev pub expected_output : State → (script : List ℕ) → List ℕ
+expected_output state script = expected_from 1 state (lines_of script)
 
 -- the table that a script leaves
-abbrev pub left : List ℕ → State
-left script = left_from nothing (lines_of script)
+abbrev pub left : State → (script : List ℕ) → State
+left state script = left_from state (lines_of script)
 
 -- ---- which lines are told by the table alone
 
 -- a line neither shows an object of the store, nor tells its snapshot, nor puts another tool's commit
-abbrev pub AsksTable : Wish → Type 0
+abbrev pub AsksTable : Statement → Type 0
 AsksTable snapshot = ⊥
 AsksTable (show version) = ⊥
 AsksTable (hex name) = ⊥
@@ -192,7 +193,7 @@ AsksTable _ = Unit {0}
 abbrev pub IsOfTable : Reading → Type 0
 IsOfTable skipped = Unit {0}
 IsOfTable bad = Unit {0}
-IsOfTable (asks wish) = AsksTable wish
+IsOfTable (asks statement) = AsksTable statement
 
 -- no line shows an object of the store, tells its snapshot or puts another tool's commit
 abbrev pub AreOfTable : List (List ℕ) → Type 0

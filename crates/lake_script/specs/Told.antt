@@ -1,6 +1,6 @@
--- What a script is told. Beside a line that creates a table stands the text that its schema is printed as, beside one that
--- puts a checkpoint its bytes, and beside one that tells a snapshot its text: no other line looks at the text that stands
--- beside it. All is told by the whole log: that a log may be read from a checkpoint doesn't show.
+-- What a script is told. Beside a line that creates a table stands the text that its schema is printed as, beside one
+-- that puts a checkpoint its bytes, and beside one that tells a snapshot its text: no other line looks at the text that
+-- stands beside it. All is told by the whole log: that a log may be read from a checkpoint doesn't show.
 use Rattle.std.specs.Prelude.{◌≡◌, ◌==◌, ◌+◌, ◌++◌, ℕ, Bool, true, false, List, [], ◌∷◌, Option, Some, None, Result, Ok, Err, ⊤, if◌then◌else◌}
 use Rattle.delta_actions.specs.Commit.{lines_of}
 use Rattle.hex.specs.Hex.{encode_lower}
@@ -18,7 +18,7 @@ use Rattle.commit_core.specs.Creating.{commit_from, created_by, with_creation, I
 use Rattle.commit_core.specs.Histories.{history_of}
 use Rattle.snapshot_core.specs.Faults.{readable_log}
 use Rattle.lake_script.specs.Checkpoints.{checkpoint_by, checkpoint_reply, snapshot_reply, with_checkpoint, IsItsCheckpoint, IsItsSnapshot}
-use Rattle.lake_script.specs.Lines.{append, checkpoint, tail, Wish, create, task, history, show, hex, snapshot, foreign, Reading, skipped, bad, asks, reading_of}
+use Rattle.lake_script.specs.Lines.{append, checkpoint, tail, Statement, create, task, history, show, hex, snapshot, foreign, Reading, skipped, bad, asks, reading_of}
 use Rattle.sink_core.specs.Refusals.{Refusal, refusal_text}
 use Rattle.lake_script.specs.Replies.{fault_text, created, committed_at, already, put_word, bad_line}
 use Rattle.commit_core.specs.Texts as texts
@@ -69,48 +69,48 @@ not_yet = line_of (refused (fault_text NotYet))
 
 -- the text is one that the schema of a line that creates a table is printed as, the bytes of the checkpoint that a line
 -- puts, or the text of the snapshot that a line tells, over these objects
-abbrev pub IsPrintedWish : Objects → Wish → (printed : List ℕ) → Type 0
-IsPrintedWish objects (create id at schema) printed = IsPrintedFor id schema printed
-IsPrintedWish objects (task checkpoint) printed = IsItsCheckpoint objects printed
-IsPrintedWish objects snapshot printed = IsItsSnapshot objects printed
-IsPrintedWish objects _ printed = Unit {0}
+abbrev pub IsPrintedStatement : Objects → Statement → (printed : List ℕ) → Type 0
+IsPrintedStatement objects (create id at schema) printed = IsPrintedFor id schema printed
+IsPrintedStatement objects (task checkpoint) printed = IsItsCheckpoint objects printed
+IsPrintedStatement objects snapshot printed = IsItsSnapshot objects printed
+IsPrintedStatement objects _ printed = Unit {0}
 
 -- the reply to what a line asks for, over the objects that stand
-abbrev pub reply_to_wish : Objects → Wish → (printed : List ℕ) → List ℕ
-reply_to_wish objects (create id at schema) printed = created_reply (created_by objects id at schema printed)
-reply_to_wish objects (task (append application number at rows)) printed = appended_reply (appended_by false objects application number at rows)
-reply_to_wish objects (task (tail max offset)) printed = tailed_reply (tailed false objects max offset)
-reply_to_wish objects (task checkpoint) printed = checkpoint_reply (checkpoint_by objects printed)
-reply_to_wish objects snapshot printed = snapshot_reply (readable_log false objects) printed
-reply_to_wish objects history printed = history_of objects
-reply_to_wish objects (show version) printed = shown (object_at objects (commit_name version))
-reply_to_wish objects (hex name) printed = in_hex (object_at objects name)
-reply_to_wish objects (foreign version action) printed = line_of (put_word (object_at objects (commit_name version)))
-reply_to_wish objects _ printed = not_yet
+abbrev pub reply_to_statement : Objects → Statement → (printed : List ℕ) → List ℕ
+reply_to_statement objects (create id at schema) printed = created_reply (created_by objects id at schema printed)
+reply_to_statement objects (task (append application number at rows)) printed = appended_reply (appended_by false objects application number at rows)
+reply_to_statement objects (task (tail max offset)) printed = tailed_reply (tailed false objects max offset)
+reply_to_statement objects (task checkpoint) printed = checkpoint_reply (checkpoint_by objects printed)
+reply_to_statement objects snapshot printed = snapshot_reply (readable_log false objects) printed
+reply_to_statement objects history printed = history_of objects
+reply_to_statement objects (show version) printed = shown (object_at objects (commit_name version))
+reply_to_statement objects (hex name) printed = in_hex (object_at objects name)
+reply_to_statement objects (foreign version action) printed = line_of (put_word (object_at objects (commit_name version)))
+reply_to_statement objects _ printed = not_yet
 
 -- the objects that stand once a line has what it asks for
-abbrev pub left_by_wish : Objects → Wish → (printed : List ℕ) → Objects
-left_by_wish objects (create id at schema) printed = with_creation objects (commit_from id at schema printed)
-left_by_wish objects (task (append application number at rows)) printed = with_append objects (settled false objects application number at rows)
-left_by_wish objects (task checkpoint) printed = with_checkpoint objects printed (checkpoint_by objects printed)
-left_by_wish objects (foreign version action) printed = with_object objects (commit_name version) (line_of action)
-left_by_wish objects _ printed = objects
+abbrev pub left_by_statement : Objects → Statement → (printed : List ℕ) → Objects
+left_by_statement objects (create id at schema) printed = with_creation objects (commit_from id at schema printed)
+left_by_statement objects (task (append application number at rows)) printed = with_append objects (settled false objects application number at rows)
+left_by_statement objects (task checkpoint) printed = with_checkpoint objects printed (checkpoint_by objects printed)
+left_by_statement objects (foreign version action) printed = with_object objects (commit_name version) (line_of action)
+left_by_statement objects _ printed = objects
 
 -- the same three of a line as it is read, of that number
 abbrev pub IsPrintedLine : Objects → Reading → (printed : List ℕ) → Type 0
 IsPrintedLine objects skipped printed = Unit {0}
 IsPrintedLine objects bad printed = Unit {0}
-IsPrintedLine objects (asks wish) printed = IsPrintedWish objects wish printed
+IsPrintedLine objects (asks statement) printed = IsPrintedStatement objects statement printed
 
 abbrev pub reply_to : ℕ → Objects → Reading → (printed : List ℕ) → List ℕ
 reply_to number objects skipped printed = []
 reply_to number objects bad printed = bad_line number
-reply_to number objects (asks wish) printed = reply_to_wish objects wish printed
+reply_to number objects (asks statement) printed = reply_to_statement objects statement printed
 
 abbrev pub left_by : Objects → Reading → (printed : List ℕ) → Objects
 left_by objects skipped printed = objects
 left_by objects bad printed = objects
-left_by objects (asks wish) printed = left_by_wish objects wish printed
+left_by objects (asks statement) printed = left_by_statement objects statement printed
 
 -- a line doesn't put another tool's commit
 abbrev pub IsPutHere : Reading → Type 0
@@ -126,14 +126,15 @@ ArePutHere (line ∷ lines) = IsPutHere (reading_of line) × ArePutHere lines
 abbrev pub is_bad : Reading → Bool
 is_bad skipped = false
 is_bad bad = true
-is_bad (asks wish) = false
+is_bad (asks statement) = false
 
 -- what holds where a line isn't bad
 abbrev pub UnlessBad : Bool → Type 0 → Type 0
 UnlessBad true Holds = Unit {0}
 UnlessBad false Holds = Holds
 
--- One text stands beside each of these lines, up to the first bad one, and is one of its own over the objects in front of it.
+-- One text stands beside each of these lines, up to the first bad one, and is one of its own over the objects in front
+-- of it.
 unfoldable pub ArePrinted : Objects → (lines texts : List (List ℕ)) → Type 0
 ArePrinted objects [] texts = Unit {0}
 ArePrinted objects (line ∷ lines) [] = ⊥
@@ -149,12 +150,12 @@ ArePrintedInPart objects (line ∷ lines) (printed ∷ texts) =
 
 -- What is told for these lines, of which the first has that number; nothing is told behind a bad line, nor for a line
 -- beside which no text stands.
-unfoldable pub told_from : ℕ → Objects → (lines texts : List (List ℕ)) → List ℕ
-told_from number objects [] texts = []
-told_from number objects (line ∷ lines) [] = []
-told_from number objects (line ∷ lines) (printed ∷ texts) =
+unfoldable pub expected_from : ℕ → Objects → (lines texts : List (List ℕ)) → List ℕ
+expected_from number objects [] texts = []
+expected_from number objects (line ∷ lines) [] = []
+expected_from number objects (line ∷ lines) (printed ∷ texts) =
     reply_to number objects (reading_of line) printed
-    ++ (if is_bad (reading_of line) then [] else told_from (number + 1) (left_by objects (reading_of line) printed) lines texts)
+    ++ (if is_bad (reading_of line) then [] else expected_from (number + 1) (left_by objects (reading_of line) printed) lines texts)
 
 -- the objects that stand behind these lines
 unfoldable pub left_from : Objects → (lines texts : List (List ℕ)) → Objects
@@ -170,8 +171,8 @@ first_bad_from number (line ∷ lines) =
     if is_bad (reading_of line) then Some number else first_bad_from (number + 1) lines
 
 -- what is told for a script over these objects, its lines counted from 1
-abbrev pub told : Objects → (script : List ℕ) (texts : List (List ℕ)) → List ℕ
-told objects script texts = told_from 1 objects (lines_of script) texts
+abbrev pub expected_output : Objects → (script : List ℕ) (texts : List (List ℕ)) → List ℕ
+expected_output objects script texts = expected_from 1 objects (lines_of script) texts
 
 -- the objects that stand behind a script
 abbrev pub left : Objects → (script : List ℕ) (texts : List (List ℕ)) → Objects
@@ -179,7 +180,7 @@ left objects script texts = left_from objects (lines_of script) texts
 
 -- this is told for a script over these objects, with some texts beside its lines
 abbrev pub IsTold : Objects → (script written : List ℕ) → Type 0
-IsTold objects script written = (texts : List (List ℕ)) × ArePrinted objects (lines_of script) texts × (written ≡ told objects script texts)
+IsTold objects script written = (texts : List (List ℕ)) × ArePrinted objects (lines_of script) texts × (written ≡ expected_output objects script texts)
 
 -- the number of a script's first bad line, if it has one
 abbrev pub first_bad : List ℕ → Option ℕ

@@ -1,4 +1,4 @@
-//! Scripts: their lines, what each line does over a store, and the replies. [`run`] answers a whole script, [`grant`] one
+//! Scripts: their lines, what each line does over a store, and the replies. [`run`] answers a whole script, [`execute`] one
 //! line.
 #![tactic(auto)]
 
@@ -20,4 +20,4 @@ pub use faults::{Fault, Refusal};
 pub use inputs::{Input, InputError, MOST_BYTES, MOST_READS};
 pub use line::{Job, Line};
 pub use outputs::{Output, OutputError};
-pub use reply::{Reply, grant};
+pub use reply::{Reply, execute};

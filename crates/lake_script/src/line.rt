@@ -1,7 +1,7 @@
 // The lines of a script, and the reader of one line.
 ghost use Rattle.std.specs.Prelude.{◌≡◌, option_map};
 ghost use Rattle.lake_script.specs.Fields.{Gives};
-ghost use Rattle.lake_script.specs.Lines.{task_view, wish_view, append_head, append_from, close_from, tail_from, task_from, bare_task, task_of, create_from, start_from, step_from, foreign_from, bare_wish, plain_from, wish_from, wish_of};
+ghost use Rattle.lake_script.specs.Lines.{task_view, statement_view, append_head, append_from, close_from, tail_from, task_from, bare_task, task_of, create_from, start_from, step_from, foreign_from, bare_statement, plain_from, statement_from, statement_of};
 
 use crate::fields::{FieldError, array_of, max_of, moment_of, number_of, tries_of, word_and_rest};
 use crate::kind::Kind;
@@ -179,7 +179,7 @@ fn task_of<'a>(alloc: Global, text: &'a str) -> Result<Job<'a>, FieldError>
 
 #[tactic(auto, unfolding(crate::specs::Lines::create_from))]
 fn create_from(text: &str) -> Option<Line<'_>>
-    ensures { option_map wish_view result ≡ create_from text.now }
+    ensures { option_map statement_view result ≡ create_from text.now }
 {
     let (id, rest) = word_and_rest(text)?;
     let (at, schema) = word_and_rest(rest)?;
@@ -189,7 +189,7 @@ fn create_from(text: &str) -> Option<Line<'_>>
 
 #[tactic(auto, unfolding(crate::specs::Lines::start_from))]
 fn start_from<'a>(alloc: Global, text: &'a str) -> Result<Line<'a>, FieldError>
-    ensures { Gives wish_view result (start_from text.now) }
+    ensures { Gives statement_view result (start_from text.now) }
 {
     let (actor, job) = word_and_rest(text).ok_or(FieldError::Malformed)?;
     let job = task_of(alloc, job)?;
@@ -198,7 +198,7 @@ fn start_from<'a>(alloc: Global, text: &'a str) -> Result<Line<'a>, FieldError>
 
 #[tactic(auto, unfolding(crate::specs::Lines::step_from))]
 fn step_from(text: &str) -> Option<Line<'_>>
-    ensures { option_map wish_view result ≡ step_from text.now }
+    ensures { option_map statement_view result ≡ step_from text.now }
 {
     let (actor, kind) = word_and_rest(text)?;
     let kind = Kind::from_word(kind)?;
@@ -207,7 +207,7 @@ fn step_from(text: &str) -> Option<Line<'_>>
 
 #[tactic(auto, unfolding(crate::specs::Lines::foreign_from))]
 fn foreign_from(text: &str) -> Option<Line<'_>>
-    ensures { option_map wish_view result ≡ foreign_from text.now }
+    ensures { option_map statement_view result ≡ foreign_from text.now }
 {
     let (version, action) = word_and_rest(text)?;
     let version = number_of(version)?;
@@ -215,7 +215,7 @@ fn foreign_from(text: &str) -> Option<Line<'_>>
 }
 
 fn bare_line<'a>(verb: Verb) -> Option<Line<'a>>
-    ensures { option_map wish_view result ≡ bare_wish verb }
+    ensures { option_map statement_view result ≡ bare_statement verb }
 {
     match verb {
         Verb::Checkpoint => Some(Line::Job(Job::Checkpoint)),
@@ -227,7 +227,7 @@ fn bare_line<'a>(verb: Verb) -> Option<Line<'a>>
 
 // A line that is neither a job nor names one, so that nothing of it is kept in memory.
 fn plain_line(verb: Verb, text: &str) -> Option<Line<'_>>
-    ensures { option_map wish_view result ≡ plain_from verb text.now }
+    ensures { option_map statement_view result ≡ plain_from verb text.now }
 {
     match verb {
         Verb::Create => create_from(text),
@@ -246,7 +246,7 @@ fn plain_line(verb: Verb, text: &str) -> Option<Line<'_>>
 }
 
 fn line_from<'a>(alloc: Global, verb: Verb, text: &'a str) -> Result<Line<'a>, FieldError>
-    ensures { Gives wish_view result (wish_from verb text.now) }
+    ensures { Gives statement_view result (statement_from verb text.now) }
 {
     match verb {
         Verb::Append | Verb::Close | Verb::Tail => { Ok(Line::Job(task_from(alloc, verb, text)?)) }
@@ -256,9 +256,9 @@ fn line_from<'a>(alloc: Global, verb: Verb, text: &'a str) -> Result<Line<'a>, F
 }
 
 /// Reads the text of a line that is neither blank nor a comment.
-#[tactic(auto, unfolding(crate::specs::Lines::wish_of))]
+#[tactic(auto, unfolding(crate::specs::Lines::statement_of))]
 pub fn line_of<'a>(alloc: Global, text: &'a str) -> Result<Line<'a>, FieldError>
-    ensures { Gives wish_view result (wish_of text.now) }
+    ensures { Gives statement_view result (statement_of text.now) }
 {
     match word_and_rest(text) {
         Some((word, rest)) => {

@@ -1,5 +1,5 @@
 // The output of a run, which gathers many replies into one write.
-ghost use Rattle.std.specs.Prelude.{◌≡◌, [], OnOk, OnErr, IfErr, IfSome, true, false};
+ghost use Rattle.std.specs.Prelude.{◌≡◌, ◌⊎◌, [], OnOk, OnErr, IfErr, IfSome, true, false};
 ghost use Rattle.std.specs.Io.KnownBytes.{Appends};
 ghost use Rattle.commit_core.specs.Texts.{line_of};
 ghost use Rattle.lake_script.specs.Streams.{held, waiting, write_failed, StandsIn};
@@ -35,6 +35,8 @@ impl From<AllocError> for OutputError {
 pub struct Output<W> {
     pub writer: W,
     pending: Vec<u8>,
+    // The last reply that was made, before it waits: one that is made in part never waits.
+    line: Vec<u8>,
     is_broken: bool,
 }
 
@@ -64,6 +66,7 @@ impl<W: Write> Output<W> {
         Output {
             writer,
             pending: Vec::new(alloc),
+            line: Vec::new(alloc),
             is_broken: false,
         }
     }
@@ -92,15 +95,18 @@ impl<W: Write> Output<W> {
         ensures unbroken { OnOk result (write_failed self.new ≡ write_failed self.old) }
         ensures broken { result ≡ Err OutputError.Broken → write_failed self.new ≡ true }
         ensures memory { result ≡ Err OutputError.Memory → write_failed self.new ≡ write_failed self.old }
+        // Where a growth is refused, nothing of the reply waits.
+        ensures whole { result ≡ Err OutputError.Memory → Appends (held W.contents self.old) (held W.contents self.new) [] }
+        ensures waits { result ≡ Err OutputError.Memory → (waiting self.new ≡ waiting self.old) ⊎ (waiting self.new ≡ []) }
     {
         if self.pending.len() >= FULL {
             self.flush()?;
         }
-        let length = self.pending.len();
-        if self.pending.writeln(reply).is_err() {
-            self.pending.truncate(length);
+        self.line.clear();
+        if self.line.writeln(reply).is_err() {
             return Err(OutputError::Memory);
         }
+        self.pending.extend_from_slice(self.line.as_slice())?;
         Ok(())
     }
 
@@ -111,6 +117,9 @@ impl<W: Write> Output<W> {
         ensures unbroken { OnOk result (write_failed self.new ≡ write_failed self.old) }
         ensures broken { result ≡ Err OutputError.Broken → write_failed self.new ≡ true }
         ensures memory { result ≡ Err OutputError.Memory → write_failed self.new ≡ write_failed self.old }
+        // Where a growth is refused, none of the bytes wait.
+        ensures whole { result ≡ Err OutputError.Memory → Appends (held W.contents self.old) (held W.contents self.new) [] }
+        ensures waits { result ≡ Err OutputError.Memory → (waiting self.new ≡ waiting self.old) ⊎ (waiting self.new ≡ []) }
     {
         if self.pending.len() >= FULL {
             self.flush()?;

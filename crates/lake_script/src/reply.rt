@@ -1,17 +1,18 @@
 // What a line is told, and how it is found.
-ghost use Rattle.std.specs.Prelude.{◌≡◌, ◌<◌, ◌^◌, [], Bool, false, OnOk, OnErr, true};
+ghost use Rattle.std.specs.Prelude.{◌≡◌, ◌<◌, ◌^◌, ◌⊎◌, [], Bool, false, OnOk, OnErr, true};
 ghost use Rattle.std.specs.Io.KnownBytes.{Appends};
 ghost use Rattle.serde_json.specs.View.{items_view};
+ghost use Rattle.store_core.specs.Calls.{HasRisen};
 ghost use Rattle.store_core.specs.Objects.{object_at};
 ghost use Rattle.table_log.specs.Names.{commit_name};
 ghost use Rattle.table_log.specs.Restoring.{AreCheckpointsSound, RestoresWell};
 ghost use Rattle.lake_script.specs.Growth.{MayPut};
 ghost use Rattle.commit_core.specs.Histories.{history_of};
-ghost use Rattle.lake_script.specs.Lines.{append, checkpoint, create, foreign, snapshot, task, task_view, wish_view, IsTimely, IsTimelyTask};
-ghost use Rattle.lake_script.specs.ReplyView.{reply_text, is_short};
-ghost use Rattle.lake_script.specs.Runs.{Grants, IsShort, no_room_to_read, no_room_to_show, no_room_to_tell};
-ghost use Rattle.lake_script.specs.Sound.{IsGranted};
-ghost use Rattle.lake_script.specs.Streams.{held, write_failed, StandsIn};
+ghost use Rattle.lake_script.specs.Lines.{append, checkpoint, create, foreign, snapshot, task, task_view, statement_view, IsTimely, IsTimelyTask};
+ghost use Rattle.lake_script.specs.ReplyView.{reply_text, is_short, says_lost};
+ghost use Rattle.lake_script.specs.Runs.{Executes, IsShort, no_room_to_read, no_room_to_show, no_room_to_tell};
+ghost use Rattle.lake_script.specs.Sound.{IsExecuted};
+ghost use Rattle.lake_script.specs.Streams.{held, waiting, write_failed, StandsIn};
 ghost use Rattle.source_core.specs.Tailing.{tailed};
 ghost use Rattle.lake_script.specs.Told.{shown, in_hex, tailed_reply};
 
@@ -84,6 +85,9 @@ impl Reply {
         ensures unbroken { OnOk result (write_failed output.new ≡ write_failed output.old) }
         ensures broken { result ≡ Err OutputError.Broken → write_failed output.new ≡ true }
         ensures memory { result ≡ Err OutputError.Memory → write_failed output.new ≡ write_failed output.old }
+        // Where a growth is refused, nothing of the reply waits.
+        ensures whole { result ≡ Err OutputError.Memory → Appends (held W.contents output.old) (held W.contents output.new) [] }
+        ensures waits { result ≡ Err OutputError.Memory → (waiting output.new ≡ waiting output.old) ⊎ (waiting output.new ≡ []) }
     {
         match self {
             Reply::Created => output.say("Created 0"),
@@ -113,11 +117,13 @@ impl Reply {
 // The reply to a line that creates a table.
 fn create_table<S: Store>(alloc: Global, store: &mut S, id: &str, at: u64, schema: &str) -> Reply
     requires { at < 2 ^ 63 }
-    ensures told { S.is_reliable store.old → Grants (S.objects store.old) (create id.now at schema.now) (reply_text result) (S.objects store.new) }
-    ensures whole { S.is_reliable store.old → is_short result ≡ false → IsGranted (S.objects store.old) (create id.now at schema.now) (reply_text result) (S.objects store.new) }
+    ensures told { S.is_reliable store.old → Executes (S.objects store.old) (create id.now at schema.now) (reply_text result) (S.objects store.new) }
+    ensures whole { S.is_reliable store.old → is_short result ≡ false → IsExecuted (S.objects store.old) (create id.now at schema.now) (reply_text result) (S.objects store.new) }
     ensures grows { S.is_reliable store.old → MayPut (S.objects store.old) (create id.now at schema.now) (S.objects store.new) }
     ensures short { is_short result ≡ true → IsShort (S.objects store.old) (create id.now at schema.now) (reply_text result) }
     ensures reliable { S.is_reliable store.old → S.is_reliable store.new }
+    ensures lost { says_lost result ≡ true → HasRisen (S.fault_count store.old) (S.fault_count store.new) }
+    ensures counted { says_lost result ≡ false → S.fault_count store.new ≡ S.fault_count store.old }
 {
     match create(alloc, store, id, at, schema) {
         Ok(()) => Reply::Created,
@@ -136,11 +142,13 @@ fn append_batch<S: Store>(
     restore: bool,
 ) -> Reply
     requires { at < 2 ^ 63 }
-    ensures told { S.is_reliable store.old → RestoresWell restore (S.objects store.old) → Grants (S.objects store.old) (task (append application.now number at (items_view rows.now))) (reply_text result) (S.objects store.new) }
-    ensures whole { S.is_reliable store.old → RestoresWell restore (S.objects store.old) → is_short result ≡ false → IsGranted (S.objects store.old) (task (append application.now number at (items_view rows.now))) (reply_text result) (S.objects store.new) }
+    ensures told { S.is_reliable store.old → RestoresWell restore (S.objects store.old) → Executes (S.objects store.old) (task (append application.now number at (items_view rows.now))) (reply_text result) (S.objects store.new) }
+    ensures whole { S.is_reliable store.old → RestoresWell restore (S.objects store.old) → is_short result ≡ false → IsExecuted (S.objects store.old) (task (append application.now number at (items_view rows.now))) (reply_text result) (S.objects store.new) }
     ensures grows { S.is_reliable store.old → RestoresWell restore (S.objects store.old) → MayPut (S.objects store.old) (task (append application.now number at (items_view rows.now))) (S.objects store.new) }
     ensures short { RestoresWell restore (S.objects store.old) → is_short result ≡ true → IsShort (S.objects store.old) (task (append application.now number at (items_view rows.now))) (reply_text result) }
     ensures reliable { S.is_reliable store.old → S.is_reliable store.new }
+    ensures lost { says_lost result ≡ true → HasRisen (S.fault_count store.old) (S.fault_count store.new) }
+    ensures counted { says_lost result ≡ false → S.fault_count store.new ≡ S.fault_count store.old }
 {
     match append(alloc, store, application, number, at, rows, restore) {
         Ok(answer) => Reply::Appended(answer),
@@ -155,6 +163,8 @@ fn read<S: Store>(alloc: Global, store: &mut S, max: u64, offset: &str, restore:
     ensures wants { is_short result ≡ true → reply_text result ≡ no_room_to_read }
     ensures untouched { S.objects store.new ≡ S.objects store.old }
     ensures reliable { S.is_reliable store.old → S.is_reliable store.new }
+    ensures lost { says_lost result ≡ true → HasRisen (S.fault_count store.old) (S.fault_count store.new) }
+    ensures counted { says_lost result ≡ false → S.fault_count store.new ≡ S.fault_count store.old }
 {
     match tail(alloc, store, max, offset, restore) {
         Ok(text) => Reply::Bytes(text),
@@ -164,11 +174,13 @@ fn read<S: Store>(alloc: Global, store: &mut S, max: u64, offset: &str, restore:
 
 // The reply to a line that puts a checkpoint.
 fn take_checkpoint<S: Store>(alloc: Global, store: &mut S, restore: bool) -> Reply
-    ensures told { S.is_reliable store.old → RestoresWell restore (S.objects store.old) → Grants (S.objects store.old) (task checkpoint) (reply_text result) (S.objects store.new) }
-    ensures whole { S.is_reliable store.old → RestoresWell restore (S.objects store.old) → is_short result ≡ false → IsGranted (S.objects store.old) (task checkpoint) (reply_text result) (S.objects store.new) }
+    ensures told { S.is_reliable store.old → RestoresWell restore (S.objects store.old) → Executes (S.objects store.old) (task checkpoint) (reply_text result) (S.objects store.new) }
+    ensures whole { S.is_reliable store.old → RestoresWell restore (S.objects store.old) → is_short result ≡ false → IsExecuted (S.objects store.old) (task checkpoint) (reply_text result) (S.objects store.new) }
     ensures grows { S.is_reliable store.old → RestoresWell restore (S.objects store.old) → MayPut (S.objects store.old) (task checkpoint) (S.objects store.new) }
     ensures short { RestoresWell restore (S.objects store.old) → is_short result ≡ true → IsShort (S.objects store.old) (task checkpoint) (reply_text result) }
     ensures reliable { S.is_reliable store.old → S.is_reliable store.new }
+    ensures lost { says_lost result ≡ true → HasRisen (S.fault_count store.old) (S.fault_count store.new) }
+    ensures counted { says_lost result ≡ false → S.fault_count store.new ≡ S.fault_count store.old }
 {
     match checkpoint(alloc, store, restore) {
         Ok(version) => Reply::Checkpointed(version),
@@ -178,11 +190,13 @@ fn take_checkpoint<S: Store>(alloc: Global, store: &mut S, restore: bool) -> Rep
 
 // The reply to a line that asks for the snapshot.
 fn tell_snapshot<S: Store>(alloc: Global, store: &mut S, restore: bool) -> Reply
-    ensures told { S.is_reliable store.old → RestoresWell restore (S.objects store.old) → Grants (S.objects store.old) snapshot (reply_text result) (S.objects store.new) }
-    ensures whole { S.is_reliable store.old → RestoresWell restore (S.objects store.old) → is_short result ≡ false → IsGranted (S.objects store.old) snapshot (reply_text result) (S.objects store.new) }
+    ensures told { S.is_reliable store.old → RestoresWell restore (S.objects store.old) → Executes (S.objects store.old) snapshot (reply_text result) (S.objects store.new) }
+    ensures whole { S.is_reliable store.old → RestoresWell restore (S.objects store.old) → is_short result ≡ false → IsExecuted (S.objects store.old) snapshot (reply_text result) (S.objects store.new) }
     ensures wants { RestoresWell restore (S.objects store.old) → is_short result ≡ true → reply_text result ≡ no_room_to_tell }
     ensures untouched { S.objects store.new ≡ S.objects store.old }
     ensures reliable { S.is_reliable store.old → S.is_reliable store.new }
+    ensures lost { says_lost result ≡ true → HasRisen (S.fault_count store.old) (S.fault_count store.new) }
+    ensures counted { says_lost result ≡ false → S.fault_count store.new ≡ S.fault_count store.old }
 {
     match snapshot_core::snapshot(alloc, store, restore) {
         Ok(text) => Reply::Bytes(text),
@@ -196,6 +210,8 @@ fn tell_history<S: Store>(alloc: Global, store: &mut S) -> Reply
     ensures wants { is_short result ≡ true → reply_text result ≡ no_room_to_tell }
     ensures untouched { S.objects store.new ≡ S.objects store.old }
     ensures reliable { S.is_reliable store.old → S.is_reliable store.new }
+    ensures lost { says_lost result ≡ true → HasRisen (S.fault_count store.old) (S.fault_count store.new) }
+    ensures counted { says_lost result ≡ false → S.fault_count store.new ≡ S.fault_count store.old }
 {
     match history(alloc, store) {
         Ok(text) => Reply::Bytes(text),
@@ -210,6 +226,8 @@ fn show<S: Store>(alloc: Global, store: &mut S, version: u64) -> Reply
     ensures wants { is_short result ≡ true → reply_text result ≡ no_room_to_show }
     ensures untouched { S.objects store.new ≡ S.objects store.old }
     ensures reliable { S.is_reliable store.old → S.is_reliable store.new }
+    ensures lost { says_lost result ≡ true → HasRisen (S.fault_count store.old) (S.fault_count store.new) }
+    ensures counted { says_lost result ≡ false → S.fault_count store.new ≡ S.fault_count store.old }
 {
     match commit_at(alloc, store, version) {
         Ok(Some(bytes)) => Reply::Bytes(bytes),
@@ -225,6 +243,8 @@ fn show_in_hex<S: Store>(alloc: Global, store: &mut S, name: &str) -> Reply
     ensures wants { is_short result ≡ true → reply_text result ≡ no_room_to_show }
     ensures untouched { S.objects store.new ≡ S.objects store.old }
     ensures reliable { S.is_reliable store.old → S.is_reliable store.new }
+    ensures lost { says_lost result ≡ true → HasRisen (S.fault_count store.old) (S.fault_count store.new) }
+    ensures counted { says_lost result ≡ false → S.fault_count store.new ≡ S.fault_count store.old }
 {
     match hex_of(alloc, store, name) {
         Ok(Some(digits)) => Reply::Digits(digits),
@@ -235,11 +255,13 @@ fn show_in_hex<S: Store>(alloc: Global, store: &mut S, name: &str) -> Reply
 
 // The reply to a line that puts another tool's commit.
 fn put_foreign<S: Store>(alloc: Global, store: &mut S, version: u64, action: &str) -> Reply
-    ensures told { S.is_reliable store.old → Grants (S.objects store.old) (foreign version action.now) (reply_text result) (S.objects store.new) }
-    ensures whole { S.is_reliable store.old → is_short result ≡ false → IsGranted (S.objects store.old) (foreign version action.now) (reply_text result) (S.objects store.new) }
+    ensures told { S.is_reliable store.old → Executes (S.objects store.old) (foreign version action.now) (reply_text result) (S.objects store.new) }
+    ensures whole { S.is_reliable store.old → is_short result ≡ false → IsExecuted (S.objects store.old) (foreign version action.now) (reply_text result) (S.objects store.new) }
     ensures grows { S.is_reliable store.old → MayPut (S.objects store.old) (foreign version action.now) (S.objects store.new) }
     ensures short { is_short result ≡ true → IsShort (S.objects store.old) (foreign version action.now) (reply_text result) }
     ensures reliable { S.is_reliable store.old → S.is_reliable store.new }
+    ensures lost { says_lost result ≡ true → HasRisen (S.fault_count store.old) (S.fault_count store.new) }
+    ensures counted { says_lost result ≡ false → S.fault_count store.new ≡ S.fault_count store.old }
 {
     match put_line(alloc, store, version, action) {
         Ok(put) => Reply::Put(put),
@@ -248,14 +270,16 @@ fn put_foreign<S: Store>(alloc: Global, store: &mut S, version: u64, action: &st
 }
 
 // Does what a job asks for, and finds its reply.
-fn grant_job<S: Store>(alloc: Global, job: Job<'_>, store: &mut S, restore: bool) -> Reply
+fn execute_job<S: Store>(alloc: Global, job: Job<'_>, store: &mut S, restore: bool) -> Reply
     requires { IsTimelyTask (task_view job) }
     ensures whole { S.is_reliable store.old → RestoresWell restore (S.objects store.old) → is_short result ≡ false
-        → IsGranted (S.objects store.old) (task (task_view job.entry)) (reply_text result) (S.objects store.new) }
-    ensures told { S.is_reliable store.old → RestoresWell restore (S.objects store.old) → Grants (S.objects store.old) (task (task_view job.entry)) (reply_text result) (S.objects store.new) }
+        → IsExecuted (S.objects store.old) (task (task_view job.entry)) (reply_text result) (S.objects store.new) }
+    ensures told { S.is_reliable store.old → RestoresWell restore (S.objects store.old) → Executes (S.objects store.old) (task (task_view job.entry)) (reply_text result) (S.objects store.new) }
     ensures grows { S.is_reliable store.old → RestoresWell restore (S.objects store.old) → MayPut (S.objects store.old) (task (task_view job.entry)) (S.objects store.new) }
     ensures short { RestoresWell restore (S.objects store.old) → is_short result ≡ true → IsShort (S.objects store.old) (task (task_view job.entry)) (reply_text result) }
     ensures reliable { S.is_reliable store.old → S.is_reliable store.new }
+    ensures lost { says_lost result ≡ true → HasRisen (S.fault_count store.old) (S.fault_count store.new) }
+    ensures counted { says_lost result ≡ false → S.fault_count store.new ≡ S.fault_count store.old }
 {
     match job {
         Job::Append {
@@ -271,24 +295,27 @@ fn grant_job<S: Store>(alloc: Global, job: Job<'_>, store: &mut S, restore: bool
 }
 
 /// Does what a line asks for, and finds its reply.
-pub fn grant<S: Store>(alloc: Global, line: Line<'_>, store: &mut S, restore: bool) -> Reply
-    requires { IsTimely (wish_view line) }
+pub fn execute<S: Store>(alloc: Global, line: Line<'_>, store: &mut S, restore: bool) -> Reply
+    requires { IsTimely (statement_view line) }
     // What was asked for is told and done, and what was put is well made.
     ensures whole { S.is_reliable store.old → RestoresWell restore (S.objects store.old) → is_short result ≡ false
-        → IsGranted (S.objects store.old) (wish_view line.entry) (reply_text result) (S.objects store.new) }
+        → IsExecuted (S.objects store.old) (statement_view line.entry) (reply_text result) (S.objects store.new) }
     // The line has its reply and effect, or is told of want of memory and leaves the objects as they
     // were, but for a batch's file.
-    ensures told { S.is_reliable store.old → RestoresWell restore (S.objects store.old) → Grants (S.objects store.old) (wish_view line.entry) (reply_text result) (S.objects store.new) }
+    ensures told { S.is_reliable store.old → RestoresWell restore (S.objects store.old) → Executes (S.objects store.old) (statement_view line.entry) (reply_text result) (S.objects store.new) }
     // However it ends, what it puts is well made.
-    ensures grows { S.is_reliable store.old → RestoresWell restore (S.objects store.old) → MayPut (S.objects store.old) (wish_view line.entry) (S.objects store.new) }
+    ensures grows { S.is_reliable store.old → RestoresWell restore (S.objects store.old) → MayPut (S.objects store.old) (statement_view line.entry) (S.objects store.new) }
     // A reply is short only where it tells so.
-    ensures short { RestoresWell restore (S.objects store.old) → is_short result ≡ true → IsShort (S.objects store.old) (wish_view line.entry) (reply_text result) }
+    ensures short { RestoresWell restore (S.objects store.old) → is_short result ≡ true → IsShort (S.objects store.old) (statement_view line.entry) (reply_text result) }
     ensures reliable { S.is_reliable store.old → S.is_reliable store.new }
     ensures restores { S.is_reliable store.old → (every : Bool) → AreCheckpointsSound every (S.objects store.old) → AreCheckpointsSound every (S.objects store.new) }
+    // Over any store, one that loses calls too: the reply says that a call was lost where one was, and nowhere else.
+    ensures lost { says_lost result ≡ true → HasRisen (S.fault_count store.old) (S.fault_count store.new) }
+    ensures counted { says_lost result ≡ false → S.fault_count store.new ≡ S.fault_count store.old }
 {
     match line {
         Line::Create { id, at, schema } => create_table(alloc, store, id, at, schema),
-        Line::Job(job) => grant_job(alloc, job, store, restore),
+        Line::Job(job) => execute_job(alloc, job, store, restore),
         Line::Snapshot => tell_snapshot(alloc, store, restore),
         Line::History => tell_history(alloc, store),
         Line::Show { version } => show(alloc, store, version),

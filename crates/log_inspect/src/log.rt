@@ -2,7 +2,7 @@
 
 ghost use Rattle.std.specs.Prelude.{◌≡◌, OnOk};
 ghost use Rattle.std.specs.List.{AllByRecursion};
-ghost use Rattle.delta_actions.specs.Entry.{views};
+ghost use Rattle.delta_actions.specs.Action.{views};
 ghost use Rattle.delta_actions.specs.Printing.{IsPrintable};
 ghost use Rattle.log_inspect.specs.Logs.{IsOfLog};
 

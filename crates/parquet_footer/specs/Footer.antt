@@ -3,10 +3,10 @@ use Rattle.std.specs.Prelude.{◌≡◌, ℕ, ◌<◌, ◌≤◌, ◌^◌, List,
 use Rattle.thrift_core.specs.Tree.{Tree}
 use Rattle.thrift_core.specs.Spelling.{SpellsStruct}
 use Rattle.parquet_footer.specs.Frame.{framed}
-use Rattle.parquet_footer.specs.Metadata.{Group, Metadata, metadata_of}
+use Rattle.parquet_footer.specs.Metadata.{RowGroup, FileMetaData, metadata_of}
 
 -- A front of the footer spells the struct that says this of the file.
-pub record Says (footer : List ℕ) (metadata : Metadata) : Type 0 where
+pub record FooterSays (footer : List ℕ) (metadata : FileMetaData) : Type 0 where
   pub front : List ℕ
   pub rest : List ℕ
   pub tree : Tree
@@ -15,19 +15,19 @@ pub record Says (footer : List ℕ) (metadata : Metadata) : Type 0 where
   pub stands : metadata_of tree ≡ Ok metadata
 
 -- The bytes are framed, and their footer says this of the file.
-pub record HasFooter (bytes : List ℕ) (metadata : Metadata) : Type 0 where
+pub record HasFooter (bytes : List ℕ) (metadata : FileMetaData) : Type 0 where
   pub pages : List ℕ
   pub footer : List ℕ
   pub frame : bytes ≡ framed pages footer
   pub length_fits : length footer < 2 ^ 32
-  pub says : Says footer metadata
+  pub says : FooterSays footer metadata
 
 -- no group claims more rows than a file may have
-abbrev pub GroupsWithinLimit : List Group → Type 0
+abbrev pub GroupsWithinLimit : List RowGroup → Type 0
 GroupsWithinLimit [] = Unit {0}
 GroupsWithinLimit (group ∷ groups) = (group.num_rows ≤ 4194304) × GroupsWithinLimit groups
 
 -- Neither the file nor one of its groups claims more rows than a file may have.
-pub record ClaimsWithinLimit (metadata : Metadata) : Type 0 where
+pub record ClaimsWithinLimit (metadata : FileMetaData) : Type 0 where
   pub rows : metadata.num_rows ≤ 4194304
   pub groups : GroupsWithinLimit metadata.row_groups

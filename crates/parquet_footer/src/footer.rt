@@ -1,9 +1,9 @@
 //! The footer: what a file says of itself.
 
 ghost use Rattle.std.specs.Prelude.{◌≡◌, ◌≤◌, length, IfOk};
-ghost use Rattle.parquet_footer.specs.Footer.{Says, HasFooter, ClaimsWithinLimit};
+ghost use Rattle.parquet_footer.specs.Footer.{FooterSays, HasFooter, ClaimsWithinLimit};
 ghost use Rattle.parquet_footer.specs.Frame.{frame_of};
-ghost use Rattle.parquet_footer.specs.Metadata.{Metadata};
+ghost use Rattle.parquet_footer.specs.Metadata.{FileMetaData};
 ghost use Rattle.parquet_footer.specs.Outcome.{Gives, Finds, Refuses};
 ghost use Rattle.parquet_footer.specs.Reading.{footer_at, metadata_at};
 ghost use Rattle.parquet_footer.specs.Views.{footer_view};
@@ -74,7 +74,7 @@ impl<A: Allocator + Copy> Footer<A> {
         // The bytes are framed, and a front of their footer spells what was read, within the limits.
         ensures found { IfOk result (λ footer. HasFooter bytes.now (footer_view footer) × ClaimsWithinLimit (footer_view footer)) }
         // What the footer of a framed file says is read, unless memory runs out.
-        ensures only { (metadata : Metadata) → HasFooter bytes.now metadata → length bytes.now ≤ 67108864 → ClaimsWithinLimit metadata → Finds footer_view metadata result }
+        ensures only { (metadata : FileMetaData) → HasFooter bytes.now metadata → length bytes.now ≤ 67108864 → ClaimsWithinLimit metadata → Finds footer_view metadata result }
         // A fault of the frame is answered whatever the memory.
         ensures early { Refuses result (frame_of bytes.now) }
         // Which fault it is: the first one in the order of the tests.
@@ -91,9 +91,9 @@ impl<A: Allocator + Copy> Footer<A> {
     /// [`Footer::read`].
     pub fn of_bytes(alloc: A, footer: &[u8]) -> Result<Footer<A>, FileError>
         // A front of the bytes spells what was read, within the limits.
-        ensures found { IfOk result (λ metadata. Says footer.now (footer_view metadata) × ClaimsWithinLimit (footer_view metadata)) }
+        ensures found { IfOk result (λ metadata. FooterSays footer.now (footer_view metadata) × ClaimsWithinLimit (footer_view metadata)) }
         // What the bytes say is read, unless memory runs out.
-        ensures only { (metadata : Metadata) → Says footer.now metadata → ClaimsWithinLimit metadata → Finds footer_view metadata result }
+        ensures only { (metadata : FileMetaData) → FooterSays footer.now metadata → ClaimsWithinLimit metadata → Finds footer_view metadata result }
         // Which fault it is: the first one in the order of the tests.
         ensures exact { Gives footer_view result (metadata_at footer.now) }
     {

@@ -6,7 +6,7 @@ use Rattle.shred.specs.Columns as columns
 use Rattle.shred.specs.Views.{column_view}
 use Rattle.shred.specs.declared.columns.Column.{Column}
 use Rattle.parquet_pages.specs.Outcome.{Finds, Gives, GivesWhere}
-use Rattle.parquet_pages.specs.Pages.{HasPages, IsPage, Leaf, Suits}
+use Rattle.parquet_pages.specs.Pages.{ChunkHolds, IsPage, Leaf, Suits}
 use Rattle.parquet_pages.specs.Reading.{chunk_at, page_at}
 use Rattle.parquet_pages.specs.Views.{IsCells, IsPageOf}
 use Rattle.parquet_footer.specs.declared.fault.FileError.{FileError}
@@ -31,18 +31,18 @@ IsAnswer l given stated n result = Gives column_view result (chunk_at l given st
 pub chunk_is_found : (l : Leaf) (given : List ℕ) (stated : ℤ) (n : ℕ) (result : Result (Column Value) FileError)
     → IsBytes given
     → IsAnswer l given stated n result
-    → IfOk result (λ c. HasPages l given stated (column_view c) × Suits l (column_view c) × (n ≡ length c.levels.items))
+    → IfOk result (λ c. ChunkHolds l given stated (column_view c) × Suits l (column_view c) × (n ≡ length c.levels.items))
 chunk_is_found l given stated n (Ok c) fits reads = chunk_found l given stated n (column_view c) fits reads
 chunk_is_found l given stated n (Err e) fits h = tt
 
 -- what the pages hold is read, where so many values are asked for
-asked : (l : Leaf) (given : List ℕ) (stated : ℤ) (n : ℕ) (c : columns.Column) → HasPages l given stated c → Suits l c
+asked : (l : Leaf) (given : List ℕ) (stated : ℤ) (n : ℕ) (c : columns.Column) → ChunkHolds l given stated c → Suits l c
     → n ≡ length c.levels → chunk_at l given stated n ≡ Ok c
 asked l given stated n c has suits many =
     subst (λ (k : ℕ). chunk_at l given stated k ≡ Ok c) (sym many) (chunk_only l given stated c has suits)
 
 pub chunk_is_read : (l : Leaf) (given : List ℕ) (stated : ℤ) (n : ℕ) (result : Result (Column Value) FileError)
-    → IsAnswer l given stated n result → (c : columns.Column) → HasPages l given stated c → Suits l c
+    → IsAnswer l given stated n result → (c : columns.Column) → ChunkHolds l given stated c → Suits l c
     → n ≡ length c.levels
     → Finds column_view c result
 chunk_is_read l given stated n (Ok found) e c has suits many =

@@ -12,7 +12,7 @@ use Rattle.row_core.specs.Rows.{Value}
 use Rattle.shred.specs.Columns.{Column}
 use Rattle.parquet_pages.specs.Headers.{Header}
 use Rattle.parquet_pages.specs.Levels.{levels_at}
-use Rattle.parquet_pages.specs.Pages.{ArePages, HasPages, IsBody, IsPage, Leaf, Suits, from_place, has_levels, highest, is_proper, joined, may_stand, no_cells, no_page, page, plain_header, present, without_rows}
+use Rattle.parquet_pages.specs.Pages.{ArePages, ChunkHolds, IsBody, IsPage, Leaf, Suits, from_place, has_levels, highest, is_proper, joined, may_stand, no_cells, no_page, page, plain_header, present, without_rows}
 use Rattle.parquet_pages.specs.Plain.{plain_at}
 use Rattle.parquet_pages.specs.Reading.{body_at, cells_at, chunk_at, column_in, first_place, has_mismatch, header_at, in_page, is_too_long, page_at, pages_at, tested}
 use Rattle.parquet_pages.specs.Types.{primitive_of}
@@ -269,7 +269,7 @@ chunk_some l given stated n =
     rw some refl
 
 record ChunkFound (l : Leaf) (given : List ℕ) (stated : ℤ) (n : ℕ) (c : Column) : Type 0 where
-  stands : HasPages l given stated c
+  stands : ChunkHolds l given stated c
   suits : Suits l c
   many : n ≡ length c.levels
 
@@ -288,7 +288,7 @@ chunk_steps l given stated (suc n) c h e =
 
 -- The column that is read of a chunk is held by its pages, suits the leaf and has as many levels as were asked for.
 pub chunk_found : (l : Leaf) (given : List ℕ) (stated : ℤ) (n : ℕ) (c : Column) → IsBytes given
-    → chunk_at l given stated n ≡ Ok c → HasPages l given stated c × Suits l c × (n ≡ length c.levels)
+    → chunk_at l given stated n ≡ Ok c → ChunkHolds l given stated c × Suits l c × (n ≡ length c.levels)
 chunk_found l given stated n c h e =
     let f = chunk_steps l given stated n c h e in
     (f.stands, f.suits, f.many)

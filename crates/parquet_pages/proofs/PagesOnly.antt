@@ -13,7 +13,7 @@ use Rattle.row_core.specs.Conforms.{is_byte, is_leaf_value, is_short, max_bytes}
 use Rattle.row_core.specs.Rows.{Value, text, bytes}
 use Rattle.shred.specs.Columns.{Column}
 use Rattle.parquet_pages.specs.Headers.{Header, header_of}
-use Rattle.parquet_pages.specs.Pages.{ArePages, HasPages, IsBody, IsPage, Leaf, Suits, from_place, has_levels, highest, is_proper, joined, may_stand, no_page, page, plain_header, rle_where, without_rows}
+use Rattle.parquet_pages.specs.Pages.{ArePages, ChunkHolds, IsBody, IsPage, Leaf, Suits, from_place, has_levels, highest, is_proper, joined, may_stand, no_page, page, plain_header, rle_where, without_rows}
 use Rattle.parquet_pages.specs.Reading.{body_at, cells_at, chunk_at, column_in, encoding_fault, first_place, header_at, is_too_long, page_at, pages_at, tested, unless_fault}
 use Rattle.parquet_pages.specs.Types.{primitive_of}
 use Rattle.parquet_pages.specs.declared.types.LeafType.{LeafType}
@@ -239,7 +239,7 @@ chunk_read l given place c behind (page p next first others one more some) suits
     (page p next first others one more some) suits
 
 -- The column that a chunk's pages hold is read, if it suits the leaf.
-pub chunk_only : (l : Leaf) (given : List ℕ) (stated : ℤ) (c : Column) → HasPages l given stated c → Suits l c
+pub chunk_only : (l : Leaf) (given : List ℕ) (stated : ℤ) (c : Column) → ChunkHolds l given stated c → Suits l c
     → chunk_at l given stated (length c.levels) ≡ Ok c
 unfolding chunk_at
 chunk_only l given stated c without_rows suits = refl

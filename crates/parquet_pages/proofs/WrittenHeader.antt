@@ -1,7 +1,7 @@
 -- A page's header is spelled by what is written for it, and says what it is to say.
 use Rattle.std.proofs.Common.{◌≡◌, ℕ, ◌<◌, ◌≤◌, ◌^◌, ℤ, pos, List, [], ◌∷◌, Bool, true, false, Some, Ok, refl, arith, FitsSigned, w32}
 use Rattle.std.proofs.lemmas.Int.{ints}
-use Rattle.thrift_core.specs.Shape.{Forms, forms, form_at, struct_form, int32_form}
+use Rattle.thrift_core.specs.Form.{Forms, forms, form_at, struct_form, int32_form}
 use Rattle.thrift_core.specs.Spelling.{SpellsStruct}
 use Rattle.thrift_core.specs.Tree.{Tree, fields_of, struct}
 use Rattle.thrift_core.specs.Writing.{HasForm, FieldsHaveForm, written}

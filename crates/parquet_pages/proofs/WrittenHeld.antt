@@ -11,7 +11,7 @@ use Rattle.lake_bytes.proofs.Callers.{AreRuns-hybrid_bytes}
 use Rattle.row_core.specs.Conforms.{is_leaf_value}
 use Rattle.shred.specs.Columns.{Column}
 use Rattle.parquet_pages.specs.Levels.{AreLevels, width_of}
-use Rattle.parquet_pages.specs.Pages.{ArePages, HasPages, IsBody, IsPage, Leaf, from_place, highest, joined, no_cells, no_page, page, present}
+use Rattle.parquet_pages.specs.Pages.{ArePages, ChunkHolds, IsBody, IsPage, Leaf, from_place, highest, joined, no_cells, no_page, page, present}
 use Rattle.parquet_pages.specs.Types.{physical_type, primitive_of}
 use Rattle.parquet_pages.specs.Writing.{IsWhole, body_bytes, chunk_written, first_page, header_form, header_tree, level_bytes, other_pages, page_bytes, page_written, pages_written, plain_bytes}
 use Rattle.parquet_footer.specs.declared.fault.FileFault.TheVariants.{TooLarge}
@@ -259,7 +259,7 @@ pages_held (suc most) l c before bytes behind fits w few e =
 
 pub written_held : (l : Leaf) (c : Column) (before bytes behind : List ℕ) → highest l ≤ 16 → IsWhole l c
     → chunk_written l.leaf_type (highest l) c ≡ Ok bytes → 4 ≤ length before
-    → HasPages l (before ++ (bytes ++ behind)) (pos (length before)) c
+    → ChunkHolds l (before ++ (bytes ++ behind)) (pos (length before)) c
 written_held l c before bytes behind fits w e four =
     from_place (length before) c refl four
     (pages_held (length c.levels) l c before bytes behind fits w (omega arith) e)

@@ -76,9 +76,9 @@ pub data ArePages (l : Leaf) (given : List ℕ) : ℕ → Column → Type 0 wher
 
 -- The pages of a chunk hold this column. They begin at the place that the chunk states, which isn't before byte 4. A
 -- chunk without levels has no page.
-pub data HasPages (l : Leaf) (given : List ℕ) (stated : ℤ) : Column → Type 0 where
-  without_rows : HasPages l given stated no_cells
-  from_place : (place : ℕ) (c : Column) → stated ≡ pos place → 4 ≤ place → ArePages l given place c → HasPages l given stated c
+pub data ChunkHolds (l : Leaf) (given : List ℕ) (stated : ℤ) : Column → Type 0 where
+  without_rows : ChunkHolds l given stated no_cells
+  from_place : (place : ℕ) (c : Column) → stated ≡ pos place → 4 ≤ place → ArePages l given place c → ChunkHolds l given stated c
 
 -- ---- what a table lets a leaf hold
 

@@ -3,7 +3,7 @@ use Rattle.std.specs.Prelude.{◌≡◌, ◌≤◌, ℕ, zero, suc, ◌+◌, ◌
 use Rattle.std.specs.Int.{w32, w64, to_le_bytes, cast_unsigned}
 use Rattle.lake_bytes.specs.Results.{◌>>=◌}
 use Rattle.lake_bytes.specs.Hybrid.{hybrid_bytes, low_bytes}
-use Rattle.thrift_core.specs.Shape.{Form, int32_form, struct_form, forms}
+use Rattle.thrift_core.specs.Form.{Form, int32_form, struct_form, forms}
 use Rattle.thrift_core.specs.Tree.{Tree, integer, struct, fields_of}
 use Rattle.thrift_core.specs.Writing.{written}
 use Rattle.row_core.specs.Rows.{Value, truth, whole, text, bytes}

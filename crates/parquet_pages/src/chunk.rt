@@ -5,7 +5,7 @@ ghost use Rattle.lake_bytes.specs.Reading.{IsReading};
 ghost use Rattle.shred.specs.Columns as columns;
 ghost use Rattle.shred.specs.Views.{column_view};
 ghost use Rattle.parquet_pages.specs.Outcome.{Adds, Finds, Gives, GivesWhere};
-ghost use Rattle.parquet_pages.specs.Pages.{HasPages, Suits};
+ghost use Rattle.parquet_pages.specs.Pages.{ChunkHolds, Suits};
 ghost use Rattle.parquet_pages.specs.Reading.{chunk_at, first_place, pages_at};
 ghost use Rattle.parquet_pages.specs.Views.{leaf_view};
 
@@ -30,11 +30,11 @@ pub fn read_chunk(
     num_values: u64,
 ) -> Result<Column<Value>, FileError>
     // The chunk's pages hold this column, which suits the leaf.
-    ensures found { IfOk result (λ c. HasPages (leaf_view leaf.now) bytes.now stated (column_view c) × Suits
+    ensures found { IfOk result (λ c. ChunkHolds (leaf_view leaf.now) bytes.now stated (column_view c) × Suits
         (leaf_view leaf.now) (column_view c)
         × (num_values ≡ length c.levels.items)) }
     // The column that the pages hold, if it suits the leaf, is read, unless memory runs out.
-    ensures only { (c : columns.Column) → HasPages (leaf_view leaf.now) bytes.now stated c
+    ensures only { (c : columns.Column) → ChunkHolds (leaf_view leaf.now) bytes.now stated c
         → Suits (leaf_view leaf.now) c
         → num_values ≡ length c.levels → Finds column_view c result }
     // Which fault it is: the first one in the order of the tests.

@@ -8,45 +8,45 @@ ghost use Rattle.parquet_pages.specs.Writing.{header_form, header_tree, number_f
 
 use crate::enums::{DATA_PAGE, PLAIN, RLE};
 use std::alloc::{AllocError, Global};
-use thrift_core::{Field, FieldShape, Shape, TValue, write_struct};
+use thrift_core::{Field, FieldForm, Form, TValue, write_struct};
 
 /// DataPageHeader.
-const DATA_PAGE_HEADER: Shape = Shape::Struct(&[
-    FieldShape {
+const DATA_PAGE_HEADER: Form = Form::Struct(&[
+    FieldForm {
         id: 1,
-        shape: Shape::Int32,
+        form: Form::Int32,
     },
-    FieldShape {
+    FieldForm {
         id: 2,
-        shape: Shape::Int32,
+        form: Form::Int32,
     },
-    FieldShape {
+    FieldForm {
         id: 3,
-        shape: Shape::Int32,
+        form: Form::Int32,
     },
-    FieldShape {
+    FieldForm {
         id: 4,
-        shape: Shape::Int32,
+        form: Form::Int32,
     },
 ]);
 
 /// PageHeader of a data page.
-const PAGE_HEADER: Shape = Shape::Struct(&[
-    FieldShape {
+const PAGE_HEADER: Form = Form::Struct(&[
+    FieldForm {
         id: 1,
-        shape: Shape::Int32,
+        form: Form::Int32,
     },
-    FieldShape {
+    FieldForm {
         id: 2,
-        shape: Shape::Int32,
+        form: Form::Int32,
     },
-    FieldShape {
+    FieldForm {
         id: 3,
-        shape: Shape::Int32,
+        form: Form::Int32,
     },
-    FieldShape {
+    FieldForm {
         id: 5,
-        shape: DATA_PAGE_HEADER,
+        form: DATA_PAGE_HEADER,
     },
 ]);
 

@@ -4,7 +4,7 @@ use Rattle.std.specs.List.{list_all, find, zip}
 use Rattle.std.specs.Ordering.{int_eq}
 use Rattle.lake_bytes.specs.Results.{◌>>=◌, or_refusal, refused_if}
 use Rattle.thrift_core.specs.View.{texts_view}
-use Rattle.parquet_footer.specs.Metadata.{Chunk}
+use Rattle.parquet_footer.specs.Metadata.{ColumnChunk}
 use Rattle.parquet_footer.specs.declared.fault.FileFault.{FileFault}
 use Rattle.parquet_footer.specs.declared.fault.FileFault.TheVariants.{Codec, SchemaMismatch}
 use Rattle.parquet_footer.proofs.Callers.{ok_is}
@@ -13,7 +13,7 @@ use Rattle.parquet_schema.specs.Leaves.{LeafIn}
 use Rattle.parquet_rows.specs.File.{leaf_of}
 use Rattle.parquet_rows.specs.Internal.{plain_chunk_named}
 use Rattle.parquet_footer.specs.Views.{chunk_view, chunk_views}
-use Rattle.parquet_footer.specs.declared.footer.ColumnChunk.{ColumnChunk}
+use Rattle.parquet_footer.specs.declared.footer.ColumnChunk.{ColumnChunk as CodeColumnChunk}
 use Rattle.parquet_rows.specs.Reading.{chunk_named, column_at, same_path}
 
 -- ---- paths
@@ -36,26 +36,26 @@ uneven_path (name ∷ names) (other ∷ path) uneven = elim (bytes_eq name.items
 
 -- ---- chunks
 
-pub found_named : {A : Type 0} (path : List (List ℕ)) (cs : List (ColumnChunk A)) → option_map chunk_view (find (λ c. same_path (chunk_view c).path_in_schema path) cs) ≡ chunk_named path (chunk_views cs)
+pub found_named : {A : Type 0} (path : List (List ℕ)) (cs : List (CodeColumnChunk A)) → option_map chunk_view (find (λ c. same_path (chunk_view c).path_in_schema path) cs) ≡ chunk_named path (chunk_views cs)
 found_named path [] = refl
 found_named {A} path (c ∷ cs) = elim (same_path (chunk_view c).path_in_schema path) as (λ (b : Bool). option_map chunk_view (cond b (Some c) (find (λ c. same_path (chunk_view c).path_in_schema path) cs)) ≡ cond b (Some (chunk_view c)) (chunk_named path (chunk_views cs))) [
   | true ↦ refl
   | false ↦ found_named path cs
 ]
 
-tested : {Y : Type 0} (test : Result (Unit {0}) FileFault) (f : Chunk → Result Y FileFault) (given chunk : Chunk)
+tested : {Y : Type 0} (test : Result (Unit {0}) FileFault) (f : ColumnChunk → Result Y FileFault) (given chunk : ColumnChunk)
     → (test >>= λ plain. Ok given) ≡ Ok chunk → (test >>= λ plain. f given) ≡ f chunk
 tested (Ok plain) f given chunk e = ap f (ok_is {E = FileFault} given chunk e)
 tested (Err fault) f given chunk e = absurd cc
 
-found_tested : {Y : Type 0} (found : Result Chunk FileFault) (test : Chunk → Result (Unit {0}) FileFault)
-    (f : Chunk → Result Y FileFault) (chunk : Chunk) → (found >>= λ given. test given >>= λ plain. Ok given) ≡ Ok chunk
+found_tested : {Y : Type 0} (found : Result ColumnChunk FileFault) (test : ColumnChunk → Result (Unit {0}) FileFault)
+    (f : ColumnChunk → Result Y FileFault) (chunk : ColumnChunk) → (found >>= λ given. test given >>= λ plain. Ok given) ≡ Ok chunk
     → (found >>= λ given. test given >>= λ plain. f given) ≡ f chunk
 found_tested (Ok given) test f chunk e = tested (test given) f given chunk e
 found_tested (Err fault) test f chunk e = absurd cc
 
 -- the column of a leaf whose chunk isn't compressed
-pub column_by_chunk : (given : List ℕ) (chunks : List Chunk) (l : LeafIn) (chunk : Chunk) → plain_chunk_named l.names chunks ≡ Ok chunk
+pub column_by_chunk : (given : List ℕ) (chunks : List ColumnChunk) (l : LeafIn) (chunk : ColumnChunk) → plain_chunk_named l.names chunks ≡ Ok chunk
     → column_at given chunks l ≡ chunk_at (leaf_of l) given chunk.data_page_offset chunk.num_values
 unfolding column_at
 column_by_chunk given chunks l chunk e =

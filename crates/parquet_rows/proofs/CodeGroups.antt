@@ -12,7 +12,7 @@ use Rattle.shred.specs.Assembly.{assembled, cells_of_columns, heads, row_count, 
 use Rattle.shred.specs.Columns.{Cell, Column}
 use Rattle.shred.specs.Shape.{Shape}
 use Rattle.shred.specs.Ways.{ways, highest}
-use Rattle.parquet_footer.specs.Metadata.{Chunk, Group, Metadata}
+use Rattle.parquet_footer.specs.Metadata.{ColumnChunk, RowGroup, FileMetaData}
 use Rattle.parquet_footer.specs.declared.fault.FileFault.{FileFault}
 use Rattle.parquet_footer.specs.declared.fault.FileFault.TheVariants.{Codec, CountMismatch, SchemaMismatch}
 use Rattle.parquet_footer.proofs.Callers.{bind_ok, ok_is}
@@ -30,18 +30,18 @@ there : {A E : Type 0} (o : Option A) (fault : E) (x : A) → or_refusal o fault
 there None fault x e = absurd cc
 there (Some y) fault x e = cc
 
-column_counted : (given : List ℕ) (group : Group) (l : LeafIn) (c : Column) → IsBytes given → column_at given group.columns l ≡ Ok c → has_rows group.num_rows c ≡ is_counted group l
+column_counted : (given : List ℕ) (group : RowGroup) (l : LeafIn) (c : Column) → IsBytes given → column_at given group.columns l ≡ Ok c → has_rows group.num_rows c ≡ is_counted group l
 unfolding column_at
 column_counted given group l c fits e =
     let named = chunk_named l.names group.columns in
-    let rest = λ (chunk : Chunk). chunk_at (leaf_of l) given chunk.data_page_offset chunk.num_values in
+    let rest = λ (chunk : ColumnChunk). chunk_at (leaf_of l) given chunk.data_page_offset chunk.num_values in
     let b = bind_ok (or_refusal named SchemaMismatch) (λ chunk. refused_if (not (int_eq chunk.codec (pos 0))) (Codec chunk.codec) >>= λ plain. rest chunk) c e in
     let k = bind_ok (refused_if (not (int_eq b.0.codec (pos 0))) (Codec b.0.codec)) (λ plain. rest b.0) c b.2 in
     let f = chunk_found (leaf_of l) given b.0.data_page_offset b.0.num_values c fits k.2 in
     let many : b.0.num_values ≡ length c.levels = f.2 in
     rw (there named SchemaMismatch b.0 b.1, many) refl
 
-pub columns_counted : (given : List ℕ) (group : Group) (ls : List LeafIn) (cs : List Column) → IsBytes given → columns_at given group.columns ls ≡ Ok cs → list_all (has_rows group.num_rows) cs ≡ are_counted group ls
+pub columns_counted : (given : List ℕ) (group : RowGroup) (ls : List LeafIn) (cs : List Column) → IsBytes given → columns_at given group.columns ls ≡ Ok cs → list_all (has_rows group.num_rows) cs ≡ are_counted group ls
 columns_counted given group [] cs fits e =
     let none : [] ≡ cs = ok_is [] cs e in
     rw (sym none) refl
@@ -53,34 +53,34 @@ columns_counted given group (l ∷ ls) cs fits e =
 
 -- ---- the rows of a group
 
-pub group_fails : (given : List ℕ) (t : Tree) (shape : Shape) (group : Group) (ls : List LeafIn) (fault : FileFault) → ls ≡ leaves_in t shape
+pub group_fails : (given : List ℕ) (t : Tree) (shape : Shape) (group : RowGroup) (ls : List LeafIn) (fault : FileFault) → ls ≡ leaves_in t shape
     → columns_at given group.columns ls ≡ Err fault → rows_of_group given t shape group ≡ Err fault
 unfolding rows_of_group
 group_fails given t shape group ls fault are e = rw (sym are, e) refl
 
-pub group_uncounted : (given : List ℕ) (t : Tree) (shape : Shape) (group : Group) (ls : List LeafIn) (cs : List Column) → IsBytes given → ls ≡ leaves_in t shape
+pub group_uncounted : (given : List ℕ) (t : Tree) (shape : Shape) (group : RowGroup) (ls : List LeafIn) (cs : List Column) → IsBytes given → ls ≡ leaves_in t shape
     → columns_at given group.columns ls ≡ Ok cs → are_counted group ls ≡ false → rows_of_group given t shape group ≡ Err CountMismatch
 unfolding rows_of_group
 group_uncounted given t shape group ls cs fits are e few = rw (sym are, e, columns_counted given group ls cs fits e, few) refl
 
-pub group_counted : (given : List ℕ) (t : Tree) (shape : Shape) (group : Group) (ls : List LeafIn) (cs : List Column) → IsBytes given → ls ≡ leaves_in t shape
+pub group_counted : (given : List ℕ) (t : Tree) (shape : Shape) (group : RowGroup) (ls : List LeafIn) (cs : List Column) → IsBytes given → ls ≡ leaves_in t shape
     → columns_at given group.columns ls ≡ Ok cs → are_counted group ls ≡ true → rows_of_group given t shape group ≡ refused_as (λ fault. SchemaMismatch) (assembled shape cs)
 unfolding rows_of_group
 group_counted given t shape group ls cs fits are e all = rw (sym are, e, columns_counted given group ls cs fits e, all) refl
 
 -- ---- several groups
 
-pub groups_first : (given : List ℕ) (t : Tree) (shape : Shape) (gs rest : List Group) (g : Group) (first : List Row) → gs ≡ g ∷ rest
+pub groups_first : (given : List ℕ) (t : Tree) (shape : Shape) (gs rest : List RowGroup) (g : RowGroup) (first : List Row) → gs ≡ g ∷ rest
     → rows_of_group given t shape g ≡ Ok first → rows_of_groups given t shape gs ≡ with_front first (rows_of_groups given t shape rest)
 unfolding rows_of_groups
 groups_first given t shape gs rest g first here e = rw (here, e) refl
 
-pub groups_fail : (given : List ℕ) (t : Tree) (shape : Shape) (gs rest : List Group) (g : Group) (fault : FileFault) → gs ≡ g ∷ rest
+pub groups_fail : (given : List ℕ) (t : Tree) (shape : Shape) (gs rest : List RowGroup) (g : RowGroup) (fault : FileFault) → gs ≡ g ∷ rest
     → rows_of_group given t shape g ≡ Err fault → rows_of_groups given t shape gs ≡ Err fault
 unfolding rows_of_groups
 groups_fail given t shape gs rest g fault here e = rw (here, e) refl
 
-pub groups_none : (given : List ℕ) (t : Tree) (shape : Shape) (gs : List Group) → gs ≡ [] → rows_of_groups given t shape gs ≡ Ok []
+pub groups_none : (given : List ℕ) (t : Tree) (shape : Shape) (gs : List RowGroup) → gs ≡ [] → rows_of_groups given t shape gs ≡ Ok []
 unfolding rows_of_groups
 groups_none given t shape gs none = rw none refl
 
@@ -104,7 +104,7 @@ assembled_many shape cs rows e =
     made_many shape (row_count cs) b.0 rows b.2
 
 -- columns that all have so many rows, where there is one
-pub first_counts : (given : List ℕ) (group : Group) (ls : List LeafIn) (cs : List Column) → 0 < length ls → columns_at given group.columns ls ≡ Ok cs
+pub first_counts : (given : List ℕ) (group : RowGroup) (ls : List LeafIn) (cs : List Column) → 0 < length ls → columns_at given group.columns ls ≡ Ok cs
     → list_all (has_rows group.num_rows) cs ≡ true → row_count cs ≡ group.num_rows
 first_counts given group [] cs some e all = absurd (omega (arith, some))
 first_counts given group (l ∷ ls) [] some e all =
@@ -123,7 +123,7 @@ assembled_ok fault shape cs rows e = kept (assembled shape cs) e
     kept (Ok given) e = cc
     kept (Err f) e = absurd cc
 
-pub group_many : (given : List ℕ) (t : Tree) (shape : Shape) (group : Group) (rows : List Row) → 0 < length (leaves_in t shape) → rows_of_group given t shape group ≡ Ok rows → length rows ≡ group.num_rows
+pub group_many : (given : List ℕ) (t : Tree) (shape : Shape) (group : RowGroup) (rows : List Row) → 0 < length (leaves_in t shape) → rows_of_group given t shape group ≡ Ok rows → length rows ≡ group.num_rows
 unfolding rows_of_group
 group_many given t shape group rows some e =
     let rest = λ (cs : List Column). refused_as (λ fault. SchemaMismatch) (assembled shape cs) in
@@ -136,7 +136,7 @@ group_many given t shape group rows some e =
     counted true e = refl
     counted false e = absurd cc
 
-pub groups_many : (given : List ℕ) (t : Tree) (shape : Shape) (groups : List Group) (rows : List Row) → 0 < length (leaves_in t shape) → rows_of_groups given t shape groups ≡ Ok rows → length rows ≡ claimed_rows groups
+pub groups_many : (given : List ℕ) (t : Tree) (shape : Shape) (groups : List RowGroup) (rows : List Row) → 0 < length (leaves_in t shape) → rows_of_groups given t shape groups ≡ Ok rows → length rows ≡ claimed_rows groups
 unfolding rows_of_groups
 groups_many given t shape [] rows some e =
     let none : [] ≡ rows = ok_is [] rows e in
@@ -153,13 +153,13 @@ groups_many given t shape (g ∷ groups) rows some e =
 -- ---- the rows of a file
 
 -- where the groups' rows are read, only what they claim together is left to be looked at
-pub rows_by_claims : (given : List ℕ) (t : Tree) (metadata : Metadata) (shape : Shape) (rows : List Row) → fitted_list t metadata.schema ≡ Some shape → 0 < length (leaves_in t shape)
+pub rows_by_claims : (given : List ℕ) (t : Tree) (metadata : FileMetaData) (shape : Shape) (rows : List Row) → fitted_list t metadata.schema ≡ Some shape → 0 < length (leaves_in t shape)
     → rows_of_groups given t shape metadata.row_groups ≡ Ok rows → rows_of given t metadata ≡ cond (eqb (claimed_rows metadata.row_groups) metadata.num_rows) (Ok rows) (Err CountMismatch)
 unfolding rows_of
 rows_by_claims given t metadata shape rows fit some read = rw (fit, read, groups_many given t shape metadata.row_groups rows some read) refl
 
 -- where the groups' rows aren't read, nor are the file's
-pub rows_fail : (given : List ℕ) (t : Tree) (metadata : Metadata) (shape : Shape) (fault : FileFault) → fitted_list t metadata.schema ≡ Some shape
+pub rows_fail : (given : List ℕ) (t : Tree) (metadata : FileMetaData) (shape : Shape) (fault : FileFault) → fitted_list t metadata.schema ≡ Some shape
     → rows_of_groups given t shape metadata.row_groups ≡ Err fault → rows_of given t metadata ≡ Err fault
 unfolding rows_of
 rows_fail given t metadata shape fault fit e = rw (fit, e) refl

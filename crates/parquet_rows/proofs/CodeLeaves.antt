@@ -8,7 +8,7 @@ use Rattle.schema_tree.specs.Tree as tree
 use Rattle.schema_tree.specs.Tree.{Tree}
 use Rattle.shred.specs.Shape as shapes
 use Rattle.shred.specs.Shape.{Shape}
-use Rattle.parquet_footer.specs.Metadata.{Element}
+use Rattle.parquet_footer.specs.Metadata.{SchemaElement}
 use Rattle.parquet_pages.specs.Types.{leaf_type, physical_type, type_number}
 use Rattle.parquet_pages.specs.declared.types.LeafType.{LeafType}
 use Rattle.parquet_schema.specs.FileTree.{FileNode, leaf, group, fields_of}
@@ -63,13 +63,13 @@ leaf_there (tree.struct (tree.field name t nullable metadata fs)) (group gs) s s
 leaf_there (tree.array t nullable) node s sound e = absurd cc
 leaf_there (tree.map k v nullable) node s sound e = absurd cc
 
-pub list_leaf_there : (t : Tree) (es : List Element) (s : Shape) → is_sound t ≡ true → fitted_list t es ≡ Some s → 0 < length (leaves_in t s)
+pub list_leaf_there : (t : Tree) (es : List SchemaElement) (s : Shape) → is_sound t ≡ true → fitted_list t es ≡ Some s → 0 < length (leaves_in t s)
 list_leaf_there t es s sound e =
     let read = some_is (file_fields es) (λ fs. fitted t (group (fields_of fs))) s e in
     leaf_there t (group (fields_of read.0)) s sound read.2
 
 -- the leaves of a table whose columns a file has
-pub list_leaves : (t : Tree) (es : List Element) (s : Shape) (ls : List LeafIn) → is_sound t ≡ true → fitted_list t es ≡ Some s → ls ≡ leaves_in t s → AreLeavesOf t s ls
+pub list_leaves : (t : Tree) (es : List SchemaElement) (s : Shape) (ls : List LeafIn) → is_sound t ≡ true → fitted_list t es ≡ Some s → ls ≡ leaves_in t s → AreLeavesOf t s ls
 list_leaves t es s ls sound e are =
     let read = some_is (file_fields es) (λ fs. fitted t (group (fields_of fs))) s e in
     record {

@@ -14,7 +14,7 @@ use Rattle.schema_tree.specs.Limits.{are_sound, has_field, is_sound, nodes, node
 use Rattle.schema_tree.specs.Tree as tree
 use Rattle.schema_tree.specs.Tree.{Tree, Column}
 use Rattle.schema_tree.specs.declared.primitive.Primitive.{Primitive}
-use Rattle.parquet_footer.specs.Metadata.{Element, node_of, physical_type_of, root_of, schema_of}
+use Rattle.parquet_footer.specs.Metadata.{SchemaElement, node_of, physical_type_of, root_of, schema_of}
 use Rattle.parquet_footer.proofs.Callers.{bind_ok}
 use Rattle.parquet_pages.specs.Types.{leaf_type, physical_type, type_number}
 use Rattle.parquet_pages.specs.declared.types.LeafType.{LeafType}
@@ -86,15 +86,15 @@ read_append read (x ∷ xs) zs ys ws e k =
 
 -- The elements of a node are read as its own and those inside it.
 pub record NodeSaid (name : List ℕ) (nullable : Bool) (t : Tree) (node : FileNode) : Type 0 where
-  pub first : Element
-  pub inside : List Element
+  pub first : SchemaElement
+  pub inside : List SchemaElement
   pub read : each node_of (node_elements name nullable t) ≡ Ok (first ∷ inside)
   pub is : IsElementOf name nullable node first
   pub below : AreInside node inside
 
 -- The elements of fields are read as a list of them.
 pub record FieldsSaid (fs : tree.Fields) (gs : FileFields) : Type 0 where
-  pub list : List Element
+  pub list : List SchemaElement
   pub read : each node_of (field_elements fs) ≡ Ok list
   pub are : AreElements gs list
 
@@ -197,7 +197,7 @@ mutual
 
 -- The list of a table's elements is read as a list of its columns.
 pub record SchemaSaid (cols : tree.Fields) (fs : FileFields) : Type 0 where
-  pub list : List Element
+  pub list : List SchemaElement
   pub read : schema_of (schema_elements (tree.struct cols)) ≡ Ok list
   pub listed : IsSchemaList fs list
 
@@ -209,7 +209,7 @@ schema_said cols fs sound e =
     let same : own.0 ≡ fs = cc in
     let columns : file_fields_of cols ≡ Some fs = own.1 ∙ ap (λ x. Some x) same in
     let said = fields_said cols fs parts.1 columns in
-    let root : Element = record {
+    let root : SchemaElement = record {
       physical_type = None;
       repetition_type = None;
       name = codes "schema";

@@ -3,7 +3,7 @@ use Rattle.std.proofs.Common.{◌≡◌, ℕ, suc, ◌+◌, ◌≤◌, max, ℤ,
 use Rattle.std.specs.Ordering.{int_eq}
 use Rattle.thrift_core.specs.Fields.{all_as, as_struct}
 use Rattle.thrift_core.specs.Tree.{Tree, boolean, integer, binary, list, map, struct, skipped, Trees, no_trees, tree, Entries, no_entries, entry, Fields, no_fields, field, trees_of, depth, depth_of_trees, depth_of_entries, depth_of_fields, nodes_of_trees}
-use Rattle.thrift_core.specs.Shape.{Form, list_form, map_form, struct_form, Forms, no_forms, field_form, form_at}
+use Rattle.thrift_core.specs.Form.{Form, list_form, map_form, struct_form, Forms, no_forms, field_form, form_at}
 use Rattle.thrift_core.specs.Writing.{HasForm, MembersHaveForm, EntriesHaveForm, FieldsHaveForm}
 
 -- ---- members

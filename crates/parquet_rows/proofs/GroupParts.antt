@@ -11,7 +11,7 @@ use Rattle.shred.specs.Shape.{Shape}
 use Rattle.shred.specs.Views.{part_views}
 use Rattle.shred.specs.Ways.{highest, ways}
 use Rattle.shred.specs.declared.columns.ColumnPart.{ColumnPart}
-use Rattle.parquet_footer.specs.Metadata.{Group}
+use Rattle.parquet_footer.specs.Metadata.{RowGroup}
 use Rattle.parquet_schema.specs.Leaves.{LeafIn}
 use Rattle.parquet_rows.specs.Internal.{are_counted, AreLeavesOf, ArePartsOf}
 use Rattle.parquet_rows.specs.Reading.{columns_at, has_rows}
@@ -25,7 +25,7 @@ pub record MayBeRows (first most : ℕ) (shape : Shape) (ps : List (ColumnPart V
   pub plain : All ArePlain cs
   pub few : row_count cs < 2 ^ 64
 
-pub group_parts : (given : List ℕ) (t : Tree) (shape : Shape) (group : Group) (ls : List LeafIn)
+pub group_parts : (given : List ℕ) (t : Tree) (shape : Shape) (group : RowGroup) (ls : List LeafIn)
     (ps : List (ColumnPart Value)) (cs : List Column) (first most : ℕ) → IsBytes given → AreLeavesOf t shape ls
     → columns_at given group.columns ls ≡ Ok cs → are_counted group ls ≡ true → ArePartsOf first most ls ps cs
     → group.num_rows < 2 ^ 64 → MayBeRows first most shape ps cs

@@ -18,7 +18,7 @@ use Rattle.shred.specs.Assembly.{assembled}
 use Rattle.shred.specs.Columns.{Column}
 use Rattle.shred.specs.Shape.{Shape}
 use Rattle.shred.proofs.Callers.{assembled_complete, assembled_sound}
-use Rattle.parquet_footer.specs.Metadata.{Chunk, Group}
+use Rattle.parquet_footer.specs.Metadata.{ColumnChunk, RowGroup}
 use Rattle.parquet_footer.specs.declared.fault.FileFault.{FileFault}
 use Rattle.parquet_footer.specs.declared.fault.FileFault.TheVariants.{Codec, CountMismatch, SchemaMismatch}
 use Rattle.parquet_footer.proofs.Callers.{bind_ok, chosen, ok_is}
@@ -54,7 +54,7 @@ path_itself (n ∷ ns) = and_from _ _ ((bytes_eq-Decides n n).1 refl) (path_itse
 pub path_decides : (path other : List (List ℕ)) → Decides (same_path path other) (path ≡ other)
 path_decides path other = (path_found path other, λ e. subst (λ p. same_path path p ≡ true) e (path_itself path))
 
-pub chunk_found : (path : List (List ℕ)) (chunks : List Chunk) (chunk : Chunk) → chunk_named path chunks ≡ Some chunk
+pub chunk_found : (path : List (List ℕ)) (chunks : List ColumnChunk) (chunk : ColumnChunk) → chunk_named path chunks ≡ Some chunk
     → IsChunkOf path chunks chunk
 chunk_found path [] chunk e = absurd cc
 chunk_found path (first ∷ others) chunk e = elim (chosen (same_path first.path_in_schema path) (Some first)
@@ -66,10 +66,10 @@ chunk_found path (first ∷ others) chunk e = elim (chosen (same_path first.path
       )
     ]
   where
-    same : (chunk first : Chunk) → Some first ≡ Some chunk → chunk ≡ first
+    same : (chunk first : ColumnChunk) → Some first ≡ Some chunk → chunk ≡ first
     same chunk first e = cc
 
-pub chunk_again : (path : List (List ℕ)) (chunks : List Chunk) (chunk : Chunk) → IsChunkOf path chunks chunk
+pub chunk_again : (path : List (List ℕ)) (chunks : List ColumnChunk) (chunk : ColumnChunk) → IsChunkOf path chunks chunk
     → chunk_named path chunks ≡ Some chunk
 chunk_again path [] chunk p = absurd p
 chunk_again path (first ∷ others) chunk (inl p) = rw ((path_decides first.path_in_schema path).1 p.0, p.1) refl
@@ -80,16 +80,16 @@ chunk_again path (first ∷ others) chunk (inr p) =
 
 -- ---- columns
 
-record ColumnFound (given : List ℕ) (chunks : List Chunk) (l : LeafIn) (c : Column) : Type 0 where
+record ColumnFound (given : List ℕ) (chunks : List ColumnChunk) (l : LeafIn) (c : Column) : Type 0 where
   holds : HoldsColumn given chunks l c
   suits : Suits (leaf_of l) c
 
-column_found : (given : List ℕ) (chunks : List Chunk) → IsBytes given → (l : LeafIn) (c : Column)
+column_found : (given : List ℕ) (chunks : List ColumnChunk) → IsBytes given → (l : LeafIn) (c : Column)
     → column_at given chunks l ≡ Ok c → ColumnFound given chunks l c
 unfolding column_at
 column_found given chunks h l c e =
-    let reads = λ (chunk : Chunk). chunk_at (leaf_of l) given chunk.data_page_offset chunk.num_values in
-    let tests = λ (chunk : Chunk). refused_if (not (int_eq chunk.codec (pos 0))) (Codec chunk.codec)
+    let reads = λ (chunk : ColumnChunk). chunk_at (leaf_of l) given chunk.data_page_offset chunk.num_values in
+    let tests = λ (chunk : ColumnChunk). refused_if (not (int_eq chunk.codec (pos 0))) (Codec chunk.codec)
     >>= λ plain. reads chunk in
     let a = bind_ok (or_refusal (chunk_named l.names chunks) SchemaMismatch) tests c e in
     let chunk = a.0 in
@@ -106,7 +106,7 @@ column_found given chunks h l c e =
       suits = found.1;
     }
 
-column_again : (given : List ℕ) (chunks : List Chunk) (l : LeafIn) (c : Column) → HoldsColumn given chunks l c
+column_again : (given : List ℕ) (chunks : List ColumnChunk) (l : LeafIn) (c : Column) → HoldsColumn given chunks l c
     → Suits (leaf_of l) c → column_at given chunks l ≡ Ok c
 unfolding column_at
 column_again given chunks l c held suits =
@@ -115,7 +115,7 @@ column_again given chunks l c held suits =
 
 -- ---- a group
 
-pub record GroupFound (given : List ℕ) (t : Tree) (shape : Shape) (group : Group) (rows : List Row) : Type 0 where
+pub record GroupFound (given : List ℕ) (t : Tree) (shape : Shape) (group : RowGroup) (rows : List Row) : Type 0 where
   pub stands : IsGroup given t shape group rows
   pub are : AreRows t rows
 
@@ -134,7 +134,7 @@ rows_counted n m (c ∷ cs) same long =
     (rows_counted n m cs same (All-tail (λ c. length c.levels ≡ m) c cs long))
 
 -- A group that is read holds the rows, which are rows of the table.
-pub group_found : (given : List ℕ) (t : Tree) (node : FileNode) (shape : Shape) (group : Group) (rows : List Row)
+pub group_found : (given : List ℕ) (t : Tree) (node : FileNode) (shape : Shape) (group : RowGroup) (rows : List Row)
     → IsBytes given → is_sound t ≡ true → fitted t node ≡ Some shape → rows_of_group given t shape group ≡ Ok rows
     → GroupFound given t shape group rows
 unfolding rows_of_group
@@ -169,7 +169,7 @@ group_found given t node shape group rows h sound fits e =
     }
 
 -- Rows of the table that a group holds are read.
-pub group_again : (given : List ℕ) (t : Tree) (node : FileNode) (shape : Shape) (group : Group) (rows : List Row)
+pub group_again : (given : List ℕ) (t : Tree) (node : FileNode) (shape : Shape) (group : RowGroup) (rows : List Row)
     → is_sound t ≡ true → fitted t node ≡ Some shape → IsGroup given t shape group rows → AreRows t rows
     → rows_of_group given t shape group ≡ Ok rows
 unfolding rows_of_group
@@ -189,12 +189,12 @@ group_again given t node shape group rows sound fits g are =
 rows_none : (t : Tree) → AreRows t []
 rows_none t = record { conform = All-nil (Conforms t); texts = All-nil HasTexts }
 
-pub record GroupsFound (given : List ℕ) (t : Tree) (shape : Shape) (groups : List Group)
+pub record GroupsFound (given : List ℕ) (t : Tree) (shape : Shape) (groups : List RowGroup)
     (rows : List Row) : Type 0 where
   pub stand : AreGroups given t shape groups rows
   pub are : AreRows t rows
 
-pub groups_found : (given : List ℕ) (t : Tree) (node : FileNode) (shape : Shape) (groups : List Group) (rows : List Row)
+pub groups_found : (given : List ℕ) (t : Tree) (node : FileNode) (shape : Shape) (groups : List RowGroup) (rows : List Row)
     → IsBytes given → is_sound t ≡ true → fitted t node ≡ Some shape
     → rows_of_groups given t shape groups ≡ Ok rows → GroupsFound given t shape groups rows
 unfolding rows_of_groups
@@ -216,7 +216,7 @@ groups_found given t node shape (group ∷ groups) rows h sound fits e =
       });
     }
 
-pub groups_again : (given : List ℕ) (t : Tree) (node : FileNode) (shape : Shape) (groups : List Group) (rows : List Row)
+pub groups_again : (given : List ℕ) (t : Tree) (node : FileNode) (shape : Shape) (groups : List RowGroup) (rows : List Row)
     → is_sound t ≡ true → fitted t node ≡ Some shape → AreGroups given t shape groups rows → AreRows t rows
     → rows_of_groups given t shape groups ≡ Ok rows
 unfolding rows_of_groups

@@ -8,7 +8,7 @@ use Rattle.schema_tree.specs.Limits.{IsWithinLimits, is_sound}
 use Rattle.schema_tree.specs.Tree.{Tree}
 use Rattle.shred.specs.Shape.{Shape}
 use Rattle.parquet_footer.specs.Frame.{frame_of}
-use Rattle.parquet_footer.specs.Metadata.{Element, Metadata}
+use Rattle.parquet_footer.specs.Metadata.{SchemaElement, FileMetaData}
 use Rattle.parquet_footer.specs.Reading.{metadata_at}
 use Rattle.parquet_footer.specs.declared.fault.FileFault.TheVariants.{CountMismatch, SchemaMismatch}
 use Rattle.parquet_footer.proofs.Callers.{bind_ok, frame_found, held, metadata_found, size_kept}
@@ -23,25 +23,25 @@ use Rattle.parquet_rows.proofs.FittedShapes.{some_is}
 use Rattle.parquet_rows.proofs.GroupRows.{groups_found}
 use Rattle.parquet_rows.proofs.GroupSteps.{there}
 
-record ListFits (t : Tree) (es : List Element) (shape : Shape) : Type 0 where
+record ListFits (t : Tree) (es : List SchemaElement) (shape : Shape) : Type 0 where
   columns : FileFields
   listed : IsSchemaList columns es
   table : fitted t (group columns) ≡ Some shape
 
-list_fits : (t : Tree) (es : List Element) (shape : Shape) → fitted_list t es ≡ Some shape → ListFits t es shape
+list_fits : (t : Tree) (es : List SchemaElement) (shape : Shape) → fitted_list t es ≡ Some shape → ListFits t es shape
 list_fits t es shape e =
     let a = some_is (file_fields es) (λ fs. fitted t (group (fields_of fs))) shape e in
     record { columns = fields_of a.0; listed = list_found es a.0 a.1; table = a.2 }
 
 -- what is known of a table that is read
-record TableFound (given : List ℕ) (t : Tree) (metadata : Metadata) (rows : List Row) : Type 0 where
+record TableFound (given : List ℕ) (t : Tree) (metadata : FileMetaData) (rows : List Row) : Type 0 where
   shape : Shape
   fits : ListFits t metadata.schema shape
   groups : AreGroups given t shape metadata.row_groups rows
   counted : metadata.num_rows ≡ length rows
   are : AreRows t rows
 
-table_found : (given : List ℕ) (t : Tree) (metadata : Metadata) (rows : List Row) → IsBytes given → is_sound t ≡ true
+table_found : (given : List ℕ) (t : Tree) (metadata : FileMetaData) (rows : List Row) → IsBytes given → is_sound t ≡ true
     → rows_of given t metadata ≡ Ok rows → TableFound given t metadata rows
 unfolding rows_of
 table_found given t metadata rows h sound e =

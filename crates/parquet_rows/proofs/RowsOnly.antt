@@ -5,9 +5,9 @@ use Rattle.row_core.specs.Rows.{Row}
 use Rattle.schema_tree.specs.Limits.{IsWithinLimits}
 use Rattle.schema_tree.specs.Tree.{Tree}
 use Rattle.shred.specs.Shape.{Shape}
-use Rattle.parquet_footer.specs.Footer.{ClaimsWithinLimit, GroupsWithinLimit, Says}
+use Rattle.parquet_footer.specs.Footer.{ClaimsWithinLimit, GroupsWithinLimit, FooterSays}
 use Rattle.parquet_footer.specs.Frame.{magic}
-use Rattle.parquet_footer.specs.Metadata.{Element, Group, Metadata}
+use Rattle.parquet_footer.specs.Metadata.{SchemaElement, RowGroup, FileMetaData}
 use Rattle.parquet_footer.specs.declared.fault.FileFault.{FileFault}
 use Rattle.parquet_footer.proofs.Callers.{Parts, frame_again, metadata_again, ok_is, one_frame, one_metadata, parts_again}
 use Rattle.parquet_schema.specs.FileTree.{FileField, FileFields, IsSchemaList, field, fields_of, group, no_fields}
@@ -31,7 +31,7 @@ unfolding listed
 fields_again no_fields = refl
 fields_again (field name optional node fs) = ap (field name optional node) (fields_again fs)
 
-list_again : (t : Tree) (fs : FileFields) (es : List Element) (shape : Shape) → IsWithinLimits t → IsSchemaList fs es
+list_again : (t : Tree) (fs : FileFields) (es : List SchemaElement) (shape : Shape) → IsWithinLimits t → IsSchemaList fs es
     → fitted t (group fs) ≡ Some shape → fitted_list t es ≡ Some shape
 list_again t fs es shape limits list fits =
     let deep = depth_fits t (group fs) shape limits.sound fits in
@@ -41,7 +41,7 @@ list_again t fs es shape limits list fits =
     ap (λ o. o >>= λ gs. fitted t (group (fields_of gs))) read ∙ (ap (λ gs. fitted t (group gs)) same ∙ fits)
 
 -- what stands is read, whatever the limits of the file
-table_again : (given : List ℕ) (t : Tree) (metadata : Metadata) (fs : FileFields) (shape : Shape) (rows : List Row)
+table_again : (given : List ℕ) (t : Tree) (metadata : FileMetaData) (fs : FileFields) (shape : Shape) (rows : List Row)
     → IsWithinLimits t → IsSchemaList fs metadata.schema → fitted t (group fs) ≡ Some shape
     → AreGroups given t shape metadata.row_groups rows → metadata.num_rows ≡ length rows → AreRows t rows
     → rows_of given t metadata ≡ Ok rows
@@ -62,7 +62,7 @@ file_again bytes t rows limits f =
 -- ---- the limits
 
 -- no group claims more rows than there are
-claims_again : (given : List ℕ) (t : Tree) (shape : Shape) (groups : List Group) (rows : List Row)
+claims_again : (given : List ℕ) (t : Tree) (shape : Shape) (groups : List RowGroup) (rows : List Row)
     → AreGroups given t shape groups rows → length rows ≤ 4194304 → GroupsWithinLimit groups
 claims_again given t shape [] rows p few = tt
 claims_again given t shape (g ∷ groups) rows (first, others, one, more, whole) few =
@@ -93,7 +93,7 @@ rows_one bytes t rows others limits f g =
     let second : Parts bytes g.pages g.footer = rw g.frame (parts_again g.pages g.footer g.length_fits) in
     let frame = one_frame bytes f.pages f.footer g.pages g.footer first second in
     let metadata : f.metadata ≡ g.metadata = one_metadata g.footer f.metadata g.metadata
-    (subst (λ (b : List ℕ). Says b f.metadata) frame.1 f.says) g.says in
+    (subst (λ (b : List ℕ). FooterSays b f.metadata) frame.1 f.says) g.says in
     let one = file_again bytes t rows limits f in
     let two = file_again bytes t others limits g in
     let read : rows_of (magic ++ f.pages) t f.metadata ≡ Ok others = rw (frame.0, metadata) two in

@@ -4,7 +4,7 @@ use Rattle.std.specs.Int.Signed.{lt_z, le_z}
 use Rattle.std.proofs.lemmas.Bool.{and_parts}
 use Rattle.std.proofs.lemmas.Int.{ints}
 use Rattle.thrift_core.specs.Tree.{Tree, struct, Fields, no_fields, field}
-use Rattle.thrift_core.specs.Shape.{Form, struct_form, Forms, form_at}
+use Rattle.thrift_core.specs.Form.{Form, struct_form, Forms, form_at}
 use Rattle.thrift_core.specs.Writing.{HasForm, FieldsHaveForm}
 
 -- the ids rise above this one, up to the largest

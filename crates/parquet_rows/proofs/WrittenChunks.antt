@@ -5,16 +5,16 @@ use Rattle.std.proofs.lemmas.Bool.{ltb-false}
 use Rattle.std.proofs.lemmas.List.{length-append, length-map}
 use Rattle.lake_bytes.specs.Results.{◌>>=◌, refused_if}
 use Rattle.thrift_core.specs.Fields.{all_as, as_struct, as_text, each}
-use Rattle.thrift_core.specs.Shape.{binary_form, int32_form, list_form}
+use Rattle.thrift_core.specs.Form.{binary_form, int32_form, list_form}
 use Rattle.thrift_core.specs.Tree as thrift
 use Rattle.thrift_core.specs.Tree.{binary, count_of_trees, integer, trees_of}
 use Rattle.thrift_core.specs.Writing.{HasForm, MembersHaveForm}
 use Rattle.shred.specs.Columns.{Column}
-use Rattle.parquet_footer.specs.Metadata.{Chunk, chunk_of}
+use Rattle.parquet_footer.specs.Metadata.{ColumnChunk, chunk_of}
 use Rattle.parquet_footer.specs.declared.fault.FileFault.{FileFault}
 use Rattle.parquet_footer.specs.declared.fault.FileFault.TheVariants.{TooLarge}
 use Rattle.parquet_footer.proofs.Callers.{bind_ok, ok_is}
-use Rattle.parquet_pages.specs.Pages.{HasPages}
+use Rattle.parquet_pages.specs.Pages.{ChunkHolds}
 use Rattle.parquet_pages.specs.Types.{physical_type, type_number}
 use Rattle.parquet_pages.specs.Writing.{IsWhole, chunk_written}
 use Rattle.parquet_pages.specs.declared.types.PhysicalType.{PhysicalType}
@@ -86,7 +86,7 @@ chunk_has_form l place size rows near early short few =
     (fits_64 place early, (column_has_form l place size rows near early short few, tt))
 
 -- the chunk of a leaf
-abbrev chunk_at : LeafIn → (place rows : ℕ) → Chunk
+abbrev chunk_at : LeafIn → (place rows : ℕ) → ColumnChunk
 chunk_at l place rows =
     record { path_in_schema = l.names; codec = pos 0; num_values = rows; data_page_offset = pos place }
 
@@ -122,7 +122,7 @@ IsColumnFor rows l c = IsWhole (leaf_of l) c × (length c.levels ≡ rows)
 -- What is said of the chunks is read again as chunks that hold the columns, and has their form.
 pub record ChunksHold (given : List ℕ) (place : ℕ) (ls : List LeafIn) (cs : List Column)
     (made : List ℕ × List thrift.Tree) : Type 0 where
-  pub chunks : List Chunk
+  pub chunks : List ColumnChunk
   pub said : each chunk_of made.1 ≡ Ok chunks
   pub structs : all_as as_struct (trees_of made.1) ≡ Some made.1
   pub formed : MembersHaveForm chunk_form (trees_of made.1)
@@ -131,7 +131,7 @@ pub record ChunksHold (given : List ℕ) (place : ℕ) (ls : List LeafIn) (cs : 
   pub fits : place + length made.0 ≤ 67108864
 
 -- a chunk of another path in front changes nothing
-behind_other : (given : List ℕ) (first : Chunk) (others : List Chunk) (ls : List LeafIn) (cs : List Column)
+behind_other : (given : List ℕ) (first : ColumnChunk) (others : List ColumnChunk) (ls : List LeafIn) (cs : List Column)
     → AllByRecursion (IsElsewhere first.path_in_schema) ls → AllZip (HoldsColumn given others) ls cs
     → AllZip (HoldsColumn given (first ∷ others)) ls cs
 behind_other given first others [] [] apart h = tt
@@ -156,7 +156,7 @@ joins first others = (first.0 ++ others.0, first.1 ∷ others.1)
 chunk_before : (given : List ℕ) (place rows : ℕ) (l : LeafIn) (ls : List LeafIn) (c : Column) (cs : List Column)
     (first : List ℕ × thrift.Tree) (others : List ℕ × List thrift.Tree) → rows ≤ 4194304
     → AreApart (l ∷ ls) → IsNear 16 l → length c.levels ≡ rows → ChunkFound place rows l c first
-    → HasPages (leaf_of l) given (pos place) c → ChunksHold given (place + length first.0) ls cs others
+    → ChunkHolds (leaf_of l) given (pos place) c → ChunksHold given (place + length first.0) ls cs others
     → ChunksHold given place (l ∷ ls) (c ∷ cs) (joins first others)
 chunk_before given place rows l ls c cs first others few apart near counted one pages rest =
     let chunk = chunk_at l place rows in
@@ -217,7 +217,7 @@ chunks_hold rows (l ∷ ls) (c ∷ cs) before behind made e few four early apart
     let given = before ++ (first.0 ++ (others.0 ++ behind)) in
     let same : given ≡ before ++ ((first.0 ++ others.0) ++ behind) =
     ap (λ (t : List ℕ). before ++ t) (sym (append_assoc first.0 others.0 behind)) in
-    let pages : HasPages (leaf_of l) given (pos place) c =
+    let pages : ChunkHolds (leaf_of l) given (pos place) c =
     written_held (leaf_of l) c before first.0 (others.0 ++ behind) near.0.flags whole.0.0 one.written four in
     let next : length (before ++ first.0) ≡ place + length first.0 = length-append before first.0 in
     let made_behind : chunks_from (length (before ++ first.0)) rows ls cs ≡ Ok others =

@@ -15,7 +15,7 @@ use Rattle.schema_tree.specs.Tree as tree
 use Rattle.schema_tree.specs.Tree.{Tree}
 use Rattle.shred.specs.Shape.{shape_of}
 use Rattle.parquet_footer.specs.Frame.{framed, magic}
-use Rattle.parquet_footer.specs.Metadata.{Group, group_of}
+use Rattle.parquet_footer.specs.Metadata.{RowGroup, group_of}
 use Rattle.parquet_footer.specs.Outcome.{Gives}
 use Rattle.parquet_footer.specs.declared.fault.FileError.{FileError}
 use Rattle.parquet_footer.specs.declared.fault.FileFault.{FileFault}
@@ -67,7 +67,7 @@ passes t rows bytes e =
 
 -- These bytes hold the groups that are said of them, which are all the rows.
 record AreWritten (t : Tree) (rows : List Row) (groups : List ℕ × List thrift.Tree) : Type 0 where
-  list : List Group
+  list : List RowGroup
   read : each group_of groups.1 ≡ Ok list
   of_form : MembersHaveForm group_form (trees_of groups.1)
   one : length groups.1 ≤ 1

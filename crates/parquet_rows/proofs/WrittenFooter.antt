@@ -4,7 +4,7 @@ use Rattle.std.specs.Option.{option_or}
 use Rattle.std.proofs.lemmas.List.{append-nil}
 use Rattle.lake_bytes.specs.Options.{◌>>=◌}
 use Rattle.thrift_core.specs.Fields.{all_as, as_struct, each}
-use Rattle.thrift_core.specs.Shape.{list_form}
+use Rattle.thrift_core.specs.Form.{list_form}
 use Rattle.thrift_core.specs.Spelling.{SpellsStruct}
 use Rattle.thrift_core.specs.Tree as thrift
 use Rattle.thrift_core.specs.Tree.{binary, nodes_of_trees, trees_of}
@@ -17,8 +17,8 @@ use Rattle.schema_tree.specs.Tree as tree
 use Rattle.schema_tree.specs.Tree.{Tree}
 use Rattle.schema_tree.specs.declared.primitive.Primitive.{Primitive}
 use Rattle.schema_tree.specs.declared.primitive.Primitive.TheVariants as primitives
-use Rattle.parquet_footer.specs.Footer.{Says}
-use Rattle.parquet_footer.specs.Metadata.{Element, Group, group_of, metadata_of, schema_of}
+use Rattle.parquet_footer.specs.Footer.{FooterSays}
+use Rattle.parquet_footer.specs.Metadata.{SchemaElement, RowGroup, group_of, metadata_of, schema_of}
 use Rattle.parquet_pages.specs.Writing.{number_field}
 use Rattle.parquet_schema.specs.FileTree.{FileFields, FileNode, IsSchemaList, field, group, no_fields}
 use Rattle.parquet_schema.specs.Fitting.{file_fields_of, file_node}
@@ -118,7 +118,7 @@ footer_spelled cols groups rows few small of_form = record {
 
 -- ---- what it says
 
-footer_told : (nodes groups : List thrift.Tree) (rows : ℕ) (es : List Element) (gs : List Group)
+footer_told : (nodes groups : List thrift.Tree) (rows : ℕ) (es : List SchemaElement) (gs : List RowGroup)
     → all_as as_struct (trees_of nodes) ≡ Some nodes → all_as as_struct (trees_of groups) ≡ Some groups
     → schema_of nodes ≡ Ok es → each group_of groups ≡ Ok gs
     → metadata_of (footer_around (members nodes) (members groups) rows)
@@ -127,13 +127,13 @@ unfolding metadata_of
 footer_told nodes groups rows es gs are these schema read = rw (are, schema, these, read) refl
 
 -- What is written as the footer says the table's columns, these rows and these groups.
-pub footer_says : (cols : tree.Fields) (fs : FileFields) (groups : List thrift.Tree) (gs : List Group) (rows : ℕ)
+pub footer_says : (cols : tree.Fields) (fs : FileFields) (groups : List thrift.Tree) (gs : List RowGroup) (rows : ℕ)
     → IsWithinLimits (tree.struct cols) → is_short_named (tree.struct cols) ≡ true
     → file_node (tree.struct cols) ≡ Some (group fs) → each group_of groups ≡ Ok gs
     → MembersHaveForm group_form (trees_of groups) → length groups ≤ 1
     → nodes_of_trees (trees_of groups) ≤ 131072 → rows ≤ 4194304
-    → (es : List Element) × IsSchemaList fs es
-    × Says (footer_bytes (tree.struct cols) groups rows) (record { schema = es; num_rows = rows; row_groups = gs })
+    → (es : List SchemaElement) × IsSchemaList fs es
+    × FooterSays (footer_bytes (tree.struct cols) groups rows) (record { schema = es; num_rows = rows; row_groups = gs })
 footer_says cols fs groups gs rows limits named own read of_form one small few =
     let said = schema_said cols fs limits.sound own in
     let elements = schema_elements (tree.struct cols) in

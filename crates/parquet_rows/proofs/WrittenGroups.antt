@@ -4,7 +4,7 @@ use Rattle.std.specs.List.{AllByRecursion, AllZip}
 use Rattle.std.proofs.lemmas.List.Elements.{recursion_from_All}
 use Rattle.lake_bytes.specs.Results.{◌>>=◌, or_refusal}
 use Rattle.thrift_core.specs.Fields.{all_as, as_struct, each}
-use Rattle.thrift_core.specs.Shape.{list_form}
+use Rattle.thrift_core.specs.Form.{list_form}
 use Rattle.thrift_core.specs.Tree as thrift
 use Rattle.thrift_core.specs.Tree.{trees_of}
 use Rattle.thrift_core.specs.Writing.{HasForm, MembersHaveForm}
@@ -17,7 +17,7 @@ use Rattle.schema_tree.specs.Tree.{Tree}
 use Rattle.shred.specs.Columns.{AreColumnsOf, Column, columns}
 use Rattle.shred.specs.Shape.{shape_of}
 use Rattle.parquet_footer.specs.Frame.{magic}
-use Rattle.parquet_footer.specs.Metadata.{Chunk, Group, chunk_of, group_of}
+use Rattle.parquet_footer.specs.Metadata.{ColumnChunk, RowGroup, chunk_of, group_of}
 use Rattle.parquet_footer.specs.declared.fault.FileFault.{FileFault}
 use Rattle.parquet_footer.specs.declared.fault.FileFault.TheVariants.{SchemaMismatch}
 use Rattle.parquet_footer.proofs.Callers.{bind_ok, ok_is}
@@ -34,7 +34,7 @@ use Rattle.parquet_rows.proofs.WrittenChunks.{ChunksHold, IsColumnFor, chunks_ho
 
 -- ---- what is said of a group
 
-group_said : (trees : List thrift.Tree) (chunks : List Chunk) (size rows : ℕ)
+group_said : (trees : List thrift.Tree) (chunks : List ColumnChunk) (size rows : ℕ)
     → all_as as_struct (trees_of trees) ≡ Some trees → each chunk_of trees ≡ Ok chunks
     → group_of (group_tree trees size rows) ≡ Ok (record { columns = chunks; num_rows = rows })
 unfolding group_of
@@ -68,7 +68,7 @@ leaves_kept t limits short =
 
 -- What is said of the group is read again as a group that holds the rows, and has its form.
 pub record GroupHolds (t : Tree) (rows : List Row) (bytes : List ℕ) (said : thrift.Tree) : Type 0 where
-  pub group : Group
+  pub group : RowGroup
   pub read : group_of said ≡ Ok group
   pub formed : HasForm group_form said
   pub holds : IsGroup (magic ++ bytes) t (shape_of t) group rows
@@ -148,7 +148,7 @@ pub group_is_written : (cols : tree.Fields) (rows : List Row) (bytes : List ℕ)
     → IsWithinLimits (tree.struct cols) → unsupported (tree.struct cols) ≡ None
     → is_short_named (tree.struct cols) ≡ true → All (Conforms (tree.struct cols)) rows → length rows ≤ 4194304
     → group_written (tree.struct cols) rows ≡ Ok (bytes, said)
-    → (g : Group) × (group_of said ≡ Ok g) × HasForm group_form said
+    → (g : RowGroup) × (group_of said ≡ Ok g) × HasForm group_form said
     × IsGroup (magic ++ bytes) (tree.struct cols) (shape_of (tree.struct cols)) g rows
 group_is_written cols rows bytes said limits none short all few e =
     let h = group_found (tree.struct cols) rows (bytes, said) limits none short all few e in

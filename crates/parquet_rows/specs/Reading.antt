@@ -11,7 +11,7 @@ use Rattle.shred.specs.Columns.{Column}
 use Rattle.shred.specs.Parts.{part_of}
 use Rattle.shred.specs.Shape.{Shape}
 use Rattle.parquet_footer.specs.Frame.{frame_of}
-use Rattle.parquet_footer.specs.Metadata.{Chunk, Group, Metadata}
+use Rattle.parquet_footer.specs.Metadata.{ColumnChunk, RowGroup, FileMetaData}
 use Rattle.parquet_footer.specs.Reading.{metadata_at}
 use Rattle.parquet_footer.specs.declared.fault.FileFault.{FileFault}
 use Rattle.parquet_footer.specs.declared.fault.FileFault.TheVariants.{Codec, CountMismatch, SchemaMismatch}
@@ -27,19 +27,19 @@ same_path (name ∷ names) (other ∷ others) = bytes_eq name other && same_path
 same_path _ _ = false
 
 -- the first chunk with this path
-abbrev pub chunk_named : List (List ℕ) → List Chunk → Option Chunk
+abbrev pub chunk_named : List (List ℕ) → List ColumnChunk → Option ColumnChunk
 chunk_named path [] = None
 chunk_named path (chunk ∷ others) = if same_path chunk.path_in_schema path then Some chunk else chunk_named path others
 
 -- the column of a leaf
-unfoldable pub column_at : List ℕ → List Chunk → LeafIn → Result Column FileFault
+unfoldable pub column_at : List ℕ → List ColumnChunk → LeafIn → Result Column FileFault
 column_at given chunks l = do
   chunk ← or_refusal (chunk_named l.names chunks) SchemaMismatch
   plain ← refused_if (not (int_eq chunk.codec (pos 0))) (Codec chunk.codec)
   chunk_at (leaf_of l) given chunk.data_page_offset chunk.num_values
 
 -- the columns of the leaves, in the table's order
-abbrev pub columns_at : List ℕ → List Chunk → List LeafIn → Result (List Column) FileFault
+abbrev pub columns_at : List ℕ → List ColumnChunk → List LeafIn → Result (List Column) FileFault
 columns_at given chunks leaves = each (column_at given chunks) leaves
 
 -- Each column has as many levels as the group has rows.
@@ -47,13 +47,13 @@ abbrev pub has_rows : ℕ → Column → Bool
 has_rows rows c = length c.levels == rows
 
 -- the rows of a group
-unfoldable pub rows_of_group : List ℕ → Tree → Shape → Group → Result (List Row) FileFault
+unfoldable pub rows_of_group : List ℕ → Tree → Shape → RowGroup → Result (List Row) FileFault
 rows_of_group given t shape group = do
   columns ← columns_at given group.columns (leaves_in t shape)
   counted ← refused_if (not (list_all (has_rows group.num_rows) columns)) CountMismatch
   refused_as (λ fault. SchemaMismatch) (assembled shape columns)
 
-unfoldable pub rows_of_groups : List ℕ → Tree → Shape → List Group → Result (List Row) FileFault
+unfoldable pub rows_of_groups : List ℕ → Tree → Shape → List RowGroup → Result (List Row) FileFault
 rows_of_groups given t shape [] = Ok []
 rows_of_groups given t shape (group ∷ groups) = do
   first ← rows_of_group given t shape group
@@ -61,11 +61,11 @@ rows_of_groups given t shape (group ∷ groups) = do
   Ok (first ++ others)
 
 -- how many rows several groups claim together
-abbrev pub claimed_rows : List Group → ℕ
+abbrev pub claimed_rows : List RowGroup → ℕ
 claimed_rows [] = 0
 claimed_rows (group ∷ groups) = group.num_rows + claimed_rows groups
 
-unfoldable pub rows_of : List ℕ → Tree → Metadata → Result (List Row) FileFault
+unfoldable pub rows_of : List ℕ → Tree → FileMetaData → Result (List Row) FileFault
 rows_of given t metadata = do
   shape ← or_refusal (fitted_list t metadata.schema) SchemaMismatch
   rows ← rows_of_groups given t shape metadata.row_groups

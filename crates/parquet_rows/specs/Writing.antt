@@ -3,7 +3,7 @@ use Rattle.std.specs.Prelude.{ℕ, ◌+◌, ℤ, pos, List, [], ◌∷◌, ◌++
 use Rattle.lake_bytes.specs.Results.{◌>>=◌, or_refusal, refused_if}
 use Rattle.thrift_core.specs.Tree as thrift
 use Rattle.thrift_core.specs.Tree.{integer, binary, list, struct, trees_of, fields_of}
-use Rattle.thrift_core.specs.Shape.{Form, int32_form, int64_form, binary_form, list_form, struct_form, forms}
+use Rattle.thrift_core.specs.Form.{Form, int32_form, int64_form, binary_form, list_form, struct_form, forms}
 use Rattle.thrift_core.specs.Writing.{written}
 use Rattle.row_core.specs.Rows.{Row}
 use Rattle.schema_tree.specs.Tree as tree

@@ -1,115 +1,115 @@
 //! The types that a footer is written with (Apache Parquet, parquet.thrift).
 
-use thrift_core::{FieldShape, Shape};
+use thrift_core::{FieldForm, Form};
 
 /// SchemaElement.
-const SCHEMA_ELEMENT: Shape = Shape::Struct(&[
-    FieldShape {
+const SCHEMA_ELEMENT: Form = Form::Struct(&[
+    FieldForm {
         id: 1,
-        shape: Shape::Int32,
+        form: Form::Int32,
     },
-    FieldShape {
+    FieldForm {
         id: 3,
-        shape: Shape::Int32,
+        form: Form::Int32,
     },
-    FieldShape {
+    FieldForm {
         id: 4,
-        shape: Shape::Binary,
+        form: Form::Binary,
     },
-    FieldShape {
+    FieldForm {
         id: 5,
-        shape: Shape::Int32,
+        form: Form::Int32,
     },
-    FieldShape {
+    FieldForm {
         id: 6,
-        shape: Shape::Int32,
+        form: Form::Int32,
     },
 ]);
 
 /// ColumnMetaData.
-const COLUMN_META_DATA: Shape = Shape::Struct(&[
-    FieldShape {
+const COLUMN_META_DATA: Form = Form::Struct(&[
+    FieldForm {
         id: 1,
-        shape: Shape::Int32,
+        form: Form::Int32,
     },
-    FieldShape {
+    FieldForm {
         id: 2,
-        shape: Shape::List(&Shape::Int32),
+        form: Form::List(&Form::Int32),
     },
-    FieldShape {
+    FieldForm {
         id: 3,
-        shape: Shape::List(&Shape::Binary),
+        form: Form::List(&Form::Binary),
     },
-    FieldShape {
+    FieldForm {
         id: 4,
-        shape: Shape::Int32,
+        form: Form::Int32,
     },
-    FieldShape {
+    FieldForm {
         id: 5,
-        shape: Shape::Int64,
+        form: Form::Int64,
     },
-    FieldShape {
+    FieldForm {
         id: 6,
-        shape: Shape::Int64,
+        form: Form::Int64,
     },
-    FieldShape {
+    FieldForm {
         id: 7,
-        shape: Shape::Int64,
+        form: Form::Int64,
     },
-    FieldShape {
+    FieldForm {
         id: 9,
-        shape: Shape::Int64,
+        form: Form::Int64,
     },
 ]);
 
 /// ColumnChunk.
-const COLUMN_CHUNK: Shape = Shape::Struct(&[
-    FieldShape {
+const COLUMN_CHUNK: Form = Form::Struct(&[
+    FieldForm {
         id: 2,
-        shape: Shape::Int64,
+        form: Form::Int64,
     },
-    FieldShape {
+    FieldForm {
         id: 3,
-        shape: COLUMN_META_DATA,
+        form: COLUMN_META_DATA,
     },
 ]);
 
 /// RowGroup.
-const ROW_GROUP: Shape = Shape::Struct(&[
-    FieldShape {
+const ROW_GROUP: Form = Form::Struct(&[
+    FieldForm {
         id: 1,
-        shape: Shape::List(&COLUMN_CHUNK),
+        form: Form::List(&COLUMN_CHUNK),
     },
-    FieldShape {
+    FieldForm {
         id: 2,
-        shape: Shape::Int64,
+        form: Form::Int64,
     },
-    FieldShape {
+    FieldForm {
         id: 3,
-        shape: Shape::Int64,
+        form: Form::Int64,
     },
 ]);
 
 /// FileMetaData.
-pub(crate) const FOOTER: Shape = Shape::Struct(&[
-    FieldShape {
+pub(crate) const FOOTER: Form = Form::Struct(&[
+    FieldForm {
         id: 1,
-        shape: Shape::Int32,
+        form: Form::Int32,
     },
-    FieldShape {
+    FieldForm {
         id: 2,
-        shape: Shape::List(&SCHEMA_ELEMENT),
+        form: Form::List(&SCHEMA_ELEMENT),
     },
-    FieldShape {
+    FieldForm {
         id: 3,
-        shape: Shape::Int64,
+        form: Form::Int64,
     },
-    FieldShape {
+    FieldForm {
         id: 4,
-        shape: Shape::List(&ROW_GROUP),
+        form: Form::List(&ROW_GROUP),
     },
-    FieldShape {
+    FieldForm {
         id: 6,
-        shape: Shape::Binary,
+        form: Form::Binary,
     },
 ]);

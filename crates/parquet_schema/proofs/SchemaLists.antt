@@ -6,7 +6,7 @@ use Rattle.std.proofs.lemmas.Bool.{eqb-true}
 use Rattle.std.proofs.lemmas.Bool.Decides.{Decides-int_eq}
 use Rattle.std.proofs.lemmas.List.{append-nil}
 use Rattle.lake_bytes.specs.Options.{◌>>=◌}
-use Rattle.parquet_footer.specs.Metadata.{Element}
+use Rattle.parquet_footer.specs.Metadata.{SchemaElement}
 use Rattle.parquet_schema.specs.FileTree.{AreElements, AreInside, FileField, FileFields, FileNode, IsElementOf, IsSchemaList, count_of, depth, depth_of_fields, field, fields_of, group, leaf, no_fields, repetition}
 use Rattle.parquet_schema.specs.Reading.{all_read, field_at, fields_at, file_fields, node_at, optional_of}
 use Rattle.parquet_schema.proofs.LeafLevels.{some_is, mapped_is}
@@ -32,78 +32,78 @@ flag_read false = refl
 -- ---- what is read is spelled
 
 -- so many fields stand in front
-record Front (count : ℕ) (fs : List FileField) (es left : List Element) : Type 0 where
-  pub front : List Element
+record Front (count : ℕ) (fs : List FileField) (es left : List SchemaElement) : Type 0 where
+  pub front : List SchemaElement
   pub split : es ≡ front ++ left
   pub counted : count ≡ count_of (fields_of fs)
   pub elements : AreElements (fields_of fs) front
 
 -- a node of this element, whose children stand in front
-record NodeFront (e : Element) (node : FileNode) (es left : List Element) : Type 0 where
-  pub front : List Element
+record NodeFront (e : SchemaElement) (node : FileNode) (es left : List SchemaElement) : Type 0 where
+  pub front : List SchemaElement
   pub split : es ≡ front ++ left
   pub of_node : (name : List ℕ) (optional : Bool) → e.name ≡ name → e.repetition_type ≡ Some (repetition optional) → IsElementOf name optional node e
   pub inside : AreInside node front
 
-abbrev Finds : (ℕ → List Element → Option (List FileField × List Element)) → Type 0
-Finds inside = (count : ℕ) (es left : List Element) (fs : List FileField) → inside count es ≡ Some (fs, left) → Front count fs es left
+abbrev Finds : (ℕ → List SchemaElement → Option (List FileField × List SchemaElement)) → Type 0
+Finds inside = (count : ℕ) (es left : List SchemaElement) (fs : List FileField) → inside count es ≡ Some (fs, left) → Front count fs es left
 
-leaf_found : (e : Element) (es : List Element) (physical_type : ℤ) → e.num_children ≡ 0 → e.physical_type ≡ Some physical_type → NodeFront e (leaf physical_type) es es
+leaf_found : (e : SchemaElement) (es : List SchemaElement) (physical_type : ℤ) → e.num_children ≡ 0 → e.physical_type ≡ Some physical_type → NodeFront e (leaf physical_type) es es
 leaf_found e es physical_type none is = record { front = []; split = refl; of_node = λ name optional named flag. (named, flag, none, is); inside = refl }
 
 above_zero : (n : ℕ) → (n == 0) ≡ false → 0 < n
 above_zero zero e = absurd cc
 above_zero (suc n) e = omega arith
 
-group_found : (e : Element) (es left : List Element) (fs : List FileField) → (e.num_children == 0) ≡ false → Front e.num_children fs es left → NodeFront e (group (fields_of fs)) es left
+group_found : (e : SchemaElement) (es left : List SchemaElement) (fs : List FileField) → (e.num_children == 0) ≡ false → Front e.num_children fs es left → NodeFront e (group (fields_of fs)) es left
 group_found e es left fs some found =
     let positive : 0 < count_of (fields_of fs) = subst (λ n. 0 < n) found.counted (above_zero e.num_children some) in
     record { front = found.front; split = found.split; of_node = λ name optional named flag. (named, flag, found.counted, positive); inside = found.elements }
 
-abbrev leaf_at : List Element → ℤ → FileNode × List Element
+abbrev leaf_at : List SchemaElement → ℤ → FileNode × List SchemaElement
 leaf_at es physical_type = (leaf physical_type, es)
 
-abbrev group_at : List FileField × List Element → FileNode × List Element
+abbrev group_at : List FileField × List SchemaElement → FileNode × List SchemaElement
 group_at fs = (group (fields_of fs.0), fs.1)
 
-node_by : (inside : ℕ → List Element → Option (List FileField × List Element)) → Finds inside → (b : Bool) (e : Element) (es left : List Element) (node : FileNode) → (e.num_children == 0) ≡ b
+node_by : (inside : ℕ → List SchemaElement → Option (List FileField × List SchemaElement)) → Finds inside → (b : Bool) (e : SchemaElement) (es left : List SchemaElement) (node : FileNode) → (e.num_children == 0) ≡ b
     → cond b (option_map (leaf_at es) e.physical_type) (option_map group_at (inside e.num_children es)) ≡ Some (node, left) → NodeFront e node es left
 node_by inside finds true e es left node none read =
     let m = mapped_is (leaf_at es) e.physical_type (node, left) read in
-    subst (λ (r : FileNode × List Element). NodeFront e r.0 es r.1) m.2 (leaf_found e es m.0 (eqb-true e.num_children 0 none) m.1)
+    subst (λ (r : FileNode × List SchemaElement). NodeFront e r.0 es r.1) m.2 (leaf_found e es m.0 (eqb-true e.num_children 0 none) m.1)
 node_by inside finds false e es left node some read =
     let m = mapped_is group_at (inside e.num_children es) (node, left) read in
-    subst (λ (r : FileNode × List Element). NodeFront e r.0 es r.1) m.2 (group_found e es m.0.1 m.0.0 some (finds e.num_children es m.0.1 m.0.0 m.1))
+    subst (λ (r : FileNode × List SchemaElement). NodeFront e r.0 es r.1) m.2 (group_found e es m.0.1 m.0.0 some (finds e.num_children es m.0.1 m.0.0 m.1))
 
-one_found : (inside : ℕ → List Element → Option (List FileField × List Element)) → Finds inside → (count : ℕ) (es left : List Element) (f : FileField) (fs : List FileField) (es_then : List Element) → field_at inside es ≡ Some (f, es_then) → Front count fs es_then left → Front (suc count) (f ∷ fs) es left
+one_found : (inside : ℕ → List SchemaElement → Option (List FileField × List SchemaElement)) → Finds inside → (count : ℕ) (es left : List SchemaElement) (f : FileField) (fs : List FileField) (es_then : List SchemaElement) → field_at inside es ≡ Some (f, es_then) → Front count fs es_then left → Front (suc count) (f ∷ fs) es left
 one_found inside finds count [] left f fs es_then read rest = absurd cc
 one_found inside finds count (e ∷ es) left f fs es_then read rest =
     let flag = some_is (optional_of e.repetition_type) _ (f, es_then) read in
-    let m = mapped_is (λ (node : FileNode × List Element). (record { name = e.name; optional = flag.0; node = node.0 }, node.1)) (node_at inside e es) (f, es_then) flag.2 in
+    let m = mapped_is (λ (node : FileNode × List SchemaElement). (record { name = e.name; optional = flag.0; node = node.0 }, node.1)) (node_at inside e es) (f, es_then) flag.2 in
     let first = node_by inside finds (e.num_children == 0) e es m.0.1 m.0.0 refl m.1 in
     let of_first = first.of_node e.name flag.0 refl (flag_found e.repetition_type flag.0 flag.1) in
-    let left_is : m.0.1 ≡ es_then = ap (λ (r : FileField × List Element). r.1) m.2 in
+    let left_is : m.0.1 ≡ es_then = ap (λ (r : FileField × List SchemaElement). r.1) m.2 in
     let split : e ∷ es ≡ (e ∷ (first.front ++ rest.front)) ++ left = ap (λ xs. e ∷ xs) (first.split ∙ (ap (λ xs. first.front ++ xs) (left_is ∙ rest.split) ∙ sym (append_assoc first.front rest.front left))) in
     let g : FileField = record { name = e.name; optional = flag.0; node = m.0.0 } in
     let all : Front (suc count) (g ∷ fs) (e ∷ es) left = record { front = e ∷ (first.front ++ rest.front); split = split; counted = ap (λ n. suc n) rest.counted; elements = (e, first.front, rest.front, refl, of_first, first.inside, rest.elements) } in
-    subst (λ (r : FileField × List Element). Front (suc count) (r.0 ∷ fs) (e ∷ es) left) m.2 all
+    subst (λ (r : FileField × List SchemaElement). Front (suc count) (r.0 ∷ fs) (e ∷ es) left) m.2 all
 
-some_same : (x y : List FileField × List Element) → Some x ≡ Some y → x ≡ y
+some_same : (x y : List FileField × List SchemaElement) → Some x ≡ Some y → x ≡ y
 some_same x y e = cc
 
 fields_by : (deep : ℕ) → Finds (fields_at deep) → Finds (fields_at (suc deep))
 fields_by deep finds zero es left fs read =
     let is = some_same ([], es) (fs, left) (sym (read_none deep es) ∙ read) in
-    let none : [] ≡ fs = ap (λ (r : List FileField × List Element). r.0) is in
-    let same : es ≡ left = ap (λ (r : List FileField × List Element). r.1) is in
+    let none : [] ≡ fs = ap (λ (r : List FileField × List SchemaElement). r.0) is in
+    let same : es ≡ left = ap (λ (r : List FileField × List SchemaElement). r.1) is in
     subst (λ xs. Front 0 xs es left) none (record { front = []; split = same; counted = refl; elements = refl })
 fields_by deep finds (suc count) es left fs read =
     let first = some_is (field_at (fields_at deep) es) _ (fs, left) (sym (read_more deep count es) ∙ read) in
     let others = some_is (fields_at (suc deep) count first.0.1) _ (fs, left) first.2 in
     let is = some_same (first.0.0 ∷ others.0.0, others.0.1) (fs, left) others.2 in
-    let more : first.0.0 ∷ others.0.0 ≡ fs = ap (λ (r : List FileField × List Element). r.0) is in
-    let same : others.0.1 ≡ left = ap (λ (r : List FileField × List Element). r.1) is in
-    let rest = fields_by deep finds count first.0.1 left others.0.0 (others.1 ∙ ap (λ (x : List Element). Some (others.0.0, x)) same) in
+    let more : first.0.0 ∷ others.0.0 ≡ fs = ap (λ (r : List FileField × List SchemaElement). r.0) is in
+    let same : others.0.1 ≡ left = ap (λ (r : List FileField × List SchemaElement). r.1) is in
+    let rest = fields_by deep finds count first.0.1 left others.0.0 (others.1 ∙ ap (λ (x : List SchemaElement). Some (others.0.0, x)) same) in
     subst (λ xs. Front (suc count) xs es left) more (one_found (fields_at deep) finds count es left first.0.0 others.0.0 first.0.1 first.1 rest)
 
 no_depth : Finds (fields_at 0)
@@ -114,11 +114,11 @@ fields_found : (deep : ℕ) → Finds (fields_at deep)
 fields_found zero = no_depth
 fields_found (suc deep) = fields_by deep (fields_found deep)
 
-all_is : (r : List FileField × List Element) (fs : List FileField) → all_read r ≡ Some fs → (r.0 ≡ fs) × (r.1 ≡ [])
+all_is : (r : List FileField × List SchemaElement) (fs : List FileField) → all_read r ≡ Some fs → (r.0 ≡ fs) × (r.1 ≡ [])
 all_is (gs, []) fs e = (cc, refl)
 all_is (gs, (x ∷ xs)) fs e = absurd cc
 
-pub list_found : (es : List Element) (fs : List FileField) → file_fields es ≡ Some fs → IsSchemaList (fields_of fs) es
+pub list_found : (es : List SchemaElement) (fs : List FileField) → file_fields es ≡ Some fs → IsSchemaList (fields_of fs) es
 list_found [] fs e = absurd cc
 list_found (root ∷ es) fs e =
     let read = some_is (fields_at 16 root.num_children es) all_read fs e in
@@ -146,10 +146,10 @@ listed_fields [] = refl
 listed_fields (f ∷ fs) = ap (λ gs. f ∷ gs) (listed_fields fs)
 
 abbrev NodeAgain : FileNode → Type 0
-NodeAgain node = (deep : ℕ) (e : Element) (name : List ℕ) (optional : Bool) (inside rest : List Element) → IsElementOf name optional node e → AreInside node inside → depth node ≤ deep → node_at (fields_at deep) e (inside ++ rest) ≡ Some (node, rest)
+NodeAgain node = (deep : ℕ) (e : SchemaElement) (name : List ℕ) (optional : Bool) (inside rest : List SchemaElement) → IsElementOf name optional node e → AreInside node inside → depth node ≤ deep → node_at (fields_at deep) e (inside ++ rest) ≡ Some (node, rest)
 
 abbrev FieldsAgain : FileFields → Type 0
-FieldsAgain fs = (deep : ℕ) (es rest : List Element) → AreElements fs es → depth_of_fields fs ≤ deep → fields_at (suc deep) (count_of fs) (es ++ rest) ≡ Some (list_of fs, rest)
+FieldsAgain fs = (deep : ℕ) (es rest : List SchemaElement) → AreElements fs es → depth_of_fields fs ≤ deep → fields_at (suc deep) (count_of fs) (es ++ rest) ≡ Some (list_of fs, rest)
 
 leaf_again : (number : ℤ) → NodeAgain (leaf number)
 leaf_again number deep e name optional inside rest is none within = rw (is.2, is.3, none) refl
@@ -166,7 +166,7 @@ group_again fs again (suc deep) e name optional inside rest is elements within =
     rw (some, read) (ap (λ (gs : FileFields). Some (group gs, rest)) (fields_listed fs))
 
 -- the name and the flag of an element
-named_as : (name : List ℕ) (optional : Bool) (node : FileNode) (e : Element) → IsElementOf name optional node e → (e.name ≡ name) × (e.repetition_type ≡ Some (repetition optional))
+named_as : (name : List ℕ) (optional : Bool) (node : FileNode) (e : SchemaElement) → IsElementOf name optional node e → (e.name ≡ name) × (e.repetition_type ≡ Some (repetition optional))
 named_as name optional (leaf number) e is = (is.0, is.1)
 named_as name optional (group fs) e is = (is.0, is.1)
 
@@ -197,24 +197,24 @@ mutual
   fields_again (field name optional node fs) = field_again name optional node fs (node_again node) (fields_again fs)
 
 -- the fields of a list that is one of a tree
-schema_read : (deep : ℕ) (es : List Element) (fs : FileFields) (root : Element) (others : List Element) → IsSchemaList fs es → es ≡ root ∷ others → depth_of_fields fs ≤ deep → fields_at (suc deep) root.num_children others ≡ Some (list_of fs, [])
+schema_read : (deep : ℕ) (es : List SchemaElement) (fs : FileFields) (root : SchemaElement) (others : List SchemaElement) → IsSchemaList fs es → es ≡ root ∷ others → depth_of_fields fs ≤ deep → fields_at (suc deep) root.num_children others ≡ Some (list_of fs, [])
 schema_read deep es fs root others list is within =
     let same : list.root ∷ list.others ≡ root ∷ others = sym list.begins ∙ is in
     let first : list.root ≡ root = cc in
     let rest : list.others ≡ others = cc in
-    let count : root.num_children ≡ count_of fs = ap (λ (e : Element). e.num_children) (sym first) ∙ list.counted in
+    let count : root.num_children ≡ count_of fs = ap (λ (e : SchemaElement). e.num_children) (sym first) ∙ list.counted in
     let all : others ≡ list.others ++ [] = sym rest ∙ sym (append-nil list.others) in
     ap (λ n. fields_at (suc deep) n others) count ∙ (ap (fields_at (suc deep) (count_of fs)) all ∙ fields_again fs deep list.others [] list.elements within)
 
-pub list_read : (es : List Element) (fs : List FileField) → IsSchemaList (fields_of fs) es → depth_of_fields (fields_of fs) ≤ 15 → file_fields es ≡ Some fs
+pub list_read : (es : List SchemaElement) (fs : List FileField) → IsSchemaList (fields_of fs) es → depth_of_fields (fields_of fs) ≤ 15 → file_fields es ≡ Some fs
 list_read es fs list within =
     let read = schema_read 15 es (fields_of fs) list.root list.others list list.begins within in
     ap file_fields list.begins ∙ (ap (λ r. r >>= all_read) read ∙ ap (λ (gs : List FileField). Some gs) (listed_fields fs))
 
-pub one_tree : (es : List Element) (fs gs : FileFields) → IsSchemaList fs es → IsSchemaList gs es → fs ≡ gs
+pub one_tree : (es : List SchemaElement) (fs gs : FileFields) → IsSchemaList fs es → IsSchemaList gs es → fs ≡ gs
 one_tree es fs gs one two =
     let deep = max (depth_of_fields fs) (depth_of_fields gs) in
     let first = schema_read deep es fs one.root one.others one one.begins (omega arith) in
     let second = schema_read deep es gs one.root one.others two one.begins (omega arith) in
     let same : (list_of fs, []) ≡ (list_of gs, []) = some_same (list_of fs, []) (list_of gs, []) (sym first ∙ second) in
-    sym (fields_listed fs) ∙ (ap (λ (r : List FileField × List Element). fields_of r.0) same ∙ fields_listed gs)
+    sym (fields_listed fs) ∙ (ap (λ (r : List FileField × List SchemaElement). fields_of r.0) same ∙ fields_listed gs)

@@ -1,5 +1,5 @@
 -- The columns of a file as a tree, and the list that a footer has of it (Apache Parquet, "Metadata" and SchemaElement).
-use Rattle.parquet_footer.specs.Metadata.{Element}
+use Rattle.parquet_footer.specs.Metadata.{SchemaElement}
 use Rattle.std.specs.Prelude.{◌≡◌, ℕ, suc, ◌<◌, max, ℤ, pos, List, [], ◌∷◌, ◌++◌, Bool, true, false, Option, Some}
 
 -- a leaf with its physical type, or a group of fields, each with a name and whether it may be null
@@ -33,25 +33,25 @@ repetition false = pos 0
 repetition true = pos 1
 
 -- The element is that of a field. A node without children is a leaf; what a group has as its physical type is left open.
-abbrev pub IsElementOf : (name : List ℕ) (optional : Bool) → FileNode → Element → Type 0
+abbrev pub IsElementOf : (name : List ℕ) (optional : Bool) → FileNode → SchemaElement → Type 0
 IsElementOf name optional (leaf physical_type) e = (e.name ≡ name) × (e.repetition_type ≡ Some (repetition optional)) × (e.num_children ≡ 0) × (e.physical_type ≡ Some physical_type)
 IsElementOf name optional (group fs) e = (e.name ≡ name) × (e.repetition_type ≡ Some (repetition optional)) × (e.num_children ≡ count_of fs) × (0 < count_of fs)
 
 -- The list is that of these fields: each one's element, and behind it the elements inside it.
 abbrev mutual
-  pub AreInside : FileNode → List Element → Type 0
+  pub AreInside : FileNode → List SchemaElement → Type 0
   AreInside (leaf physical_type) es = es ≡ []
   AreInside (group fs) es = AreElements fs es
 
-  pub AreElements : FileFields → List Element → Type 0
+  pub AreElements : FileFields → List SchemaElement → Type 0
   AreElements no_fields es = es ≡ []
-  AreElements (field name optional node fs) es = (e : Element) × (inside others : List Element) × (es ≡ e ∷ (inside ++ others))
+  AreElements (field name optional node fs) es = (e : SchemaElement) × (inside others : List SchemaElement) × (es ≡ e ∷ (inside ++ others))
       × IsElementOf name optional node e × AreInside node inside × AreElements fs others
 
 -- The list of a file: the root, which has a count of children, and the elements of its fields.
-pub record IsSchemaList (fs : FileFields) (es : List Element) : Type 0 where
-  pub root : Element
-  pub others : List Element
+pub record IsSchemaList (fs : FileFields) (es : List SchemaElement) : Type 0 where
+  pub root : SchemaElement
+  pub others : List SchemaElement
   pub begins : es ≡ root ∷ others
   pub counted : root.num_children ≡ count_of fs
   pub elements : AreElements fs others

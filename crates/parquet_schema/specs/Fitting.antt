@@ -8,7 +8,7 @@ use Rattle.schema_tree.specs.Tree.{Tree}
 use Rattle.schema_tree.specs.declared.primitive.Primitive.{Primitive}
 use Rattle.shred.specs.Shape as shapes
 use Rattle.shred.specs.Shape.{Shape}
-use Rattle.parquet_footer.specs.Metadata.{Element}
+use Rattle.parquet_footer.specs.Metadata.{SchemaElement}
 use Rattle.parquet_schema.specs.FileTree.{FileNode, leaf, group, FileFields, no_fields, field, FileField, fields_of, count_of}
 use Rattle.parquet_schema.specs.Reading.{file_fields}
 use Rattle.parquet_pages.specs.Types.{leaf_type, physical_type, type_number}
@@ -57,7 +57,7 @@ abbrev mutual
       field_named name gs >>= λ g. fitted t g.node >>= λ s. option_map (λ ss. shapes.field name g.optional s ss) (fitted_fields fs gs)
 
 -- the shape that a table's rows have in a file with this list
-abbrev pub fitted_list : Tree → List Element → Option Shape
+abbrev pub fitted_list : Tree → List SchemaElement → Option Shape
 fitted_list t es = file_fields es >>= λ fs. fitted t (group (fields_of fs))
 
 -- the shape of a column in a group of the file

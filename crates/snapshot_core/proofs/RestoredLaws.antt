@@ -6,7 +6,7 @@ use Rattle.std.specs.Ordering.{nat_cmp}
 use Rattle.lake_bytes.specs.Outcome.{IsSaid, Said, refuses, says_nothing, never_comes}
 use Rattle.lake_bytes.specs.Results.{◌>>=◌, refused_as}
 use Rattle.store_core.specs.Objects.{Objects, with_object}
-use Rattle.delta_actions.specs.Entry.{Entry, checkpoint_metadata}
+use Rattle.delta_actions.specs.Action.{Action, checkpoint_metadata}
 use Rattle.delta_checkpoint.specs.Checkpoints.{IsCheckpoint}
 use Rattle.delta_replay.specs.All.{ListsAll}
 use Rattle.delta_replay.specs.Keys.{Key, at, the_meta_data, the_protocol}
@@ -26,9 +26,9 @@ use Rattle.snapshot_core.specs.declared.fault.SnapshotFault.TheVariants as fault
 
 -- ---- lists of logs that leave the same
 
-module _ (log other : List (List Entry)) (same : (key : Key) → at key log ≡ at key other) where
+module _ (log other : List (List Action)) (same : (key : Key) → at key log ≡ at key other) where
   -- each kind of them
-  each_same : {T : Type 0} (key : List ℕ → Key) (action : T → Entry) (name : T → List ℕ) (list : List T) → ListsEach log key action name list → ListsEach other key action name list
+  each_same : {T : Type 0} (key : List ℕ → Key) (action : T → Action) (name : T → List ℕ) (list : List T) → ListsEach log key action name list → ListsEach other key action name list
   each_same key action name list lists = record {
     ordered = lists.ordered;
     stand = λ x has. sym (same (key (name x))) ∙ lists.stand x has;
@@ -46,7 +46,7 @@ module _ (log other : List (List Entry)) (same : (key : Key) → at key log ≡ 
       }
 
   -- all of them
-  all_same : (list : List Entry) → ListsAll log list → ListsAll other list
+  all_same : (list : List Action) → ListsAll log list → ListsAll other list
   all_same list lists = record {
     numbers = lists.numbers;
     domains = lists.domains;
@@ -89,19 +89,19 @@ module _ (log other : List (List Entry)) (same : (key : Key) → at key log ≡ 
 -- ---- the whole log
 
 -- the commits of a log that is read
-pub record IsReadWhole (objects : Objects) (log : List (List Entry)) : Type 0 where
-  pub commits : List (List Entry)
+pub record IsReadWhole (objects : Objects) (log : List (List Action)) : Type 0 where
+  pub commits : List (List Action)
   pub read : seen false objects ≡ Ok commits
   pub same : (key : Key) → at key log ≡ at key commits
 
-by_whole : (objects : Objects) (log : List (List Entry)) (whole : Result (List (List Entry)) ℕ) → log_of objects ≡ whole → AreAlike (Ok log) whole → IsReadWhole objects log
+by_whole : (objects : Objects) (log : List (List Action)) (whole : Result (List (List Action)) ℕ) → log_of objects ≡ whole → AreAlike (Ok log) whole → IsReadWhole objects log
 by_whole objects log (Ok commits) is alike = record { commits = commits; read = is; same = alike }
 by_whole objects log (Err version) is alike = absurd alike
 
 module _ (restore : Bool) (objects : Objects) (well : RestoresWell restore objects) where
   -- a log that is read is read whole too
-  read_whole : (log : List (List Entry)) → seen restore objects ≡ Ok log → IsReadWhole objects log
-  read_whole log read = by_whole objects log (log_of objects) refl (subst (λ (r : Result (List (List Entry)) ℕ). AreAlike r (log_of objects)) read (seen_alike restore objects well))
+  read_whole : (log : List (List Action)) → seen restore objects ≡ Ok log → IsReadWhole objects log
+  read_whole log read = by_whole objects log (log_of objects) refl (subst (λ (r : Result (List (List Action)) ℕ). AreAlike r (log_of objects)) read (seen_alike restore objects well))
 
   -- A checkpoint that is put is that of the whole log.
   pub puts_alike : (version : ℕ) (name bytes : List ℕ) → PutsCheckpoint restore objects version name bytes → PutsCheckpoint false objects version name bytes
@@ -169,11 +169,11 @@ said_alike faults.Memory one other alike said = tt
 said_alike faults.TooLarge one other alike said = absurd said
 
 -- what is tested of logs that leave the same
-module _ {X : Type 0} (tests : List (List Entry) → Result X Unsupported) (tested : (log other : List (List Entry)) → ((key : Key) → at key log ≡ at key other) → tests log ≡ tests other) where
-  abbrev by_log : Result (List (List Entry)) ℕ → Result (List (List Entry)) Reason
-  by_log read = refused_as bad_log read >>= λ (commits : List (List Entry)). refused_as unsupported (tests commits) >>= λ fine. Ok commits
+module _ {X : Type 0} (tests : List (List Action) → Result X Unsupported) (tested : (log other : List (List Action)) → ((key : Key) → at key log ≡ at key other) → tests log ≡ tests other) where
+  abbrev by_log : Result (List (List Action)) ℕ → Result (List (List Action)) Reason
+  by_log read = refused_as bad_log read >>= λ (commits : List (List Action)). refused_as unsupported (tests commits) >>= λ fine. Ok commits
 
-  refused_alike : (read whole : Result (List (List Entry)) ℕ) → AreAlike read whole → AreRefusedAlike (by_log read) (by_log whole)
+  refused_alike : (read whole : Result (List (List Action)) ℕ) → AreAlike read whole → AreRefusedAlike (by_log read) (by_log whole)
   refused_alike (Ok log) (Ok other) alike reason is = by_test (tests log) (tests other) (tested log other alike) is
     where
       by_test : (one two : Result X Unsupported) → one ≡ two → (refused_as unsupported one >>= λ fine. Ok log) ≡ Err reason → (refused_as unsupported two >>= λ fine. Ok other) ≡ Err reason

@@ -5,7 +5,7 @@ use Rattle.lake_bytes.specs.Results.{◌>>=◌, refused_as}
 use Rattle.store_core.specs.Objects.{Objects}
 use Rattle.store_core.specs.declared.fault.StoreFault.{StoreFault}
 use Rattle.store_core.specs.declared.fault.StoreFault.TheVariants as stores
-use Rattle.delta_actions.specs.Entry.{Entry}
+use Rattle.delta_actions.specs.Action.{Action}
 use Rattle.delta_replay.specs.Support as supports
 use Rattle.delta_replay.specs.Support.{Unsupported, checkpointable, readable}
 use Rattle.delta_replay.specs.declared.support.SupportError.{SupportError}
@@ -25,14 +25,14 @@ pub data Reason : Type 0 where
 
 -- The commits that a log is seen as whose checkpoint is put, or the first reason why it isn't: the first version that has
 -- no commit that can be read, and what the table has or lacks.
-abbrev pub checked : (restore : Bool) → Objects → Result (List (List Entry)) Reason
+abbrev pub checked : (restore : Bool) → Objects → Result (List (List Action)) Reason
 checked restore objects = do
   commits ← refused_as bad_log (seen restore objects)
   fine ← refused_as unsupported (checkpointable commits)
   Ok commits
 
 -- the same of a log whose table is read
-abbrev pub readable_log : (restore : Bool) → Objects → Result (List (List Entry)) Reason
+abbrev pub readable_log : (restore : Bool) → Objects → Result (List (List Action)) Reason
 readable_log restore objects = do
   commits ← refused_as bad_log (seen restore objects)
   schema ← refused_as unsupported (readable commits)

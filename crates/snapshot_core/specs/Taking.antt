@@ -3,7 +3,7 @@ use Rattle.std.specs.Prelude.{◌≡◌, ◌≤◌, ◌<◌, ◌⊎◌, ◌∷�
 use Rattle.lake_bytes.specs.Outcome.{IsSaid}
 use Rattle.store_core.specs.Objects.{Objects, with_object}
 use Rattle.store_core.specs.Calls.{Flight, IsUntouched, MayHaveLanded}
-use Rattle.delta_actions.specs.Entry.{Entry, MetaDataEntry, checkpoint_metadata}
+use Rattle.delta_actions.specs.Action.{Action, MetaDataAction, checkpoint_metadata}
 use Rattle.delta_actions.specs.Printing.{IsPrintedCommit}
 use Rattle.delta_replay.specs.All.{ListsAll}
 use Rattle.delta_replay.specs.Support.{checkpointable, meta_data_of}
@@ -20,22 +20,22 @@ abbrev pub most_bytes : ℕ
 most_bytes = 67_108_864
 
 -- The id of the table of a log: that of its newest metadata.
-pub record IsTableId (log : List (List Entry)) (id : List ℕ) : Type 0 where
-  pub meta_data : MetaDataEntry
+pub record IsTableId (log : List (List Action)) (id : List ℕ) : Type 0 where
+  pub meta_data : MetaDataAction
   pub newest : meta_data_of log ≡ Some meta_data
   pub is : id ≡ meta_data.id
 
 -- The bytes are the checkpoint of the newest version of a log, whose commits leave what these do: a line tells the version,
 -- and behind it stands what they leave, in the order of a checkpoint.
-pub record IsNewestCheckpoint (objects : Objects) (log : List (List Entry)) (version : ℕ) (bytes : List ℕ) : Type 0 where
+pub record IsNewestCheckpoint (objects : Objects) (log : List (List Action)) (version : ℕ) (bytes : List ℕ) : Type 0 where
   pub newest : suc version ≡ commit_count objects
   pub checkpoint : IsCheckpoint bytes version log
-  pub ordered : (actions : List Entry) × ListsAll log actions × IsPrintedCommit bytes (checkpoint_metadata (record { version = version }) ∷ actions)
+  pub ordered : (actions : List Action) × ListsAll log actions × IsPrintedCommit bytes (checkpoint_metadata (record { version = version }) ∷ actions)
 
 -- What is put over these objects: the checkpoint of the newest version, if it may be put and isn't too large, under the
 -- name of that version for the table's id.
 pub record PutsCheckpoint (restore : Bool) (objects : Objects) (version : ℕ) (name bytes : List ℕ) : Type 0 where
-  pub commits : List (List Entry)
+  pub commits : List (List Action)
   pub read : seen restore objects ≡ Ok commits
   pub supported : checkpointable commits ≡ Ok tt
   pub id : List ℕ
@@ -67,7 +67,7 @@ MayHavePut restore old new = IsUntouched old new ⊎ LosesPut restore old new
 
 -- The checkpoint of the newest version may be put, but passes 64 MiB.
 pub record IsTooLarge (restore : Bool) (objects : Objects) : Type 0 where
-  pub commits : List (List Entry)
+  pub commits : List (List Action)
   pub read : seen restore objects ≡ Ok commits
   pub supported : checkpointable commits ≡ Ok tt
   pub version : ℕ

@@ -6,7 +6,7 @@ use Rattle.serde_json.specs.Data.{string}
 use Rattle.serde_json.specs.Written.{compact_text}
 use Rattle.schema_tree.specs.Tree.{Tree}
 use Rattle.store_core.specs.Objects.{Objects}
-use Rattle.delta_actions.specs.Entry.{Entry, AddEntry, ProtocolEntry, TxnEntry, add, txn}
+use Rattle.delta_actions.specs.Action.{Action, AddAction, ProtocolAction, TxnAction, add, txn}
 use Rattle.delta_replay.specs.Keys.{file_of, number_of}
 use Rattle.delta_replay.specs.Lists.{ListsClosed, ListsEach}
 use Rattle.delta_replay.specs.Support.{protocol_of, readable}
@@ -26,7 +26,7 @@ abbrev pub version_line : ℕ → List ℕ
 version_line version = line_of (codes "version " ++ decimal version)
 
 -- the versions of a reader and of a writer
-abbrev pub protocol_line : ProtocolEntry → List ℕ
+abbrev pub protocol_line : ProtocolAction → List ℕ
 protocol_line p = line_of (codes "protocol " ++ (decimal p.min_reader_version ++ (32 ∷ [] ++ decimal p.min_writer_version)))
 
 -- the text that the schema is printed as
@@ -34,7 +34,7 @@ abbrev pub schema_line : List ℕ → List ℕ
 schema_line text = line_of (codes "schema " ++ text)
 
 -- an application and the number that it has come to
-abbrev pub number_line : TxnEntry → List ℕ
+abbrev pub number_line : TxnAction → List ℕ
 number_line t = line_of (codes "app " ++ (id_text t.app_id ++ (32 ∷ [] ++ decimal t.version)))
 
 -- an application whose stream is closed
@@ -45,19 +45,19 @@ closed_line application = line_of (codes "closed " ++ id_text application)
 abbrev pub path_line : (path : List ℕ) (size : ℕ) → List ℕ
 path_line path size = line_of (codes "file " ++ (path ++ (32 ∷ [] ++ decimal size)))
 
-abbrev pub file_line : AddEntry → List ℕ
+abbrev pub file_line : AddAction → List ℕ
 file_line a = path_line a.path.text a.size
 
 -- the version, the protocol and the schema
-abbrev pub settings_text : ℕ → ProtocolEntry → (schema : List ℕ) → List ℕ
+abbrev pub settings_text : ℕ → ProtocolAction → (schema : List ℕ) → List ℕ
 settings_text version p schema = version_line version ++ (protocol_line p ++ schema_line schema)
 
 -- Behind a front the text has a line for each application's number, each closed stream and each file of a log, each kind in
 -- the order of its keys' bytes.
-pub record TellsLists (log : List (List Entry)) (front text : List ℕ) : Type 0 where
-  pub numbers : List TxnEntry
+pub record TellsLists (log : List (List Action)) (front text : List ℕ) : Type 0 where
+  pub numbers : List TxnAction
   pub closed : List (List ℕ)
-  pub files : List AddEntry
+  pub files : List AddAction
   pub parts : text ≡ front ++ (flat_map number_line numbers ++ (flat_map closed_line closed ++ flat_map file_line files))
   pub all_numbers : ListsEach log number_of txn (λ t. t.app_id) numbers
   pub all_closed : ListsClosed log closed
@@ -66,13 +66,13 @@ pub record TellsLists (log : List (List Entry)) (front text : List ℕ) : Type 0
 -- The text tells what a log leaves whose table is read: its newest version, the protocol and the schema, and then the
 -- applications' numbers, the closed streams and the files.
 pub record TellsSnapshot (restore : Bool) (objects : Objects) (text : List ℕ) : Type 0 where
-  pub commits : List (List Entry)
+  pub commits : List (List Action)
   pub read : seen restore objects ≡ Ok commits
   pub schema : Tree
   pub supported : readable commits ≡ Ok schema
   pub version : ℕ
   pub newest : suc version ≡ commit_count objects
-  pub protocol : ProtocolEntry
+  pub protocol : ProtocolAction
   pub of_log : protocol_of commits ≡ Some protocol
   pub schema_text : List ℕ
   pub printed : IsPrinted schema schema_text

@@ -2,7 +2,7 @@
 
 ghost use Rattle.std.specs.Prelude.{◌≡◌, ◌++◌, List, IfOk, OnOk, map, string_bytes};
 ghost use Rattle.std.specs.List.{flat_map};
-ghost use Rattle.delta_actions.specs.Entry.{Entry, add_view, protocol_view, txn_view};
+ghost use Rattle.delta_actions.specs.Action.{Action, add_view, protocol_view, txn_view};
 ghost use Rattle.delta_replay.specs.Snapshots.{IsSnapshotOf};
 ghost use Rattle.snapshot_core.specs.Telling.{TellsLists, closed_line, file_line, id_text, number_line, path_line, settings_text};
 
@@ -105,7 +105,7 @@ pub(crate) fn add_lists(
     alloc: Global,
     snapshot: &Snapshot,
 ) -> Result<(), AllocError>
-    ensures { OnOk result ((log : List (List Entry)) → IsSnapshotOf log snapshot.now → TellsLists log text.old.items text.new.items) }
+    ensures { OnOk result ((log : List (List Action)) → IsSnapshotOf log snapshot.now → TellsLists log text.old.items text.new.items) }
 {
     add_numbers(text, alloc, snapshot.numbers(alloc)?)?;
     add_closed(text, alloc, snapshot.closed(alloc)?)?;

@@ -7,12 +7,12 @@ use Rattle.std.proofs.lemmas.Bool.Decides.{nat_tests}
 use Rattle.std.proofs.lemmas.List.Elements.{filter-append}
 use Rattle.store_core.specs.Objects.{Objects}
 use Rattle.delta_actions.specs.Kinds.{Path}
-use Rattle.delta_actions.specs.Entry as actions
+use Rattle.delta_actions.specs.Action as actions
 use Rattle.row_core.specs.Rows.{Row}
 use Rattle.schema_tree.specs.Tree.{Tree}
 use Rattle.table_model.specs.Table.{Entry, files_of}
-use Rattle.table_model.specs.Reads.{placed_rows, placed_files, placed_from, is_in_files, is_place_from}
-use Rattle.table_model.specs.declared.reading.Place.{Place}
+use Rattle.table_model.specs.Reads.{placed_rows, placed_files, placed_from, is_in_files, is_offset_from}
+use Rattle.table_model.specs.declared.reading.Offset.{Offset}
 use Rattle.table_store.specs.Groups.{new_files}
 use Rattle.source_core.specs.Tailing.{LogFile, Refusal, rows_of, numbered, unless_no_file, bad_place}
 use Rattle.source_core.proofs.LogFiles.{files_from, commit_at}
@@ -20,7 +20,7 @@ use Rattle.source_core.proofs.KeptTailWalk.{Found, file_of, rows_in, AreFound, A
 use Rattle.source_core.proofs.KeptTailPlace.{AreFilesFound, AreEntriesFound, is_ahead, stands_before, Behind, files_behind, log_behind, Passed, file_passed, version_passed, file_here, rows_before}
 
 -- The files from a place on read as the rows from it on, but for those in the first file before it.
-pub record AheadIn (objects : Objects) (schema : Tree) (place : Place) (all_files : List LogFile) (all_rows : List (Place × Row)) : Type 0 where
+pub record AheadIn (objects : Objects) (schema : Tree) (place : Offset) (all_files : List LogFile) (all_rows : List (Offset × Row)) : Type 0 where
   pub founds : List Found
   pub files : filter (is_ahead place) all_files ≡ map file_of founds
   pub found : AreFound objects schema founds
@@ -28,7 +28,7 @@ pub record AheadIn (objects : Objects) (schema : Tree) (place : Place) (all_file
   pub rows : drop (length (filter (stands_before place) all_rows)) all_rows ≡ drop place.row (rows_in founds)
 
 -- The first file from a place on has fewer rows than the place passes over.
-pub record ShortIn (objects : Objects) (schema : Tree) (place : Place) (all_files : List LogFile) : Type 0 where
+pub record ShortIn (objects : Objects) (schema : Tree) (place : Offset) (all_files : List LogFile) : Type 0 where
   pub first : Found
   pub founds : List Found
   pub files : filter (is_ahead place) all_files ≡ map file_of (first ∷ founds)
@@ -38,47 +38,47 @@ pub record ShortIn (objects : Objects) (schema : Tree) (place : Place) (all_file
 
 -- what two tests say of a place, that of the table and that of the log: a read can begin there, or the version has no
 -- such file, or the file has no such row
-pub data SpotIn (objects : Objects) (schema : Tree) (place : Place) (is : Bool) (test : Result (Unit {0}) Refusal) (files : List LogFile) (rows : List (Place × Row)) : Type 0 where
+pub data SpotIn (objects : Objects) (schema : Tree) (place : Offset) (is : Bool) (test : Result (Unit {0}) Refusal) (files : List LogFile) (rows : List (Offset × Row)) : Type 0 where
   stands : is ≡ true → test ≡ Ok tt → AheadIn objects schema place files rows → SpotIn objects schema place is test files rows
   no_file : is ≡ false → test ≡ Err (bad_place place.version) → SpotIn objects schema place is test files rows
   no_row : is ≡ false → test ≡ Ok tt → ShortIn objects schema place files → SpotIn objects schema place is test files rows
 
 -- the same of the entries of a table from a version on, and of their commits
-abbrev pub Ahead : Objects → (schema : Tree) → Place → (version : ℕ) → List Entry → List (List actions.Entry) → Type 0
+abbrev pub Ahead : Objects → (schema : Tree) → Offset → (version : ℕ) → List Entry → List (List actions.Action) → Type 0
 Ahead objects schema place version entries commits = AheadIn objects schema place (files_from version commits) (placed_from version entries)
 
 -- of which the commit of the place's version is the one behind so many
-abbrev pub Spot : Objects → (schema : Tree) → Place → (version behind : ℕ) → List Entry → List (List actions.Entry) → Type 0
-Spot objects schema place version behind entries commits = SpotIn objects schema place (is_place_from version place entries) (unless_no_file place (length (new_files (commit_at behind commits))))
+abbrev pub Spot : Objects → (schema : Tree) → Offset → (version behind : ℕ) → List Entry → List (List actions.Action) → Type 0
+Spot objects schema place version behind entries commits = SpotIn objects schema place (is_offset_from version place entries) (unless_no_file place (length (new_files (commit_at behind commits))))
     (files_from version commits) (placed_from version entries)
 
 -- ---- the log's test
 
 -- a file of the version
-in_files : (place : Place) (files : ℕ) → place.file < files → unless_no_file place files ≡ Ok tt
+in_files : (place : Offset) (files : ℕ) → place.file < files → unless_no_file place files ≡ Ok tt
 in_files place files lt =
     let passes : (nat_lt files place.file || (place.file == files && nat_lt 0 place.row)) ≡ false = grind (arith, nat_tests, lt) in
     rw passes refl
 
 -- directly behind the last one
-behind_files : (place : Place) (files : ℕ) → place.file ≡ files → place.row ≡ 0 → unless_no_file place files ≡ Ok tt
+behind_files : (place : Offset) (files : ℕ) → place.file ≡ files → place.row ≡ 0 → unless_no_file place files ≡ Ok tt
 behind_files place files at none =
     let passes : (nat_lt files place.file || (place.file == files && nat_lt 0 place.row)) ≡ false = grind (arith, nat_tests, at, none) in
     rw passes refl
 
 -- a row behind the last one
-row_behind_files : (place : Place) (files : ℕ) → place.file ≡ files → (place.row ≡ 0 → ⊥) → unless_no_file place files ≡ Err (bad_place place.version)
+row_behind_files : (place : Offset) (files : ℕ) → place.file ≡ files → (place.row ≡ 0 → ⊥) → unless_no_file place files ≡ Err (bad_place place.version)
 row_behind_files place files at some =
     let fails : (nat_lt files place.file || (place.file == files && nat_lt 0 place.row)) ≡ true = grind (arith, nat_tests, at, some) in
     rw fails refl
 
 -- a file that the version doesn't have
-past_files : (place : Place) (files : ℕ) → files < place.file → unless_no_file place files ≡ Err (bad_place place.version)
+past_files : (place : Offset) (files : ℕ) → files < place.file → unless_no_file place files ≡ Err (bad_place place.version)
 past_files place files lt =
     let fails : (nat_lt files place.file || (place.file == files && nat_lt 0 place.row)) ≡ true = grind (arith, nat_tests, lt) in
     rw fails refl
 
-module _ (objects : Objects) (schema : Tree) (place : Place) where
+module _ (objects : Objects) (schema : Tree) (place : Offset) where
   -- ---- files before that of the place
 
   -- files that are passed change nothing of the files ahead
@@ -86,16 +86,16 @@ module _ (objects : Objects) (schema : Tree) (place : Place) where
   files_on before files none = filter-append (is_ahead place) before files ∙ rw none refl
 
   -- nor do their rows of the rows ahead
-  rows_on : (before rows : List (Place × Row)) → filter (stands_before place) before ≡ before
+  rows_on : (before rows : List (Offset × Row)) → filter (stands_before place) before ≡ before
       → drop (length (filter (stands_before place) (before ++ rows))) (before ++ rows) ≡ drop (length (filter (stands_before place) rows)) rows
   rows_on before rows all =
       let others = filter (stands_before place) rows in
       let count : length (filter (stands_before place) (before ++ rows)) ≡ length before + length others =
-      ap (λ (ps : List (Place × Row)). length ps) (filter-append (stands_before place) before rows) ∙ rw all (length-append before others) in
+      ap (λ (ps : List (Offset × Row)). length ps) (filter-append (stands_before place) before rows) ∙ rw all (length-append before others) in
       rw count (drop-append-add before rows (length others))
 
   -- the tests say the same with passed files in front
-  spot_on : (is : Bool) (test : Result (Unit {0}) Refusal) (before files : List LogFile) (rows_of_before rows : List (Place × Row)) → Passed place before rows_of_before
+  spot_on : (is : Bool) (test : Result (Unit {0}) Refusal) (before files : List LogFile) (rows_of_before rows : List (Offset × Row)) → Passed place before rows_of_before
       → SpotIn objects schema place is test files rows → SpotIn objects schema place is test (before ++ files) (rows_of_before ++ rows)
   spot_on is test before files rows_of_before rows passed (stands begins file ahead) = stands begins file (record {
     founds = ahead.founds;
@@ -117,7 +117,7 @@ module _ (objects : Objects) (schema : Tree) (place : Place) where
   -- ---- the file of the place
 
   -- directly behind the last file of a version
-  ahead_behind : (files : List LogFile) (rows : List (Place × Row)) → place.row ≡ 0 → Behind objects schema place files rows → AheadIn objects schema place files rows
+  ahead_behind : (files : List LogFile) (rows : List (Offset × Row)) → place.row ≡ 0 → Behind objects schema place files rows → AheadIn objects schema place files rows
   ahead_behind files rows none late = record {
     founds = late.founds;
     files = late.ahead ∙ late.files;
@@ -126,7 +126,7 @@ module _ (objects : Objects) (schema : Tree) (place : Place) where
     rows = rw (late.none_before, none) late.rows;
   }
 
-  module _ (f : Found) (files : List LogFile) (rows : List (Place × Row)) (at : place.version ≡ f.version) (here : place.file ≡ f.file) (reads : rows_of objects schema (file_of f) ≡ Ok f.rows)
+  module _ (f : Found) (files : List LogFile) (rows : List (Offset × Row)) (at : place.version ≡ f.version) (here : place.file ≡ f.file) (reads : rows_of objects schema (file_of f) ≡ Ok f.rows)
       (late : Behind objects schema place files rows) where
     -- the file is the first one ahead
     first_ahead : filter (is_ahead place) (file_of f ∷ files) ≡ map file_of (f ∷ late.founds)
@@ -137,7 +137,7 @@ module _ (objects : Objects) (schema : Tree) (place : Place) where
     ahead_in_file fits =
         let first = placed_rows f.version f.file 0 f.rows in
         let count : length (filter (stands_before place) (first ++ rows)) ≡ place.row =
-        ap (λ (ps : List (Place × Row)). length ps) (filter-append (stands_before place) first rows)
+        ap (λ (ps : List (Offset × Row)). length ps) (filter-append (stands_before place) first rows)
         ∙ rw late.none_before (length-append (filter (stands_before place) first) [] ∙ omega (arith, rows_before place f.version f.file 0 f.rows at here)) in
         record {
           founds = f ∷ late.founds;
@@ -169,7 +169,7 @@ module _ (objects : Objects) (schema : Tree) (place : Place) where
 
   -- ---- the version of the place
 
-  module _ (version count : ℕ) (at : place.version ≡ version) (late_files : List LogFile) (late_rows : List (Place × Row))
+  module _ (version count : ℕ) (at : place.version ≡ version) (late_files : List LogFile) (late_rows : List (Offset × Row))
       (late : Behind objects schema place late_files late_rows) where
     -- the tests in a version of so many files, of which these are the files from one on
     spot_in_files : (file k : ℕ) (paths : List Path) (files : List (List Row)) → AreFilesFound objects schema paths files → place.file ≡ file + k → count ≡ file + length paths
@@ -200,7 +200,7 @@ module _ (objects : Objects) (schema : Tree) where
   -- ---- the whole log
 
   -- no version is left
-  spot_at_end : (place : Place) (version : ℕ) → place.version ≡ version → place.file ≡ 0 → place.row ≡ 0 → Spot objects schema place version zero [] []
+  spot_at_end : (place : Offset) (version : ℕ) → place.version ≡ version → place.file ≡ 0 → place.row ≡ 0 → Spot objects schema place version zero [] []
   spot_at_end place version at file row = stands (rw (eq-eqb place.version version at, file, row) refl) (rw (file, row) refl) (record {
     founds = [];
     files = refl;
@@ -210,16 +210,16 @@ module _ (objects : Objects) (schema : Tree) where
   })
 
   -- the tests don't look at earlier versions
-  spot_later : (place : Place) (version behind : ℕ) (entry : Entry) (entries : List Entry) (made : List actions.Entry) (commits : List (List actions.Entry)) → version < place.version
+  spot_later : (place : Offset) (version behind : ℕ) (entry : Entry) (entries : List Entry) (made : List actions.Action) (commits : List (List actions.Action)) → version < place.version
       → Spot objects schema place (suc version) behind entries commits → Spot objects schema place version (suc behind) (entry ∷ entries) (made ∷ commits)
   spot_later place version behind entry entries made commits lt later =
       let other = ne_eqb place.version version (λ e. omega arith) in
-      rw other (spot_on objects schema place (is_place_from (suc version) place entries) (unless_no_file place (length (new_files (commit_at behind commits))))
+      rw other (spot_on objects schema place (is_offset_from (suc version) place entries) (unless_no_file place (length (new_files (commit_at behind commits))))
       (numbered version 0 (new_files made)) (files_from (suc version) commits) (placed_files version 0 (files_of entry)) (placed_from (suc version) entries)
       (version_passed place version (new_files made) (files_of entry) lt) later)
 
   -- what the tests say of a place that is at most the start of the version that comes next
-  pub spotted : (place : Place) (version behind : ℕ) (entries : List Entry) (commits : List (List actions.Entry)) → AreEntriesFound objects schema entries commits → place.version ≡ version + behind
+  pub spotted : (place : Offset) (version behind : ℕ) (entries : List Entry) (commits : List (List actions.Action)) → AreEntriesFound objects schema entries commits → place.version ≡ version + behind
       → (place.version < version + length entries) ⊎ ((place.version ≡ version + length entries) × (place.file ≡ 0) × (place.row ≡ 0)) → Spot objects schema place version behind entries commits
   spotted place version zero [] [] found at (inl near) = absurd (omega arith)
   spotted place version zero [] [] found at (inr near) = spot_at_end place version (omega arith) near.1 near.2

@@ -12,7 +12,7 @@ use Rattle.schema_tree.specs.Tree.{Tree}
 use Rattle.table_model.specs.Reads.{placed_rows}
 use Rattle.table_model.specs.Reads as reads
 use Rattle.table_model.specs.Table.{last}
-use Rattle.table_model.specs.declared.reading.Place.{Place}
+use Rattle.table_model.specs.declared.reading.Offset.{Offset}
 use Rattle.table_model.proofs.Callers.{past}
 use Rattle.source_core.specs.Tailing.{LogFile, Refusal, Handed, data_file, rows_of, bad_place, behind, is_done, hand}
 
@@ -30,7 +30,7 @@ drop-placed version file row (suc k) (r ∷ rs) =
 take-placed : (version file row k : ℕ) (rs : List Row) → take k (placed_rows version file row rs) ≡ placed_rows version file row (take k rs)
 take-placed version file row zero rs = refl
 take-placed version file row (suc k) [] = refl
-take-placed version file row (suc k) (r ∷ rs) = ap (λ (ps : List (Place × Row)). (record { version = version; file = file; row = row }, r) ∷ ps) (take-placed version file (suc row) k rs)
+take-placed version file row (suc k) (r ∷ rs) = ap (λ (ps : List (Offset × Row)). (record { version = version; file = file; row = row }, r) ∷ ps) (take-placed version file (suc row) k rs)
 
 -- the rows without their places
 rows-placed : (version file row : ℕ) (rs : List Row) → map (λ p. p.1) (placed_rows version file row rs) ≡ rs
@@ -51,18 +51,18 @@ take-append (suc n) (x ∷ xs) ys = let on : suc n - suc (length xs) ≡ n - len
 -- ---- behind rows
 
 -- directly behind the last of some rows, and without one the place before them
-abbrev pub behind_all : Place → List (Place × Row) → Place
+abbrev pub behind_all : Offset → List (Offset × Row) → Offset
 behind_all next [] = next
 behind_all next (p ∷ ps) = behind_all (past p.0) ps
 
 -- only the last row counts
-pub behind_last : (next : Place) (ps : List (Place × Row)) → behind_all next ps ≡ reads.behind next (last ps)
+pub behind_last : (next : Offset) (ps : List (Offset × Row)) → behind_all next ps ≡ reads.behind next (last ps)
 behind_last next [] = refl
 behind_last next (p ∷ []) = refl
 behind_last next (p ∷ q ∷ ps) = behind_last next (q ∷ ps)
 
 -- behind two lists of rows
-behind_both : (next : Place) (xs ys : List (Place × Row)) → behind_all next (xs ++ ys) ≡ behind_all (behind_all next xs) ys
+behind_both : (next : Offset) (xs ys : List (Offset × Row)) → behind_all next (xs ++ ys) ≡ behind_all (behind_all next xs) ys
 behind_both next [] ys = refl
 behind_both next (x ∷ xs) ys = behind_both (past x.0) xs ys
 
@@ -88,7 +88,7 @@ abbrev pub file_of : Found → LogFile
 file_of f = record { version = f.version; file = f.file; path = f.path }
 
 -- the rows of files, each with its place
-abbrev pub rows_in : List Found → List (Place × Row)
+abbrev pub rows_in : List Found → List (Offset × Row)
 rows_in [] = []
 rows_in (f ∷ fs) = placed_rows f.version f.file 0 f.rows ++ rows_in fs
 
@@ -103,21 +103,21 @@ AreWithin skip [] = skip ≡ 0
 AreWithin skip (f ∷ fs) = skip ≤ length f.rows
 
 -- behind a part of a file
-behind_part : (f : Found) (skip : ℕ) (part : List Row) (next : Place) → behind (file_of f) skip part next ≡ behind_all next (placed_rows f.version f.file skip part)
+behind_part : (f : Found) (skip : ℕ) (part : List Row) (next : Offset) → behind (file_of f) skip part next ≡ behind_all next (placed_rows f.version f.file skip part)
 behind_part f skip [] next = refl
 behind_part f skip (z ∷ part) next =
     let on : suc skip + length part ≡ skip + suc (length part) = omega arith in
     sym (behind_from f.version f.file (suc skip) part ∙ ap (λ (n : ℕ). record { version = f.version; file = f.file; row = n }) on)
 
 -- What is said is rows behind `rows`, at most so many of those ahead, and where the next read begins.
-pub record Goes (end : Place) (most : ℕ) (rows : List Row) (next : Place) (ahead : List (Place × Row)) (said : Result Handed Refusal) : Type 0 where
+pub record Goes (end : Offset) (most : ℕ) (rows : List Row) (next : Offset) (ahead : List (Offset × Row)) (said : Result Handed Refusal) : Type 0 where
   pub handed : Handed
   pub said_is : said ≡ Ok handed
   pub rows_are : handed.rows ≡ rows ++ map (λ p. p.1) (take most ahead)
   pub onward : handed.next ≡ (if length (take most ahead) == most then behind_all next (take most ahead) else end)
 
 -- nothing more is to be handed out
-done_here : (end : Place) (most skip : ℕ) (rows : List Row) (next : Place) (ahead : List (Place × Row)) (said : Result Handed Refusal) → is_done most skip ≡ true → said ≡ Ok (record { rows = rows; next = next })
+done_here : (end : Offset) (most skip : ℕ) (rows : List Row) (next : Offset) (ahead : List (Offset × Row)) (said : Result Handed Refusal) → is_done most skip ≡ true → said ≡ Ok (record { rows = rows; next = next })
     → Goes end most rows next ahead said
 done_here end most skip rows next ahead said done is =
     let none : most ≡ 0 = eqb-true most 0 (and_parts (eqb most 0) (eqb skip 0) done).0 in
@@ -129,7 +129,7 @@ done_here end most skip rows next ahead said done is =
     }
 
 -- no file is left
-at_end : (end : Place) (most : ℕ) (rows : List Row) (next : Place) (said : Result Handed Refusal) → said ≡ Ok (record { rows = rows; next = if is_done most 0 then next else end }) → Goes end most rows next [] said
+at_end : (end : Offset) (most : ℕ) (rows : List Row) (next : Offset) (said : Result Handed Refusal) → said ≡ Ok (record { rows = rows; next = if is_done most 0 then next else end }) → Goes end most rows next [] said
 at_end end zero rows next said is = record {
   handed = record { rows = rows; next = next };
   said_is = is;
@@ -161,11 +161,11 @@ ahead_in f fs most skip within =
     drop-placed f.version f.file 0 skip f.rows ∙ (let at : 0 + skip ≡ skip = omega arith in rw at refl) in
     let first : take most here ≡ placed_rows f.version f.file skip (take most left) = take-placed f.version f.file skip most left in
     let count : most - length here ≡ most - length (take most left) = omega (arith, length-placed f.version f.file skip left, length-take most left) in
-    ap (λ (ps : List (Place × Row)). take most ps) (drop-append-le skip (placed_rows f.version f.file 0 f.rows) (rows_in fs) fits ∙ ap (λ (ps : List (Place × Row)). ps ++ rows_in fs) placed_left)
+    ap (λ (ps : List (Offset × Row)). take most ps) (drop-append-le skip (placed_rows f.version f.file 0 f.rows) (rows_in fs) fits ∙ ap (λ (ps : List (Offset × Row)). ps ++ rows_in fs) placed_left)
     ∙ take-append most here (rows_in fs) ∙ rw (first, count) refl
 
 -- what goes on behind a part of the first file
-goes_on : (end : Place) (f : Found) (fs : List Found) (most skip : ℕ) (rows : List Row) (next : Place) (said : Result Handed Refusal) → skip ≤ length f.rows
+goes_on : (end : Offset) (f : Found) (fs : List Found) (most skip : ℕ) (rows : List Row) (next : Offset) (said : Result Handed Refusal) → skip ≤ length f.rows
     → Goes end (most - length (take most (drop skip f.rows))) (rows ++ take most (drop skip f.rows)) (behind (file_of f) skip (take most (drop skip f.rows)) next) (rows_in fs) said
     → Goes end most rows next (drop skip (rows_in (f ∷ fs))) said
 goes_on end f fs most skip rows next said within later =
@@ -174,7 +174,7 @@ goes_on end f fs most skip rows next said within later =
     let more = take (most - length part) (rows_in fs) in
     let cut : take most (drop skip (rows_in (f ∷ fs))) ≡ first ++ more = ahead_in f fs most skip within in
     let all_rows : later.handed.rows ≡ rows ++ map (λ p. p.1) (first ++ more) =
-    later.rows_are ∙ rw (map-append (λ (p : Place × Row). p.1) first more, rows-placed f.version f.file skip part) (append_assoc rows part (map (λ p. p.1) more)) in
+    later.rows_are ∙ rw (map-append (λ (p : Offset × Row). p.1) first more, rows-placed f.version f.file skip part) (append_assoc rows part (map (λ p. p.1) more)) in
     let many : length (first ++ more) ≡ length part + length more = length-append first more ∙ rw (length-placed f.version f.file skip part) refl in
     let few : length part ≤ most = omega (arith, length-take most (drop skip f.rows)) in
     let test : eqb (length more) (most - length part) ≡ eqb (length (first ++ more)) most = same_test (length more) (most - length part) (length (first ++ more)) most (λ e. omega arith) (λ e. omega arith) in
@@ -191,9 +191,9 @@ pub within_none : (fs : List Found) → AreWithin 0 fs
 within_none [] = refl
 within_none (f ∷ fs) = omega arith
 
-module _ (objects : Objects) (schema : Tree) (end : Place) where
+module _ (objects : Objects) (schema : Tree) (end : Offset) where
   -- what is handed out of files that can be read
-  pub walked : (fs : List Found) (most skip : ℕ) (rows : List Row) (next : Place) → AreFound objects schema fs → AreWithin skip fs
+  pub walked : (fs : List Found) (most skip : ℕ) (rows : List Row) (next : Offset) → AreFound objects schema fs → AreWithin skip fs
       → Goes end most rows next (drop skip (rows_in fs)) (hand objects schema end most skip rows next (map data_file (map file_of fs)))
   unfolding hand
   walked [] most skip rows next found within = rw within (at_end end most rows next _ refl)
@@ -209,7 +209,7 @@ module _ (objects : Objects) (schema : Tree) (end : Place) where
       ]
 
   -- a first file that has fewer rows than are to be passed over is the answer
-  pub row_missing : (f : Found) (fs : List Found) (most skip : ℕ) (next : Place) → AreFound objects schema (f ∷ fs) → length f.rows < skip → hand objects schema end most skip [] next (map data_file (map file_of (f ∷ fs))) ≡ Err (bad_place f.version)
+  pub row_missing : (f : Found) (fs : List Found) (most skip : ℕ) (next : Offset) → AreFound objects schema (f ∷ fs) → length f.rows < skip → hand objects schema end most skip [] next (map data_file (map file_of (f ∷ fs))) ≡ Err (bad_place f.version)
   unfolding hand
   row_missing f fs most skip next found past_it =
       let none : eqb skip 0 ≡ false = ne_eqb skip 0 (λ e. omega arith) in

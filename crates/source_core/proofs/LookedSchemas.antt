@@ -5,7 +5,7 @@ use Rattle.std.specs.List.{filter_map}
 use Rattle.std.specs.Option.{option_or}
 use Rattle.std.proofs.lemmas.List.Elements.{filter_map-append}
 use Rattle.std.proofs.lemmas.List.{append-nil, append_assoc, length-map, map-append, take-append-drop}
-use Rattle.delta_actions.specs.Entry.{Entry, MetaDataEntry}
+use Rattle.delta_actions.specs.Action.{Action, MetaDataAction}
 use Rattle.delta_actions.specs.In.{meta_data_in}
 use Rattle.delta_replay.specs.Keys.{Key, at, last}
 use Rattle.delta_replay.specs.Support.{meta_data_of, readable}
@@ -53,11 +53,11 @@ take_past (found ∷ versions) others more =
 
 -- ---- the commits in front
 
-front_both : (commits : List (List Entry)) (others : List Version) → front (map commit commits ++ others) ≡ commits ++ front others
+front_both : (commits : List (List Action)) (others : List Version) → front (map commit commits ++ others) ≡ commits ++ front others
 front_both [] others = refl
-front_both (actions ∷ commits) others = ap (λ (rest : List (List Entry)). actions ∷ rest) (front_both commits others)
+front_both (actions ∷ commits) others = ap (λ (rest : List (List Action)). actions ∷ rest) (front_both commits others)
 
-drop_front : (commits : List (List Entry)) (others : List Version) → drop (length commits) (map commit commits ++ others) ≡ others
+drop_front : (commits : List (List Action)) (others : List Version) → drop (length commits) (map commit commits ++ others) ≡ others
 drop_front [] others = refl
 drop_front (actions ∷ commits) others = drop_front commits others
 
@@ -108,7 +108,7 @@ last_alike (suc n) (found ∷ more) =
 -- ---- the newest metadata of some commits
 
 -- one commit more: where the newest metadata can be read, its schema is the last that is told
-one_told : (before : List (List Entry)) (actions : List Entry) → ((told : Told) → told_of (meta_data_of before) ≡ Some told → last_in (map commit before) ≡ Some told)
+one_told : (before : List (List Action)) (actions : List Action) → ((told : Told) → told_of (meta_data_of before) ≡ Some told → last_in (map commit before) ≡ Some told)
     → (told : Told) → told_of (meta_data_of (before ++ actions ∷ [])) ≡ Some told → last_in (map commit (before ++ actions ∷ [])) ≡ Some told
 one_told before actions so_far told is =
     by_newest (last (filter_map meta_data_in actions)) refl (ap told_of (sym (meta_data_grows before actions ∙ newest_is meta_data_in (meta_data_of before) actions)) ∙ is)
@@ -119,24 +119,24 @@ one_told before actions so_far told is =
     own : last_in (commit actions ∷ []) ≡ told_of (last (filter_map meta_data_in actions))
     own = last_first (commit actions) []
 
-    by_newest : (newest : Option MetaDataEntry) → last (filter_map meta_data_in actions) ≡ newest → told_of (option_or (last (filter_map meta_data_in actions)) (meta_data_of before)) ≡ Some told
+    by_newest : (newest : Option MetaDataAction) → last (filter_map meta_data_in actions) ≡ newest → told_of (option_or (last (filter_map meta_data_in actions)) (meta_data_of before)) ≡ Some told
         → last_in (map commit (before ++ actions ∷ [])) ≡ Some told
     by_newest None found reads =
         both ∙ (ap (λ (o : Option Told). option_or o (last_in (map commit before))) (own ∙ ap told_of found)
-        ∙ so_far told (ap (λ (o : Option MetaDataEntry). told_of (option_or o (meta_data_of before))) (sym found) ∙ reads))
+        ∙ so_far told (ap (λ (o : Option MetaDataAction). told_of (option_or o (meta_data_of before))) (sym found) ∙ reads))
     by_newest (Some m) found reads =
-        both ∙ ap (λ (o : Option Told). option_or o (last_in (map commit before))) (own ∙ (ap told_of found ∙ (ap (λ (o : Option MetaDataEntry). told_of (option_or o (meta_data_of before))) (sym found) ∙ reads)))
+        both ∙ ap (λ (o : Option Told). option_or o (last_in (map commit before))) (own ∙ (ap told_of found ∙ (ap (λ (o : Option MetaDataAction). told_of (option_or o (meta_data_of before))) (sym found) ∙ reads)))
 
-more_told : (before commits : List (List Entry)) → ((told : Told) → told_of (meta_data_of before) ≡ Some told → last_in (map commit before) ≡ Some told)
+more_told : (before commits : List (List Action)) → ((told : Told) → told_of (meta_data_of before) ≡ Some told → last_in (map commit before) ≡ Some told)
     → (told : Told) → told_of (meta_data_of (before ++ commits)) ≡ Some told → last_in (map commit (before ++ commits)) ≡ Some told
 more_told before [] so_far told is =
-    ap (λ (all : List (List Entry)). last_in (map commit all)) (append-nil before) ∙ so_far told (ap (λ (all : List (List Entry)). told_of (meta_data_of all)) (sym (append-nil before)) ∙ is)
+    ap (λ (all : List (List Action)). last_in (map commit all)) (append-nil before) ∙ so_far told (ap (λ (all : List (List Action)). told_of (meta_data_of all)) (sym (append-nil before)) ∙ is)
 more_told before (actions ∷ commits) so_far told is =
     let whole : (before ++ actions ∷ []) ++ commits ≡ before ++ actions ∷ commits = append_assoc before (actions ∷ []) commits in
-    ap (λ (all : List (List Entry)). last_in (map commit all)) (sym whole)
-    ∙ more_told (before ++ actions ∷ []) commits (one_told before actions so_far) told (ap (λ (all : List (List Entry)). told_of (meta_data_of all)) whole ∙ is)
+    ap (λ (all : List (List Action)). last_in (map commit all)) (sym whole)
+    ∙ more_told (before ++ actions ∷ []) commits (one_told before actions so_far) told (ap (λ (all : List (List Action)). told_of (meta_data_of all)) whole ∙ is)
 
-newest_told : (commits : List (List Entry)) (told : Told) → told_of (meta_data_of commits) ≡ Some told → last_in (map commit commits) ≡ Some told
+newest_told : (commits : List (List Action)) (told : Told) → told_of (meta_data_of commits) ≡ Some told → last_in (map commit commits) ≡ Some told
 newest_told commits told is = more_told [] commits (λ told is. absurd cc) told is
 
 -- ---- the schema in force
@@ -176,7 +176,7 @@ first_enough versions others behind told is = by_last (last_in versions) refl
         let later : last_in others ≡ Some told = sym (or_none (last_in others)) ∙ (ap (option_or (last_in others)) (sym e) ∙ (sym (last_both versions others) ∙ is)) in
         by_first (filter_map told_at others) refl later
 
-module _ (r : Restored) (commits : List (List Entry)) (behind : List Version) (long : length commits ≡ suc r.version) (same : (key : Key) → at key (r.actions ∷ []) ≡ at key commits) where
+module _ (r : Restored) (commits : List (List Action)) (behind : List Version) (long : length commits ≡ suc r.version) (same : (key : Key) → at key (r.actions ∷ []) ≡ at key commits) where
   abbrev versions : List Version
   versions = map commit commits ++ behind
 

@@ -4,7 +4,7 @@ use Rattle.std.specs.Prelude.{◌&&◌, Result, Ok, Err, if◌then◌else◌, mi
 use Rattle.std.specs.Option.{option_or}
 use Rattle.std.proofs.lemmas.Bool.Decides.{nat_tests}
 use Rattle.std.proofs.lemmas.List.{length-map, take-append-drop}
-use Rattle.delta_actions.specs.Entry.{Entry}
+use Rattle.delta_actions.specs.Action.{Action}
 use Rattle.delta_checkpoint.proofs.Restored.{checkpoint_leaves, one_commit}
 use Rattle.delta_replay.specs.Keys.{Key, at}
 use Rattle.delta_replay.specs.Support.{readable}
@@ -17,7 +17,7 @@ use Rattle.table_log.specs.Reads.{front}
 use Rattle.table_log.specs.Restoring.{HasSoundCheckpoints, Restored, RestoresWell, checkpoint_in, checkpoint_version, restored}
 use Rattle.table_log.specs.Versions.{Version, missing, unreadable, commit, commits_in, version_at, versions_from, versions_of}
 use Rattle.table_log.proofs.Callers.{IsCheckpointFound, SchemaParts, commit_is, found_parts, last_found, newest_found, read_parts, schema_parts, versions_long}
-use Rattle.table_model.specs.declared.reading.Place.{Place}
+use Rattle.table_model.specs.declared.reading.Offset.{Offset}
 use Rattle.source_core.specs.Offsets.{offset_of}
 use Rattle.source_core.specs.Tailing.{Handed, Refusal, bad_offset, handed_by, handed_text, read_by, schema_at, schema_for, tailed, versions_at}
 use Rattle.source_core.proofs.LookedReads.{handed_alike}
@@ -33,14 +33,14 @@ take_from (suc n) zero from objects le = absurd (omega (arith, le))
 take_from (suc n) (suc m) from objects le = ap (λ (rest : List Version). version_at objects from ∷ rest) (take_from n m (from + 1) objects (omega (arith, le)))
 
 -- versions that are read are commits
-are_commits : (version : ℕ) (found : List Version) (commits : List (List Entry)) → commits_in version found ≡ Ok commits → found ≡ map commit commits
+are_commits : (version : ℕ) (found : List Version) (commits : List (List Action)) → commits_in version found ≡ Ok commits → found ≡ map commit commits
 are_commits version [] commits is = let none : [] ≡ commits = cc in ap (map commit) none
 are_commits version (missing ∷ more) commits is = absurd cc
 are_commits version (unreadable ∷ more) commits is = absurd cc
 are_commits version (commit actions ∷ more) commits is = by_rest (commits_in (suc version) more) refl (are_commits (suc version) more) is
   where
-    by_rest : (rest : Result (List (List Entry)) ℕ) → commits_in (suc version) more ≡ rest → ((others : List (List Entry)) → commits_in (suc version) more ≡ Ok others → more ≡ map commit others)
-        → (rest >>= λ (others : List (List Entry)). Ok (actions ∷ others)) ≡ Ok commits → commit actions ∷ more ≡ map commit commits
+    by_rest : (rest : Result (List (List Action)) ℕ) → commits_in (suc version) more ≡ rest → ((others : List (List Action)) → commits_in (suc version) more ≡ Ok others → more ≡ map commit others)
+        → (rest >>= λ (others : List (List Action)). Ok (actions ∷ others)) ≡ Ok commits → commit actions ∷ more ≡ map commit commits
     by_rest (Err wrong) read later at = absurd cc
     by_rest (Ok others) read later at =
         let own : actions ∷ others ≡ commits = cc in
@@ -48,7 +48,7 @@ are_commits version (commit actions ∷ more) commits is = by_rest (commits_in (
 
 -- A checkpoint is one of a log's first commits.
 record IsOfFirst (objects : Objects) (r : Restored) : Type 0 where
-  commits : List (List Entry)
+  commits : List (List Action)
   behind : List Version
   long : length commits ≡ suc r.version
   whole : versions_of objects ≡ map commit commits ++ behind
@@ -67,7 +67,7 @@ sound_found bound objects name r short well found =
       behind = drop (suc r.version) (versions_of objects);
       long = sym (length-map sound.commits commit) ∙ (ap length (sym read) ∙ versions_long (suc r.version) 0 objects);
       whole = sym (take-append-drop (suc r.version) (versions_of objects)) ∙ ap (λ (those : List Version). those ++ drop (suc r.version) (versions_of objects)) front;
-      same = λ key. ap (λ (actions : List Entry). at key (actions ∷ [])) own ∙ checkpoint_leaves found.bytes r.version sound.commits sound.checkpoint key;
+      same = λ key. ap (λ (actions : List Action). at key (actions ∷ [])) own ∙ checkpoint_leaves found.bytes r.version sound.commits sound.checkpoint key;
     }
 
 -- A schema is that of such a checkpoint.
@@ -194,7 +194,7 @@ module _ (objects : Objects) (version : ℕ) where
           ∙ sym (ap (in_force version) is.whole)))))
 
 -- a read goes by the same schema
-same_schema : (objects : Objects) (place : Place) (start : Start) → ((r : Restored) → start.newest ≡ Some r → IsOfFirst objects r) → ((s : CheckpointSchema) → start.schema ≡ Some s → IsOfOne objects s)
+same_schema : (objects : Objects) (place : Offset) (start : Start) → ((r : Restored) → start.newest ≡ Some r → IsOfFirst objects r) → ((s : CheckpointSchema) → start.schema ≡ Some s → IsOfOne objects s)
     → schema_for start (looked_at place.version start (versions_of objects)) place ≡ schema_for no_start (versions_of objects) place
 unfolding schema_for
 same_schema objects place start newest schema =
@@ -205,7 +205,7 @@ onward : {A B : Type 0} (read : Result A Refusal) (f g : A → Result B Refusal)
 onward (Ok x) f g same = same x
 onward (Err refusal) f g same = refl
 
-module _ (objects : Objects) (well : HasSoundCheckpoints objects) (place : Place) where
+module _ (objects : Objects) (well : HasSoundCheckpoints objects) (place : Offset) where
   -- the schema, and then the rows
   both_alike : {B : Type 0} (max : ℕ) (f : Told → Handed → Result B Refusal) → (schema_at true objects place >>= λ told. handed_by objects told (versions_at true objects place) max place >>= f told)
       ≡ (schema_at false objects place >>= λ told. handed_by objects told (versions_at false objects place) max place >>= f told)
@@ -224,7 +224,7 @@ module _ (objects : Objects) (well : HasSoundCheckpoints objects) (place : Place
       (λ told. handed_alike objects told (first_read place.version (start_at place.version objects)) (versions_of objects) max place (first_before place.version (start_at place.version objects)))
 
 -- Where checkpoints are sound, a read from one on hands out the same.
-pub read_alike : (restore : Bool) (objects : Objects) → RestoresWell restore objects → (max : ℕ) (place : Place) → read_by restore objects max place ≡ read_by false objects max place
+pub read_alike : (restore : Bool) (objects : Objects) → RestoresWell restore objects → (max : ℕ) (place : Offset) → read_by restore objects max place ≡ read_by false objects max place
 read_alike false objects well max place = refl
 read_alike true objects well max place = rows_alike objects (well refl) place max
 

@@ -6,7 +6,7 @@ use Rattle.table_model.specs.Reads.{position}
 use Rattle.table_model.specs.Resumed.{beginning}
 use Rattle.row_core.specs.Rows.{Row}
 use Rattle.table_model.specs.Table.{Entry, rows}
-use Rattle.table_model.specs.declared.reading.Place.{Place}
+use Rattle.table_model.specs.declared.reading.Offset.{Offset}
 use Rattle.source_core.specs.Tailing.{Refusal, Handed, read_by}
 
 -- the rows of an answer: a read that is refused hands out none
@@ -14,29 +14,29 @@ abbrev pub rows_handed : Result Handed Refusal → List Row
 rows_handed (Ok handed) = handed.rows
 rows_handed (Err refusal) = []
 
--- where the next read begins: a read that is refused leaves its place
-abbrev pub place_after : Place → Result Handed Refusal → Place
-place_after place (Ok handed) = handed.next
-place_after place (Err refusal) = place
+-- where the next read begins: a read that is refused leaves its offset
+abbrev pub offset_after : Offset → Result Handed Refusal → Offset
+offset_after offset (Ok handed) = handed.next
+offset_after offset (Err refusal) = offset
 
--- what several reads handed out together, and the place where the next one begins
+-- what several reads handed out together, and the offset where the next one begins
 pub record Tails : Type 0 where
   pub rows : List Row
-  pub next : Place
+  pub next : Offset
 
 -- the same with the rows of an earlier read in front
 abbrev pub with_earlier : List Row → Tails → Tails
 with_earlier before later = record { rows = before ++ later.rows; next = later.next }
 
--- Reads over the same objects, each with its own limit: the first begins at a place, and each next one where the one
+-- Reads over the same objects, each with its own limit: the first begins at an offset, and each next one where the one
 -- before ended.
-unfoldable pub tails : Objects → List ℕ → Place → Tails
-tails objects [] place = record { rows = []; next = place }
-tails objects (max ∷ limits) place = with_earlier (rows_handed (read_by false objects max place)) (tails objects limits (place_after place (read_by false objects max place)))
+unfoldable pub tails : Objects → List ℕ → Offset → Tails
+tails objects [] offset = record { rows = []; next = offset }
+tails objects (max ∷ limits) offset = with_earlier (rows_handed (read_by false objects max offset)) (tails objects limits (offset_after offset (read_by false objects max offset)))
 
 -- ---- laws on tails
 
--- Whatever the limits, reads from the beginning hand out the rows in front of the place where the next read begins,
+-- Whatever the limits, reads from the beginning hand out the rows in front of the offset where the next read begins,
 -- each once and in the order of the log.
 abbrev pub HandOutTheLog : Objects → List Entry → Type 0
 HandOutTheLog objects entries = (limits : List ℕ) →

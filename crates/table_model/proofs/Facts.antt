@@ -18,7 +18,7 @@ use Rattle.table_model.specs.declared.table.Closing.TheVariants.{Closed, Already
 use Rattle.row_core.proofs.Callers.{same_rows-is}
 use Rattle.table_model.proofs.Batches.{batches-append, numbers_by-append, last_some, last_number, IsAbove, Rises-front, all_below}
 
--- ---- places and members of a list
+-- ---- offsets and members of a list
 
 pub at_the_end : {A : Type 0} (xs : List A) (x : A) → slice_get (xs ++ x ∷ []) (length xs) ≡ Some x
 at_the_end [] x = refl

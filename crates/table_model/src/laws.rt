@@ -5,10 +5,10 @@ ghost use Rattle.std.specs.List.{flat_map};
 ghost use Rattle.row_core.specs.Rows.{Row};
 ghost use Rattle.table_model.specs.Table.{Batch, Entry, creation, batches, last_batch, rows};
 ghost use Rattle.table_model.specs.Appends.{appended, with_batch, with_close};
-ghost use Rattle.table_model.specs.Reads.{read, handed, position, is_place, end};
+ghost use Rattle.table_model.specs.Reads.{read, handed, position, is_offset, end};
 ghost use Rattle.table_model.specs.Resumed.{reads_on, growth, beginning};
 ghost use Rattle.table_model.specs.Lawful.{IsLawful};
-ghost use Rattle.table_model.specs.declared.reading.Place.{Place};
+ghost use Rattle.table_model.specs.declared.reading.Offset.{Offset};
 ghost use Rattle.table_model.specs.declared.table.Appended.TheVariants.{Already};
 
 /// A table that was just created is lawful.
@@ -44,41 +44,41 @@ pub fn rows_are_those_of_the_batches()
     ensures { (entries : List Entry) → rows entries ≡ flat_map (λ b. b.rows) (batches entries) }
 {}
 
-/// What a read hands out are the table's rows from its place up to the next one, in the order of the log: `max` of
-/// them, or all up to the log's end. The next place is one that a read can begin at.
-pub fn a_read_hands_the_rows_between_its_places()
-    ensures rows { (max : ℕ) (place next : Place) (entries : List Entry) (out : List Row) → read max place entries ≡ handed out next
-        → out ≡ take (position next entries - position place entries) (drop (position place entries) (rows entries)) }
-    ensures onward { (max : ℕ) (place next : Place) (entries : List Entry) (out : List Row) → read max place entries ≡ handed out next
-        → (position place entries ≤ position next entries) × (is_place next entries ≡ true) }
-    ensures as_many { (max : ℕ) (place next : Place) (entries : List Entry) (out : List Row) → read max place entries ≡ handed out next
+/// What a read hands out are the table's rows from its offset up to the next one, in the order of the log: `max` of
+/// them, or all up to the log's end. The next offset is one that a read can begin at.
+pub fn a_read_hands_the_rows_between_its_offsets()
+    ensures rows { (max : ℕ) (offset next : Offset) (entries : List Entry) (out : List Row) → read max offset entries ≡ handed out next
+        → out ≡ take (position next entries - position offset entries) (drop (position offset entries) (rows entries)) }
+    ensures onward { (max : ℕ) (offset next : Offset) (entries : List Entry) (out : List Row) → read max offset entries ≡ handed out next
+        → (position offset entries ≤ position next entries) × (is_offset next entries ≡ true) }
+    ensures as_many { (max : ℕ) (offset next : Offset) (entries : List Entry) (out : List Row) → read max offset entries ≡ handed out next
         → (length out ≡ max) ⊎ (position next entries ≡ length (rows entries)) }
-    ensures at_end { (max : ℕ) (place next : Place) (entries : List Entry) (out : List Row) → read max place entries ≡ handed out next
+    ensures at_end { (max : ℕ) (offset next : Offset) (entries : List Entry) (out : List Row) → read max offset entries ≡ handed out next
         → (length out ≡ max) ⊎ (next ≡ end entries) }
-    ensures at_most { (max : ℕ) (place next : Place) (entries : List Entry) (out : List Row) → read max place entries ≡ handed out next
+    ensures at_most { (max : ℕ) (offset next : Offset) (entries : List Entry) (out : List Row) → read max offset entries ≡ handed out next
         → length out ≤ max }
 {}
 
-/// A place that a read can begin at stays one while the table grows, and as many rows stand before it. So a read that
+/// An offset that a read can begin at stays one while the table grows, and as many rows stand before it. So a read that
 /// begins there later is never refused.
-pub fn places_stay()
-    ensures stay { (place : Place) (entries more : List Entry) → is_place place entries ≡ true
-        → (is_place place (entries ++ more) ≡ true) × (position place (entries ++ more) ≡ position place entries) }
-    ensures answered { (max : ℕ) (place : Place) (entries more : List Entry) → is_place place entries ≡ true
-        → (out : List Row) × (next : Place) × (read max place (entries ++ more) ≡ handed out next) }
+pub fn offsets_stay()
+    ensures stay { (offset : Offset) (entries more : List Entry) → is_offset offset entries ≡ true
+        → (is_offset offset (entries ++ more) ≡ true) × (position offset (entries ++ more) ≡ position offset entries) }
+    ensures answered { (max : ℕ) (offset : Offset) (entries more : List Entry) → is_offset offset entries ≡ true
+        → (out : List Row) × (next : Offset) × (read max offset (entries ++ more) ≡ handed out next) }
 {}
 
 /// Reads that each go on where the last one ended, while the table grows between them, hand out together the final
-/// table's rows from the first place up to the one where the next read begins: each once, in the order of the log,
+/// table's rows from the first offset up to the one where the next read begins: each once, in the order of the log,
 /// whatever the limits of the reads.
 pub fn resumed_reads_hand_out_the_log()
-    ensures final_table { (reads : List (ℕ × List Entry)) (place : Place) (entries : List Entry) → (reads_on reads place entries).final ≡ entries ++ growth reads }
-    ensures rows { (reads : List (ℕ × List Entry)) (place : Place) (entries : List Entry) → is_place place entries ≡ true
-        → let all = reads_on reads place entries in
-        all.out ≡ take (position all.next all.final - position place entries) (drop (position place entries) (rows all.final)) }
-    ensures onward { (reads : List (ℕ × List Entry)) (place : Place) (entries : List Entry) → is_place place entries ≡ true
-        → let all = reads_on reads place entries in
-        (position place entries ≤ position all.next all.final) × (is_place all.next all.final ≡ true) }
+    ensures final_table { (reads : List (ℕ × List Entry)) (offset : Offset) (entries : List Entry) → (reads_on reads offset entries).final ≡ entries ++ growth reads }
+    ensures rows { (reads : List (ℕ × List Entry)) (offset : Offset) (entries : List Entry) → is_offset offset entries ≡ true
+        → let all = reads_on reads offset entries in
+        all.out ≡ take (position all.next all.final - position offset entries) (drop (position offset entries) (rows all.final)) }
+    ensures onward { (reads : List (ℕ × List Entry)) (offset : Offset) (entries : List Entry) → is_offset offset entries ≡ true
+        → let all = reads_on reads offset entries in
+        (position offset entries ≤ position all.next all.final) × (is_offset all.next all.final ≡ true) }
     ensures from_beginning { (reads : List (ℕ × List Entry)) (entries : List Entry)
         → let all = reads_on reads beginning entries in
         all.out ≡ take (position all.next all.final) (rows all.final) }
@@ -91,7 +91,7 @@ pub fn reads_to_the_end_hand_out_all()
     ensures at_end { (reads : List (ℕ × List Entry)) (entries : List Entry)
         → let all = reads_on reads beginning entries in
         all.next ≡ end all.final → all.out ≡ rows all.final }
-    ensures short { (earlier : List (ℕ × List Entry)) (max : ℕ) (more entries : List Entry) (out : List Row) (next : Place)
+    ensures short { (earlier : List (ℕ × List Entry)) (max : ℕ) (more entries : List Entry) (out : List Row) (next : Offset)
         → let before = reads_on earlier beginning entries in
         let all = reads_on (earlier ++ (max, more) ∷ []) beginning entries in
         read max before.next (before.final ++ more) ≡ handed out next → length out < max → all.out ≡ rows all.final }

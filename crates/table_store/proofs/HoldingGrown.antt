@@ -1,16 +1,16 @@
 -- The table of a store with more objects begins with the table of the store before.
 use Rattle.std.proofs.Common.{◌≡◌, ℕ, suc, true, List, [], ◌∷◌, ◌++◌, None, Some, refl, sym, ap₂, subst, ◌∙◌}
 use Rattle.store_core.specs.Objects.{Objects}
-use Rattle.delta_actions.specs.Entry as actions
+use Rattle.delta_actions.specs.Action as actions
 use Rattle.delta_actions.specs.Names.{commit_name}
 use Rattle.table_store.specs.Schema.{Schema}
-use Rattle.table_store.specs.Commits.{beside_info, StandFor}
+use Rattle.table_store.specs.Commits.{without_commit_info, StandFor}
 use Rattle.table_store.specs.Growth.{HasObjectsOf}
 use Rattle.table_store.specs.Holds.{HoldsFrom, Holds}
 use Rattle.table_model.specs.Lawful.{BeginsWithCreation}
-use Rattle.table_model.specs.Reads.{is_place, position}
+use Rattle.table_model.specs.Reads.{is_offset, position}
 use Rattle.table_model.specs.Table.{Entry, creation, group, close}
-use Rattle.table_model.specs.declared.reading.Place.{Place}
+use Rattle.table_model.specs.declared.reading.Offset.{Offset}
 use Rattle.table_model.proofs.Callers.{stays}
 use Rattle.table_store.proofs.HoldingKept.{Stands-kept, FilesStand-kept}
 use Rattle.table_store.proofs.HoldingOne.{one_entry, one_list, one_object}
@@ -24,8 +24,8 @@ module _ (objects more : Objects) (schema : Schema) (grown : HasObjectsOf object
   front_from version (entry ∷ entries) (found ∷ others) p q =
       let bytes : p.0.0 ≡ q.0.0 = one_object more (commit_name version) (commit_name version) _ _ (Stands-kept objects more grown (commit_name version) _ p.0) q.0 refl in
       let lists = one_list p.0.0 q.0.0 schema schema entry found bytes p.0.2 q.0.2 in
-      let stand : StandFor schema entry (beside_info q.0.2.actions) = subst (λ (actions : List actions.Entry). StandFor schema entry (beside_info actions)) lists p.0.2.stand in
-      let first : entry ≡ found = one_entry more schema entry found (beside_info q.0.2.actions) stand q.0.2.stand (FilesStand-kept objects more grown schema entry p.1) q.1 in
+      let stand : StandFor schema entry (without_commit_info q.0.2.actions) = subst (λ (actions : List actions.Action). StandFor schema entry (without_commit_info actions)) lists p.0.2.stand in
+      let first : entry ≡ found = one_entry more schema entry found (without_commit_info q.0.2.actions) stand q.0.2.stand (FilesStand-kept objects more grown schema entry p.1) q.1 in
       let behind = front_from (suc version) entries others p.2 q.2 in
       (behind.0, ap₂ (λ e es. e ∷ es) (sym first) behind.1)
 
@@ -49,8 +49,8 @@ module _ (objects more : Objects) (schema : Schema) (grown : HasObjectsOf object
       front_from 0 (first ∷ entries) others p (subst (λ (t : Schema). Holds more t others) (sym same) q)
 
   -- an offset keeps its position
-  pub offset_stays : (other : Schema) (entries others : List Entry) (place : Place) → BeginsWithCreation entries → Holds objects schema entries → Holds more other others → is_place place entries ≡ true
-      → (is_place place others ≡ true) × (position place others ≡ position place entries)
+  pub offset_stays : (other : Schema) (entries others : List Entry) (place : Offset) → BeginsWithCreation entries → Holds objects schema entries → Holds more other others → is_offset place entries ≡ true
+      → (is_offset place others ≡ true) × (position place others ≡ position place entries)
   offset_stays other entries others place begins p q valid =
       let grew = front other entries others begins p q in
       rw grew.1 (stays place entries grew.0 valid)

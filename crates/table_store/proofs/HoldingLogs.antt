@@ -5,15 +5,15 @@ use Rattle.std.specs.List.{AllByRecursion, flat_map, filter_map, cons_option}
 use Rattle.std.specs.Option.{option_and_then}
 use Rattle.serde_json.specs.Data.{Data}
 use Rattle.store_core.specs.Objects.{Objects}
-use Rattle.delta_actions.specs.Entry as actions
-use Rattle.delta_actions.specs.Entry.{commit_info, protocol, meta_data, add, txn, remove, domain_metadata, checkpoint_metadata, sidecar, other, AddEntry, TxnEntry}
+use Rattle.delta_actions.specs.Action as actions
+use Rattle.delta_actions.specs.Action.{commit_info, protocol, meta_data, add, txn, remove, domain_metadata, checkpoint_metadata, sidecar, other, AddAction, TxnAction}
 use Rattle.delta_actions.specs.In.{add_in, txn_in}
 use Rattle.delta_actions.specs.Kinds.{Path}
 use Rattle.delta_actions.specs.Commit.{IsCommit}
 use Rattle.row_core.specs.Rows.{Row}
 use Rattle.delta_actions.specs.Names.{commit_name, data_file_name}
 use Rattle.table_store.specs.Schema.{Schema, IsFileOf}
-use Rattle.table_store.specs.Commits.{beside_info, StandFor}
+use Rattle.table_store.specs.Commits.{without_commit_info, StandFor}
 use Rattle.table_store.specs.Holds.{Stands, FileStands, FilesStand, HoldsFrom, Holds}
 use Rattle.table_store.specs.Groups.{numbers, added, new_file, new_files, AreFilesOf}
 use Rattle.table_store.specs.Logs.{LogFrom, IsLog, AreBatchesOf, AreBatches, AreRowsOf, AreRows}
@@ -23,31 +23,31 @@ use Rattle.table_store.proofs.HoldingOne.{named, one_object, one_file, one_commi
 -- ---- what tells only of the commit names no number and no file
 
 -- What an action tells that tells something more is told by those beside.
-told-beside_info : {B : Type 0} (tells : actions.Entry → Option B) → ((d : Data) → tells (commit_info d) ≡ None) → (made : List actions.Entry) → filter_map tells (beside_info made) ≡ filter_map tells made
-told-beside_info tells silent [] = refl
-told-beside_info tells silent (commit_info d ∷ others) = rw (silent d) (told-beside_info tells silent others)
-told-beside_info tells silent (protocol p ∷ others) = ap (cons_option (tells (protocol p))) (told-beside_info tells silent others)
-told-beside_info tells silent (meta_data m ∷ others) = ap (cons_option (tells (meta_data m))) (told-beside_info tells silent others)
-told-beside_info tells silent (add a ∷ others) = ap (cons_option (tells (add a))) (told-beside_info tells silent others)
-told-beside_info tells silent (txn t ∷ others) = ap (cons_option (tells (txn t))) (told-beside_info tells silent others)
-told-beside_info tells silent (remove r ∷ others) = ap (cons_option (tells (remove r))) (told-beside_info tells silent others)
-told-beside_info tells silent (domain_metadata m ∷ others) = ap (cons_option (tells (domain_metadata m))) (told-beside_info tells silent others)
-told-beside_info tells silent (checkpoint_metadata m ∷ others) = ap (cons_option (tells (checkpoint_metadata m))) (told-beside_info tells silent others)
-told-beside_info tells silent (sidecar d ∷ others) = ap (cons_option (tells (sidecar d))) (told-beside_info tells silent others)
-told-beside_info tells silent (other key d ∷ others) = ap (cons_option (tells (other key d))) (told-beside_info tells silent others)
+pub told-without_commit_info : {B : Type 0} (tells : actions.Action → Option B) → ((d : Data) → tells (commit_info d) ≡ None) → (made : List actions.Action) → filter_map tells (without_commit_info made) ≡ filter_map tells made
+told-without_commit_info tells silent [] = refl
+told-without_commit_info tells silent (commit_info d ∷ others) = rw (silent d) (told-without_commit_info tells silent others)
+told-without_commit_info tells silent (protocol p ∷ others) = ap (cons_option (tells (protocol p))) (told-without_commit_info tells silent others)
+told-without_commit_info tells silent (meta_data m ∷ others) = ap (cons_option (tells (meta_data m))) (told-without_commit_info tells silent others)
+told-without_commit_info tells silent (add a ∷ others) = ap (cons_option (tells (add a))) (told-without_commit_info tells silent others)
+told-without_commit_info tells silent (txn t ∷ others) = ap (cons_option (tells (txn t))) (told-without_commit_info tells silent others)
+told-without_commit_info tells silent (remove r ∷ others) = ap (cons_option (tells (remove r))) (told-without_commit_info tells silent others)
+told-without_commit_info tells silent (domain_metadata m ∷ others) = ap (cons_option (tells (domain_metadata m))) (told-without_commit_info tells silent others)
+told-without_commit_info tells silent (checkpoint_metadata m ∷ others) = ap (cons_option (tells (checkpoint_metadata m))) (told-without_commit_info tells silent others)
+told-without_commit_info tells silent (sidecar d ∷ others) = ap (cons_option (tells (sidecar d))) (told-without_commit_info tells silent others)
+told-without_commit_info tells silent (other key d ∷ others) = ap (cons_option (tells (other key d))) (told-without_commit_info tells silent others)
 
 -- the numbers of a commit stand beside what tells of it
-pub numbers-beside_info : (made : List actions.Entry) → numbers (beside_info made) ≡ numbers made
-numbers-beside_info made = ap (map (λ (t : TxnEntry). (t.app_id, t.version))) (told-beside_info txn_in (λ d. refl) made)
+pub numbers-without_commit_info : (made : List actions.Action) → numbers (without_commit_info made) ≡ numbers made
+numbers-without_commit_info made = ap (map (λ (t : TxnAction). (t.app_id, t.version))) (told-without_commit_info txn_in (λ d. refl) made)
 
 -- the new files of a commit stand beside what tells of it
-new_files-beside_info : (made : List actions.Entry) → new_files (beside_info made) ≡ new_files made
-new_files-beside_info made = told-beside_info new_file (λ d. refl) made
+pub new_files-without_commit_info : (made : List actions.Action) → new_files (without_commit_info made) ≡ new_files made
+new_files-without_commit_info made = told-without_commit_info new_file (λ d. refl) made
 
 -- ---- what actions tell of an entry's batches
 
 -- The actions of an entry have the numbers of its batches.
-pub numbers_of_entry : (schema : Schema) (entry : Entry) (beside : List actions.Entry) → StandFor schema entry beside → numbers beside ≡ map named (batches_of entry)
+pub numbers_of_entry : (schema : Schema) (entry : Entry) (beside : List actions.Action) → StandFor schema entry beside → numbers beside ≡ map named (batches_of entry)
 numbers_of_entry schema creation beside stand = rw stand.actions refl
 numbers_of_entry schema (group bs) beside stand = stand.numbered
 numbers_of_entry schema (close application) beside stand = rw stand.actions refl
@@ -59,7 +59,7 @@ AreBatchesOf-named objects schema [] behind ns files told = told
 AreBatchesOf-named objects schema (b ∷ bs) behind ns files told = (refl, refl, files.0, AreBatchesOf-named objects schema bs behind ns files.1 told)
 
 -- The actions of an entry in front tell of its batches in front.
-AreBatchesOf-entry : (objects : Objects) (schema : Schema) (entry : Entry) (behind : List Batch) (beside : List actions.Entry) (ns : List (List ℕ × ℕ)) → StandFor schema entry beside
+AreBatchesOf-entry : (objects : Objects) (schema : Schema) (entry : Entry) (behind : List Batch) (beside : List actions.Action) (ns : List (List ℕ × ℕ)) → StandFor schema entry beside
     → FilesStand objects schema entry → AreBatchesOf objects schema ns behind → AreBatchesOf objects schema (numbers beside ++ ns) (batches_of entry ++ behind)
 AreBatchesOf-entry objects schema entry behind beside ns stand files told =
     subst (λ (ms : List (List ℕ × ℕ)). AreBatchesOf objects schema (ms ++ ns) (batches_of entry ++ behind)) (sym (numbers_of_entry schema entry beside stand))
@@ -68,30 +68,30 @@ AreBatchesOf-entry objects schema entry behind beside ns stand files told =
 -- ---- what actions tell of an entry's rows
 
 -- the paths of files
-abbrev paths_of : List AddEntry → List Path
+abbrev pub paths_of : List AddAction → List Path
 paths_of files = map (λ file. file.path) files
 
 -- the files of numbers have new rows
-AreFilesOf-new : (ns : List (List ℕ × ℕ)) (files : List AddEntry) → AreFilesOf ns files → AllByRecursion (λ file. file.data_change ≡ true) files
+pub AreFilesOf-new : (ns : List (List ℕ × ℕ)) (files : List AddAction) → AreFilesOf ns files → AllByRecursion (λ file. file.data_change ≡ true) files
 AreFilesOf-new [] [] are = tt
 AreFilesOf-new [] (file ∷ files) are = absurd are
 AreFilesOf-new (n ∷ ns) [] are = absurd are
 AreFilesOf-new (n ∷ ns) (file ∷ files) are = (are.1, AreFilesOf-new ns files are.2)
 
 -- one action in front, which may bring a file with new rows
-new_file-front : (file : Option AddEntry) (files : List AddEntry) (paths : List Path) → AllByRecursion (λ a. a.data_change ≡ true) (cons_option file files)
+new_file-front : (file : Option AddAction) (files : List AddAction) (paths : List Path) → AllByRecursion (λ a. a.data_change ≡ true) (cons_option file files)
     → (AllByRecursion (λ a. a.data_change ≡ true) files → paths ≡ paths_of files)
     → cons_option (option_and_then (λ a. if a.data_change then Some a.path else None) file) paths ≡ paths_of (cons_option file files)
 new_file-front None files paths all behind = behind all
 new_file-front (Some a) files paths all behind = rw all.0 (ap (λ (ps : List Path). a.path ∷ ps) (behind all.1))
 
 -- where each file that joins has new rows, the new files are these
-new_files-added : (made : List actions.Entry) → AllByRecursion (λ a. a.data_change ≡ true) (added made) → new_files made ≡ paths_of (added made)
+pub new_files-added : (made : List actions.Action) → AllByRecursion (λ a. a.data_change ≡ true) (added made) → new_files made ≡ paths_of (added made)
 new_files-added [] all = refl
 new_files-added (action ∷ made) all = new_file-front (add_in action) (added made) (new_files made) all (new_files-added made)
 
 -- Files of batches in order, which stand, have the rows of these batches in front.
-AreRowsOf-named : (objects : Objects) (schema : Schema) (bs : List Batch) (files : List AddEntry) (paths : List Path) (behind : List Row) → AreFilesOf (map named bs) files
+AreRowsOf-named : (objects : Objects) (schema : Schema) (bs : List Batch) (files : List AddAction) (paths : List Path) (behind : List Row) → AreFilesOf (map named bs) files
     → AllByRecursion (FileStands objects schema) bs → AreRowsOf objects schema paths behind → AreRowsOf objects schema (paths_of files ++ paths) (rows_of (group bs) ++ behind)
 AreRowsOf-named objects schema [] [] paths behind are stand told = told
 AreRowsOf-named objects schema [] (file ∷ files) paths behind are stand told = absurd are
@@ -101,7 +101,7 @@ AreRowsOf-named objects schema (b ∷ bs) (file ∷ files) paths behind are stan
     (b.rows, rows_of (group bs) ++ behind, first, AreRowsOf-named objects schema bs files paths behind are.2 stand.1 told, append_assoc b.rows (rows_of (group bs)) behind)
 
 -- The actions of an entry in front tell of its rows in front.
-AreRowsOf-entry : (objects : Objects) (schema : Schema) (entry : Entry) (behind : List Row) (beside : List actions.Entry) (paths : List Path) → StandFor schema entry beside
+AreRowsOf-entry : (objects : Objects) (schema : Schema) (entry : Entry) (behind : List Row) (beside : List actions.Action) (paths : List Path) → StandFor schema entry beside
     → FilesStand objects schema entry → AreRowsOf objects schema paths behind → AreRowsOf objects schema (new_files beside ++ paths) (rows_of entry ++ behind)
 AreRowsOf-entry objects schema creation behind beside paths stand files told = rw stand.actions told
 AreRowsOf-entry objects schema (group bs) behind beside paths stand files told =
@@ -114,30 +114,30 @@ AreRowsOf-entry objects schema (close application) behind beside paths stand fil
 
 -- A table from this version on has a log from there on, which tells of its batches and rows.
 pub HoldsFrom-log : (objects : Objects) (schema : Schema) (version : ℕ) (entries : List Entry) → HoldsFrom objects schema version entries
-    → (log : List (List actions.Entry)) × LogFrom objects version log × AreBatches objects schema log (batches entries) × AreRows objects schema log (rows entries)
+    → (log : List (List actions.Action)) × LogFrom objects version log × AreBatches objects schema log (batches entries) × AreRows objects schema log (rows entries)
 HoldsFrom-log objects schema version [] holds = ([], holds, tt, refl)
 HoldsFrom-log objects schema version (entry ∷ entries) holds =
     let later = HoldsFrom-log objects schema (suc version) entries holds.2 in
     let made = holds.0.2.actions in
-    let told = AreBatchesOf-entry objects schema entry (batches entries) (beside_info made) (flat_map numbers later.0) holds.0.2.stand holds.1 later.2 in
-    let files = AreRowsOf-entry objects schema entry (rows entries) (beside_info made) (flat_map new_files later.0) holds.0.2.stand holds.1 later.3 in (
+    let told = AreBatchesOf-entry objects schema entry (batches entries) (without_commit_info made) (flat_map numbers later.0) holds.0.2.stand holds.1 later.2 in
+    let files = AreRowsOf-entry objects schema entry (rows entries) (without_commit_info made) (flat_map new_files later.0) holds.0.2.stand holds.1 later.3 in (
       made ∷ later.0,
       ((holds.0.0, holds.0.1, holds.0.2.commit), later.1),
-      subst (λ (ns : List (List ℕ × ℕ)). AreBatchesOf objects schema (ns ++ flat_map numbers later.0) (batches (entry ∷ entries))) (numbers-beside_info made) told,
-      subst (λ (paths : List Path). AreRowsOf objects schema (paths ++ flat_map new_files later.0) (rows (entry ∷ entries))) (new_files-beside_info made) files,
+      subst (λ (ns : List (List ℕ × ℕ)). AreBatchesOf objects schema (ns ++ flat_map numbers later.0) (batches (entry ∷ entries))) (numbers-without_commit_info made) told,
+      subst (λ (paths : List Path). AreRowsOf objects schema (paths ++ flat_map new_files later.0) (rows (entry ∷ entries))) (new_files-without_commit_info made) files,
     )
 
 -- ---- one log, one list of batches, one list of rows
 
 -- a store has one log at most
-LogFrom-one : (objects : Objects) (version : ℕ) (log second : List (List actions.Entry)) → LogFrom objects version log → LogFrom objects version second → log ≡ second
+LogFrom-one : (objects : Objects) (version : ℕ) (log second : List (List actions.Action)) → LogFrom objects version log → LogFrom objects version second → log ≡ second
 LogFrom-one objects version [] [] p q = refl
 LogFrom-one objects version [] (found ∷ others) p q = let none : None ≡ Some q.0.0 = sym p ∙ q.0.1 in absurd cc
 LogFrom-one objects version (made ∷ log) [] p q = let none : None ≡ Some p.0.0 = sym q ∙ p.0.1 in absurd cc
 LogFrom-one objects version (made ∷ log) (found ∷ others) p q =
     let bytes : p.0.0 ≡ q.0.0 = one_object objects (commit_name version) (commit_name version) _ _ p.0 q.0 refl in
     let first : made ≡ found = one_commit q.0.0 made found (subst (λ (t : List ℕ). IsCommit t made) bytes p.0.2) q.0.2 in
-    ap₂ (λ (m : List actions.Entry) (ms : List (List actions.Entry)). m ∷ ms) first (LogFrom-one objects (suc version) log others p.1 q.1)
+    ap₂ (λ (m : List actions.Action) (ms : List (List actions.Action)). m ∷ ms) first (LogFrom-one objects (suc version) log others p.1 q.1)
 
 -- what stands under one name is a file of one list of rows
 rows_of_name : (objects : Objects) (schema : Schema) (name : List ℕ) (rs others : List Row) → Stands objects name (λ bytes. IsFileOf schema bytes rs) → Stands objects name (λ bytes. IsFileOf schema bytes others) → rs ≡ others
@@ -168,15 +168,15 @@ AreRowsOf-one objects schema (path ∷ paths) rs others p q =
 -- ---- what the log tells of is the table
 
 -- The batches that a store's log tells of are those of the table that the store holds.
-pub told_batches : (objects : Objects) (schema : Schema) (entries : List Entry) (log : List (List actions.Entry)) (bs : List Batch) → Holds objects schema entries → IsLog objects log → AreBatches objects schema log bs → bs ≡ batches entries
+pub told_batches : (objects : Objects) (schema : Schema) (entries : List Entry) (log : List (List actions.Action)) (bs : List Batch) → Holds objects schema entries → IsLog objects log → AreBatches objects schema log bs → bs ≡ batches entries
 told_batches objects schema entries log bs holds is_log told =
     let own = HoldsFrom-log objects schema 0 entries holds in
     let same : own.0 ≡ log = LogFrom-one objects 0 own.0 log own.1 is_log in
-    AreBatchesOf-one objects schema (flat_map numbers log) bs (batches entries) told (subst (λ (l : List (List actions.Entry)). AreBatches objects schema l (batches entries)) same own.2)
+    AreBatchesOf-one objects schema (flat_map numbers log) bs (batches entries) told (subst (λ (l : List (List actions.Action)). AreBatches objects schema l (batches entries)) same own.2)
 
 -- The rows that a store's log tells of are those of the table that the store holds.
-pub told_rows : (objects : Objects) (schema : Schema) (entries : List Entry) (log : List (List actions.Entry)) (rs : List Row) → Holds objects schema entries → IsLog objects log → AreRows objects schema log rs → rs ≡ rows entries
+pub told_rows : (objects : Objects) (schema : Schema) (entries : List Entry) (log : List (List actions.Action)) (rs : List Row) → Holds objects schema entries → IsLog objects log → AreRows objects schema log rs → rs ≡ rows entries
 told_rows objects schema entries log rs holds is_log told =
     let own = HoldsFrom-log objects schema 0 entries holds in
     let same : own.0 ≡ log = LogFrom-one objects 0 own.0 log own.1 is_log in
-    AreRowsOf-one objects schema (flat_map new_files log) rs (rows entries) told (subst (λ (l : List (List actions.Entry)). AreRows objects schema l (rows entries)) same own.3)
+    AreRowsOf-one objects schema (flat_map new_files log) rs (rows entries) told (subst (λ (l : List (List actions.Action)). AreRows objects schema l (rows entries)) same own.3)

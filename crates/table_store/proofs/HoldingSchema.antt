@@ -1,12 +1,12 @@
 -- A table that begins with its creation is the only one that its store holds.
 use Rattle.std.proofs.Common.{◌≡◌, ℕ, List, [], ◌∷◌, None, Some, refl, sym, ap, subst, ◌∙◌}
 use Rattle.store_core.specs.Objects.{Objects}
-use Rattle.delta_actions.specs.Entry as actions
-use Rattle.delta_actions.specs.Entry.{protocol, meta_data, MetaDataEntry}
+use Rattle.delta_actions.specs.Action as actions
+use Rattle.delta_actions.specs.Action.{protocol, meta_data, MetaDataAction}
 use Rattle.delta_actions.specs.Names.{commit_name}
 use Rattle.schema_tree.specs.Reading.{schema_of}
 use Rattle.table_store.specs.Schema.{Schema}
-use Rattle.table_store.specs.Commits.{table_protocol, beside_info, IsCommitOf, IsCreation, StandFor}
+use Rattle.table_store.specs.Commits.{table_protocol, without_commit_info, IsCommitOf, IsCreation, StandFor}
 use Rattle.table_store.specs.Holds.{Holds}
 use Rattle.table_model.specs.Lawful.{BeginsWithCreation}
 use Rattle.table_model.specs.Table.{Entry, creation, group, close}
@@ -14,14 +14,14 @@ use Rattle.table_store.proofs.HoldingOne.{group_no_creation, close_no_creation, 
 use Rattle.table_store.proofs.NamesOnce.{ok_is}
 
 -- two creations of the same actions have one text, which is read as one schema
-one_creation : (schema second : Schema) (beside : List actions.Entry) → IsCreation schema beside → IsCreation second beside → schema ≡ second
+one_creation : (schema second : Schema) (beside : List actions.Action) → IsCreation schema beside → IsCreation second beside → schema ≡ second
 one_creation schema second beside p q =
     let lists : protocol table_protocol ∷ meta_data p.metadata ∷ [] ≡ protocol table_protocol ∷ meta_data q.metadata ∷ [] = sym p.actions ∙ q.actions in
     let metadata : p.metadata ≡ q.metadata = cc in
-    ok_is _ schema second p.schema_string (ap (λ (m : MetaDataEntry). schema_of m.schema_string) metadata ∙ q.schema_string)
+    ok_is _ schema second p.schema_string (ap (λ (m : MetaDataAction). schema_of m.schema_string) metadata ∙ q.schema_string)
 
 -- Where actions are a creation of one schema, what they stand for in a table of another schema is that creation too.
-creation_alone : (schema second : Schema) (found : Entry) (beside : List actions.Entry) → IsCreation schema beside → StandFor second found beside → schema ≡ second
+creation_alone : (schema second : Schema) (found : Entry) (beside : List actions.Action) → IsCreation schema beside → StandFor second found beside → schema ≡ second
 creation_alone schema second creation beside p q = one_creation schema second beside p q
 creation_alone schema second (group bs) beside p q = absurd (group_no_creation schema bs beside q p)
 creation_alone schema second (close application) beside p q = absurd (close_no_creation schema application beside q p)
@@ -30,7 +30,7 @@ creation_alone schema second (close application) beside p q = absurd (close_no_c
 pub one_creation_of : (bytes found : List ℕ) (schema second : Schema) (entry : Entry) → bytes ≡ found → IsCommitOf schema creation bytes → IsCommitOf second entry found → schema ≡ second
 one_creation_of bytes found schema second entry same p q =
     let lists = one_list bytes found schema second creation entry same p q in
-    creation_alone schema second entry (beside_info q.actions) (subst (λ (actions : List actions.Entry). IsCreation schema (beside_info actions)) lists p.stand) q.stand
+    creation_alone schema second entry (without_commit_info q.actions) (subst (λ (actions : List actions.Action). IsCreation schema (without_commit_info actions)) lists p.stand) q.stand
 
 -- what a creation's table of a store is, another table of that store is too
 by_creation : (objects : Objects) (schema second : Schema) (entries others : List Entry) → Holds objects schema (creation ∷ entries) → Holds objects second others → schema ≡ second

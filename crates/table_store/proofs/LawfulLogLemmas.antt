@@ -6,11 +6,11 @@ use Rattle.std.proofs.lemmas.List.{map-append}
 use Rattle.std.proofs.lemmas.Simd.{map-map}
 use Rattle.std.proofs.lemmas.Slice.Eq.{bytes_eq-Decides}
 use Rattle.store_core.specs.Objects.{Objects}
-use Rattle.delta_actions.specs.Entry as actions
+use Rattle.delta_actions.specs.Action as actions
 use Rattle.delta_actions.specs.Commit.{IsCommit}
 use Rattle.delta_actions.specs.Names.{commit_name}
 use Rattle.table_store.specs.Schema.{Schema}
-use Rattle.table_store.specs.Commits.{beside_info, IsClose, StandFor}
+use Rattle.table_store.specs.Commits.{without_commit_info, IsClose, StandFor}
 use Rattle.table_store.specs.Holds.{FilesStand, HoldsFrom, IsLawfulStore}
 use Rattle.table_model.specs.Lawful.{NoCreation, BeginsWithCreation, Rises, AreDifferent, IsWellGrouped, IsLawful}
 use Rattle.table_store.specs.Groups.{numbers}
@@ -18,7 +18,7 @@ use Rattle.table_store.specs.Logs.{LogFrom}
 use Rattle.table_store.specs.LawfulLogs.{IsLater, BeginsLog, numbers_of, HasLawfulLog}
 use Rattle.table_model.specs.Table.{Batch, Entry, creation, group, close, batches_of, batches, numbers_by}
 use Rattle.table_model.proofs.Callers.{Rises-tail, below_later}
-use Rattle.table_store.proofs.HoldingLogs.{HoldsFrom-log, numbers-beside_info, numbers_of_entry}
+use Rattle.table_store.proofs.HoldingLogs.{HoldsFrom-log, numbers-without_commit_info, numbers_of_entry}
 use Rattle.table_store.proofs.HoldingOne.{named, one_object, one_commit, one_entry}
 use Rattle.table_model.proofs.Callers.{NoCreation-behind}
 
@@ -71,33 +71,33 @@ different-from_rises (n ∷ ns) rises = (twice, different-from_rises ns (λ appl
 
 module _ (objects : Objects) (schema : Schema) where
   -- commit by commit the actions are those of the entries, and the files of each entry stand
-  abbrev pub AreMadeFor : List Entry → List (List actions.Entry) → Type 0
+  abbrev pub AreMadeFor : List Entry → List (List actions.Action) → Type 0
   AreMadeFor [] [] = Unit {0}
   AreMadeFor [] (made ∷ log) = ⊥
   AreMadeFor (entry ∷ entries) [] = ⊥
-  AreMadeFor (entry ∷ entries) (made ∷ log) = StandFor schema entry (beside_info made) × FilesStand objects schema entry × AreMadeFor entries log
+  AreMadeFor (entry ∷ entries) (made ∷ log) = StandFor schema entry (without_commit_info made) × FilesStand objects schema entry × AreMadeFor entries log
 
   -- a store's log stands for the entries that the store holds
-  made_for : (version : ℕ) (entries : List Entry) (log : List (List actions.Entry)) → HoldsFrom objects schema version entries → LogFrom objects version log → AreMadeFor entries log
+  made_for : (version : ℕ) (entries : List Entry) (log : List (List actions.Action)) → HoldsFrom objects schema version entries → LogFrom objects version log → AreMadeFor entries log
   made_for version [] [] p q = tt
   made_for version [] (made ∷ log) p q = let none : None ≡ Some q.0.0 = sym p ∙ q.0.1 in absurd cc
   made_for version (entry ∷ entries) [] p q = let none : None ≡ Some p.0.0 = sym q ∙ p.0.1 in absurd cc
   made_for version (entry ∷ entries) (made ∷ log) p q =
       let bytes : p.0.0 ≡ q.0.0 = one_object objects (commit_name version) (commit_name version) _ _ p.0 q.0 refl in
       let same : p.0.2.actions ≡ made = one_commit q.0.0 p.0.2.actions made (subst (λ (t : List ℕ). IsCommit t p.0.2.actions) bytes p.0.2.commit) q.0.2 in
-      (subst (λ (m : List actions.Entry). StandFor schema entry (beside_info m)) same p.0.2.stand, p.1, made_for (suc version) entries log p.2 q.1)
+      (subst (λ (m : List actions.Action). StandFor schema entry (without_commit_info m)) same p.0.2.stand, p.1, made_for (suc version) entries log p.2 q.1)
 
   -- the log has the numbers of the batches
-  numbers_of_log : (entries : List Entry) (log : List (List actions.Entry)) → AreMadeFor entries log → flat_map numbers log ≡ map named (batches entries)
+  numbers_of_log : (entries : List Entry) (log : List (List actions.Action)) → AreMadeFor entries log → flat_map numbers log ≡ map named (batches entries)
   numbers_of_log [] [] p = refl
   numbers_of_log [] (made ∷ log) p = absurd p
   numbers_of_log (entry ∷ entries) [] p = absurd p
   numbers_of_log (entry ∷ entries) (made ∷ log) p =
-      let first : numbers made ≡ map named (batches_of entry) = sym (numbers-beside_info made) ∙ numbers_of_entry schema entry (beside_info made) p.0 in
+      let first : numbers made ≡ map named (batches_of entry) = sym (numbers-without_commit_info made) ∙ numbers_of_entry schema entry (without_commit_info made) p.0 in
       ap₂ (λ (ns ms : List (List ℕ × ℕ)). ns ++ ms) first (numbers_of_log entries log p.2) ∙ sym (map-append named (batches_of entry) (batches entries))
 
   -- an application has the same numbers in the log as in the table
-  pub numbers_by_log : (application : List ℕ) (entries : List Entry) (log : List (List actions.Entry)) → AreMadeFor entries log → numbers_of application (flat_map numbers log) ≡ numbers_by application entries
+  pub numbers_by_log : (application : List ℕ) (entries : List Entry) (log : List (List actions.Action)) → AreMadeFor entries log → numbers_of application (flat_map numbers log) ≡ numbers_by application entries
   numbers_by_log application entries log p = ap (numbers_of application) (numbers_of_log entries log p) ∙ numbers_of-named application (batches entries)
 
   -- ---- the log begins with the creation
@@ -110,7 +110,7 @@ module _ (objects : Objects) (schema : Schema) where
       ((λ none. let no : map named (b ∷ bs) ≡ [] = sym is ∙ none in absurd cc), subst AreDifferent (sym applications) grouped.1)
 
   -- the commit of an entry that is no creation is a group, or a close
-  later_entry : (entry : Entry) (entries : List Entry) (beside : List actions.Entry) → NoCreation (entry ∷ entries) → IsWellGrouped entry → StandFor schema entry beside → IsLater beside
+  later_entry : (entry : Entry) (entries : List Entry) (beside : List actions.Action) → NoCreation (entry ∷ entries) → IsWellGrouped entry → StandFor schema entry beside → IsLater beside
   later_entry creation entries beside none grouped stand = absurd none
   later_entry (group bs) entries beside none grouped stand =
       let numbered = group_numbered bs (numbers beside) stand.numbered grouped in
@@ -118,16 +118,16 @@ module _ (objects : Objects) (schema : Schema) where
   later_entry (close application) entries beside none grouped stand = inr (application, stand)
 
   -- where no entry is a creation, each commit is a group or a close
-  all_later : (entries : List Entry) (log : List (List actions.Entry)) → NoCreation entries → AllByRecursion IsWellGrouped entries → AreMadeFor entries log
-      → AllByRecursion (λ made. IsLater (beside_info made)) log
+  all_later : (entries : List Entry) (log : List (List actions.Action)) → NoCreation entries → AllByRecursion IsWellGrouped entries → AreMadeFor entries log
+      → AllByRecursion (λ made. IsLater (without_commit_info made)) log
   all_later [] [] none grouped p = tt
   all_later [] (made ∷ log) none grouped p = absurd p
   all_later (entry ∷ entries) [] none grouped p = absurd p
   all_later (entry ∷ entries) (made ∷ log) none grouped p =
-      (later_entry entry entries (beside_info made) none grouped.0 p.0, all_later entries log (NoCreation-behind entry entries none) grouped.1 p.2)
+      (later_entry entry entries (without_commit_info made) none grouped.0 p.0, all_later entries log (NoCreation-behind entry entries none) grouped.1 p.2)
 
   -- the log begins as the table does
-  begins_log : (entries : List Entry) (log : List (List actions.Entry)) → BeginsWithCreation entries → AllByRecursion IsWellGrouped entries → AreMadeFor entries log → BeginsLog schema log
+  begins_log : (entries : List Entry) (log : List (List actions.Action)) → BeginsWithCreation entries → AllByRecursion IsWellGrouped entries → AreMadeFor entries log → BeginsLog schema log
   begins_log [] [] begins grouped p = tt
   begins_log [] (made ∷ log) begins grouped p = absurd p
   begins_log (creation ∷ entries) [] begins grouped p = absurd p
@@ -138,17 +138,17 @@ module _ (objects : Objects) (schema : Schema) where
   -- ---- a close in the log
 
   -- what a commit within the log, and those behind it, stand for
-  record StandsWithin (entries : List Entry) (made : List actions.Entry) (after : List (List actions.Entry)) : Type 0 where
+  record StandsWithin (entries : List Entry) (made : List actions.Action) (after : List (List actions.Action)) : Type 0 where
     front : List Entry
     entry : Entry
     back : List Entry
     parts : entries ≡ front ++ entry ∷ back
-    stand : StandFor schema entry (beside_info made)
+    stand : StandFor schema entry (without_commit_info made)
     files : FilesStand objects schema entry
     behind : AreMadeFor (entry ∷ back) (made ∷ after)
 
   -- each commit of the log stands for an entry
-  within : (entries : List Entry) (before : List (List actions.Entry)) (made : List actions.Entry) (after : List (List actions.Entry)) → AreMadeFor entries (before ++ made ∷ after) → StandsWithin entries made after
+  within : (entries : List Entry) (before : List (List actions.Action)) (made : List actions.Action) (after : List (List actions.Action)) → AreMadeFor entries (before ++ made ∷ after) → StandsWithin entries made after
   within [] [] made after p = absurd p
   within [] (first ∷ before) made after p = absurd p
   within (entry ∷ entries) [] made after p = record { front = []; entry = entry; back = entries; parts = refl; stand = p.0; files = p.1; behind = p }
@@ -157,11 +157,11 @@ module _ (objects : Objects) (schema : Schema) where
       record { front = entry ∷ later.front; entry = later.entry; back = later.back; parts = ap (λ (es : List Entry). entry ∷ es) later.parts; stand = later.stand; files = later.files; behind = later.behind }
 
   -- no number of an application stands in or behind a close of its stream
-  closed_log : (entries : List Entry) (log : List (List actions.Entry)) → IsLawful entries → AreMadeFor entries log → (application : List ℕ) (before after : List (List actions.Entry)) (made : List actions.Entry)
-      → log ≡ before ++ made ∷ after → IsClose application (beside_info made) → numbers_of application (flat_map numbers (made ∷ after)) ≡ []
+  closed_log : (entries : List Entry) (log : List (List actions.Action)) → IsLawful entries → AreMadeFor entries log → (application : List ℕ) (before after : List (List actions.Action)) (made : List actions.Action)
+      → log ≡ before ++ made ∷ after → IsClose application (without_commit_info made) → numbers_of application (flat_map numbers (made ∷ after)) ≡ []
   closed_log entries log lawful p application before after made at is_close =
       let here = within entries before made after (subst (AreMadeFor entries) at p) in
-      let is : here.entry ≡ close application = one_entry objects schema here.entry (close application) (beside_info made) here.stand is_close here.files tt in
+      let is : here.entry ≡ close application = one_entry objects schema here.entry (close application) (without_commit_info made) here.stand is_close here.files tt in
       let cut : entries ≡ here.front ++ close application ∷ here.back = here.parts ∙ ap (λ (e : Entry). here.front ++ e ∷ here.back) is in
       let none : numbers_by application (close application ∷ here.back) ≡ [] = lawful.closed application here.front here.back (close application) cut (0, omega arith, refl) in
       numbers_by_log application (here.entry ∷ here.back) (made ∷ after) here.behind ∙ ap (λ (e : Entry). numbers_by application (e ∷ here.back)) is ∙ none

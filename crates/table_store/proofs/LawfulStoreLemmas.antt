@@ -3,16 +3,16 @@ use Rattle.std.proofs.Common.{◌≡◌, ◌≢◌, ℕ, zero, suc, List, [], �
 use Rattle.std.specs.List.{AllByRecursion}
 use Rattle.std.proofs.lemmas.Simd.{map-map}
 use Rattle.store_core.specs.Objects.{Objects}
-use Rattle.delta_actions.specs.Entry as actions
+use Rattle.delta_actions.specs.Action as actions
 use Rattle.table_store.specs.Schema.{Schema}
-use Rattle.table_store.specs.Commits.{beside_info, IsClose, StandFor}
+use Rattle.table_store.specs.Commits.{without_commit_info, IsClose, StandFor}
 use Rattle.table_store.specs.Groups.{numbers}
 use Rattle.table_store.specs.Holds.{FileStands, FilesStand, HoldsFrom, IsLawfulStore}
 use Rattle.table_store.specs.Logs.{LogFrom, AreBatchesOf}
 use Rattle.table_store.specs.LawfulLogs.{IsGroup, IsLater, BeginsLog, IsLawfulLog, HasLawfulLog}
 use Rattle.table_model.specs.Lawful.{NoCreation, BeginsWithCreation, AreDifferent, IsWellGrouped, Rises}
 use Rattle.table_model.specs.Table.{Batch, Entry, creation, group, close, closes_of, numbers_by}
-use Rattle.table_store.proofs.HoldingLogs.{numbers-beside_info}
+use Rattle.table_store.proofs.HoldingLogs.{numbers-without_commit_info}
 use Rattle.table_store.proofs.HoldingOne.{named}
 use Rattle.table_store.proofs.LawfulLogLemmas.{AreMadeFor, numbers_by_log}
 
@@ -49,18 +49,18 @@ module _ (objects : Objects) (schema : Schema) where
   -- ---- the entry of a commit behind the creation
 
   -- What a commit behind the creation stands for: an entry that is no creation, whose files stand.
-  record LaterEntry (made : List actions.Entry) : Type 0 where
+  record LaterEntry (made : List actions.Action) : Type 0 where
     entry : Entry
-    stand : StandFor schema entry (beside_info made)
+    stand : StandFor schema entry (without_commit_info made)
     files : FilesStand objects schema entry
     grouped : IsWellGrouped entry
     later : (entries : List Entry) → NoCreation entries → NoCreation (entry ∷ entries)
 
-  group_for : (made : List actions.Entry) (bs : List Batch) → IsGroup (beside_info made) → AreBatchesOf objects schema (numbers made) bs → LaterEntry made
+  group_for : (made : List actions.Action) (bs : List Batch) → IsGroup (without_commit_info made) → AreBatchesOf objects schema (numbers made) bs → LaterEntry made
   group_for made bs is told =
-      let named_so : numbers (beside_info made) ≡ map named bs = numbers-beside_info made ∙ numbers_told (numbers made) bs told in
+      let named_so : numbers (without_commit_info made) ≡ map named bs = numbers-without_commit_info made ∙ numbers_told (numbers made) bs told in
       let some : bs ≢ [] = λ none. is.some (named_so ∙ ap (map named) none) in
-      let apart : map (λ n. n.0) (numbers (beside_info made)) ≡ map (λ b. b.application) bs = ap (map (λ (n : List ℕ × ℕ). n.0)) named_so ∙ map-map (λ (n : List ℕ × ℕ). n.0) named bs in
+      let apart : map (λ n. n.0) (numbers (without_commit_info made)) ≡ map (λ b. b.application) bs = ap (map (λ (n : List ℕ × ℕ). n.0)) named_so ∙ map-map (λ (n : List ℕ × ℕ). n.0) named bs in
       let different : AreDifferent (map (λ b. b.application) bs) = subst AreDifferent apart is.different in
       record {
         entry = group bs;
@@ -70,20 +70,20 @@ module _ (objects : Objects) (schema : Schema) where
         later = λ entries none. none;
       }
 
-  later_entry : (made : List actions.Entry) (bs : List Batch) → IsLater (beside_info made) → AreBatchesOf objects schema (numbers made) bs → LaterEntry made
+  later_entry : (made : List actions.Action) (bs : List Batch) → IsLater (without_commit_info made) → AreBatchesOf objects schema (numbers made) bs → LaterEntry made
   later_entry made bs (inl is) told = group_for made bs is told
   later_entry made bs (inr is) told = record { entry = close is.0; stand = is.1; files = tt; grouped = tt; later = λ entries none. none }
 
   -- ---- the entries of the log
 
   -- entries for which the commits of a log were made, of lawful groups
-  record Entries (Begin : List Entry → Type 0) (log : List (List actions.Entry)) : Type 0 where
+  record Entries (Begin : List Entry → Type 0) (log : List (List actions.Action)) : Type 0 where
     entries : List Entry
     begins : Begin entries
     groups : AllByRecursion IsWellGrouped entries
     made : AreMadeFor objects schema entries log
 
-  later_entries : (log : List (List actions.Entry)) (bs : List Batch) → AllByRecursion (λ made. IsLater (beside_info made)) log → AreBatchesOf objects schema (flat_map numbers log) bs
+  later_entries : (log : List (List actions.Action)) (bs : List Batch) → AllByRecursion (λ made. IsLater (without_commit_info made)) log → AreBatchesOf objects schema (flat_map numbers log) bs
       → Entries NoCreation log
   later_entries [] bs later told = record { entries = []; begins = tt; groups = tt; made = tt }
   later_entries (made ∷ log) bs later told =
@@ -98,7 +98,7 @@ module _ (objects : Objects) (schema : Schema) where
       }
 
   -- a log that begins as it should stands for entries that begin so
-  entries_for : (log : List (List actions.Entry)) (bs : List Batch) → BeginsLog schema log → AreBatchesOf objects schema (flat_map numbers log) bs → Entries BeginsWithCreation log
+  entries_for : (log : List (List actions.Action)) (bs : List Batch) → BeginsLog schema log → AreBatchesOf objects schema (flat_map numbers log) bs → Entries BeginsWithCreation log
   entries_for [] bs begins told = record { entries = []; begins = tt; groups = tt; made = tt }
   entries_for (made ∷ log) bs begins told =
       let parts = split (numbers made) (flat_map numbers log) bs told in
@@ -111,7 +111,7 @@ module _ (objects : Objects) (schema : Schema) where
       }
 
   -- the store of a log holds the entries that the log was made for
-  holds_for : (version : ℕ) (entries : List Entry) (log : List (List actions.Entry)) → AreMadeFor objects schema entries log → LogFrom objects version log → HoldsFrom objects schema version entries
+  holds_for : (version : ℕ) (entries : List Entry) (log : List (List actions.Action)) → AreMadeFor objects schema entries log → LogFrom objects version log → HoldsFrom objects schema version entries
   holds_for version [] [] p q = q
   holds_for version [] (made ∷ log) p q = absurd p
   holds_for version (entry ∷ entries) [] p q = absurd p
@@ -124,34 +124,34 @@ module _ (objects : Objects) (schema : Schema) where
   -- ---- a close among the entries
 
   -- the commit of an entry that stands within the table, and the commits behind it
-  record MadeWithin (entry : Entry) (after : List Entry) (log : List (List actions.Entry)) : Type 0 where
-    front : List (List actions.Entry)
-    made : List actions.Entry
-    back : List (List actions.Entry)
+  record MadeWithin (entry : Entry) (after : List Entry) (log : List (List actions.Action)) : Type 0 where
+    front : List (List actions.Action)
+    made : List actions.Action
+    back : List (List actions.Action)
     parts : log ≡ front ++ made ∷ back
     behind : AreMadeFor objects schema (entry ∷ after) (made ∷ back)
 
-  made_within : (before : List Entry) (entry : Entry) (after : List Entry) (log : List (List actions.Entry)) → AreMadeFor objects schema (before ++ entry ∷ after) log → MadeWithin entry after log
+  made_within : (before : List Entry) (entry : Entry) (after : List Entry) (log : List (List actions.Action)) → AreMadeFor objects schema (before ++ entry ∷ after) log → MadeWithin entry after log
   made_within [] entry after [] p = absurd p
   made_within [] entry after (made ∷ log) p = record { front = []; made = made; back = log; parts = refl; behind = p }
   made_within (first ∷ before) entry after [] p = absurd p
   made_within (first ∷ before) entry after (made ∷ log) p =
       let later = made_within before entry after log p.2 in
-      record { front = made ∷ later.front; made = later.made; back = later.back; parts = ap (λ (l : List (List actions.Entry)). made ∷ l) later.parts; behind = later.behind }
+      record { front = made ∷ later.front; made = later.made; back = later.back; parts = ap (λ (l : List (List actions.Action)). made ∷ l) later.parts; behind = later.behind }
 
   -- an entry that closes a stream is the close of that stream alone
-  close_stands : (entry : Entry) (application : List ℕ) (beside : List actions.Entry) → StandFor schema entry beside → Contains (closes_of entry) application → IsClose application beside
+  close_stands : (entry : Entry) (application : List ℕ) (beside : List actions.Action) → StandFor schema entry beside → Contains (closes_of entry) application → IsClose application beside
   close_stands creation application beside stand (k, lt, is) = absurd (omega (arith, lt))
   close_stands (group bs) application beside stand (k, lt, is) = absurd (omega (arith, lt))
   close_stands (close closed) application beside stand (zero, lt, is) = subst (λ (a : List ℕ). IsClose a beside) is stand
   close_stands (close closed) application beside stand (suc k, lt, is) = absurd (omega (arith, lt))
 
   -- no number of an application stands with or behind a close of its stream
-  closed_entries : (entries : List Entry) (log : List (List actions.Entry)) → IsLawfulLog objects schema log → AreMadeFor objects schema entries log
+  closed_entries : (entries : List Entry) (log : List (List actions.Action)) → IsLawfulLog objects schema log → AreMadeFor objects schema entries log
       → (application : List ℕ) (before after : List Entry) (entry : Entry) → entries ≡ before ++ entry ∷ after → Contains (closes_of entry) application → numbers_by application (entry ∷ after) ≡ []
   closed_entries entries log lawful p application before after entry at closes =
       let here = made_within before entry after log (subst (λ (es : List Entry). AreMadeFor objects schema es log) at p) in
-      let is : IsClose application (beside_info here.made) = close_stands entry application (beside_info here.made) here.behind.0 closes in
+      let is : IsClose application (without_commit_info here.made) = close_stands entry application (without_commit_info here.made) here.behind.0 closes in
       sym (numbers_by_log objects schema application (entry ∷ after) (here.made ∷ here.back) here.behind) ∙ lawful.closed application here.front here.back here.made here.parts is
 
 -- A store whose log is lawful is lawful.

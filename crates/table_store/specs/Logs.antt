@@ -3,7 +3,7 @@
 use Rattle.std.specs.Prelude.{◌≡◌, ℕ, suc, List, [], ◌∷◌, ◌++◌, None}
 use Rattle.std.specs.List.{flat_map}
 use Rattle.store_core.specs.Objects.{Objects, object_at}
-use Rattle.delta_actions.specs.Entry as actions
+use Rattle.delta_actions.specs.Action as actions
 use Rattle.delta_actions.specs.Kinds.{Path}
 use Rattle.delta_actions.specs.Commit.{IsCommit}
 use Rattle.delta_actions.specs.Names.{commit_name, data_file_name}
@@ -14,12 +14,12 @@ use Rattle.table_store.specs.Holds.{Stands}
 use Rattle.table_model.specs.Table.{Batch}
 
 -- From this version on the commits of these actions stand, and none stands at the version behind the last.
-abbrev pub LogFrom : Objects → ℕ → List (List actions.Entry) → Type 0
+abbrev pub LogFrom : Objects → ℕ → List (List actions.Action) → Type 0
 LogFrom objects version [] = object_at objects (commit_name version) ≡ None
 LogFrom objects version (made ∷ log) = Stands objects (commit_name version) (λ bytes. IsCommit bytes made) × LogFrom objects (suc version) log
 
 -- The store's log: the actions of the commits of versions 0, 1, 2 and so on, up to the first name that isn't there.
-abbrev pub IsLog : Objects → List (List actions.Entry) → Type 0
+abbrev pub IsLog : Objects → List (List actions.Action) → Type 0
 IsLog objects log = LogFrom objects 0 log
 
 -- For each number in order stands the batch of that application and number, with the rows of the file named for them.
@@ -31,7 +31,7 @@ AreBatchesOf objects schema (n ∷ ns) (b ∷ bs) = (b.application ≡ n.0) × (
     × AreBatchesOf objects schema ns bs
 
 -- the batches that a log tells of, in the order of its numbers
-abbrev pub AreBatches : Objects → Schema → List (List actions.Entry) → List Batch → Type 0
+abbrev pub AreBatches : Objects → Schema → List (List actions.Action) → List Batch → Type 0
 AreBatches objects schema log bs = AreBatchesOf objects schema (flat_map numbers log) bs
 
 -- the rows of these files, one file behind the other
@@ -41,5 +41,5 @@ AreRowsOf objects schema (path ∷ paths) rows =
     (first others : List Row) × Stands objects path.key (λ bytes. IsFileOf schema bytes first) × AreRowsOf objects schema paths others × (rows ≡ first ++ others)
 
 -- the rows that a log tells of, in the order of its new files
-abbrev pub AreRows : Objects → Schema → List (List actions.Entry) → List Row → Type 0
+abbrev pub AreRows : Objects → Schema → List (List actions.Action) → List Row → Type 0
 AreRows objects schema log rows = AreRowsOf objects schema (flat_map new_files log) rows

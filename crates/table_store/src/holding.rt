@@ -2,7 +2,7 @@
 
 ghost use Rattle.std.specs.Prelude.{◌≡◌, ◌≢◌, ◌<◌, ◌^◌, ℕ, suc, List, [], ◌∷◌, ◌++◌, length, true, None, IsUtf8};
 ghost use Rattle.store_core.specs.Objects.{Objects, object_at, with_object};
-ghost use Rattle.delta_actions.specs.Entry as actions;
+ghost use Rattle.delta_actions.specs.Action as actions;
 ghost use Rattle.delta_actions.specs.Names.{commit_name, data_file_name};
 ghost use Rattle.table_store.specs.Schema.{Schema};
 ghost use Rattle.table_store.specs.Commits.{IsCommitOf};
@@ -13,9 +13,9 @@ ghost use Rattle.table_store.specs.Logs.{IsLog, AreBatches, AreRows};
 ghost use Rattle.table_store.specs.LawfulLogs.{HasLawfulLog};
 ghost use Rattle.table_store.specs.Sound.{IsAdmissible, IsSound, greatest_version};
 ghost use Rattle.row_core.specs.Rows.{Row};
-ghost use Rattle.table_model.specs.Reads.{is_place, position};
+ghost use Rattle.table_model.specs.Reads.{is_offset, position};
 ghost use Rattle.table_model.specs.Table.{Batch, Entry, batches, rows};
-ghost use Rattle.table_model.specs.declared.reading.Place.{Place};
+ghost use Rattle.table_model.specs.declared.reading.Offset.{Offset};
 
 /// A store holds one table at most that begins with its creation: one log of entries, and one schema. (Without a
 /// creation no entry tells the schema, and a file may be one of several tables, whose columns stand in another order.)
@@ -38,8 +38,8 @@ pub fn a_grown_store_holds_a_grown_table()
         → (later : List Entry) × (others ≡ entries ++ later) }
     ensures schema { (objects more : Objects) (schema other : Schema) (first : Entry) (entries others : List Entry) → HasObjectsOf objects more → BeginsWithCreation (first ∷ entries)
         → Holds objects schema (first ∷ entries) → Holds more other others → schema ≡ other }
-    ensures offsets { (objects more : Objects) (schema other : Schema) (entries others : List Entry) (place : Place) → HasObjectsOf objects more → BeginsWithCreation entries → Holds objects schema entries → Holds more other others
-        → is_place place entries ≡ true → (is_place place others ≡ true) × (position place others ≡ position place entries) }
+    ensures offsets { (objects more : Objects) (schema other : Schema) (entries others : List Entry) (offset : Offset) → HasObjectsOf objects more → BeginsWithCreation entries → Holds objects schema entries → Holds more other others
+        → is_offset offset entries ≡ true → (is_offset offset others ≡ true) × (position offset others ≡ position offset entries) }
 {}
 
 /// Where the commit of an entry is put at the next version, its files stand, and no commit stands at the version
@@ -71,10 +71,10 @@ pub fn names_stand_apart()
 /// The log tells of no others.
 pub fn a_held_table_is_its_log()
     ensures log { (objects : Objects) (schema : Schema) (entries : List Entry) → Holds objects schema entries
-        → (log : List (List actions.Entry)) × IsLog objects log × AreBatches objects schema log (batches entries) × AreRows objects schema log (rows entries) }
-    ensures batches { (objects : Objects) (schema : Schema) (entries : List Entry) (log : List (List actions.Entry)) (bs : List Batch) → Holds objects schema entries → IsLog objects log → AreBatches objects schema log bs
+        → (log : List (List actions.Action)) × IsLog objects log × AreBatches objects schema log (batches entries) × AreRows objects schema log (rows entries) }
+    ensures batches { (objects : Objects) (schema : Schema) (entries : List Entry) (log : List (List actions.Action)) (bs : List Batch) → Holds objects schema entries → IsLog objects log → AreBatches objects schema log bs
         → bs ≡ batches entries }
-    ensures rows { (objects : Objects) (schema : Schema) (entries : List Entry) (log : List (List actions.Entry)) (rs : List Row) → Holds objects schema entries → IsLog objects log → AreRows objects schema log rs
+    ensures rows { (objects : Objects) (schema : Schema) (entries : List Entry) (log : List (List actions.Action)) (rs : List Row) → Holds objects schema entries → IsLog objects log → AreRows objects schema log rs
         → rs ≡ rows entries }
 {}
 

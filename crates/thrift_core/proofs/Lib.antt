@@ -7,7 +7,7 @@ pub mod AgainHeaders
 pub mod Again
 pub mod Told
 pub mod FieldsLast
-pub mod Shapes
+pub mod FormsFound
 pub mod Written
 pub mod AsSpells
 pub mod WrittenSpells

@@ -4,21 +4,21 @@ use Rattle.thrift_core.specs.Tree as tree
 use Rattle.thrift_core.specs.View.{view, views, entry_view, entry_views, field_views}
 use Rattle.thrift_core.specs.declared.value.TValue.{TValue, the_lemmas}
 use Rattle.thrift_core.specs.declared.value.TValue as values
-use Rattle.thrift_core.specs.declared.value.Entry.{Entry, out-Entry}
+use Rattle.thrift_core.specs.declared.value.MapEntry.{MapEntry, out-MapEntry}
 use Rattle.thrift_core.specs.declared.value.Field.{Field}
 
 pub view-List : {A : Type 0} → (v : Vec (TValue A) A) → view (values.List v) ≡ tree.list (tree.trees_of (views v.items))
 view-List v = search (rules, the_lemmas)
 
-pub view-Map : {A : Type 0} → (v : Vec (Entry A) A) → view (values.Map v) ≡ tree.map (tree.entries_of (entry_views v.items))
+pub view-Map : {A : Type 0} → (v : Vec (MapEntry A) A) → view (values.Map v) ≡ tree.map (tree.entries_of (entry_views v.items))
 view-Map v = search (rules, the_lemmas)
 
 pub view-Struct : {A : Type 0} → (v : Vec (Field A) A) → view (values.Struct v) ≡ tree.struct (tree.fields_of (field_views v.items))
 view-Struct v = search (rules, the_lemmas)
 
 -- an entry, part by part
-pub key_seen : {A : Type 0} → (e : Entry A) → view (out-Entry A e).key ≡ (entry_view e).0
+pub key_seen : {A : Type 0} → (e : MapEntry A) → view (out-MapEntry A e).key ≡ (entry_view e).0
 key_seen {A} e = search (rules, the_lemmas)
 
-pub value_seen : {A : Type 0} → (e : Entry A) → view (out-Entry A e).value ≡ (entry_view e).1
+pub value_seen : {A : Type 0} → (e : MapEntry A) → view (out-MapEntry A e).value ≡ (entry_view e).1
 value_seen {A} e = search (rules, the_lemmas)

@@ -9,7 +9,7 @@ use Rattle.lake_bytes.specs.Zigzag.{SpellsSigned, zigzag}
 use Rattle.lake_bytes.proofs.Callers.{SpellsNumber-varint_bytes}
 use Rattle.thrift_core.specs.Tree.{Tree, boolean, integer, binary, list, map, struct, skipped, Trees, no_trees, tree, Entries, no_entries, entry, Fields, no_fields, field, count_of_trees, count_of_entries}
 use Rattle.thrift_core.specs.Wire.{announced, Announces}
-use Rattle.thrift_core.specs.Shape.{Form, boolean_form, byte_form, int16_form, int32_form, int64_form, binary_form, list_form, map_form, struct_form, Forms, number_of}
+use Rattle.thrift_core.specs.Form.{Form, boolean_form, byte_form, int16_form, int32_form, int64_form, binary_form, list_form, map_form, struct_form, Forms, number_of}
 use Rattle.thrift_core.specs.Spelling.{SpellsBoolean, one, two, SpellsInteger, ListHeader, small_size, size_behind, MapHeader, empty_map, filled_map, FieldHeader, id_rises, id_behind, FieldValue, is_true, is_false, apart, Spells}
 use Rattle.thrift_core.specs.SpellsAs.{SpellsAs, SpellsMembersAs, SpellsEntriesAs, SpellsFieldsAs}
 use Rattle.thrift_core.specs.Writing.{boolean_number, integer_bytes, list_header_bytes, map_header_bytes, field_header_bytes, field_number, is_boolean, written, written_members, written_entries, written_fields, IntegerHasForm, HasForm, MembersHaveForm, EntriesHaveForm, FieldsHaveForm, wire_of}

@@ -3,7 +3,7 @@ pub mod Tree
 pub mod Spelling
 pub mod Reading
 pub mod View
-pub mod Shape
+pub mod Form
 pub mod Writing
 pub mod SpellsAs
 pub mod FaultTexts

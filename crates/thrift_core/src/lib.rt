@@ -5,18 +5,18 @@
 mod fault;
 mod field;
 pub mod fields;
+mod form;
 mod laws;
 mod reading;
-mod shape;
 mod source;
 mod value;
 mod wire;
 mod writing;
 
 pub use fault::{ReadError, ThriftFault};
+pub use form::{FieldForm, Form};
 pub use laws::one_tree_in_front;
 pub use reading::{MAX_DEPTH, MAX_NODES, read_struct};
-pub use shape::{FieldShape, Shape};
-pub use value::{Entry, Field, TValue};
+pub use value::{Field, MapEntry, TValue};
 pub use wire::WireType;
 pub use writing::write_struct;

@@ -10,7 +10,7 @@ ghost use Rattle.thrift_core.specs.View.{view, views, entry_view, entry_views, f
 
 use crate::fault::{ReadError, ThriftFault};
 use crate::source::Source;
-use crate::value::{Entry, Field, TValue};
+use crate::value::{Field, MapEntry, TValue};
 use crate::wire::WireType;
 use lake_bytes::{ByteFault, Cursor};
 use std::alloc::Allocator;
@@ -233,7 +233,7 @@ impl<'a> Source<'a> {
         key: WireType,
         value: WireType,
         size: u64,
-    ) -> Result<Vec<Entry<A>, A>, ReadError>
+    ) -> Result<Vec<MapEntry<A>, A>, ReadError>
         ensures { Reads (λ v. entry_views v.items) (repeated (entry_ahead (value_ahead depth) key value) size self.old) result self.new }
     {
         let mut entries = Vec::new(alloc);
@@ -252,12 +252,12 @@ impl<'a> Source<'a> {
         depth: u32,
         key: WireType,
         value: WireType,
-    ) -> Result<Entry<A>, ReadError>
+    ) -> Result<MapEntry<A>, ReadError>
         ensures { Reads entry_view (entry_ahead (value_ahead depth) key value self.old) result self.new }
     {
         let key = self.value(alloc, depth, key)?;
         let value = self.value(alloc, depth, value)?;
-        Ok(Entry { key, value })
+        Ok(MapEntry { key, value })
     }
 
     /// The fields up to the byte 0.

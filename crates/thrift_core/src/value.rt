@@ -15,7 +15,7 @@ pub enum TValue<A: Allocator> {
     /// A list or a set.
     List(Vec<TValue<A>, A>),
     /// A map, its keys and values in the order of the bytes.
-    Map(Vec<Entry<A>, A>),
+    Map(Vec<MapEntry<A>, A>),
     /// A struct, its fields in the order of the bytes. An id may stand twice: see [`TValue::field`].
     Struct(Vec<Field<A>, A>),
     /// A double, of which nothing is kept.
@@ -25,7 +25,7 @@ pub enum TValue<A: Allocator> {
 /// A key of a map and its value.
 #[cycle(tree)]
 #[derive(Debug, Drop, PartialEq, Eq)]
-pub struct Entry<A: Allocator> {
+pub struct MapEntry<A: Allocator> {
     /// The key.
     pub key: TValue<A>,
     /// Its value.

@@ -2,7 +2,7 @@
 
 ghost use Rattle.std.specs.Prelude.{◌≡◌, ◌↔◌, IsTrue, List, ℕ, length, ◌<◌, ◌≤◌, ◌++◌, Ok, pos, option_map, IfOk, OnOk};
 ghost use Rattle.lake_bytes.specs.Varint.{varint_bytes};
-ghost use Rattle.thrift_core.specs.Shape.{form, one_field_form, field_forms, form_at, number_of};
+ghost use Rattle.thrift_core.specs.Form.{form_view, field_form_view, field_form_views, form_at, number_of};
 ghost use Rattle.thrift_core.specs.Tree.{trees_of, entries_of, fields_of, depth, nodes};
 ghost use Rattle.thrift_core.specs.View.{view, views, entry_views, field_view, field_views};
 ghost use Rattle.thrift_core.specs.Writing.{integer_bytes, list_header_bytes, map_header_bytes, field_header_bytes, field_number, written, written_members, written_entries, written_field, written_fields, HasForm, wire_of};
@@ -11,65 +11,65 @@ ghost use Rattle.thrift_core.specs.Spelling.{Spells};
 ghost use Rattle.thrift_core.specs.SpellsAs.{SpellsAs};
 ghost use Rattle.thrift_core.specs.declared.wire.WireType.TheVariants as wire;
 
-use crate::shape::{FieldShape, Shape};
-use crate::value::{Entry, Field, TValue};
+use crate::form::{FieldForm, Form};
+use crate::value::{Field, MapEntry, TValue};
 use lake_bytes::{write_varint, write_zigzag};
 use std::alloc::{AllocError, Allocator, Global};
 
-/// The bytes of a struct (Thrift compact protocol, "Struct encoding"), with the types that the shape names.
+/// The bytes of a struct (Thrift compact protocol, "Struct encoding"), with the types that the form names.
 ///
 /// Each form is the shortest: varints without needless bytes, a size below 15 and a rise of an id up to 15 in
 /// their headers. A boolean in a list or a map is 1 or 2, and its type there 2.
 ///
-/// The tree has to be of the shape: the ids of each struct rise from 1 and stand in the shape, which may name
+/// The tree has to be of the form: the ids of each struct rise from 1 and stand in the form, which may name
 /// more; each value is of the type named for it; sizes are below 2 ^ 31; nothing is skipped. Of another tree
 /// some bytes are written, which may spell no tree.
 ///
 /// The tree may lie in any allocator's memory; the bytes lie in that of `alloc`.
 ///
-/// The time is linear in the bytes that are written, and in the fields that the shape names for each field.
+/// The time is linear in the bytes that are written, and in the fields that the form names for each field.
 pub fn write_struct<A: Allocator>(
     alloc: Global,
     tree: &TValue<A>,
-    shape: &Shape,
+    form: &Form,
 ) -> Result<Vec<u8>, AllocError>
     // The bytes spell the tree.
-    ensures spells { HasForm (form shape.now) (view tree.now) → wire_of (form shape.now) ≡ wire.Struct
+    ensures spells { HasForm (form_view form.now) (view tree.now) → wire_of (form_view form.now) ≡ wire.Struct
         → IfOk result (λ bytes. Spells wire.Struct bytes.items (view tree.now)) }
-    // They spell it with the types that the shape names.
-    ensures with_these_types { HasForm (form shape.now) (view tree.now)
-        → IfOk result (λ bytes. SpellsAs (form shape.now) bytes.items (view tree.now)) }
+    // They spell it with the types that the form names.
+    ensures with_these_types { HasForm (form_view form.now) (view tree.now)
+        → IfOk result (λ bytes. SpellsAs (form_view form.now) bytes.items (view tree.now)) }
     // No bytes that spell the tree with these types are fewer.
-    ensures shortest { IfOk result (λ bytes. (other : List ℕ) → SpellsAs (form shape.now) other (view tree.now)
+    ensures shortest { IfOk result (λ bytes. (other : List ℕ) → SpellsAs (form_view form.now) other (view tree.now)
         → length bytes.items ≤ length other) }
     // Whatever follows them, they are read again as the tree, if it keeps the limits.
-    ensures read_again { HasForm (form shape.now) (view tree.now) → wire_of (form shape.now) ≡ wire.Struct
+    ensures read_again { HasForm (form_view form.now) (view tree.now) → wire_of (form_view form.now) ≡ wire.Struct
         → depth (view tree.now) ≤ 32 → nodes (view tree.now) ≤ 262144
         → IfOk result (λ bytes. (rest : List ℕ) → struct_at (bytes.items ++ rest) ≡ Ok (view tree.now, rest)) }
     // Which bytes they are.
-    ensures exact { IfOk result (λ bytes. bytes.items ≡ written (form shape.now) (view tree.now)) }
+    ensures exact { IfOk result (λ bytes. bytes.items ≡ written (form_view form.now) (view tree.now)) }
 {
-    struct_bytes(alloc, tree, shape)
+    struct_bytes(alloc, tree, form)
 }
 
 /// The bytes of a struct, as its definition has them.
 fn struct_bytes<A: Allocator>(
     alloc: Global,
     tree: &TValue<A>,
-    shape: &Shape,
+    form: &Form,
 ) -> Result<Vec<u8>, AllocError>
-    ensures { IfOk result (λ bytes. bytes.items ≡ written (form shape.now) (view tree.now)) }
+    ensures { IfOk result (λ bytes. bytes.items ≡ written (form_view form.now) (view tree.now)) }
 {
     let mut out = Vec::new(alloc);
-    write_value(&mut out, tree, shape)?;
+    write_value(&mut out, tree, form)?;
     Ok(out)
 }
 
 /// A whole number, in the bytes of its type.
-fn write_integer(out: &mut Vec<u8>, shape: &Shape, number: i64) -> Result<(), AllocError>
-    ensures { OnOk result (out.new.items ≡ out.old.items ++ integer_bytes (form shape.now) number) }
+fn write_integer(out: &mut Vec<u8>, form: &Form, number: i64) -> Result<(), AllocError>
+    ensures { OnOk result (out.new.items ≡ out.old.items ++ integer_bytes (form_view form.now) number) }
 {
-    if let Shape::Byte = shape {
+    if let Form::Byte = form {
         out.push((number.cast_unsigned() % 256) as u8)?;
         return Ok(());
     }
@@ -119,31 +119,31 @@ fn write_field_header(out: &mut Vec<u8>, last: i16, id: i16, number: u8) -> Resu
 }
 
 /// The number of a field's type, which for a boolean is its value.
-fn number_in_field<A: Allocator>(shape: &Shape, value: &TValue<A>) -> u8
-    ensures number { result ≡ field_number (form shape.now) (view value.now) }
+fn number_in_field<A: Allocator>(form: &Form, value: &TValue<A>) -> u8
+    ensures number { result ≡ field_number (form_view form.now) (view value.now) }
     ensures fits { result < 16 }
 {
     match value {
         TValue::Bool(true) => 1,
         TValue::Bool(false) => 2,
-        _ => shape.number(),
+        _ => form.number(),
     }
 }
 
 /// The type of the field of this id.
-fn shape_at(shapes: &[FieldShape], id: i16) -> Option<&Shape>
-    ensures { option_map (λ s. form s.now) result ≡ form_at id (field_forms shapes.now) }
+fn find_form(forms: &[FieldForm], id: i16) -> Option<&Form>
+    ensures { option_map (λ s. form_view s.now) result ≡ form_at id (field_form_views forms.now) }
 {
-    for field in shapes {
+    for field in forms {
         if is_field(field, id) {
-            return Some(&field.shape);
+            return Some(&field.form);
         }
     }
     None
 }
 
-fn is_field(field: &FieldShape, id: i16) -> bool
-    ensures { IsTrue result ↔ ((one_field_form field.now).0 ≡ id) }
+fn is_field(field: &FieldForm, id: i16) -> bool
+    ensures { IsTrue result ↔ ((field_form_view field.now).0 ≡ id) }
 {
     field.id == id
 }
@@ -154,28 +154,28 @@ fn is_field(field: &FieldShape, id: i16) -> bool
 fn write_value<A: Allocator>(
     out: &mut Vec<u8>,
     value: &TValue<A>,
-    shape: &Shape,
+    form: &Form,
 ) -> Result<(), AllocError>
-    ensures { OnOk result (out.new.items ≡ out.old.items ++ written (form shape.now) (view value.now)) }
+    ensures { OnOk result (out.new.items ≡ out.old.items ++ written (form_view form.now) (view value.now)) }
 {
     match value {
         TValue::Bool(true) => out.push(1)?,
         TValue::Bool(false) => out.push(2)?,
-        TValue::Int(number) => write_integer(out, shape, *number)?,
+        TValue::Int(number) => write_integer(out, form, *number)?,
         TValue::Bytes(text) => write_binary(out, text)?,
         TValue::List(members) => {
-            if let Some(member) = shape.member() {
+            if let Some(member) = form.member() {
                 write_members(out, members, member)?;
             }
         }
         TValue::Map(entries) => {
-            if let Some((key, value)) = shape.entry() {
+            if let Some((key, value)) = form.entry() {
                 write_entries(out, entries, key, value)?;
             }
         }
         TValue::Struct(fields) => {
-            if let Some(shapes) = shape.fields() {
-                write_fields(out, fields, shapes)?;
+            if let Some(forms) = form.fields() {
+                write_fields(out, fields, forms)?;
             }
         }
         TValue::Skipped => {}
@@ -194,13 +194,13 @@ fn write_binary(out: &mut Vec<u8>, text: &[u8]) -> Result<(), AllocError>
 fn write_members<A: Allocator>(
     out: &mut Vec<u8>,
     members: &[TValue<A>],
-    shape: &Shape,
+    form: &Form,
 ) -> Result<(), AllocError>
-    ensures { OnOk result (out.new.items ≡ out.old.items ++ (list_header_bytes (number_of (form shape.now)) (length members.now) ++ written_members (form shape.now) (trees_of (views members.now)))) }
+    ensures { OnOk result (out.new.items ≡ out.old.items ++ (list_header_bytes (number_of (form_view form.now)) (length members.now) ++ written_members (form_view form.now) (trees_of (views members.now)))) }
 {
-    write_list_header(out, shape.number(), members.len())?;
+    write_list_header(out, form.number(), members.len())?;
     for member in members {
-        write_value(out, member, shape)?;
+        write_value(out, member, form)?;
     }
     Ok(())
 }
@@ -208,11 +208,11 @@ fn write_members<A: Allocator>(
 #[cycle(write)]
 fn write_entries<A: Allocator>(
     out: &mut Vec<u8>,
-    entries: &[Entry<A>],
-    key: &Shape,
-    value: &Shape,
+    entries: &[MapEntry<A>],
+    key: &Form,
+    value: &Form,
 ) -> Result<(), AllocError>
-    ensures { OnOk result (out.new.items ≡ out.old.items ++ (map_header_bytes (number_of (form key.now)) (number_of (form value.now)) (length entries.now) ++ written_entries (form key.now) (form value.now) (entries_of (entry_views entries.now)))) }
+    ensures { OnOk result (out.new.items ≡ out.old.items ++ (map_header_bytes (number_of (form_view key.now)) (number_of (form_view value.now)) (length entries.now) ++ written_entries (form_view key.now) (form_view value.now) (entries_of (entry_views entries.now)))) }
 {
     write_map_header(out, key.number(), value.number(), entries.len())?;
     for entry in entries {
@@ -226,13 +226,13 @@ fn write_entries<A: Allocator>(
 fn write_fields<A: Allocator>(
     out: &mut Vec<u8>,
     fields: &[Field<A>],
-    shapes: &[FieldShape],
+    forms: &[FieldForm],
 ) -> Result<(), AllocError>
-    ensures { OnOk result (out.new.items ≡ out.old.items ++ written_fields (field_forms shapes.now) (pos 0) (fields_of (field_views fields.now))) }
+    ensures { OnOk result (out.new.items ≡ out.old.items ++ written_fields (field_form_views forms.now) (pos 0) (fields_of (field_views fields.now))) }
 {
     let mut last = 0;
     for field in fields {
-        write_field(out, field, shapes, last)?;
+        write_field(out, field, forms, last)?;
         last = field.id;
     }
     out.push(0)?;
@@ -243,18 +243,18 @@ fn write_fields<A: Allocator>(
 fn write_field<A: Allocator>(
     out: &mut Vec<u8>,
     field: &Field<A>,
-    shapes: &[FieldShape],
+    forms: &[FieldForm],
     last: i16,
 ) -> Result<(), AllocError>
-    ensures { OnOk result (out.new.items ≡ out.old.items ++ written_field (field_forms shapes.now) last (field_view field.now).0 (field_view field.now).1) }
+    ensures { OnOk result (out.new.items ≡ out.old.items ++ written_field (field_form_views forms.now) last (field_view field.now).0 (field_view field.now).1) }
 {
-    let Some(shape) = shape_at(shapes, field.id) else {
+    let Some(form) = find_form(forms, field.id) else {
         return Ok(());
     };
-    let number = number_in_field(shape, &field.value);
+    let number = number_in_field(form, &field.value);
     write_field_header(out, last, field.id, number)?;
     match field.value {
         TValue::Bool(_) => Ok(()),
-        _ => write_value(out, &field.value, shape),
+        _ => write_value(out, &field.value, form),
     }
 }

@@ -1,4 +1,4 @@
-use Rattle.std.proofs.Common.{rules, ◌≡◌, ◌≢◌, false, inl, Err, ap, subst, ◌∙◌, sym}
+use Rattle.std.proofs.Common.{rules, Err, ap, subst, ◌∙◌, sym}
 use Rattle.std.specs.Str.{IsUtf8}
 use Rattle.lake_bytes.specs.Outcome.{IsSaid}
 use Rattle.serde_json.specs.View.{items_view}
@@ -6,7 +6,7 @@ use Rattle.sink_core.specs.Appending.{with_append, MayAppend, MayHoldFile, PutsW
 use Rattle.sink_core.specs.Puts.{IsSaidBy}
 use Rattle.sink_core.specs.Refusals.{refusal_view, says}
 use Rattle.sink_core.proofs.Callers.{appended_alike, settled_alike}
-use Rattle.lake_script.proofs.RestoredLemmas.{append_granted, append_refusal_granted, append_refusal_told, has_append, kept_memory}
+use Rattle.lake_script.proofs.RestoredLemmas.{append_executed, append_refusal_executed, append_refusal_told, has_append, kept_memory}
 use Rattle.lake_script.proofs.RunsLemmas.{append_short}
 use Rattle.lake_script.proofs.reply.append_batch.Goals as goal
 
@@ -29,7 +29,7 @@ returns-in-Ok-clause-whole g c = λ reliable well enough.
     let step = settled_alike c.args.restore objects well application c.args.number c.args.at items in
     let text : IsUtf8 application = search rules in
     let made = subst (PutsWell application c.args.number c.args.at) step (c.in-Ok.ensures.well_put reliable (λ wrong. cc)) in
-    append_granted objects application c.args.number c.args.at items after (c.in-Ok.ensures.left reliable (λ wrong. cc) ∙ ap (with_append objects) step) text made c.in-Ok.answer (sym said ∙ c.in-Ok.ensures.told reliable)
+    append_executed objects application c.args.number c.args.at items after (c.in-Ok.ensures.left reliable (λ wrong. cc) ∙ ap (with_append objects) step) text made c.in-Ok.answer (sym said ∙ c.in-Ok.ensures.told reliable)
 
 pub returns-in-Ok-clause-grows : goal.returns-in-Ok-clause-grows
 returns-in-Ok-clause-grows g c = λ reliable well.
@@ -65,7 +65,7 @@ returns-in-Err-clause-whole g c = λ reliable well enough.
     let step = settled_alike c.args.restore objects well application c.args.number c.args.at items in
     let text : IsUtf8 application = search rules in
     let made = subst (PutsWell application c.args.number c.args.at) step (c.in-Err.ensures.well_put reliable (λ wrong. kept_memory fault enough cc)) in
-    append_refusal_granted objects application c.args.number c.args.at items after (c.in-Err.ensures.left reliable (λ wrong. kept_memory fault enough cc) ∙ ap (with_append objects) step) text made fault
+    append_refusal_executed objects application c.args.number c.args.at items after (c.in-Err.ensures.left reliable (λ wrong. kept_memory fault enough cc) ∙ ap (with_append objects) step) text made fault
     (subst (IsSaid (says (refusal_view fault))) said (c.in-Err.ensures.told reliable)) enough (λ version lost. c.in-Err.ensures.never_lost reliable version (ap Err lost))
 
 pub returns-in-Err-clause-grows : goal.returns-in-Err-clause-grows

@@ -1,4 +1,4 @@
-use Rattle.std.proofs.Common.{rules, ◌≡◌, ap, subst, sym, ◌∙◌}
+use Rattle.std.proofs.Common.{rules, ◌≡◌, ap, sym, ◌∙◌}
 use Rattle.source_core.specs.Tailing.{tailed}
 use Rattle.lake_script.specs.declared.reply.Reply.TheVariants.{NotTailed}
 use Rattle.lake_script.specs.ReplyView.{reply_text}

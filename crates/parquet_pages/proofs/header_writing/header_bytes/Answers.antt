@@ -1,7 +1,7 @@
 use Rattle.std.proofs.Common.{◌≡◌, IfOk, subst}
 use Rattle.thrift_core.specs.Tree.{Tree}
 use Rattle.thrift_core.specs.Writing.{written}
-use Rattle.thrift_core.specs.declared.shape.Shape.{the_lemmas}
+use Rattle.thrift_core.specs.declared.form.Form.{the_lemmas}
 use Rattle.parquet_pages.specs.Writing.{header_form}
 use Rattle.parquet_pages.proofs.header_writing.header_bytes.Goals as goal
 

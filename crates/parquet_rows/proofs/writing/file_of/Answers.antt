@@ -3,7 +3,7 @@ use Rattle.std.proofs.lemmas.List.{length-map}
 use Rattle.std.proofs.lemmas.Result.{err_from_is_err_and}
 use Rattle.thrift_core.specs.View.{view, views}
 use Rattle.thrift_core.specs.Writing.{written}
-use Rattle.thrift_core.specs.declared.shape.Shape.{the_lemmas}
+use Rattle.thrift_core.specs.declared.form.Form.{the_lemmas}
 use Rattle.row_core.specs.Views.{row_views, value_view}
 use Rattle.schema_tree.specs.Schema.{tree_of}
 use Rattle.schema_tree.specs.Tree.{fields_of}

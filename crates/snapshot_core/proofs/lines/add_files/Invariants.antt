@@ -1,6 +1,6 @@
 use Rattle.std.proofs.Common.{◌≡◌, ◌++◌, map, Bor}
 use Rattle.std.specs.List.{flat_map}
-use Rattle.delta_actions.specs.Entry.{add_view}
+use Rattle.delta_actions.specs.Action.{add_view}
 use Rattle.delta_actions.specs.declared.action.Add.{Add}
 use Rattle.snapshot_core.specs.Telling.{file_line}
 use Rattle.snapshot_core.proofs.lines.add_files.Given as goal

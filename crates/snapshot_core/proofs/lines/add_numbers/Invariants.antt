@@ -1,6 +1,6 @@
 use Rattle.std.proofs.Common.{◌≡◌, ◌++◌, map, Bor}
 use Rattle.std.specs.List.{flat_map}
-use Rattle.delta_actions.specs.Entry.{txn_view}
+use Rattle.delta_actions.specs.Action.{txn_view}
 use Rattle.delta_actions.specs.declared.action.Txn.{Txn}
 use Rattle.snapshot_core.specs.Telling.{number_line}
 use Rattle.snapshot_core.proofs.lines.add_numbers.Given as goal

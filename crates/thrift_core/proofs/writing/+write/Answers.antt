@@ -1,6 +1,6 @@
 use Rattle.std.proofs.Common.{rules, ◌≡◌, ◌++◌, length, pos, refl, ap, ◌∙◌, w16, to_z, of_z}
 use Rattle.std.proofs.lemmas.List.{append_assoc}
-use Rattle.thrift_core.specs.Shape.{form, field_forms, number_of}
+use Rattle.thrift_core.specs.Form.{form_view, field_form_views, number_of}
 use Rattle.thrift_core.specs.Tree as tree
 use Rattle.thrift_core.specs.View.{view, views, entry_view, entry_views, field_view, field_views}
 use Rattle.thrift_core.specs.Writing.{map_header_bytes, written, written_entries, written_field, written_fields}
@@ -13,17 +13,17 @@ use Rattle.thrift_core.proofs.writing.+write.Goals as goal
 pub write_value-returns-in_ok-write_members-in-List : goal.write_value-returns-in_ok-write_members-in-List
 write_value-returns-in_ok-write_members-in-List g t c =
     let seen : view c.args.value.now ≡ tree.list (tree.trees_of (views c.in-List.members.items)) = rw c.in-List.is (view-List c.in-List.members) in
-    list_written (form c.args.shape.now) (form c.in-Some.member.now) (view c.args.value.now) c.deref-in-Some.result.now c.in-List.members.items c.args.out.now.items c.write_members.new.out.items seen c.in-Some.ensures c.deref-in-Some.ensures.value c.in_ok-write_members-in-List.ensures
+    list_written (form_view c.args.form.now) (form_view c.in-Some.member.now) (view c.args.value.now) c.deref-in-Some.result.now c.in-List.members.items c.args.out.now.items c.write_members.new.out.items seen c.in-Some.ensures c.deref-in-Some.ensures.value c.in_ok-write_members-in-List.ensures
 
 pub write_value-returns-in_ok-write_entries-in-Map : goal.write_value-returns-in_ok-write_entries-in-Map
 write_value-returns-in_ok-write_entries-in-Map g t c =
     let seen : view c.args.value.now ≡ tree.map (tree.entries_of (entry_views c.in-Map.entries.items)) = rw c.in-Map.is (view-Map c.in-Map.entries) in
-    map_written (form c.args.shape.now) (form c.in-Some-entry.key.now) (form c.in-Some-entry.value.now) (view c.args.value.now) c.deref-in-Some-entry.result.now c.in-Map.entries.items c.args.out.now.items c.write_entries.new.out.items seen c.in-Some-entry.ensures c.deref-in-Some-entry.ensures.value c.in_ok-write_entries-in-Map.ensures
+    map_written (form_view c.args.form.now) (form_view c.in-Some-entry.key.now) (form_view c.in-Some-entry.value.now) (view c.args.value.now) c.deref-in-Some-entry.result.now c.in-Map.entries.items c.args.out.now.items c.write_entries.new.out.items seen c.in-Some-entry.ensures c.deref-in-Some-entry.ensures.value c.in_ok-write_entries-in-Map.ensures
 
 pub write_entries-loop-entry-preserved : goal.write_entries-loop-entry-preserved
 write_entries-loop-entry-preserved g t c =
-    let k = form c.args.key.now in
-    let v = form c.args.value.now in
+    let k = form_view c.args.key.now in
+    let v = form_view c.args.value.now in
     let e = c.entry-item.result in
     let key = written k (entry_view e).0 in
     let value = written v (entry_view e).1 in
@@ -35,7 +35,7 @@ write_entries-loop-entry-preserved g t c =
 
 pub write_fields-loop-field-preserved : goal.write_fields-loop-field-preserved
 write_fields-loop-field-preserved g t c =
-    let forms = field_forms c.args.shapes.now in
+    let forms = field_form_views c.args.forms.now in
     let f = c.field-item.result in
     let part = written_field forms (to_z w16 c.loop-field.last-bits) (field_view f).0 (field_view f).1 in
     let total = c.args.out.now.items ++ written_fields forms (pos 0) (tree.fields_of (field_views c.args.fields.now)) in

@@ -1,6 +1,6 @@
 use Rattle.std.proofs.Common.{ℕ, ◌≤◌, List, length, sym, subst}
 use Rattle.std.proofs.lemmas.Result.{IfOk-weaker}
-use Rattle.thrift_core.specs.Shape.{form}
+use Rattle.thrift_core.specs.Form.{form_view}
 use Rattle.thrift_core.specs.SpellsAs.{SpellsAs}
 use Rattle.thrift_core.specs.View.{view}
 use Rattle.thrift_core.proofs.Again.{struct_at_again}
@@ -10,23 +10,23 @@ use Rattle.thrift_core.proofs.writing.write_struct.Goals as goal
 
 pub returns-clause-spells : goal.returns-clause-spells
 returns-clause-spells g c = λ of_shape is_struct.
-    IfOk-weaker c.struct_bytes.result _ _ (λ bytes is. struct_written (form c.args.shape.now) (view c.args.tree.now) bytes.items of_shape is_struct is) c.struct_bytes.ensures
+    IfOk-weaker c.struct_bytes.result _ _ (λ bytes is. struct_written (form_view c.args.form.now) (view c.args.tree.now) bytes.items of_shape is_struct is) c.struct_bytes.ensures
 
 pub returns-clause-with_these_types : goal.returns-clause-with_these_types
 returns-clause-with_these_types g c = λ of_shape.
-    let f = form c.args.shape.now in
+    let f = form_view c.args.form.now in
     let t = view c.args.tree.now in
     IfOk-weaker c.struct_bytes.result _ _ (λ bytes is. subst (λ (b : List ℕ). SpellsAs f b t) (sym is) (written_spells f t of_shape)) c.struct_bytes.ensures
 
 pub returns-clause-shortest : goal.returns-clause-shortest
 returns-clause-shortest g c =
-    let f = form c.args.shape.now in
+    let f = form_view c.args.form.now in
     let t = view c.args.tree.now in
     IfOk-weaker c.struct_bytes.result _ _ (λ bytes is other spelled. subst (λ (b : List ℕ). length b ≤ length other) (sym is) (shortest f t other spelled)) c.struct_bytes.ensures
 
 pub returns-clause-read_again : goal.returns-clause-read_again
 returns-clause-read_again g c = λ of_shape is_struct nesting values.
-    let f = form c.args.shape.now in
+    let f = form_view c.args.form.now in
     let t = view c.args.tree.now in
     IfOk-weaker c.struct_bytes.result _ _
     (λ bytes is rest. struct_at_again bytes.items t rest (record { spelled = struct_written f t bytes.items of_shape is_struct is; nesting = nesting; values = values })) c.struct_bytes.ensures

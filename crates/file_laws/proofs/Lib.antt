@@ -1,0 +1,13 @@
+mod Chunks
+mod Frames
+mod Groups
+mod Members
+mod NoFaults
+mod PageReads
+mod PageSizes
+mod PageTypes
+mod Pages
+mod ReadSteps
+mod Steps
+mod Structs
+mod WrittenSizes

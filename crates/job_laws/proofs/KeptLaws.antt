@@ -1,0 +1,83 @@
+-- What is told over a store that keeps a table, and which stores keep one.
+use Rattle.std.proofs.Common.{◌≡◌, ◌≢◌, ℕ, suc, ◌<◌, ◌^◌, false, List, [], ◌∷◌, length, take, Contains, Some, Result, Ok, refl, sym, subst, ◌∙◌}
+use Rattle.std.specs.List.{AllByRecursion}
+use Rattle.std.proofs.lemmas.List.Elements.{Contains-append_left, Contains-append_right}
+use Rattle.schema_tree.specs.Tree.{Tree}
+use Rattle.store_core.specs.Objects.{Objects, object_at}
+use Rattle.row_core.specs.Rows.{Row}
+use Rattle.parquet_rows.specs.File.{KeepsLimits}
+use Rattle.delta_actions.specs.Names.{data_file_name}
+use Rattle.table_model.specs.Lawful.{BeginsWithCreation}
+use Rattle.table_model.specs.Reads.{Answer, handed, beyond, bad_place, position, read, IsPart, MayEnd}
+use Rattle.table_model.specs.Resumed.{beginning}
+use Rattle.table_model.specs.Table.{Batch, Entry, creation, group, close, batches_of, batches, rows}
+use Rattle.table_model.specs.declared.reading.Offset.{Offset}
+use Rattle.table_model.proofs.PartLemmas.{read_is_part, read_ends}
+use Rattle.table_store.specs.Holds.{FileStands, HoldsFrom}
+use Rattle.table_store.specs.Sound.{IsSound}
+use Rattle.source_core.specs.Offsets.{offset_of}
+use Rattle.source_core.specs.Tailing.{Handed, Refusal, read_by}
+use Rattle.source_core.specs.Tails.{tails}
+use Rattle.lake_script.specs.Keeps.{FileKept, IsKept, KeptFrom}
+use Rattle.lake_script.proofs.KeptNames.{behind_first, first_in}
+use Rattle.lake_script.proofs.KeptScripts.{reads_told}
+use Rattle.lake_script.proofs.KeptTails.{IsRead, kept_reads, reads_log}
+use Rattle.job_laws.specs.Readable.{HasReadableFiles}
+use Rattle.job_laws.specs.TextReads.{ReadsByTexts}
+use Rattle.job_laws.proofs.TextReads.{as_by_offsets}
+
+-- ---- a read is a part of the table
+
+-- what was handed out, by what the table answers
+part_by : (answer : Answer) (said : Result Handed Refusal) (max : ℕ) (offset : Offset) (entries : List Entry) (out : Handed) → read max offset entries ≡ answer → IsRead said answer → said ≡ Ok out
+    → IsPart max offset out.rows out.next entries × MayEnd false max out.rows out.next entries
+part_by (handed rows next) said max offset entries out told is says =
+    let same : Ok (record { rows = rows; next = next }) ≡ Ok out = sym is ∙ says in
+    let one : record { rows = rows; next = next } ≡ out = cc in
+    subst (λ (o : Handed). IsPart max offset o.rows o.next entries × MayEnd false max o.rows o.next entries) one
+    (read_is_part max offset next entries rows told, read_ends max offset next entries rows told)
+part_by (beyond next) said max offset entries out told is says = let wrong = sym is ∙ says in absurd cc
+part_by (bad_place version) said max offset entries out told is says = let wrong = sym is ∙ says in absurd cc
+
+-- A read over a store that keeps a table hands out a part of the table.
+pub kept_part : (objects : Objects) (schema : Tree) (entries : List Entry) (max : ℕ) (offset : Offset) (out : Handed) → IsKept objects schema entries → length entries < 2 ^ 32 → read_by false objects max offset ≡ Ok out
+    → IsPart max offset out.rows out.next entries × MayEnd false max out.rows out.next entries
+kept_part objects schema entries max offset out kept few says =
+    part_by (read max offset entries) (read_by false objects max offset) max offset entries out refl (kept_reads reads_told objects schema entries kept few max offset) says
+
+-- Reads by texts that begin before all rows hand out the table's rows up to where the next one begins.
+pub log_by_texts : (objects : Objects) (schema : Tree) (entries : List Entry) (limits : List ℕ) (text last : List ℕ) (out : List Row) → IsKept objects schema entries → length entries < 2 ^ 32
+    → offset_of text ≡ Some beginning → ReadsByTexts objects limits text out last
+    → (next : Offset) × (offset_of last ≡ Some next) × (out ≡ take (position next entries) (rows entries))
+log_by_texts objects schema entries limits text last out kept few begins by_texts =
+    let same = as_by_offsets objects limits text last out beginning by_texts begins in
+    ((tails objects limits beginning).next, same.1, same.0 ∙ reads_log objects entries (kept_reads reads_told objects schema entries kept few) limits)
+
+-- ---- sound stores whose files can be read
+
+-- files that stand and keep the limits are kept
+files_kept : (objects : Objects) (schema : Tree) (bs : List Batch) → AllByRecursion (FileStands objects schema) bs
+    → ((b : Batch) (bytes : List ℕ) → Contains bs b → object_at objects (data_file_name b.application b.number) ≡ Some bytes → KeepsLimits bytes b.rows) → AllByRecursion (FileKept objects schema) bs
+files_kept objects schema [] stand limits = tt
+files_kept objects schema (b ∷ bs) stand limits =
+    ((stand.0.0, stand.0.1, record { file = stand.0.2; limits = limits b stand.0.0 (first_in b bs) stand.0.1 }), files_kept objects schema bs stand.1 (λ c bytes has. limits c bytes (behind_first b bs c has)))
+
+-- so are the entries of a table that is held
+kept_from : (objects : Objects) (schema : Tree) (version : ℕ) (entries : List Entry) → HoldsFrom objects schema version entries → HasReadableFiles objects entries → KeptFrom objects schema version entries
+kept_from objects schema version [] holds limits = tt
+kept_from objects schema version (entry ∷ entries) holds limits =
+    let here = files_kept objects schema (batches_of entry) holds.1 (λ b bytes has. limits b bytes (Contains-append_left (batches_of entry) (batches entries) b has)) in
+    (holds.0, here, kept_from objects schema (suc version) entries holds.2 (λ b bytes has. limits b bytes (Contains-append_right (batches_of entry) (batches entries) b has)))
+
+-- a table with entries begins with its creation
+begins_by : (entries : List Entry) → entries ≢ [] → BeginsWithCreation entries → (rest : List Entry) × (entries ≡ creation ∷ rest)
+begins_by [] some begins = absurd (some refl)
+begins_by (creation ∷ rest) some begins = (rest, refl)
+begins_by (group bs ∷ rest) some begins = absurd begins
+begins_by (close application ∷ rest) some begins = absurd begins
+
+-- A sound store with a table keeps it, where its files can be read.
+pub sound_kept : (objects : Objects) (sound : IsSound objects) → sound.entries ≢ [] → HasReadableFiles objects sound.entries → IsKept objects sound.schema sound.entries
+sound_kept objects sound some limits =
+    let first = begins_by sound.entries some sound.lawful.begins in
+    record { kept = kept_from objects sound.schema 0 sound.entries sound.holds limits; rest = first.0; begins = first.1; lawful = sound.lawful; ends = sound.ends }

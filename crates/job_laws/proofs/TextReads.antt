@@ -1,0 +1,23 @@
+-- Reads by texts hand out what reads by offsets do.
+use Rattle.std.proofs.Common.{◌≡◌, ℕ, false, List, [], ◌∷◌, ◌++◌, Some, Ok, refl, sym, ap, ◌∙◌}
+use Rattle.store_core.specs.Objects.{Objects}
+use Rattle.row_core.specs.Rows.{Row}
+use Rattle.table_model.specs.declared.reading.Offset.{Offset}
+use Rattle.source_core.specs.Offsets.{offset_of}
+use Rattle.source_core.specs.Tailing.{read_by}
+use Rattle.source_core.specs.Tails.{tails}
+use Rattle.job_laws.specs.TextReads.{ReadsByTexts, done, goes_on, read_at}
+
+-- a read from a text is one from the offset that it spells
+read_from : (objects : Objects) (max : ℕ) (text : List ℕ) (start : Offset) → offset_of text ≡ Some start → read_at objects max text ≡ read_by false objects max start
+read_from objects max text start spells = rw spells refl
+
+-- what reads by texts hand out, and the offset that the last text spells
+pub as_by_offsets : (objects : Objects) (limits : List ℕ) (text last : List ℕ) (rows : List Row) (start : Offset) → ReadsByTexts objects limits text rows last → offset_of text ≡ Some start
+    → (rows ≡ (tails objects limits start).rows) × (offset_of last ≡ Some (tails objects limits start).next)
+unfolding tails
+as_by_offsets objects [] text last rows start done spells = (refl, spells)
+as_by_offsets objects (max ∷ limits) text last _ start (goes_on next handed rows is told later) spells =
+    let answered : read_by false objects max start ≡ Ok handed = sym (read_from objects max text start spells) ∙ is in
+    let others = as_by_offsets objects limits next last rows handed.next later told in
+    rw answered (ap (λ (rs : List Row). handed.rows ++ rs) others.0, others.1)

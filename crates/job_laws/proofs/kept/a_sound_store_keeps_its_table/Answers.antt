@@ -1,0 +1,12 @@
+use Rattle.lake_script.proofs.KeptStep.{beside}
+use Rattle.job_laws.proofs.KeptLaws.{sound_kept}
+use Rattle.job_laws.proofs.kept.a_sound_store_keeps_its_table.Goals as goal
+
+pub returns-clause-kept : goal.returns-clause-kept
+returns-clause-kept c = λ objects sound some limits. sound_kept objects sound some limits
+
+pub returns-clause-keeps : goal.returns-clause-keeps
+returns-clause-keeps c = λ objects sound some limits own. (sound_kept objects sound some limits, own)
+
+pub returns-clause-beside : goal.returns-clause-beside
+returns-clause-beside c = λ objects state kept. beside objects state kept

@@ -1,0 +1,126 @@
+use Rattle.std.proofs.Common.{◌≡◌, [], Result, Ok, IfErr, ap, sym, subst, ◌∙◌, map}
+use Rattle.std.specs.Prelude.{string_bytes}
+use Rattle.store_core.specs.Memory.{stored_objects}
+use Rattle.store_core.specs.Objects.{Objects, names_of, object_at}
+use Rattle.table_log.specs.Restoring.{RestoresWell}
+use Rattle.table_folder.specs.Loads.{loaded}
+use Rattle.table_folder.specs.Copies.{HasSavedFront, to_save, with_copies}
+use Rattle.lake_script.specs.Lines.{statement_view}
+use Rattle.lake_script.specs.ReplyView.{reply_text}
+use Rattle.lake_script.specs.declared.reply.Reply.{Reply}
+use Rattle.lake_command.specs.Failures.{NamesPut}
+use Rattle.lake_command.specs.Folders.{file_names}
+use Rattle.lake_command.specs.declared.failure.Failure.{Failure}
+use Rattle.lake_command.proofs.FolderLemmas.{IsLoadedFor, fails_as, front_saved, line_done, loaded_for, loaded_well, named_put, saved_alone, told_early}
+use Rattle.lake_command.proofs.saving.execute_in.Goals as goal
+
+pub returns-in-Some-clause-told : goal.returns-in-Some-clause-told
+returns-in-Some-clause-told g c = λ steady restores.
+    let same = c.in_ok-store.ensures.untouched steady in
+    let on = c.in_ok-store.ensures.steady steady in
+    told_early (g.F.Folder.objects c.args.folder.now) (g.F.Folder.objects c.load_log.new.folder) (g.F.Folder.objects c.load_until_read.new.folder) (statement_view c.args.line) c.in_ok-reply.field-0 c.in-Some.reply same (c.in_ok-reply.ensures.untouched on) c.in-Some.is
+    (c.in_ok-reply.ensures.read on (subst (RestoresWell c.args.restore) (sym same) restores) (c.in_ok-files.ensures.untouched ∙ c.in_ok-store.ensures.loaded steady ∙ ap (loaded []) (sym same)))
+
+pub returns-clause-told : goal.returns-clause-told
+returns-clause-told g c = λ steady restores.
+    let old : Objects = g.F.Folder.objects c.args.folder.now in
+    let statement = statement_view c.args.line in
+    let mid : Objects = g.F.Folder.objects c.load_log.new.folder in
+    let start = stored_objects c.load_until_read.new.store in
+    let same : mid ≡ old = c.in_ok-store.ensures.untouched steady in
+    let on = c.in_ok-store.ensures.steady steady in
+    let first = c.in_ok-files.ensures.untouched in
+    let loaded_all = loaded_for old mid (stored_objects c.files_for.new.store) (stored_objects c.in_ok-store.store) start statement (file_names c.in_ok-files.files.items) (file_names c.deref.result.now) same (c.in_ok-store.ensures.loaded steady) first c.in_ok-files.ensures.within (ap file_names c.deref.ensures.value)
+    (λ begun. c.in_ok-reply.ensures.loaded on (subst (RestoresWell c.args.restore) (sym same) restores) begun (ap Ok c.in_default.is)) in
+    let kept = c.in_ok-loaded.ensures.untouched.0 in
+    let is = subst (IsLoadedFor old statement) (sym kept) loaded_all in
+    let names = ap (map string_bytes) c.deref-2.ensures.value ∙ c.in_ok-loaded.ensures.names ∙ ap names_of (sym kept) in
+    let well = loaded_well c.args.restore old _ statement is restores in
+    let unchanged : g.F.Folder.objects c.load_until_read.new.folder ≡ old = c.in_ok-reply.ensures.untouched on ∙ same in
+    let going = c.in_ok-reply.ensures.steady on in
+    let end = stored_objects c.execute-reply.new.store in
+    let new = g.F.Folder.objects c.save.new.folder in
+    let listed = map string_bytes c.deref-2.result.now in
+    let saved = c.in_ok-save.ensures.saved going ∙ ap (λ (o : Objects). with_copies end o (to_save listed (names_of end))) unchanged in
+    line_done old _ end new statement (reply_text c.execute-reply.result) listed (g.met.F.Folder.in_order c.args.folder.now) is names (c.execute-reply.ensures.told tt well) saved
+
+pub returns-clause-puts : goal.returns-clause-puts
+returns-clause-puts g c = λ steady restores.
+    let old : Objects = g.F.Folder.objects c.args.folder.now in
+    let statement = statement_view c.args.line in
+    let mid : Objects = g.F.Folder.objects c.load_log.new.folder in
+    let start = stored_objects c.load_until_read.new.store in
+    let same : mid ≡ old = c.in_ok-store.ensures.untouched steady in
+    let on = c.in_ok-store.ensures.steady steady in
+    let first = c.in_ok-files.ensures.untouched in
+    let loaded_all = loaded_for old mid (stored_objects c.files_for.new.store) (stored_objects c.in_ok-store.store) start statement (file_names c.in_ok-files.files.items) (file_names c.deref.result.now) same (c.in_ok-store.ensures.loaded steady) first c.in_ok-files.ensures.within (ap file_names c.deref.ensures.value)
+    (λ begun. c.in_ok-reply.ensures.loaded on (subst (RestoresWell c.args.restore) (sym same) restores) begun (ap Ok c.in_default.is)) in
+    let kept = c.in_ok-loaded.ensures.untouched.0 in
+    let is = subst (IsLoadedFor old statement) (sym kept) loaded_all in
+    let names = ap (map string_bytes) c.deref-2.ensures.value ∙ c.in_ok-loaded.ensures.names ∙ ap names_of (sym kept) in
+    let well = loaded_well c.args.restore old _ statement is restores in
+    let unchanged : g.F.Folder.objects c.load_until_read.new.folder ≡ old = c.in_ok-reply.ensures.untouched on ∙ same in
+    let going = c.in_ok-reply.ensures.steady on in
+    let end = stored_objects c.execute-reply.new.store in
+    let new = g.F.Folder.objects c.save.new.folder in
+    let listed = map string_bytes c.deref-2.result.now in
+    let front = subst (λ (o : Objects). HasSavedFront end (to_save listed (names_of end)) o new) unchanged (c.in_ok-save.ensures.front going) in
+    front_saved old _ end new statement listed (g.met.F.Folder.in_order c.args.folder.now) is names (c.execute-reply.ensures.grows tt well) front
+
+pub returns-in_err-save-clause-puts : goal.returns-in_err-save-clause-puts
+returns-in_err-save-clause-puts g c = λ steady restores.
+    let old : Objects = g.F.Folder.objects c.args.folder.now in
+    let statement = statement_view c.args.line in
+    let mid : Objects = g.F.Folder.objects c.load_log.new.folder in
+    let start = stored_objects c.load_until_read.new.store in
+    let same : mid ≡ old = c.in_ok-store.ensures.untouched steady in
+    let on = c.in_ok-store.ensures.steady steady in
+    let first = c.in_ok-files.ensures.untouched in
+    let loaded_all = loaded_for old mid (stored_objects c.files_for.new.store) (stored_objects c.in_ok-store.store) start statement (file_names c.in_ok-files.files.items) (file_names c.deref.result.now) same (c.in_ok-store.ensures.loaded steady) first c.in_ok-files.ensures.within (ap file_names c.deref.ensures.value)
+    (λ begun. c.in_ok-reply.ensures.loaded on (subst (RestoresWell c.args.restore) (sym same) restores) begun (ap Ok c.in_default.is)) in
+    let kept = c.in_ok-loaded.ensures.untouched.0 in
+    let is = subst (IsLoadedFor old statement) (sym kept) loaded_all in
+    let names = ap (map string_bytes) c.deref-2.ensures.value ∙ c.in_ok-loaded.ensures.names ∙ ap names_of (sym kept) in
+    let well = loaded_well c.args.restore old _ statement is restores in
+    let unchanged : g.F.Folder.objects c.load_until_read.new.folder ≡ old = c.in_ok-reply.ensures.untouched on ∙ same in
+    let going = c.in_ok-reply.ensures.steady on in
+    let end = stored_objects c.execute-reply.new.store in
+    let new = g.F.Folder.objects c.save.new.folder in
+    let listed = map string_bytes c.deref-2.result.now in
+    let front = subst (λ (o : Objects). HasSavedFront end (to_save listed (names_of end)) o new) unchanged (c.in_err-save.ensures.front going) in
+    front_saved old _ end new statement listed (g.met.F.Folder.in_order c.args.folder.now) is names (c.execute-reply.ensures.grows tt well) front
+
+pub returns-in_err-save-clause-named : goal.returns-in_err-save-clause-named
+returns-in_err-save-clause-named g c = λ steady restores.
+    let old : Objects = g.F.Folder.objects c.args.folder.now in
+    let statement = statement_view c.args.line in
+    let mid : Objects = g.F.Folder.objects c.load_log.new.folder in
+    let start = stored_objects c.load_until_read.new.store in
+    let same : mid ≡ old = c.in_ok-store.ensures.untouched steady in
+    let on = c.in_ok-store.ensures.steady steady in
+    let first = c.in_ok-files.ensures.untouched in
+    let loaded_all = loaded_for old mid (stored_objects c.files_for.new.store) (stored_objects c.in_ok-store.store) start statement (file_names c.in_ok-files.files.items) (file_names c.deref.result.now) same (c.in_ok-store.ensures.loaded steady) first c.in_ok-files.ensures.within (ap file_names c.deref.ensures.value)
+    (λ begun. c.in_ok-reply.ensures.loaded on (subst (RestoresWell c.args.restore) (sym same) restores) begun (ap Ok c.in_default.is)) in
+    let kept = c.in_ok-loaded.ensures.untouched.0 in
+    let is = subst (IsLoadedFor old statement) (sym kept) loaded_all in
+    let names = ap (map string_bytes) c.deref-2.ensures.value ∙ c.in_ok-loaded.ensures.names ∙ ap names_of (sym kept) in
+    let well = loaded_well c.args.restore old _ statement is restores in
+    let unchanged : g.F.Folder.objects c.load_until_read.new.folder ≡ old = c.in_ok-reply.ensures.untouched on ∙ same in
+    let going = c.in_ok-reply.ensures.steady on in
+    let end = stored_objects c.execute-reply.new.store in
+    let listed = map string_bytes c.deref-2.result.now in
+    subst (λ (r : Result Reply Failure). IfErr r (λ failure. NamesPut failure statement old)) (sym (fails_as c.from_residual-in_err-save.result c.in_err-save.field-0.0 c.from_residual-in_err-save.ensures.1))
+    (named_put c.in_err-save.field-0.0 old _ end statement listed (g.met.F.Folder.in_order c.args.folder.now) is names (c.execute-reply.ensures.grows tt well) c.in_err-save.ensures.named)
+
+pub returns-in_err-save-clause-alone : goal.returns-in_err-save-clause-alone
+returns-in_err-save-clause-alone g c = λ steady restores.
+    let on = c.in_ok-store.ensures.steady steady in
+    saved_alone c.from_residual-in_err-save.result c.in_err-save.field-0.0 _ _ (g.F.Folder.objects c.args.folder.now) (statement_view c.args.line) _ _ _
+    (fails_as c.from_residual-in_err-save.result c.in_err-save.field-0.0 c.from_residual-in_err-save.ensures.1)
+    (c.in_ok-reply.ensures.untouched on ∙ c.in_ok-store.ensures.untouched steady) (c.in_ok-reply.ensures.faults ∙ c.in_ok-store.ensures.faults) (c.in_ok-reply.ensures.steady on)
+    (returns-in_err-save-clause-named g c steady restores) c.in_err-save.ensures.faults
+
+pub returns-in_err-save-clause-kept : goal.returns-in_err-save-clause-kept
+returns-in_err-save-clause-kept g c = λ steady name bytes stands.
+    let on = c.in_ok-store.ensures.steady steady in
+    c.in_err-save.ensures.kept (c.in_ok-reply.ensures.steady on) name bytes (ap (λ (o : Objects). object_at o name) (c.in_ok-reply.ensures.untouched on ∙ c.in_ok-store.ensures.untouched steady) ∙ stands)

@@ -1,0 +1,38 @@
+use Rattle.std.proofs.Common.{rules, ◌≡◌, subst}
+use Rattle.serde_json.specs.View.{items_view}
+use Rattle.lake_script.specs.Growth.{MayPut}
+use Rattle.lake_script.specs.Lines.{append, task}
+use Rattle.lake_script.specs.ReplyView.{reply_text}
+use Rattle.lake_script.specs.Runs.{Executes}
+use Rattle.lake_script.specs.Sound.{IsExecuted}
+use Rattle.lake_script.proofs.reply.execute_job.Goals as goal
+
+pub returns-in-Checkpoint-clause-told : goal.returns-in-Checkpoint-clause-told
+returns-in-Checkpoint-clause-told g c = λ reliable well. rw c.in-Checkpoint.is (c.take_checkpoint.ensures.told reliable well)
+
+pub returns-in-Checkpoint-clause-whole : goal.returns-in-Checkpoint-clause-whole
+returns-in-Checkpoint-clause-whole g c = λ reliable well enough. rw c.in-Checkpoint.is (c.take_checkpoint.ensures.whole reliable well enough)
+
+pub returns-in-Append-clause-told : goal.returns-in-Append-clause-told
+returns-in-Append-clause-told g c = λ reliable well.
+    let objects = g.S.Store.objects c.args.store.now in
+    let after = g.S.Store.objects c.append_batch.new.store in
+    let rows_are : c.deref.result.now ≡ c.in-Append.rows.items = search rules in
+    let told = subst (λ rows. Executes objects (task (append c.in-Append.application.now c.in-Append.number c.in-Append.at (items_view rows))) (reply_text c.append_batch.result) after) rows_are (c.append_batch.ensures.told reliable well) in
+    rw c.in-Append.is told
+
+pub returns-in-Append-clause-whole : goal.returns-in-Append-clause-whole
+returns-in-Append-clause-whole g c = λ reliable well enough.
+    let objects = g.S.Store.objects c.args.store.now in
+    let after = g.S.Store.objects c.append_batch.new.store in
+    let rows_are : c.deref.result.now ≡ c.in-Append.rows.items = search rules in
+    let executed = subst (λ rows. IsExecuted objects (task (append c.in-Append.application.now c.in-Append.number c.in-Append.at (items_view rows))) (reply_text c.append_batch.result) after) rows_are (c.append_batch.ensures.whole reliable well enough) in
+    rw c.in-Append.is executed
+
+pub returns-in-Append-clause-grows : goal.returns-in-Append-clause-grows
+returns-in-Append-clause-grows g c = λ reliable well.
+    let objects = g.S.Store.objects c.args.store.now in
+    let after = g.S.Store.objects c.append_batch.new.store in
+    let rows_are : c.deref.result.now ≡ c.in-Append.rows.items = search rules in
+    let grown = subst (λ rows. MayPut objects (task (append c.in-Append.application.now c.in-Append.number c.in-Append.at (items_view rows))) after) rows_are (c.append_batch.ensures.grows reliable well) in
+    rw c.in-Append.is grown
