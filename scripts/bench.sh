@@ -41,7 +41,7 @@ string='{"name":"s","type":"string"}'
 { create "$long"; append 0 65536 0; echo "tail 65536 $beginning"; } >"$work/long-65536"
 { create "$long" "$string"; append 0 65536 1; echo "tail 65536 $beginning"; } >"$work/text-65536"
 
-# Many appends of one row, each of which replays the log; and a batch that is handed in again and again.
+# Many appends of one row, each of which looks at the log; and a batch that is handed in again and again.
 { create "$long"; for n in $(seq 0 799); do append "$n" 1 0; done; echo "tail 65536 $beginning"; } >"$work/appends-800"
 { create "$long"; append 0 4096 0 >"$work/one"; for _ in $(seq 51); do cat "$work/one"; done; } >"$work/repeats-50"
 rm "$work/one"

@@ -19,6 +19,7 @@ use std::alloc::Global;
 use std::slice;
 use store_core::{MemoryStore, Store};
 use table_folder::{Folder, load_files, load_log, save};
+use table_log::Known;
 
 /// A read is tried over the first data files once they have this many bytes, and each time that they have four times as many.
 const FIRST_BYTES: u64 = 8 << 20;
@@ -55,7 +56,7 @@ pub(crate) fn execute_in<F: Folder>(
         return Ok(reply);
     }
     let loaded = store.list()?;
-    let reply = execute(alloc, line, &mut store, restore);
+    let reply = execute(alloc, line, &mut store, restore, &mut Known::new(alloc));
     save(alloc, folder, &mut store, &loaded)?;
     Ok(reply)
 }
@@ -109,7 +110,8 @@ fn whole_read(
         → stored_objects store.new ≡ stored_objects store.old }
 {
     let (max, offset) = read_of(line)?;
-    let reply = execute(alloc, Line::Job(Job::Tail { max, offset }), store, restore);
+    let read = Line::Job(Job::Tail { max, offset });
+    let reply = execute(alloc, read, store, restore, &mut Known::new(alloc));
     if has_rows(&reply, max) {
         Some(reply)
     } else {

@@ -1,5 +1,5 @@
 -- From one line's reply to what a whole script may be told.
-use Rattle.std.proofs.Common.{◌≡◌, ◌⊎◌, ℕ, ◌+◌, ◌∷◌, [], ◌++◌, List, Option, Result, Ok, Err, OnErr, true, false, inl, inr, refl, ap, subst, sym, ◌∙◌, append_assoc, append-nil}
+use Rattle.std.proofs.Common.{◌≡◌, ◌⊎◌, ℕ, ◌+◌, ◌∷◌, [], ◌++◌, List, Option, Result, Ok, Err, OnErr, Bool, true, false, inl, inr, refl, ap, subst, sym, ◌∙◌, append_assoc, append-nil}
 use Rattle.std.specs.Prelude.{⊤}
 use Rattle.std.specs.Io.KnownBytes.{Appends, append_known}
 use Rattle.store_core.specs.Objects.{Objects}
@@ -10,12 +10,13 @@ use Rattle.sink_core.specs.declared.refusal.AppendFault.{AppendFault}
 use Rattle.sink_core.specs.declared.refusal.AppendFault.TheVariants as appending
 use Rattle.sink_core.specs.Appending.{settled}
 use Rattle.sink_core.specs.Puts.{IsSaidBy}
+use Rattle.source_core.specs.Tailing.{tailed}
 use Rattle.lake_script.specs.declared.reply.Reply.TheVariants.{NotCreated, NotAppended}
-use Rattle.lake_script.specs.Lines.{append, Statement, create, task, reading_of}
+use Rattle.lake_script.specs.Lines.{append, Statement, create, tail, task, reading_of}
 use Rattle.lake_script.specs.ReplyView.{reply_text, is_short}
-use Rattle.lake_script.specs.Runs.{IsShort, IsWantOfMemory, MayLeave, Executes, IsCutOff, Replies, Runs, done, stops, goes_on, RunsInPart, waits, begins, follows, FallsShort, here, later, Tells, TellsFront, TellsShort}
+use Rattle.lake_script.specs.Runs.{IsShort, IsWantOfMemory, MayLeave, Executes, IsCutOff, Replies, Runs, done, stops, goes_on, RunsInPart, waits, begins, follows, no_room_to_read, FallsShort, here, later, Tells, TellsFront, TellsShort}
 use Rattle.lake_script.specs.Streams.{StandsIn}
-use Rattle.lake_script.specs.Told.{is_bad, IsPrintedStatement, reply_to_statement, left_by_statement}
+use Rattle.lake_script.specs.Told.{is_bad, IsPrintedStatement, reply_to_statement, left_by_statement, tailed_reply}
 use Rattle.lake_script.proofs.StreamLemmas.{Appends-both, nothing_known, Towards, stands_in_whole}
 
 -- a line that creates no table has what it asks for with any text
@@ -23,6 +24,12 @@ pub executed_without_text : (objects : Objects) (statement : Statement) (reply :
     → ((reply ≡ reply_to_statement objects statement []) × (after ≡ left_by_statement objects statement [])) ⊎ (IsWantOfMemory statement reply × MayLeave objects statement after) → Executes objects statement reply after
 executed_without_text objects statement reply after none (inl has) = inl ([], none, has.0, has.1)
 executed_without_text objects statement reply after none (inr wants) = inr wants
+
+-- a read has what it asks for, or is told that a growth was refused
+pub read_executed : (objects after : Objects) (max : ℕ) (offset reply : List ℕ) (short : Bool) → (short ≡ false → reply ≡ tailed_reply (tailed false objects max offset)) → (short ≡ true → reply ≡ no_room_to_read) → after ≡ objects
+    → Executes objects (task (tail max offset)) reply after
+read_executed objects after max offset reply true told wants same = inr (wants refl, same)
+read_executed objects after max offset reply false told wants same = inl ([], tt, told refl, same)
 
 -- which faults are short
 pub creation_short : (fault : CreateFault) (objects : Objects) (id : List ℕ) (at : ℕ) (schema : List ℕ) → is_short (NotCreated fault) ≡ true

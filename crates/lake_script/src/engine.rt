@@ -10,6 +10,7 @@ ghost use Rattle.lake_script.specs.Sound.{IsAnswered, IsRun, IsRunInPart};
 ghost use Rattle.lake_script.specs.Streams.{held, waiting, write_failed, unread, read_failed, StandsIn};
 ghost use Rattle.lake_script.specs.Tables.{State, entries_of};
 ghost use Rattle.delta_actions.specs.Commit.{lines_of};
+ghost use Rattle.table_log.specs.Known.{IsKnown};
 ghost use Rattle.table_log.specs.Restoring.{AreCheckpointsSound, HasOnlySoundCheckpoints, RestoresWell};
 ghost use Rattle.lake_script.specs.Told.{ArePutHere, lines_left, is_newline, is_bad, first_bad, Finishes, fell_short};
 
@@ -20,6 +21,7 @@ use crate::reply::execute;
 use std::alloc::Global;
 use std::io::{Read, Write};
 use store_core::Store;
+use table_log::Known;
 
 /// How a run ended.
 #[derive(Clone, Copy, Debug, PartialEq, Eq)]
@@ -78,7 +80,10 @@ fn answer<S: Store, W: Write>(
     output: &mut Output<W>,
     is_short: &mut bool,
     restore: bool,
+    known: &mut Known,
 ) -> Result<bool, OutputError>
+    requires { IsKnown (S.objects store.old) known.old }
+    ensures known { IsKnown (S.objects store.new) known.new }
     ensures whole { S.is_reliable store.old → RestoresWell restore (S.objects store.old) → is_short.new ≡ false → OnOk result (IsAnswered number (S.objects store.old) (reading_of line.now)
         (held W.contents output.old) (held W.contents output.new) (S.objects store.new)) }
     ensures tells { S.is_reliable store.old → RestoresWell restore (S.objects store.old) → OnOk result (Tells (held W.contents output.old) (held W.contents output.new)
@@ -103,7 +108,7 @@ fn answer<S: Store, W: Write>(
             Ok(false)
         }
         Reading::Asks(line) => {
-            let reply = execute(alloc, line, store, restore);
+            let reply = execute(alloc, line, store, restore, known);
             if reply.is_short() {
                 *is_short = true;
             }
@@ -144,9 +149,12 @@ fn answer_all<S: Store, W: Write>(
 {
     let mut number = 1u64;
     let mut rest = Some(text);
+    let mut known = Known::new(alloc);
     while let Some(text) = rest {
         let (line, after) = first_line(text);
-        if !answer(alloc, number, line, store, output, is_short, restore)? {
+        if !answer(
+            alloc, number, line, store, output, is_short, restore, &mut known,
+        )? {
             return Ok(Some(number));
         }
         number += 1;
@@ -194,9 +202,11 @@ fn answer_and_flush<S: Store, W: Write>(
 /// alone, from version 0.
 ///
 /// Time is linear in the text, the objects that are put, compared and shown and the data files that
-/// rows are handed out of, and for each line that reads the log in the bytes of the checkpoint and the
-/// commits that are read and the names of the store, but for the store's own; many replies go in one
-/// write.
+/// rows are handed out of, and for each line that reads the log in the names of the store, the actions
+/// of the log and the bytes of the checkpoint and the commits that are read, but for the store's own.
+/// Without `restore`, or where no object has a checkpoint's name, appends read a commit once, and so do
+/// reads, until a line puts something else than a batch or a read of the log fails. Many replies go in
+/// one write.
 pub fn run_text<S: Store, W: Write>(
     alloc: Global,
     text: &[u8],
@@ -272,9 +282,11 @@ pub fn run_text<S: Store, W: Write>(
 /// one of the log, what is told is the same.
 ///
 /// Time is linear in the input, the objects that are put, compared and shown and the data files that
-/// rows are handed out of, and for each line that reads the log in the bytes of the checkpoint and the
-/// commits that are read and the names of the store, but for the store's own; many replies go in one
-/// write.
+/// rows are handed out of, and for each line that reads the log in the names of the store, the actions
+/// of the log and the bytes of the checkpoint and the commits that are read, but for the store's own.
+/// Without `restore`, or where no object has a checkpoint's name, appends read a commit once, and so do
+/// reads, until a line puts something else than a batch or a read of the log fails. Many replies go in
+/// one write.
 pub fn run<R: Read, W: Write, S: Store>(
     alloc: Global,
     input: &mut Input<R>,

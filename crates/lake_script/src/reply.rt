@@ -3,7 +3,8 @@ ghost use Rattle.std.specs.Prelude.{◌≡◌, ◌<◌, ◌^◌, ◌⊎◌, [], 
 ghost use Rattle.std.specs.Io.KnownBytes.{Appends};
 ghost use Rattle.serde_json.specs.View.{items_view};
 ghost use Rattle.store_core.specs.Calls.{HasRisen};
-ghost use Rattle.store_core.specs.Objects.{object_at};
+ghost use Rattle.store_core.specs.Objects.{Objects, object_at};
+ghost use Rattle.table_log.specs.Known.{IsKnown};
 ghost use Rattle.table_log.specs.Names.{commit_name};
 ghost use Rattle.table_log.specs.Restoring.{AreCheckpointsSound, RestoresWell};
 ghost use Rattle.lake_script.specs.Growth.{MayPut};
@@ -29,7 +30,7 @@ use source_core::{TailFault, tail};
 use std::alloc::Global;
 use std::io::Write;
 use store_core::{Put, Store, StoreFault};
-use table_log::commit_at;
+use table_log::{Known, commit_at};
 
 /// What a line is told.
 #[derive(Drop)]
@@ -140,8 +141,11 @@ fn append_batch<S: Store>(
     at: u64,
     rows: &[Value],
     restore: bool,
+    known: &mut Known,
 ) -> Reply
-    requires { at < 2 ^ 63 }
+    requires at { at < 2 ^ 63 }
+    requires known { IsKnown (S.objects store.old) known.old }
+    ensures known { IsKnown (S.objects store.new) known.new }
     ensures told { S.is_reliable store.old → RestoresWell restore (S.objects store.old) → Executes (S.objects store.old) (task (append application.now number at (items_view rows.now))) (reply_text result) (S.objects store.new) }
     ensures whole { S.is_reliable store.old → RestoresWell restore (S.objects store.old) → is_short result ≡ false → IsExecuted (S.objects store.old) (task (append application.now number at (items_view rows.now))) (reply_text result) (S.objects store.new) }
     ensures grows { S.is_reliable store.old → RestoresWell restore (S.objects store.old) → MayPut (S.objects store.old) (task (append application.now number at (items_view rows.now))) (S.objects store.new) }
@@ -150,14 +154,23 @@ fn append_batch<S: Store>(
     ensures lost { says_lost result ≡ true → HasRisen (S.fault_count store.old) (S.fault_count store.new) }
     ensures counted { says_lost result ≡ false → S.fault_count store.new ≡ S.fault_count store.old }
 {
-    match append(alloc, store, application, number, at, rows, restore) {
+    match append(alloc, store, application, number, at, rows, restore, known) {
         Ok(answer) => Reply::Appended(answer),
         Err(fault) => Reply::NotAppended(fault),
     }
 }
 
 // The reply to a line that reads from an offset on.
-fn read<S: Store>(alloc: Global, store: &mut S, max: u64, offset: &str, restore: bool) -> Reply
+fn read<S: Store>(
+    alloc: Global,
+    store: &mut S,
+    max: u64,
+    offset: &str,
+    restore: bool,
+    known: &mut Known,
+) -> Reply
+    requires { IsKnown (S.objects store.old) known.old }
+    ensures known { IsKnown (S.objects store.new) known.new }
     ensures told { S.is_reliable store.old → RestoresWell restore (S.objects store.old) → is_short result ≡ false
         → reply_text result ≡ tailed_reply (tailed false (S.objects store.old) max offset.now) }
     ensures wants { is_short result ≡ true → reply_text result ≡ no_room_to_read }
@@ -166,7 +179,7 @@ fn read<S: Store>(alloc: Global, store: &mut S, max: u64, offset: &str, restore:
     ensures lost { says_lost result ≡ true → HasRisen (S.fault_count store.old) (S.fault_count store.new) }
     ensures counted { says_lost result ≡ false → S.fault_count store.new ≡ S.fault_count store.old }
 {
-    match tail(alloc, store, max, offset, restore) {
+    match tail(alloc, store, max, offset, restore, known) {
         Ok(text) => Reply::Bytes(text),
         Err(fault) => Reply::NotTailed(fault),
     }
@@ -269,9 +282,24 @@ fn put_foreign<S: Store>(alloc: Global, store: &mut S, version: u64, action: &st
     }
 }
 
+// Nothing is known of the log any more.
+fn forget(alloc: Global, known: &mut Known)
+    ensures { (objects : Objects) → IsKnown objects known.new }
+{
+    *known = Known::new(alloc);
+}
+
 // Does what a job asks for, and finds its reply.
-fn execute_job<S: Store>(alloc: Global, job: Job<'_>, store: &mut S, restore: bool) -> Reply
-    requires { IsTimelyTask (task_view job) }
+fn execute_job<S: Store>(
+    alloc: Global,
+    job: Job<'_>,
+    store: &mut S,
+    restore: bool,
+    known: &mut Known,
+) -> Reply
+    requires timely { IsTimelyTask (task_view job) }
+    requires known { IsKnown (S.objects store.old) known.old }
+    ensures known { IsKnown (S.objects store.new) known.new }
     ensures whole { S.is_reliable store.old → RestoresWell restore (S.objects store.old) → is_short result ≡ false
         → IsExecuted (S.objects store.old) (task (task_view job.entry)) (reply_text result) (S.objects store.new) }
     ensures told { S.is_reliable store.old → RestoresWell restore (S.objects store.old) → Executes (S.objects store.old) (task (task_view job.entry)) (reply_text result) (S.objects store.new) }
@@ -287,16 +315,28 @@ fn execute_job<S: Store>(alloc: Global, job: Job<'_>, store: &mut S, restore: bo
             number,
             at,
             ref rows,
-        } => append_batch(alloc, store, application, number, at, rows, restore),
-        Job::Tail { max, offset } => read(alloc, store, max, offset, restore),
-        Job::Checkpoint => take_checkpoint(alloc, store, restore),
+        } => append_batch(alloc, store, application, number, at, rows, restore, known),
+        Job::Tail { max, offset } => read(alloc, store, max, offset, restore, known),
+        Job::Checkpoint => {
+            forget(alloc, known);
+            take_checkpoint(alloc, store, restore)
+        }
         Job::Close { .. } => Reply::Refused(Fault::NotYet),
     }
 }
 
-/// Does what a line asks for, and finds its reply.
-pub fn execute<S: Store>(alloc: Global, line: Line<'_>, store: &mut S, restore: bool) -> Reply
-    requires { IsTimely (statement_view line) }
+/// Does what a line asks for, and finds its reply. What is known of the store's log is what earlier calls over this store
+/// left, or [`Known::new`]: appends and reads needn't read those commits again.
+pub fn execute<S: Store>(
+    alloc: Global,
+    line: Line<'_>,
+    store: &mut S,
+    restore: bool,
+    known: &mut Known,
+) -> Reply
+    requires timely { IsTimely (statement_view line) }
+    requires known { IsKnown (S.objects store.old) known.old }
+    ensures known { IsKnown (S.objects store.new) known.new }
     // What was asked for is told and done, and what was put is well made.
     ensures whole { S.is_reliable store.old → RestoresWell restore (S.objects store.old) → is_short result ≡ false
         → IsExecuted (S.objects store.old) (statement_view line.entry) (reply_text result) (S.objects store.new) }
@@ -314,13 +354,19 @@ pub fn execute<S: Store>(alloc: Global, line: Line<'_>, store: &mut S, restore: 
     ensures counted { says_lost result ≡ false → S.fault_count store.new ≡ S.fault_count store.old }
 {
     match line {
-        Line::Create { id, at, schema } => create_table(alloc, store, id, at, schema),
-        Line::Job(job) => execute_job(alloc, job, store, restore),
+        Line::Create { id, at, schema } => {
+            forget(alloc, known);
+            create_table(alloc, store, id, at, schema)
+        }
+        Line::Job(job) => execute_job(alloc, job, store, restore, known),
         Line::Snapshot => tell_snapshot(alloc, store, restore),
         Line::History => tell_history(alloc, store),
         Line::Show { version } => show(alloc, store, version),
         Line::Hex { name } => show_in_hex(alloc, store, name),
-        Line::Foreign { version, action } => put_foreign(alloc, store, version, action),
+        Line::Foreign { version, action } => {
+            forget(alloc, known);
+            put_foreign(alloc, store, version, action)
+        }
         _ => Reply::Refused(Fault::NotYet),
     }
 }

@@ -1,6 +1,6 @@
 -- Where checkpoints are sound, a read from one on hands out what a read of all commits does.
 use Rattle.std.proofs.Common.{◌≡◌, ◌≤◌, ◌+◌, ℕ, zero, suc, List, [], ◌∷◌, ◌++◌, length, map, take, drop, Bool, true, false, Option, Some, None, refl, sym, ap, ◌∙◌, arith}
-use Rattle.std.specs.Prelude.{◌&&◌, Result, Ok, Err, if◌then◌else◌, min, nat_le, option_and_then}
+use Rattle.std.specs.Prelude.{Result, Ok, Err, if◌then◌else◌, min, nat_le, option_and_then}
 use Rattle.std.specs.Option.{option_or}
 use Rattle.std.proofs.lemmas.Bool.Decides.{nat_tests}
 use Rattle.std.proofs.lemmas.List.{length-map, take-append-drop}
@@ -14,7 +14,7 @@ use Rattle.table_log.specs.Counts.{commit_count}
 use Rattle.table_log.specs.FromCheckpoints.{CheckpointSchema, Start, first_behind, first_read, first_schema, from_version, front_behind, in_force_at, later_schema, looked_at, newest_schema, no_start, schema_below, schema_by, schema_upto, start_at}
 use Rattle.table_log.specs.InForce.{Told, in_force, in_force_from}
 use Rattle.table_log.specs.Reads.{front}
-use Rattle.table_log.specs.Restoring.{HasSoundCheckpoints, Restored, RestoresWell, checkpoint_in, checkpoint_version, restored}
+use Rattle.table_log.specs.Restoring.{HasSoundCheckpoints, Restored, RestoresWell, checkpoint_in, restored}
 use Rattle.table_log.specs.Versions.{Version, missing, unreadable, commit, commits_in, version_at, versions_from, versions_of}
 use Rattle.table_log.proofs.Callers.{IsCheckpointFound, SchemaParts, commit_is, found_parts, last_found, newest_found, read_parts, schema_parts, versions_long}
 use Rattle.table_model.specs.declared.reading.Offset.{Offset}

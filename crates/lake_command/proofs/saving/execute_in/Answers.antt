@@ -124,3 +124,12 @@ pub returns-in_err-save-clause-kept : goal.returns-in_err-save-clause-kept
 returns-in_err-save-clause-kept g c = λ steady name bytes stands.
     let on = c.in_ok-store.ensures.steady steady in
     c.in_err-save.ensures.kept (c.in_ok-reply.ensures.steady on) name bytes (ap (λ (o : Objects). object_at o name) (c.in_ok-reply.ensures.untouched on ∙ c.in_ok-store.ensures.untouched steady) ∙ stands)
+
+pub execute-reply-requires-clause-known : goal.execute-reply-requires-clause-known
+execute-reply-requires-clause-known g c = c.new.ensures (stored_objects c.list.new.self)
+
+pub returns-clause-kept : goal.returns-clause-kept
+returns-clause-kept g c = λ steady name bytes stands.
+    let on = c.in_ok-store.ensures.steady steady in
+    let unchanged : g.F.Folder.objects c.load_until_read.new.folder ≡ g.F.Folder.objects c.args.folder.now = c.in_ok-reply.ensures.untouched on ∙ c.in_ok-store.ensures.untouched steady in
+    c.in_ok-save.ensures.kept (c.in_ok-reply.ensures.steady on) name bytes (ap (λ (o : Objects). object_at o name) unchanged ∙ stands)

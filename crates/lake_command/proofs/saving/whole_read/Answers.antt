@@ -19,3 +19,6 @@ returns-then-has_rows-clause-same c = λ objects files is well.
 pub returns-else-has_rows-clause-same : goal.returns-else-has_rows-clause-same
 returns-else-has_rows-clause-same c = λ objects files is well.
     read_leaves c.args.restore (stored_objects c.args.store.now) (stored_objects c.execute-reply.new.store) objects files c.in_ok-max.max c.in_ok-max.offset.now (reply_text c.execute-reply.result) is (c.execute-reply.ensures.told tt) well
+
+pub execute-reply-requires-clause-known : goal.execute-reply-requires-clause-known
+execute-reply-requires-clause-known c = c.new.ensures (stored_objects c.args.store.now)

@@ -9,8 +9,8 @@ use Rattle.lake_script.proofs.RunsLemmas.{on_err}
 use Rattle.lake_script.proofs.engine.answer.Goals.{then-is_short, else-is_short}
 use Rattle.lake_script.proofs.engine.answer.Goals as goal
 
-pub execute-reply-requires : goal.execute-reply-requires
-execute-reply-requires g c = reading_timely _ _ (ap reading_view (sym c.in-Asks.is) ∙ c.in_ok-reading_of.ensures)
+pub execute-reply-requires-clause-timely : goal.execute-reply-requires-clause-timely
+execute-reply-requires-clause-timely g c = reading_timely _ _ (ap reading_view (sym c.in-Asks.is) ∙ c.in_ok-reading_of.ensures)
 
 pub returns-in_ok-give-in-Asks-clause-whole : goal.returns-in_ok-give-in-Asks-clause-whole
 returns-in_ok-give-in-Asks-clause-whole g c = λ reliable well whole.

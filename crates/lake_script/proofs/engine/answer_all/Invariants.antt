@@ -3,6 +3,7 @@ use Rattle.std.specs.Prelude.{⊤}
 use Rattle.lake_script.specs.Streams.{held, write_failed}
 use Rattle.lake_script.specs.Runs.{Tells}
 use Rattle.delta_actions.specs.Commit.{lines_of}
+use Rattle.table_log.specs.Known.{IsKnown}
 use Rattle.table_log.specs.Restoring.{AreCheckpointsSound, RestoresWell}
 use Rattle.lake_script.specs.Told.{lines_left, first_bad_from, first_bad}
 use Rattle.lake_script.proofs.RunLemmas.{SoFar, lines_at_most}
@@ -24,6 +25,7 @@ invariant-loop-rest g l =
       restores : g.S.Store.is_reliable l.fn.store → (every : Bool) → AreCheckpointsSound every (objects l.fn.store) → AreCheckpointsSound every (objects l.store);
       found : first_bad_from l.number (lines_left lines) ≡ first_bad l.fn.text;
       unbroken : write_failed l.output ≡ write_failed l.fn.output;
+      known : IsKnown (objects l.store) l.known;
       counted : l.number + lines_at_most lines ≤ 2 ^ 30 + 2;
     }
 

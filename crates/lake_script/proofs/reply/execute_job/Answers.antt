@@ -2,9 +2,10 @@ use Rattle.std.proofs.Common.{rules, ◌≡◌, subst}
 use Rattle.serde_json.specs.View.{items_view}
 use Rattle.lake_script.specs.Growth.{MayPut}
 use Rattle.lake_script.specs.Lines.{append, task}
-use Rattle.lake_script.specs.ReplyView.{reply_text}
-use Rattle.lake_script.specs.Runs.{Executes}
+use Rattle.lake_script.specs.ReplyView.{is_short, reply_text}
+use Rattle.lake_script.specs.Runs.{Executes, IsShort}
 use Rattle.lake_script.specs.Sound.{IsExecuted}
+use Rattle.lake_script.proofs.RunsLemmas.{read_executed}
 use Rattle.lake_script.proofs.reply.execute_job.Goals as goal
 
 pub returns-in-Checkpoint-clause-told : goal.returns-in-Checkpoint-clause-told
@@ -36,3 +37,19 @@ returns-in-Append-clause-grows g c = λ reliable well.
     let rows_are : c.deref.result.now ≡ c.in-Append.rows.items = search rules in
     let grown = subst (λ rows. MayPut objects (task (append c.in-Append.application.now c.in-Append.number c.in-Append.at (items_view rows))) after) rows_are (c.append_batch.ensures.grows reliable well) in
     rw c.in-Append.is grown
+
+pub returns-in-Append-clause-short : goal.returns-in-Append-clause-short
+returns-in-Append-clause-short g c = λ well short.
+    let objects = g.S.Store.objects c.args.store.now in
+    let rows_are : c.deref.result.now ≡ c.in-Append.rows.items = search rules in
+    let said = subst (λ rows. IsShort objects (task (append c.in-Append.application.now c.in-Append.number c.in-Append.at (items_view rows))) (reply_text c.append_batch.result)) rows_are (c.append_batch.ensures.short well short) in
+    rw c.in-Append.is said
+
+pub returns-in-Tail-clause-told : goal.returns-in-Tail-clause-told
+returns-in-Tail-clause-told g c = λ reliable well.
+    rw c.in-Tail.is
+    (read_executed (g.S.Store.objects c.args.store.now) (g.S.Store.objects c.read.new.store) c.in-Tail.max c.in-Tail.offset.now (reply_text c.read.result) (is_short c.read.result)
+    (c.read.ensures.told reliable well) c.read.ensures.wants c.read.ensures.untouched)
+
+pub returns-in-Checkpoint-clause-known : goal.returns-in-Checkpoint-clause-known
+returns-in-Checkpoint-clause-known g c = c.forget.ensures (g.S.Store.objects c.take_checkpoint.new.store)
