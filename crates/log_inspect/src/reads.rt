@@ -16,11 +16,11 @@ use table_log::{
 pub fn tell_read(alloc: Global, log: &Log, version: u64, out: &mut Vec<u8>) -> Result<(), Failure> {
     writeln!(out, "first {}", first_standing(log))?;
     match supported(alloc, log) {
-        Ok(schema) => writeln!(out, "read {}", schema.to_text(alloc)?)?,
+        Ok(told) => writeln!(out, "read {}", told.schema.to_text(alloc)?)?,
         Err(SupportError::Memory) => return Err(Failure::Memory),
         Err(SupportError::Fault(fault)) => writeln!(out, "refused {fault}")?,
     }
-    match in_force(alloc, version, log)? {
+    match in_force(alloc, version, log, None)? {
         Some(told) => {
             writeln!(out, "in force {}", told.text)?;
             tell_versions(alloc, &told, log, version, out)
