@@ -6,6 +6,7 @@ use Rattle.std.proofs.lemmas.Bool.{cases_eq}
 use Rattle.std.proofs.lemmas.Bool.Decides.{nat_tests}
 use Rattle.std.proofs.lemmas.Slice.Eq.{bytes_eq-Decides}
 use Rattle.lake_bytes.specs.Results.{◌>>=◌, or_refusal, refused_as, refused_if}
+use Rattle.serde_json.specs.Events.{items_len}
 use Rattle.serde_json.specs.Data.{Items}
 use Rattle.schema_tree.specs.Tree.{Tree}
 use Rattle.store_core.specs.Objects.{Objects, object_at, with_object}
@@ -23,7 +24,7 @@ use Rattle.table_log.specs.Versions.{Version, missing, unreadable, commit, commi
 use Rattle.table_log.proofs.Callers.{count_is, of_commit as read_commit, or_regroup, stands_below}
 use Rattle.table_store.proofs.HoldingNames.{commit_name-data_file_name}
 use Rattle.table_store.proofs.NamesOnce.{commit_name-once}
-use Rattle.sink_core.specs.Appending.{Batch, IsWellMade, Request, appending, batch_of, checked, count, is_repeat, puts, request_behind, request_of, with_append}
+use Rattle.sink_core.specs.Appending.{Batch, IsWellMade, Request, appending, batch_of, checked, is_repeat, puts, request_behind, request_of, with_append}
 use Rattle.sink_core.specs.Refusals.{bad_log, read_only}
 use Rattle.sink_core.specs.RowsIn.{rows_from, takes_rows}
 use Rattle.lake_script.proofs.LogNewest.{newest-cons, of_commit, or_none}
@@ -236,7 +237,7 @@ pub appended_request : (objects : Objects) (application : List ℕ) (number at :
 unfolding request_of
 appended_request objects application number at items request batch is new asks well =
     let after = with_append objects (Ok (puts batch)) in
-    let a = both_done (checked application number (count items)) (λ fine. refused_as bad_log (seen false objects) >>= λ commits. request_behind (commit_count objects) commits application number items) request is in
+    let a = both_done (checked application number (items_len items)) (λ fine. refused_as bad_log (seen false objects) >>= λ commits. request_behind (commit_count objects) commits application number items) request is in
     let b = both_done (refused_as bad_log (seen false objects)) (λ commits. request_behind (commit_count objects) commits application number items) request a.2 in
     let log : log_of objects ≡ Ok b.0 = told_done bad_log (seen false objects) b.0 b.1 in
     let taken_is = taken (commit_count objects) b.0 application number items request b.2 in
@@ -249,7 +250,7 @@ appended_request objects application number at items request batch is new asks w
     request_again (commit_count objects) (commit_count after) b.0 more application number items (same_writable application number at batch.name (length batch.file) (length batch.rows) b.0)
     (number_behind application number at batch.name (length batch.file) (length batch.rows) b.0) request taken_is in (
       commit_count after,
-      goes_to (checked application number (count items)) (λ fine. refused_as bad_log (seen false after) >>= λ commits. request_behind (commit_count after) commits application number items) a.0 a.1
+      goes_to (checked application number (items_len items)) (λ fine. refused_as bad_log (seen false after) >>= λ commits. request_behind (commit_count after) commits application number items) a.0 a.1
           ∙ goes_to (refused_as bad_log (seen false after)) (λ commits. request_behind (commit_count after) commits application number items) more (ap (λ (r : Result (List (List actions.Action)) ℕ). refused_as bad_log r) log_more)
           ∙ behind_more,
     )

@@ -2,6 +2,7 @@
 use Rattle.std.proofs.Common.{◌≡◌, ℕ, ◌&&◌, Bool, true, false, not, List, length, Result, Ok, Err, refl, sym, ap, subst, ◌∙◌}
 use Rattle.std.specs.Prelude.{nat_lt, if◌then◌else◌}
 use Rattle.lake_bytes.specs.Results.{◌>>=◌, refused_as, refused_if}
+use Rattle.serde_json.specs.Events.{items_len}
 use Rattle.serde_json.specs.Data.{Items}
 use Rattle.schema_tree.specs.Tree.{Tree}
 use Rattle.store_core.specs.Objects.{Objects, object_at}
@@ -16,7 +17,7 @@ use Rattle.table_log.specs.Counts.{commit_count}
 use Rattle.table_log.specs.Restoring.{seen}
 use Rattle.table_log.specs.Versions.{log_of}
 use Rattle.commit_core.specs.Commits.{commit_text}
-use Rattle.sink_core.specs.Appending.{Batch, Request, appending, batch_of, checked, count, file_name, file_or_refusal, fitting, is_repeat, new_step, puts, repeated_step, request_behind, request_of, settled, stands, step_of, unless_other, where_same}
+use Rattle.sink_core.specs.Appending.{Batch, Request, appending, batch_of, checked, file_name, file_or_refusal, fitting, is_repeat, new_step, puts, repeated_step, request_behind, request_of, settled, stands, step_of, unless_other, where_same}
 use Rattle.sink_core.specs.Refusals.{Refusal, bad_log, read_only, stream_closed, too_large}
 use Rattle.sink_core.specs.RowsIn.{rows_from, takes_rows}
 
@@ -190,6 +191,6 @@ module _ (objects : Objects) (application : List ℕ) (number at : ℕ) (batch :
   unfolding request_of
   puts_batch items is =
       let a = both_done (request_of false objects application number items) (step_of objects application number at) (puts batch) is in
-      let b = both_done (checked application number (count items)) (λ fine. refused_as bad_log (seen false objects) >>= λ commits. request_behind (commit_count objects) commits application number items) a.0 a.1 in
+      let b = both_done (checked application number (items_len items)) (λ fine. refused_as bad_log (seen false objects) >>= λ commits. request_behind (commit_count objects) commits application number items) a.0 a.1 in
       let c = both_done (refused_as bad_log (seen false objects)) (λ commits. request_behind (commit_count objects) commits application number items) a.0 b.2 in
       joined c.0 items a.0 (told_done bad_log (seen false objects) c.0 c.1) (taken (commit_count objects) c.0 application number items a.0 c.2) (new_step_of a.0 a.2)

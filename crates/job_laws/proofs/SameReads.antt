@@ -3,6 +3,7 @@ use Rattle.std.proofs.Common.{◌≡◌, ◌∙◌, ℕ, Bool, true, false, List
 use Rattle.std.specs.Prelude.{bytes_eq, unwrap_or, None, Some}
 use Rattle.std.proofs.lemmas.Slice.Eq.{bytes_eq-Decides}
 use Rattle.lake_bytes.specs.Results.{◌>>=◌, or_refusal, refused_as}
+use Rattle.serde_json.specs.Events.{items_len}
 use Rattle.serde_json.specs.Data.{Items}
 use Rattle.store_core.specs.Objects.{Objects, object_at, with_object}
 use Rattle.store_core.specs.ObjectLaws.{object_at-with_object_other, object_at-with_object_same}
@@ -19,7 +20,7 @@ use Rattle.commit_core.specs.Creating.{commit_from, created_by, unless_there}
 use Rattle.commit_core.specs.Histories.{history_in, history_of}
 use Rattle.snapshot_core.specs.Faults as faults
 use Rattle.sink_core.specs.Appending as appends
-use Rattle.sink_core.specs.Appending.{Batch, Request, Step, appended_by, answered, batch_of, checked, count, file_name, file_or_refusal, fitting, puts, request_behind, request_of, settled, stands, step_of, unless_other, where_same}
+use Rattle.sink_core.specs.Appending.{Batch, Request, Step, appended_by, answered, batch_of, checked, file_name, file_or_refusal, fitting, puts, request_behind, request_of, settled, stands, step_of, unless_other, where_same}
 use Rattle.sink_core.specs.Refusals.{Refusal, bad_log}
 use Rattle.source_core.specs.Offsets.{offset_of}
 use Rattle.source_core.specs.Tailing as tails
@@ -54,8 +55,8 @@ file_named application number = refl
 pub same_request : (files : List (List ℕ)) (objects : Objects) (application : List ℕ) (number : ℕ) (items : Items) → request_of false (loaded files objects) application number items ≡ request_of false objects application number items
 unfolding request_of
 same_request files objects application number items =
-    ap (λ (log : Result (List (List Action)) ℕ). checked application number (count items) >>= λ fine. refused_as bad_log log >>= λ commits. request_behind (commit_count (loaded files objects)) commits application number items) (same_seen files objects)
-    ∙ ap (λ (next : ℕ). checked application number (count items) >>= λ fine. refused_as bad_log (seen false objects) >>= λ commits. request_behind next commits application number items) (same_count files objects)
+    ap (λ (log : Result (List (List Action)) ℕ). checked application number (items_len items) >>= λ fine. refused_as bad_log log >>= λ commits. request_behind (commit_count (loaded files objects)) commits application number items) (same_seen files objects)
+    ∙ ap (λ (next : ℕ). checked application number (items_len items) >>= λ fine. refused_as bad_log (seen false objects) >>= λ commits. request_behind next commits application number items) (same_count files objects)
 
 -- a batch that is made in steps has its name
 made_named : (name : List ℕ) (small : Result (Unit {0}) Refusal) (file : Result (List ℕ) Refusal) (make : List ℕ → Batch) → ((bytes : List ℕ) → (make bytes).name ≡ name) → (batch : Batch)

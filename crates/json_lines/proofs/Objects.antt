@@ -1,33 +1,53 @@
 -- What a line is, and what is known of the lines that were read.
-use Rattle.std.proofs.Common.{◌≡◌, ℕ, ◌+◌, ◌<◌, ◌==◌, Bool, true, false, List, [], ◌∷◌, ◌++◌, length, take, drop, get_or, map, Some, None, refl, sym, ap, ◌∙◌, arith}
-use Rattle.std.specs.Prelude.{is_some, IsSome}
+use Rattle.std.proofs.Common.{◌≡◌, ℕ, ◌+◌, ◌<◌, ◌==◌, Bool, true, false, List, [], ◌∷◌, ◌++◌, length, take, drop, get_or, map, Bor, Option, Some, None, refl, sym, ap, ◌∙◌, arith}
+use Rattle.std.specs.Prelude.{is_some, IsSome, unwrap_or}
 use Rattle.std.specs.List.{slice_split, AllByRecursion}
 use Rattle.std.specs.Str.{is_utf8, IsUtf8}
 use Rattle.std.proofs.lemmas.Str.{IsUtf8-from_is_utf8, is_utf8-from_IsUtf8}
 use Rattle.std.proofs.lemmas.List.{take_more, drop_more, map_push, take_all, take-append-drop, length-take}
-use Rattle.serde_json.specs.Data.{Data, object}
+use Rattle.serde_json.specs.Data.{Data, null, boolean, number, string, array, object}
 use Rattle.serde_json.specs.Find.{as_object}
 use Rattle.serde_json.specs.Read.{read}
-use Rattle.serde_json.specs.View.{view}
-use Rattle.serde_json.specs.declared.value.Value.{Value}
-use Rattle.json_lines.specs.Rows.{without_last_newline, input_lines, object_of, IsFirstBadLine}
+use Rattle.json_text.specs.Rows.{text_data}
+use Rattle.json_lines.specs.Rows.{without_last_newline, input_lines, object_of, only_object, IsFirstBadLine}
 
 -- ---- a line
 
--- where the value of a line is an object, it is the line's
-pub object_is : (line : List ℕ) (d : Data) → IsUtf8 line → read line ≡ Some d → is_some (as_object d) ≡ true → Some d ≡ object_of line
-unfolding object_of
-object_is line (object _) utf8 e is = rw (is_utf8-from_IsUtf8 line utf8, e) refl
-object_is line _ utf8 e is = absurd cc
+at_read : (o : Option Data) → is_some (only_object o) ≡ true → Some (unwrap_or o null) ≡ only_object o
+at_read (Some (object _)) e = refl
+at_read _ e = absurd cc
 
-no_json_at : (line : List ℕ) (b : Bool) → is_utf8 line ≡ b → (IsUtf8 line → read line ≡ None) → None ≡ object_of line
-unfolding object_of
-no_json_at line true is none = rw (is, none (IsUtf8-from_is_utf8 line is)) refl
-no_json_at line false is none = rw is refl
+none_there : (o : Option Data) → is_some o ≡ false → None ≡ o
+none_there None e = refl
+none_there (Some d) e = absurd cc
 
--- what is no JSON is no object
-pub no_json : (line : List ℕ) → (IsUtf8 line → read line ≡ None) → None ≡ object_of line
-no_json line none = no_json_at line (is_utf8 line) refl none
+-- where the text of a line is an object, it is the line's
+pub object_is : (line : List ℕ) → IsUtf8 line → is_some (only_object (read line)) ≡ true → Some (text_data line) ≡ object_of line
+unfolding object_of
+object_is line utf8 is = rw (is_utf8-from_IsUtf8 line utf8) (at_read (read line) is)
+
+-- no other text is one
+pub no_object : (line : List ℕ) → IsUtf8 line → is_some (only_object (read line)) ≡ false → None ≡ object_of line
+unfolding object_of
+no_object line utf8 other = rw (is_utf8-from_IsUtf8 line utf8) (none_there (only_object (read line)) other)
+
+no_text_at : (line : List ℕ) (b : Bool) → is_utf8 line ≡ b → ¬ (IsUtf8 line) → None ≡ object_of line
+unfolding object_of
+no_text_at line true is none = absurd (none (IsUtf8-from_is_utf8 line is))
+no_text_at line false is none = rw is refl
+
+-- what is no text is no object
+pub no_text : (line : List ℕ) → ¬ (IsUtf8 line) → None ≡ object_of line
+no_text line none = no_text_at line (is_utf8 line) refl none
+
+-- the value of a text that is an object
+pub object_seen : (d : Data) → is_some (as_object d) ≡ is_some (only_object (Some d))
+object_seen null = refl
+object_seen (boolean b) = refl
+object_seen (number n) = refl
+object_seen (string s) = refl
+object_seen (array ds) = refl
+object_seen (object ms) = refl
 
 -- ---- the lines
 
@@ -41,33 +61,33 @@ lines_are_parts [] some = absurd cc
 lines_are_parts (byte ∷ bytes) some = refl
 
 -- the lines are, one after the other, the objects
-abbrev pub Read : List (List ℕ) → List Value → Type 0
-Read lines objects = map object_of lines ≡ map (λ value. Some (view value)) objects
+abbrev pub Read : List (List ℕ) → List (Bor (List ℕ)) → Type 0
+Read lines objects = map object_of lines ≡ map (λ object. Some (text_data object.now)) objects
 
 -- one more line
-pub reads_on : (lines : List (List ℕ)) (objects : List Value) (i : ℕ) (line : List ℕ) (value : Value) → i < length lines → line ≡ get_or lines i line → Some (view value) ≡ object_of line
-    → Read (take i lines) objects → Read (take (i + 1) lines) (objects ++ value ∷ [])
-reads_on lines objects i line value within here is so_far =
+pub reads_on : (lines : List (List ℕ)) (objects : List (Bor (List ℕ))) (i : ℕ) (line : List ℕ) (text : Bor (List ℕ)) → i < length lines → line ≡ get_or lines i line → Some (text_data text.now) ≡ object_of line
+    → Read (take i lines) objects → Read (take (i + 1) lines) (objects ++ text ∷ [])
+reads_on lines objects i line text within here is so_far =
     let more : take (i + 1) lines ≡ take i lines ++ line ∷ [] = take_more lines i line within ∙ ap (λ (x : List ℕ). take i lines ++ x ∷ []) (sym here) in
-    rw (more, map_push object_of (take i lines) line, map_push (λ (o : Value). Some (view o)) objects value, so_far, ← is) refl
+    rw (more, map_push object_of (take i lines) line, map_push (λ (o : Bor (List ℕ)). Some (text_data o.now)) objects text, so_far, ← is) refl
 
 -- no line is left
-pub all_read : (lines : List (List ℕ)) (objects : List Value) (i : ℕ) → i ≡ length lines → Read (take i lines) objects → Read lines objects
+pub all_read : (lines : List (List ℕ)) (objects : List (Bor (List ℕ))) (i : ℕ) → i ≡ length lines → Read (take i lines) objects → Read lines objects
 all_read lines objects i whole so_far = let every = take_all i lines (omega (arith, whole)) in rw every at so_far
 
 -- lines that are objects are fine
-all_fine : (lines : List (List ℕ)) (objects : List Value) → Read lines objects → AllByRecursion (λ line. IsSome (object_of line)) lines
+all_fine : (lines : List (List ℕ)) (objects : List (Bor (List ℕ))) → Read lines objects → AllByRecursion (λ line. IsSome (object_of line)) lines
 all_fine [] objects so_far = tt
 all_fine (line ∷ lines) [] so_far = absurd cc
 all_fine (line ∷ lines) (o ∷ objects) so_far =
-    let first : object_of line ≡ Some (view o) = cc in
+    let first : object_of line ≡ Some (text_data o.now) = cc in
     let rest : Read lines objects = cc in
     (ap is_some first, all_fine lines objects rest)
 
 -- the first bad line
-pub first_bad : (text : List ℕ) (objects : List Value) (i : ℕ) (line : List ℕ) (number : ℕ) → (length text == 0) ≡ false → i < length (parts_of text) → line ≡ get_or (parts_of text) i line → None ≡ object_of line
-    → Read (take i (parts_of text)) objects → number ≡ i + 1 → IsFirstBadLine text number
-first_bad text objects i line number some within here is so_far at = record {
+pub first_bad : (text : List ℕ) (objects : List (Bor (List ℕ))) (i : ℕ) (line : List ℕ) (at_number : ℕ) → (length text == 0) ≡ false → i < length (parts_of text) → line ≡ get_or (parts_of text) i line → None ≡ object_of line
+    → Read (take i (parts_of text)) objects → at_number ≡ i + 1 → IsFirstBadLine text at_number
+first_bad text objects i line at_number some within here is so_far at = record {
   before = take i (parts_of text);
   bad = line;
   after = drop (i + 1) (parts_of text);

@@ -1,12 +1,15 @@
 //! JSON objects, one a line.
 #![tactic(auto)]
 
-ghost use Rattle.std.specs.Prelude.{◌≡◌, IfOk, IfErr, map, Some, option_map};
-ghost use Rattle.serde_json.specs.View.{view};
-ghost use Rattle.json_lines.specs.Rows.{without_last_newline, input_lines, object_of, IsFirstBad};
+ghost use Rattle.std.specs.Prelude.{◌≡◌, IfOk, IfErr, map, Some, is_some, option_map};
+ghost use Rattle.serde_json.specs.Read.{read};
+ghost use Rattle.json_text.specs.Rows.{text_data};
+ghost use Rattle.json_lines.specs.Rows.{without_last_newline, input_lines, object_of, only_object, IsFirstBad};
 
-use serde_json::Value;
+use json::Scratch;
+use json_text::{TextError, value_in};
 use std::alloc::{AllocError, AllocFailed, Global};
+use std::str;
 use thiserror::Error;
 
 /// Why lines are no objects.
@@ -40,21 +43,22 @@ impl<T: Drop> From<AllocFailed<T>> for LineFault {
     }
 }
 
-/// The objects of a text, one a line: a line ends at a newline, and what stands behind the last newline is a line too,
-/// unless it is empty. An empty line is no object. The fault names the first line that is none. Takes time linear in the
-/// text.
-pub fn objects_in(alloc: Global, text: &[u8]) -> Result<Vec<Value>, LineFault>
-    ensures objects { IfOk result (λ objects. map object_of (input_lines text.now) ≡ map (λ object. Some (view object)) objects.items) }
+/// The texts of the objects of a text, one a line: a line ends at a newline, and what stands behind the last newline is a
+/// line too, unless it is empty. An empty line is no object. The fault names the first line that is none. Takes time linear
+/// in the text.
+pub fn objects_in<'a>(alloc: Global, text: &'a [u8]) -> Result<Vec<&'a str>, LineFault>
+    ensures objects { IfOk result (λ objects. map object_of (input_lines text.now) ≡ map (λ object. Some (text_data object.now)) objects.items) }
     ensures fault { IfErr result (IsFirstBad text.now) }
 {
     let mut objects = Vec::new(alloc);
     if text.is_empty() {
         return Ok(objects);
     }
+    let mut scratch = Scratch::new(alloc);
     let mut number = 0u64;
     for line in without_last_newline(text).split(|byte| *byte == b'\n') {
         number += 1;
-        let Some(object) = object_in(alloc, line)? else {
+        let Some(object) = object_in(alloc, line, &mut scratch)? else {
             return Err(LineFault::Bad(number));
         };
         objects.push(object)?;
@@ -69,15 +73,32 @@ fn without_last_newline(text: &[u8]) -> &[u8]
     text.strip_suffix(b"\n").unwrap_or(text)
 }
 
-// The object that a line is.
+// The text of the object that a line is.
 #[tactic(auto, unfolding(crate::specs::Rows::object_of))]
-fn object_in(alloc: Global, line: &[u8]) -> Result<Option<Value>, AllocError>
-    ensures { IfOk result (λ found. option_map view found ≡ object_of line.now) }
+fn object_in<'a>(
+    alloc: Global,
+    line: &'a [u8],
+    scratch: &mut Scratch,
+) -> Result<Option<&'a str>, AllocError>
+    ensures { IfOk result (λ found. option_map (λ text. text_data text.now) found ≡ object_of line.now) }
 {
-    match Value::from_slice(alloc, line) {
-        Ok(value) if value.is_object() => Ok(Some(value)),
-        Ok(_) => Ok(None),
-        Err(error) if error.is_memory() => Err(AllocError),
-        Err(_) => Ok(None),
+    let Ok(text) = str::from_utf8(line) else {
+        return Ok(None);
+    };
+    if is_object(alloc, text, scratch)? {
+        Ok(Some(text))
+    } else {
+        Ok(None)
+    }
+}
+
+// Whether a text is a JSON object.
+fn is_object(alloc: Global, text: &str, scratch: &mut Scratch) -> Result<bool, AllocError>
+    ensures { IfOk result (λ is. is ≡ is_some (only_object (read text.now))) }
+{
+    match value_in(alloc, text, scratch) {
+        Ok(value) => Ok(value.is_object()),
+        Err(TextError::Malformed) => Ok(false),
+        Err(TextError::Memory) => Err(AllocError),
     }
 }

@@ -1,8 +1,7 @@
 -- What a job leaves in a folder, by what a line of a script leaves over the files that were loaded.
-use Rattle.std.proofs.Common.{◌≡◌, ◌<◌, inl, inr, ℕ, Bool, true, false, Contains, List, [], ◌∷◌, Option, Some, None, IfSome, Result, Ok, Err, IfOk, IfErr, sym, refl, ap, subst, ◌∙◌, map}
+use Rattle.std.proofs.Common.{◌≡◌, ◌<◌, inl, inr, ℕ, Bool, true, false, Contains, List, [], ◌∷◌, Bor, Option, Some, None, IfSome, Result, Ok, Err, IfOk, IfErr, sym, refl, ap, subst, ◌∙◌, map}
 use Rattle.std.specs.Prelude.{IsErrAnd, is_some, string_bytes}
-use Rattle.serde_json.specs.View.{view}
-use Rattle.serde_json.specs.declared.value.Value.{Value}
+use Rattle.json_text.specs.Rows.{text_data}
 use Rattle.store_core.specs.Objects.{Objects, IsInOrder, names_of}
 use Rattle.table_store.specs.Sound.{greatest_version}
 use Rattle.table_log.specs.Counts.{commit_count}
@@ -133,7 +132,7 @@ fails_for_job (Err failure) work text statement old new asked of put names = lef
 -- no job puts another tool's commit
 put_here : (work : Work) (text : Option (List ℕ)) (statement : Statement) → IsAskedBy work text statement → IsPutHere (asks statement)
 put_here (words.create id schema at) text statement is = rw is tt
-put_here (words.append application number at tries) text statement is = rw is.2 tt
+put_here (words.append application number at tries) text statement is = rw is.4 tt
 put_here (words.close application at tries) text statement is = absurd is
 put_here (words.load workers at tries) text statement is = absurd is
 put_here (words.tail max offset) text statement is = rw is tt
@@ -157,15 +156,9 @@ pub found_asked : (found : Option Line) (line : Line) (work : Work) (text : Opti
 found_asked found line work text is asked = subst (λ f. IfSome f (λ l. IsAskedBy work text (statement_view l))) is asked
 
 -- the rows that were read are those of the input
-pub rows_are : (text : List ℕ) (objects : List Value) → map object_of (input_lines text) ≡ map (λ object. Some (view object)) objects → AreRows text (map view objects)
+pub rows_are : (text : List ℕ) (objects : List (Bor (List ℕ))) → map object_of (input_lines text) ≡ map (λ object. Some (text_data object.now)) objects → AreRows text (map (λ object. text_data object.now) objects)
 rows_are text objects read = read ∙ some_views objects
   where
-    some_views : (values : List Value) → map (λ value. Some (view value)) values ≡ map (λ row. Some row) (map view values)
+    some_views : (values : List (Bor (List ℕ))) → map (λ value. Some (text_data value.now)) values ≡ map (λ row. Some row) (map (λ object. text_data object.now) values)
     some_views [] = refl
-    some_views (v ∷ vs) = ap (λ rest. Some (view v) ∷ rest) (some_views vs)
-
--- the same where the input tells its text
-pub rows_of_input : (known : Option (List ℕ)) (text : List ℕ) (objects : List Value) → IfSome known (λ bytes. text ≡ bytes) → map object_of (input_lines text) ≡ map (λ object. Some (view object)) objects
-    → IfSome known (λ bytes. AreRows bytes (map view objects))
-rows_of_input None text objects is read = tt
-rows_of_input (Some bytes) text objects is read = subst (λ t. AreRows t (map view objects)) is (rows_are text objects read)
+    some_views (v ∷ vs) = ap (λ rest. Some (text_data v.now) ∷ rest) (some_views vs)

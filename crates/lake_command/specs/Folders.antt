@@ -29,12 +29,12 @@ abbrev pub reads_input : Work → Bool
 reads_input (words.append application number at tries) = true
 reads_input _ = false
 
--- What a job asks for. An append's rows are those of the input's lines; where the reader doesn't tell its bytes, any
--- rows.
+-- What a job asks for. An append's rows are those of the input's lines; where the reader doesn't tell its bytes, those of
+-- the lines of some text.
 abbrev pub IsAskedBy : Work → (text : Option (List ℕ)) → Statement → Type 0
 IsAskedBy (words.create id schema at) text statement = statement ≡ create id at schema
 IsAskedBy (words.append application number at tries) text statement =
-    (rows : List Data) × IfSome text (λ bytes. AreRows bytes rows) × (statement ≡ task (append application number at (items_of rows)))
+    (bytes : List ℕ) × (rows : List Data) × IfSome text (λ known. bytes ≡ known) × AreRows bytes rows × (statement ≡ task (append application number at (items_of rows)))
 IsAskedBy (words.close application at tries) text statement = ⊥
 IsAskedBy (words.load workers at tries) text statement = ⊥
 IsAskedBy (words.tail max offset) text statement = statement ≡ task (tail max offset)

@@ -18,6 +18,7 @@ ghost use Rattle.lake_command.specs.Folders.{IsAnswer, IsAskedBy, IsNotYet, JobM
 use crate::Failure;
 use crate::saving::execute_in;
 use json_lines::objects_in;
+use json_text::JsonRows;
 use lake_script::{Fault, Input, Line, Reply};
 use lake_words::{Job, TableCommand};
 use std::alloc::Global;
@@ -69,17 +70,20 @@ pub fn answer<F: Folder, R: Read>(
         → object_at (F.objects folder.new) name ≡ Some bytes }
     ensures steady { F.is_steady folder.old → F.is_steady folder.new }
 {
-    match line_of(alloc, command.job, input)? {
+    let mut text = Vec::new(alloc);
+    match line_of(alloc, command.job, input, &mut text)? {
         Some(line) => execute_in(alloc, folder, line, command.restore),
         None => Ok(Reply::Refused(Fault::NotYet)),
     }
 }
 
-// The line of a script that asks for the same, or `None` for what isn't there yet.
+// The line of a script that asks for the same, or `None` for what isn't there yet. The text of an append's rows is left
+// in the buffer.
 fn line_of<'a, R: Read>(
     alloc: Global,
     job: Job<'a>,
     input: &mut Input<R>,
+    text: &'a mut Vec<u8>,
 ) -> Result<Option<Line<'a>>, Failure>
     ensures asked { IfOk result (λ found. IfSome found (λ line. IsAskedBy (work_view job.entry) (unread R.remaining input.old) (statement_view line))) }
     ensures timely { IfOk result (λ found. IfSome found (λ line. IsTimely (statement_view line))) }
@@ -105,13 +109,13 @@ fn line_of<'a, R: Read>(
             ..
         } => {
             let at = moment(at)?;
-            let text = input.read_to_end(alloc)?;
+            *text = input.read_to_end(alloc)?;
             let rows = objects_in(alloc, text.as_slice())?;
             Line::Job(lake_script::Job::Append {
                 application,
                 number,
                 at,
-                rows,
+                rows: JsonRows::Texts(rows),
             })
         }
         Job::Tail { max, offset } => Line::Job(lake_script::Job::Tail { max, offset }),

@@ -10,6 +10,7 @@ use crate::notation::{Names, number, spelled};
 use crate::refusal::Refusal;
 use crate::rows::{json_of, rows_of};
 use crate::schema::schema_of;
+use json::Scratch;
 use parquet_rows::write_file;
 use row_core::{RowFault, Value, conforms, unsupported};
 use schema_tree::Schema;
@@ -56,11 +57,9 @@ fn number_rows(
 pub fn table_file(alloc: Global, names: &Names, rest: &str) -> Result<Vec<u8>, Refusal> {
     let (schema, rest) = rest.split_once(' ').ok_or(Refusal::BadSpelling)?;
     let schema = schema_of(alloc, &spelled(alloc, names, schema)?)?;
-    let rows = rows_of(
-        alloc,
-        &schema,
-        &json_of(alloc, &spelled(alloc, names, rest)?)?,
-    )?;
+    let text = spelled(alloc, names, rest)?;
+    let mut scratch = Scratch::new(alloc);
+    let rows = rows_of(alloc, &schema, &json_of(alloc, &text, &mut scratch)?)?;
     file_of(alloc, &schema, &rows)
 }
 

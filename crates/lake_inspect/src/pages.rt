@@ -5,7 +5,7 @@ ghost use Rattle.std.specs.Prelude.{◌≤◌, IfOk};
 
 use crate::notation::{Names, number, spelled};
 use crate::refusal::Refusal;
-use crate::rows::{column_of, json_of};
+use crate::rows::column_in;
 use crate::schema::schema_of;
 use lake_bytes::{Cursor, hybrid_read, hybrid_write};
 use parquet_footer::Footer;
@@ -90,7 +90,7 @@ pub fn written_chunk(alloc: Global, names: &Names, rest: &str) -> Result<Vec<u8>
     let (word, rest) = rest.split_once(' ').ok_or(Refusal::BadSpelling)?;
     let (highest, rest) = rest.split_once(' ').ok_or(Refusal::BadSpelling)?;
     let leaf_type = type_named(word)?;
-    let column = column_of(alloc, &json_of(alloc, &spelled(alloc, names, rest)?)?)?;
+    let column = column_in(alloc, &spelled(alloc, names, rest)?)?;
     let mut values = Vec::new(alloc);
     for value in &column.values {
         values.push(value)?;

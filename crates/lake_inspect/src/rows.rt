@@ -8,9 +8,10 @@ ghost use Rattle.schema_tree.specs.Schema.{tree_of};
 use crate::notation::{Names, spelled};
 use crate::refusal::Refusal;
 use crate::schema::{leaf_line, schema_of};
+use json::Scratch;
+use json_text::{Named, TextError, Value as Json, member_of, named, value_in};
 use row_core::{Value, conforms, row_from_json, row_to_json, same_rows};
 use schema_tree::Schema;
-use serde_json::Value as Json;
 use shred::{Column, Shape, assemble, shred};
 use std::alloc::{AllocError, Global};
 use std::str::from_utf8;
@@ -25,7 +26,9 @@ pub fn table_lines(
 ) -> Result<Vec<String>, Refusal> {
     let (schema, rest) = rest.split_once(' ').ok_or(Refusal::BadSpelling)?;
     let schema = schema_of(alloc, &spelled(alloc, names, schema)?)?;
-    let value = json_of(alloc, &spelled(alloc, names, rest)?)?;
+    let text = spelled(alloc, names, rest)?;
+    let mut scratch = Scratch::new(alloc);
+    let value = json_of(alloc, &text, &mut scratch)?;
     match what {
         "row" => {
             let line = row_line(alloc, &schema, &value)?;
@@ -37,27 +40,38 @@ pub fn table_lines(
 }
 
 /// The JSON value that bytes are the text of.
-pub fn json_of(alloc: Global, bytes: &[u8]) -> Result<Json, Refusal> {
+pub fn json_of<'a>(
+    alloc: Global,
+    bytes: &'a [u8],
+    scratch: &'a mut Scratch,
+) -> Result<Json<'a>, Refusal> {
     let Ok(text) = from_utf8(bytes) else {
         return Err(Refusal::BadSpelling);
     };
-    match Json::from_str(alloc, text) {
+    match value_in(alloc, text, scratch) {
         Ok(value) => Ok(value),
-        Err(error) if error.is_memory() => Err(Refusal::Memory),
-        Err(_) => Err(Refusal::BadSpelling),
+        Err(TextError::Memory) => Err(Refusal::Memory),
+        Err(TextError::Malformed) => Err(Refusal::BadSpelling),
     }
 }
 
 /// The row that a JSON value is, as it is printed. Tells where it doesn't conform to the schema, or where what is
 /// printed isn't read as the same row.
-fn row_line(alloc: Global, schema: &Schema<Global>, value: &Json) -> Result<String, Refusal> {
+fn row_line(alloc: Global, schema: &Schema<Global>, value: &Json<'_>) -> Result<String, Refusal> {
     let row = row_from_json(alloc, schema, value)?;
     let line = printed(alloc, schema, &row)?;
-    let again = row_from_json(alloc, schema, &json_of(alloc, line.as_bytes())?)?;
+    let again = row_of(alloc, schema, line.as_bytes())?;
     if !conforms(schema, &row) || !same_rows(&[row], &[again]) {
         return Ok(format!(in alloc; "{line} isn't read as it stands")?);
     }
     Ok(line)
+}
+
+/// The row that a text is.
+fn row_of(alloc: Global, schema: &Schema<Global>, text: &[u8]) -> Result<Value, Refusal> {
+    let mut scratch = Scratch::new(alloc);
+    let value = json_of(alloc, text, &mut scratch)?;
+    Ok(row_from_json(alloc, schema, &value)?)
 }
 
 /// A row, or the value of a leaf, as JSON.
@@ -66,22 +80,34 @@ pub fn printed(alloc: Global, schema: &Schema<Global>, row: &Value) -> Result<St
 }
 
 /// The rows that a JSON array is.
-pub fn rows_of(alloc: Global, schema: &Schema<Global>, value: &Json) -> Result<Vec<Value>, Refusal>
+pub fn rows_of(
+    alloc: Global,
+    schema: &Schema<Global>,
+    value: &Json<'_>,
+) -> Result<Vec<Value>, Refusal>
     ensures { IfOk result (λ rows. All (Conforms (tree_of schema.now)) (row_views rows.items)) }
 {
     let mut rows = Vec::new(alloc);
-    for value in value.as_array().ok_or(Refusal::BadSpelling)? {
+    for value in items_of(value)? {
         let row = row_from_json(alloc, schema, value)?;
         rows.push(row)?;
     }
     Ok(rows)
 }
 
+/// The items of a JSON array.
+fn items_of<'a, 't>(value: &'a Json<'t>) -> Result<&'a Vec<Json<'t>>, Refusal> {
+    match value {
+        Json::Array(items) => Ok(items),
+        _ => Err(Refusal::BadSpelling),
+    }
+}
+
 /// The columns of the rows that a JSON array is, a line for each; and whether they are assembled to the same rows.
 fn column_lines(
     alloc: Global,
     schema: &Schema<Global>,
-    value: &Json,
+    value: &Json<'_>,
 ) -> Result<Vec<String>, Refusal> {
     let rows = rows_of(alloc, schema, value)?;
     let shape = Shape::of_schema(alloc, schema)?;
@@ -138,10 +164,10 @@ fn leaf_copy(alloc: Global, value: &Value) -> Result<Value, AllocError> {
 fn assembled_lines(
     alloc: Global,
     schema: &Schema<Global>,
-    value: &Json,
+    value: &Json<'_>,
 ) -> Result<Vec<String>, Refusal> {
     let mut columns = Vec::new(alloc);
-    for column in value.as_array().ok_or(Refusal::BadSpelling)? {
+    for column in items_of(value)? {
         columns.push(column_of(alloc, column)?)?;
     }
     let shape = Shape::of_schema(alloc, schema)?;
@@ -157,29 +183,34 @@ fn assembled_lines(
     Ok(lines)
 }
 
+/// The column that the text of an object of `levels` and `values` is.
+pub fn column_in(alloc: Global, text: &[u8]) -> Result<Column<Value>, Refusal> {
+    let mut scratch = Scratch::new(alloc);
+    column_of(alloc, &json_of(alloc, text, &mut scratch)?)
+}
+
 /// The column that an object of `levels` and `values` is.
-pub fn column_of(alloc: Global, value: &Json) -> Result<Column<Value>, Refusal> {
+fn column_of(alloc: Global, value: &Json<'_>) -> Result<Column<Value>, Refusal> {
+    let members = named(alloc, value)?.ok_or(Refusal::BadSpelling)?;
     let mut levels = Vec::new(alloc);
-    for level in value
-        .get("levels")
-        .and_then(Json::as_array)
-        .ok_or(Refusal::BadSpelling)?
-    {
+    for level in items_at(&members, "levels")? {
+        let level = level.as_number().ok_or(Refusal::BadSpelling)?;
         levels.push(level.as_u64().ok_or(Refusal::BadSpelling)?)?;
     }
     let mut values = Vec::new(alloc);
-    for value in value
-        .get("values")
-        .and_then(Json::as_array)
-        .ok_or(Refusal::BadSpelling)?
-    {
+    for value in items_at(&members, "values")? {
         values.push(given_value(alloc, value)?)?;
     }
     Ok(Column { levels, values })
 }
 
+/// The items of the array under a name.
+fn items_at<'a, 't>(members: &Named<'a, 't>, name: &'a str) -> Result<&'a Vec<Json<'t>>, Refusal> {
+    items_of(member_of(members, name).ok_or(Refusal::BadSpelling)?)
+}
+
 /// The value that a JSON value stands for in a column, where an object is a struct without fields.
-fn given_value(alloc: Global, value: &Json) -> Result<Value, Refusal> {
+fn given_value(alloc: Global, value: &Json<'_>) -> Result<Value, Refusal> {
     match value {
         Json::Null => Ok(Value::Null),
         Json::Bool(truth) => Ok(Value::Bool(*truth)),

@@ -3,6 +3,7 @@ use Rattle.std.proofs.Common.{◌≡◌, ◌≢◌, ℕ, ◌<◌, ◌≤◌, ◌
 use Rattle.std.specs.Prelude.{codes, cond, nat_lt, option_map}
 use Rattle.std.specs.Str.{IsUtf8}
 use Rattle.std.proofs.lemmas.Bool.{eqb-false, le-ltb, ltb-false}
+use Rattle.serde_json.specs.Events.{items_len}
 use Rattle.serde_json.specs.Data.{Items}
 use Rattle.schema_tree.specs.Tree.{Tree}
 use Rattle.store_core.specs.Objects.{Objects, object_at}
@@ -22,7 +23,7 @@ use Rattle.table_model.specs.Table.{Entry, creation, group, last_batch, is_close
 use Rattle.table_store.specs.Commits.{IsCommitOf}
 use Rattle.table_store.proofs.Callers.{commit_name-data_file_name}
 use Rattle.table_model.proofs.Callers.{append_keeps}
-use Rattle.sink_core.specs.Appending.{Batch, Request, Step, puts, stands, checked, count, appending, file_name, is_repeat, request_of, file_or_refusal, batch_of, fitting, new_step, repeated_step, step_of, settled, answered, with_append, IsWellMade, PutsWell}
+use Rattle.sink_core.specs.Appending.{Batch, Request, Step, puts, stands, checked, appending, file_name, is_repeat, request_of, file_or_refusal, batch_of, fitting, new_step, repeated_step, step_of, settled, answered, with_append, IsWellMade, PutsWell}
 use Rattle.commit_core.specs.Commits.{commit_text}
 use Rattle.lake_script.specs.Lines.{append, task}
 use Rattle.sink_core.specs.Refusals.{Refusal, bad_app, too_large, file_too_large, stale, differs, bad_log}
@@ -203,7 +204,7 @@ step_behind objects schema entries application number at items fine barred takes
 -- that is what an append does over the objects
 pub step_is : (objects : Objects) (schema : Tree) (entries : List Entry) (application : List ℕ) (number at : ℕ) (items : Items) → IsUtf8 application → IsKept objects schema entries → length entries < 2 ^ 32
     → settled false objects application number at items
-    ≡ step_behind objects schema entries application number at items (checked application number (count items)) (has_key_inside (codes "delta.invariants") schema) (takes_rows schema)
+    ≡ step_behind objects schema entries application number at items (checked application number (items_len items)) (has_key_inside (codes "delta.invariants") schema) (takes_rows schema)
 unfolding request_of
 step_is objects schema entries application number at items utf8 kept few =
     let commits = made_of objects schema 0 entries kept.kept in
@@ -211,7 +212,7 @@ step_is objects schema entries application number at items utf8 kept few =
 
 -- where a table is kept, the answer is the plain table's
 table_agrees : (objects : Objects) (schema : Tree) (entries : List Entry) (application : List ℕ) (number at : ℕ) (items : Items) (fine : Result (Unit {0}) Refusal) (barred : Bool) (takes : Result (Unit {0}) Refusal)
-    → Keeps objects (table schema entries) → length entries < 2 ^ 32 → IsUtf8 application → checked application number (count items) ≡ fine
+    → Keeps objects (table schema entries) → length entries < 2 ^ 32 → IsUtf8 application → checked application number (items_len items) ≡ fine
     → IsSoundStep application number at (step_behind objects schema entries application number at items fine barred takes)
     → Agrees objects schema entries number (step_behind objects schema entries application number at items fine barred takes)
     (fine >>= λ passed. unless_invariant barred >>= λ plain. takes >>= λ supported. rows_from 0 schema items >>= λ rows. Ok (handed_in application number rows))
@@ -224,14 +225,14 @@ table_agrees objects schema entries application number at items (Ok passed) fals
         → Agrees objects schema entries number (step_with objects entries application number at schema read) (read >>= λ rows. Ok (handed_in application number rows))
     by_read (Err why) sound = (refl, kept)
     by_read (Ok rows) sound =
-        behind_agrees objects schema entries kept.0 kept.1 few application number at utf8 (small_number application number (count items) is) rows (last_batch application entries) refl sound
+        behind_agrees objects schema entries kept.0 kept.1 few application number at utf8 (small_number application number (items_len items) is) rows (last_batch application entries) refl sound
 
 -- what a line asks of a store of nothing
 abbrev pub step_of_nothing : (application : List ℕ) (number at : ℕ) → Result (Unit {0}) Refusal → Result Step Refusal
 step_of_nothing application number at fine = ◌>>=◌ {B = Request} fine (λ passed. Err (bad_log 0)) >>= step_of [] application number at
 
 -- that is what an append does where nothing stands
-pub nothing_is : (application : List ℕ) (number at : ℕ) (items : Items) → settled false [] application number at items ≡ step_of_nothing application number at (checked application number (count items))
+pub nothing_is : (application : List ℕ) (number at : ℕ) (items : Items) → settled false [] application number at items ≡ step_of_nothing application number at (checked application number (items_len items))
 unfolding request_of
 nothing_is application number at items = rw log_of_nothing refl
 
@@ -247,10 +248,10 @@ pub append_told : (objects : Objects) (state : State) (application : List ℕ) (
     → (reply_to_statement objects (task (append application number at items)) printed ≡ tables.reply_to_statement state (task (append application number at items)))
     × Keeps (left_by_statement objects (task (append application number at items)) printed) (tables.left_by_statement state (task (append application number at items)))
 append_told objects nothing application number at items printed keeps few sound =
-    rw (keeps, nothing_is application number at items) (nothing_agrees application number at (checked application number (count items)))
+    rw (keeps, nothing_is application number at items) (nothing_agrees application number at (checked application number (items_len items)))
 append_told objects (table schema entries) application number at items printed keeps few sound =
     let is = step_is objects schema entries application number at items sound.0 keeps.0 few in
     let step_sound : IsSoundStep application number at (settled false objects application number at items) = (sound.1, sound.2) in
     let barred = has_key_inside (codes "delta.invariants") schema in
-    let told = table_agrees objects schema entries application number at items (checked application number (count items)) barred (takes_rows schema) keeps few sound.0 refl (rw is at step_sound) in
+    let told = table_agrees objects schema entries application number at items (checked application number (items_len items)) barred (takes_rows schema) keeps few sound.0 refl (rw is at step_sound) in
     rw is told

@@ -2,6 +2,7 @@
 use Rattle.std.proofs.Common.{◌≡◌, ◌⊎◌, inl, inr, ℕ, suc, ◌+◌, ◌<◌, ◌≤◌, ◌^◌, List, [], ◌∷◌, length, Option, None, Some, IfSome, Result, Ok, Err, Bool, true, false, refl, sym, ap, subst, ◌∙◌, arith}
 use Rattle.std.specs.Prelude.{is_some}
 use Rattle.std.specs.Str.{IsUtf8}
+use Rattle.serde_json.specs.Events.{items_len}
 use Rattle.serde_json.specs.Data.{Items}
 use Rattle.delta_actions.specs.Commit.{lines_of}
 use Rattle.delta_actions.specs.Action.{Action}
@@ -10,7 +11,7 @@ use Rattle.store_core.specs.ObjectLaws.{with_object_absent}
 use Rattle.table_store.specs.Sound.{IsSound}
 use Rattle.table_model.specs.Table.{creation}
 use Rattle.table_store.proofs.Callers.{lawful_log}
-use Rattle.sink_core.specs.Appending.{checked, count, settled, with_append, with_file_alone}
+use Rattle.sink_core.specs.Appending.{checked, settled, with_append, with_file_alone}
 use Rattle.table_log.specs.Names.{commit_name}
 use Rattle.commit_core.specs.Creating as creations
 use Rattle.commit_core.specs.Creating.{commit_from, with_creation}
@@ -71,7 +72,7 @@ append_stays most objects application number at items new small utf8 (inl same) 
 append_stays most objects application number at items new small utf8 (inr (well, put)) stays = by_put put (goes stays)
   where
     goes : Stays most objects → GoesOn (suc most) objects (settled false objects application number at items)
-    goes (bare none) = rw (none, nothing_is application number at items) (append_over_nothing most application number at (checked application number (count items)))
+    goes (bare none) = rw (none, nothing_is application number at items) (append_over_nothing most application number at (checked application number (items_len items)))
     goes (keeps schema entries kept files up) = append_goes_on objects schema entries kept files (omega (arith, up, small)) most up application number at items utf8 well
 
     by_put : (new ≡ with_file_alone objects (settled false objects application number at items)) ⊎ (new ≡ with_append objects (settled false objects application number at items))

@@ -3,6 +3,7 @@ use Rattle.std.proofs.Common.{◌≡◌, ℕ, suc, ◌<◌, ◌≤◌, ◌^◌, 
 use Rattle.std.specs.Prelude.{bytes_eq, codes, cond, is_some, option_map, unwrap_or}
 use Rattle.std.specs.Str.{IsUtf8}
 use Rattle.std.proofs.lemmas.Slice.Eq.{bytes_eq-Decides}
+use Rattle.serde_json.specs.Events.{items_len}
 use Rattle.serde_json.specs.Data.{Items}
 use Rattle.schema_tree.specs.Tree.{Tree}
 use Rattle.store_core.specs.Objects.{Objects, object_at, with_object}
@@ -21,7 +22,7 @@ use Rattle.row_core.proofs.Callers.{same_rows-is}
 use Rattle.table_model.specs.Table as model
 use Rattle.table_model.specs.Table.{Entry, group, is_closed, last_batch}
 use Rattle.table_store.proofs.Callers.{commit_name-data_file_name}
-use Rattle.sink_core.specs.Appending.{Batch, Step, puts, stands, checked, count, file_name, is_repeat, is_same, unless_other, where_same, file_or_refusal, batch_of, fitting, new_step, step_of, settled, with_append, with_file_alone, IsWellMade, PutsWell}
+use Rattle.sink_core.specs.Appending.{Batch, Step, puts, stands, checked, file_name, is_repeat, is_same, unless_other, where_same, file_or_refusal, batch_of, fitting, new_step, step_of, settled, with_append, with_file_alone, IsWellMade, PutsWell}
 use Rattle.sink_core.specs.Refusals.{Refusal, stale, differs}
 use Rattle.lake_bytes.specs.Results.{◌>>=◌, refused_if}
 use Rattle.sink_core.specs.RowsIn.{rows_from, takes_rows}
@@ -209,7 +210,7 @@ pub append_goes_on : (objects : Objects) (schema : Tree) (entries : List Entry) 
     → (application : List ℕ) (number at : ℕ) (items : Items) → IsUtf8 application → PutsWell application number at (settled false objects application number at items) → GoesOn (suc most) objects (settled false objects application number at items)
 append_goes_on objects schema entries kept files few most up application number at items utf8 well =
     let is = step_is objects schema entries application number at items utf8 kept few in
-    rw is (by_tests (checked application number (count items)) (has_key_inside (codes "delta.invariants") schema) (takes_rows schema) refl (rw is at well))
+    rw is (by_tests (checked application number (items_len items)) (has_key_inside (codes "delta.invariants") schema) (takes_rows schema) refl (rw is at well))
   where
     same : GoesOn (suc most) objects (Ok stands)
     same = let still = keeps schema entries kept files (omega (arith, up)) in (still, still)
@@ -220,10 +221,10 @@ append_goes_on objects schema entries kept files few most up application number 
     by_read (Ok rows) small well =
         behind_goes_on objects schema entries kept files few most up application number at utf8 small rows (last_batch application entries) refl well
 
-    by_tests : (fine : Result (Unit {0}) Refusal) (barred : Bool) (takes : Result (Unit {0}) Refusal) → checked application number (count items) ≡ fine
+    by_tests : (fine : Result (Unit {0}) Refusal) (barred : Bool) (takes : Result (Unit {0}) Refusal) → checked application number (items_len items) ≡ fine
         → PutsWell application number at (step_behind objects schema entries application number at items fine barred takes) → GoesOn (suc most) objects (step_behind objects schema entries application number at items fine barred takes)
     by_tests (Err why) barred takes is well = same
     by_tests (Ok passed) true takes is well = same
     by_tests (Ok passed) false (Err why) is well = same
     by_tests (Ok passed) false (Ok supported) is well =
-        by_read (rows_from 0 schema items) (small_number application number (count items) is) well
+        by_read (rows_from 0 schema items) (small_number application number (items_len items) is) well

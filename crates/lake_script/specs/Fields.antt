@@ -3,10 +3,9 @@ use Rattle.std.specs.Prelude.{◌≡◌, ℕ, ◌^◌, ◌==◌, ◌&&◌, List,
 use Rattle.std.specs.List.{position_or_len, before_first, after_first}
 use Rattle.std.specs.Str.{all_ascii_digits}
 use Rattle.std.specs.Str.Parse.{digits_value, without_leading_plus}
-use Rattle.serde_json.specs.Data.{Data, null, boolean, number, string, array, object, Items}
+use Rattle.serde_json.specs.Data.{Items}
+use Rattle.serde_json.specs.Find.{as_array}
 use Rattle.serde_json.specs.Read.{read}
-use Rattle.serde_json.specs.Errors.{IsMemory}
-use Rattle.serde_json.specs.declared.error.Error.{Error}
 use Rattle.lake_bytes.specs.Options.{◌>>=◌}
 use Rattle.lake_script.specs.declared.fields.FieldError.{FieldError}
 use Rattle.lake_script.specs.declared.fields.FieldError.TheVariants.{Malformed, Memory}
@@ -19,10 +18,6 @@ Fails Memory said = Unit {0}
 abbrev pub Gives : {X Y : Type 0} → (X → Y) → Result X FieldError → Option Y → Type 0
 Gives view (Ok x) said = said ≡ Some (view x)
 Gives view (Err e) said = Fails e said
-
--- A text that isn't JSON is malformed, and a refused growth stays one.
-abbrev pub FaultOf : Error → FieldError → Type 0
-FaultOf error fault = (IsMemory error → fault ≡ Memory) × (¬ (IsMemory error) → fault ≡ Malformed)
 
 -- a space
 abbrev pub is_space : ℕ → Bool
@@ -64,15 +59,6 @@ max_of text = number_between 0 65_536 text
 abbrev pub tries_of : List ℕ → Option ℕ
 tries_of text = number_between 1 64 text
 
--- what an array has in it
-abbrev pub items_in : Data → Option Items
-items_in null = None
-items_in (boolean b) = None
-items_in (number n) = None
-items_in (string s) = None
-items_in (array items) = Some items
-items_in (object _) = None
-
 -- the members of a JSON array
 unfoldable pub array_of : List ℕ → Option Items
-array_of text = read text >>= items_in
+array_of text = read text >>= as_array

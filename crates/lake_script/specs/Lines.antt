@@ -3,7 +3,7 @@ use Rattle.std.specs.Prelude.{ℕ, ◌<◌, ◌^◌, ◌||◌, Bool, List, ⊤, 
 use Rattle.std.specs.List.{starts_with}
 use Rattle.std.specs.Str.{is_utf8}
 use Rattle.serde_json.specs.Data.{Items}
-use Rattle.serde_json.specs.View.{items_view}
+use Rattle.json_text.specs.Rows.{rows_data}
 use Rattle.delta_actions.specs.Commit.{is_blank}
 use Rattle.lake_script.specs.declared.kind.Kind.{Kind}
 use Rattle.lake_script.specs.declared.verb.Verb.{Verb}
@@ -131,20 +131,24 @@ bare_statement verb.Snapshot = Some snapshot
 bare_statement verb.History = Some history
 bare_statement _ = None
 
+-- a line of that verb with a number or a kind behind it
+abbrev pub counted_from : Verb → List ℕ → Option Statement
+counted_from verb.Show text = option_map show (number_of text)
+counted_from verb.Tries text = option_map tries (tries_of text)
+counted_from verb.Fault text = option_map fault (kind_of text)
+counted_from verb.Land text = option_map land (number_of text)
+counted_from _ text = None
+
 -- a line of that verb with this text behind it, where it has no task
 abbrev pub plain_from : Verb → List ℕ → Option Statement
 plain_from verb.Create text = create_from text
-plain_from verb.Show text = option_map show (number_of text)
 plain_from verb.Hex text = Some (hex text)
-plain_from verb.Tries text = option_map tries (tries_of text)
-plain_from verb.Fault text = option_map fault (kind_of text)
 plain_from verb.Until text = Some (until text)
 plain_from verb.Step text = step_from text
 plain_from verb.Finish text = Some (finish text)
 plain_from verb.Die text = Some (die text)
-plain_from verb.Land text = option_map land (number_of text)
 plain_from verb.Foreign text = foreign_from text
-plain_from _ text = None
+plain_from v text = counted_from v text
 
 -- a line of that verb with this text behind it
 abbrev pub statement_from : Verb → List ℕ → Option Statement
@@ -191,7 +195,7 @@ reading_of bytes =
 
 -- the task that a job of the code stands for
 abbrev pub task_view : Job → Task
-task_view (job.Append application number at rows) = append application.now number at (items_view rows.items)
+task_view (job.Append application number at rows) = append application.now number at (rows_data rows)
 task_view (job.Close application at) = close application.now at
 task_view job.Checkpoint = checkpoint
 task_view (job.Tail max offset) = tail max offset.now

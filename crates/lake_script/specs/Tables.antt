@@ -5,6 +5,7 @@
 use Rattle.std.specs.Prelude.{ℕ, suc, ◌+◌, ◌-◌, List, length, [], ◌∷◌, ◌++◌, Option, None, Some, Result, Ok, Err, codes, if◌then◌else◌}
 use Rattle.std.specs.Fmt.{decimal}
 use Rattle.std.specs.List.{flat_map}
+use Rattle.serde_json.specs.Events.{items_len}
 use Rattle.serde_json.specs.Data.{Items}
 use Rattle.table_model.specs.Table.{Batch, Entry, creation, batches_of, closes_of}
 use Rattle.delta_actions.specs.Names.{data_file_name}
@@ -14,7 +15,7 @@ use Rattle.table_model.specs.declared.table.Appended.TheVariants.{Committed, Alr
 use Rattle.table_model.specs.declared.reading.Offset.{Offset}
 use Rattle.table_model.specs.Reads.{Answer, handed, beyond, bad_place, read}
 use Rattle.schema_tree.specs.Tree.{Tree}
-use Rattle.sink_core.specs.Appending.{checked, count}
+use Rattle.sink_core.specs.Appending.{checked}
 use Rattle.commit_core.specs.Creating as creations
 use Rattle.commit_core.specs.Creating.{table_exists, described}
 use Rattle.commit_core.specs.Histories.{close_told, number_told}
@@ -60,9 +61,9 @@ with_table state (Err why) = state
 
 -- the batch that a line hands in, or the first reason why it hands in none
 abbrev pub batch_in : State → (application : List ℕ) (number : ℕ) → Items → Result Batch appends.Refusal
-batch_in nothing application number items = checked application number (count items) >>= λ fine. Err (appends.bad_log 0)
+batch_in nothing application number items = checked application number (items_len items) >>= λ fine. Err (appends.bad_log 0)
 batch_in (table schema entries) application number items = do
-  fine ← checked application number (count items)
+  fine ← checked application number (items_len items)
   plain ← refused_if (has_key_inside (codes "delta.invariants") schema) (appends.read_only (feature (codes "invariants")))
   supported ← takes_rows schema
   rows ← rows_from 0 schema items

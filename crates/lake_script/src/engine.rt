@@ -18,6 +18,7 @@ use crate::inputs::{Input, InputError};
 use crate::outputs::{Output, OutputError};
 use crate::reading::{Reading, reading_of};
 use crate::reply::execute;
+use json::Scratch;
 use std::alloc::Global;
 use std::io::{Read, Write};
 use store_core::Store;
@@ -81,6 +82,7 @@ fn answer<S: Store, W: Write>(
     is_short: &mut bool,
     restore: bool,
     known: &mut Known,
+    scratch: &mut Scratch,
 ) -> Result<bool, OutputError>
     requires { IsKnown (S.objects store.old) known.old }
     ensures known { IsKnown (S.objects store.new) known.new }
@@ -101,7 +103,7 @@ fn answer<S: Store, W: Write>(
     ensures broken { result ≡ Err OutputError.Broken → write_failed output.new ≡ true }
     ensures memory { result ≡ Err OutputError.Memory → write_failed output.new ≡ write_failed output.old }
 {
-    match reading_of(alloc, line)? {
+    match reading_of(alloc, line, scratch)? {
         Reading::Skipped => Ok(true),
         Reading::Bad => {
             output.say(format_args!("bad line {number}"))?;
@@ -150,10 +152,19 @@ fn answer_all<S: Store, W: Write>(
     let mut number = 1u64;
     let mut rest = Some(text);
     let mut known = Known::new(alloc);
+    let mut scratch = Scratch::new(alloc);
     while let Some(text) = rest {
         let (line, after) = first_line(text);
         if !answer(
-            alloc, number, line, store, output, is_short, restore, &mut known,
+            alloc,
+            number,
+            line,
+            store,
+            output,
+            is_short,
+            restore,
+            &mut known,
+            &mut scratch,
         )? {
             return Ok(Some(number));
         }

@@ -1,9 +1,10 @@
 // The fields of a line: words, numbers, and arrays.
 ghost use Rattle.std.specs.Prelude.{◌≡◌, option_map};
-ghost use Rattle.serde_json.specs.View.{items_view};
-ghost use Rattle.lake_script.specs.Fields.{FaultOf, Gives, word_and_rest, number_of, number_between, moment_of, max_of, tries_of, array_of};
+ghost use Rattle.json_text.specs.View.{items_view};
+ghost use Rattle.lake_script.specs.Fields.{Gives, word_and_rest, number_of, number_between, moment_of, max_of, tries_of, array_of};
 
-use serde_json::Value;
+use json::Scratch;
+use json_text::{TextError, Value, value_in};
 use std::alloc::Global;
 
 /// Why a line could not be read.
@@ -13,18 +14,6 @@ pub enum FieldError {
     Malformed,
     /// A growth was refused.
     Memory,
-}
-
-impl From<serde_json::Error> for FieldError {
-    ghost from_gives = { FaultOf };
-
-    fn from(error: serde_json::Error) -> FieldError {
-        if error.is_memory() {
-            FieldError::Memory
-        } else {
-            FieldError::Malformed
-        }
-    }
 }
 
 /// The word before the first space, and the text behind that space.
@@ -78,11 +67,16 @@ pub fn tries_of(text: &str) -> Option<u64>
 
 /// The members of a JSON array.
 #[tactic(auto, unfolding(crate::specs::Fields::array_of))]
-pub fn array_of(alloc: Global, text: &str) -> Result<Vec<Value>, FieldError>
+pub fn array_of<'a>(
+    alloc: Global,
+    text: &'a str,
+    scratch: &'a mut Scratch,
+) -> Result<Vec<Value<'a>>, FieldError>
     ensures { Gives (λ v. items_view v.items) result (array_of text.now) }
 {
-    match Value::from_str(alloc, text)? {
-        Value::Array(items) => Ok(items),
-        _other => Err(FieldError::Malformed),
+    match value_in(alloc, text, scratch) {
+        Ok(Value::Array(items)) => Ok(items),
+        Ok(_) | Err(TextError::Malformed) => Err(FieldError::Malformed),
+        Err(TextError::Memory) => Err(FieldError::Memory),
     }
 }

@@ -1,12 +1,13 @@
 // The lines of a script, and the reader of one line.
 ghost use Rattle.std.specs.Prelude.{◌≡◌, option_map};
 ghost use Rattle.lake_script.specs.Fields.{Gives};
-ghost use Rattle.lake_script.specs.Lines.{task_view, statement_view, append_head, append_from, close_from, tail_from, task_from, bare_task, task_of, create_from, start_from, step_from, foreign_from, bare_statement, plain_from, statement_from, statement_of};
+ghost use Rattle.lake_script.specs.Lines.{task_view, statement_view, append_head, append_from, close_from, tail_from, task_from, bare_task, task_of, create_from, start_from, step_from, foreign_from, bare_statement, counted_from, plain_from, statement_from, statement_of};
 
 use crate::fields::{FieldError, array_of, max_of, moment_of, number_of, tries_of, word_and_rest};
 use crate::kind::Kind;
 use crate::verb::Verb;
-use serde_json::Value;
+use json::Scratch;
+use json_text::JsonRows;
 use std::alloc::Global;
 
 /// What an actor can be started with.
@@ -17,7 +18,7 @@ pub enum Job<'a> {
         application: &'a str,
         number: u64,
         at: u64,
-        rows: Vec<Value>,
+        rows: JsonRows<'a>,
     },
     /// Closes the application's stream.
     Close {
@@ -110,11 +111,15 @@ fn append_head(text: &str) -> Option<(&str, u64, u64, &str)>
 }
 
 #[tactic(auto, unfolding(crate::specs::Lines::append_from))]
-fn append_from<'a>(alloc: Global, text: &'a str) -> Result<Job<'a>, FieldError>
+fn append_from<'a>(
+    alloc: Global,
+    text: &'a str,
+    scratch: &'a mut Scratch,
+) -> Result<Job<'a>, FieldError>
     ensures { Gives task_view result (append_from text.now) }
 {
     let (application, number, at, rows) = append_head(text).ok_or(FieldError::Malformed)?;
-    let rows = array_of(alloc, rows)?;
+    let rows = JsonRows::Values(array_of(alloc, rows, scratch)?);
     Ok(Job::Append {
         application,
         number,
@@ -141,11 +146,16 @@ fn tail_from(text: &str) -> Option<Job<'_>>
     Some(Job::Tail { max, offset })
 }
 
-fn task_from<'a>(alloc: Global, verb: Verb, text: &'a str) -> Result<Job<'a>, FieldError>
+fn task_from<'a>(
+    alloc: Global,
+    verb: Verb,
+    text: &'a str,
+    scratch: &'a mut Scratch,
+) -> Result<Job<'a>, FieldError>
     ensures { Gives task_view result (task_from verb text.now) }
 {
     match verb {
-        Verb::Append => append_from(alloc, text),
+        Verb::Append => append_from(alloc, text, scratch),
         Verb::Close => close_from(text).ok_or(FieldError::Malformed),
         Verb::Tail => tail_from(text).ok_or(FieldError::Malformed),
         _ => Err(FieldError::Malformed),
@@ -162,13 +172,17 @@ fn bare_task<'a>(verb: Verb) -> Option<Job<'a>>
 }
 
 #[tactic(auto, unfolding(crate::specs::Lines::task_of))]
-fn task_of<'a>(alloc: Global, text: &'a str) -> Result<Job<'a>, FieldError>
+fn task_of<'a>(
+    alloc: Global,
+    text: &'a str,
+    scratch: &'a mut Scratch,
+) -> Result<Job<'a>, FieldError>
     ensures { Gives task_view result (task_of text.now) }
 {
     match word_and_rest(text) {
         Some((word, rest)) => {
             let verb = Verb::from_word(word).ok_or(FieldError::Malformed)?;
-            task_from(alloc, verb, rest)
+            task_from(alloc, verb, rest, scratch)
         }
         None => {
             let verb = Verb::from_word(text).ok_or(FieldError::Malformed)?;
@@ -188,11 +202,15 @@ fn create_from(text: &str) -> Option<Line<'_>>
 }
 
 #[tactic(auto, unfolding(crate::specs::Lines::start_from))]
-fn start_from<'a>(alloc: Global, text: &'a str) -> Result<Line<'a>, FieldError>
+fn start_from<'a>(
+    alloc: Global,
+    text: &'a str,
+    scratch: &'a mut Scratch,
+) -> Result<Line<'a>, FieldError>
     ensures { Gives statement_view result (start_from text.now) }
 {
     let (actor, job) = word_and_rest(text).ok_or(FieldError::Malformed)?;
-    let job = task_of(alloc, job)?;
+    let job = task_of(alloc, job, scratch)?;
     Ok(Line::Start { actor, job })
 }
 
@@ -225,45 +243,74 @@ fn bare_line<'a>(verb: Verb) -> Option<Line<'a>>
     }
 }
 
+// A line with a number or a kind, of whose text nothing is kept.
+fn counted_line<'a>(verb: Verb, text: &str) -> Option<Line<'a>>
+    ensures { option_map statement_view result ≡ counted_from verb text.now }
+{
+    let line = match verb {
+        Verb::Show => Line::Show {
+            version: number_of(text)?,
+        },
+        Verb::Tries => Line::Tries {
+            count: tries_of(text)?,
+        },
+        Verb::Fault => Line::Fault {
+            kind: Kind::from_word(text)?,
+        },
+        Verb::Land => Line::Land {
+            put: number_of(text)?,
+        },
+        _ => return None,
+    };
+    Some(line)
+}
+
 // A line that is neither a job nor names one, so that nothing of it is kept in memory.
 fn plain_line(verb: Verb, text: &str) -> Option<Line<'_>>
     ensures { option_map statement_view result ≡ plain_from verb text.now }
 {
     match verb {
         Verb::Create => create_from(text),
-        Verb::Show => number_of(text).map(|version| Line::Show { version }),
         Verb::Hex => Some(Line::Hex { name: text }),
-        Verb::Tries => tries_of(text).map(|count| Line::Tries { count }),
-        Verb::Fault => Kind::from_word(text).map(|kind| Line::Fault { kind }),
         Verb::Until => Some(Line::Until { actor: text }),
         Verb::Step => step_from(text),
         Verb::Finish => Some(Line::Finish { actor: text }),
         Verb::Die => Some(Line::Die { actor: text }),
-        Verb::Land => number_of(text).map(|put| Line::Land { put }),
         Verb::Foreign => foreign_from(text),
-        _ => None,
+        _ => counted_line(verb, text),
     }
 }
 
-fn line_from<'a>(alloc: Global, verb: Verb, text: &'a str) -> Result<Line<'a>, FieldError>
+fn line_from<'a>(
+    alloc: Global,
+    verb: Verb,
+    text: &'a str,
+    scratch: &'a mut Scratch,
+) -> Result<Line<'a>, FieldError>
     ensures { Gives statement_view result (statement_from verb text.now) }
 {
     match verb {
-        Verb::Append | Verb::Close | Verb::Tail => { Ok(Line::Job(task_from(alloc, verb, text)?)) }
-        Verb::Start => start_from(alloc, text),
+        Verb::Append | Verb::Close | Verb::Tail => {
+            Ok(Line::Job(task_from(alloc, verb, text, scratch)?))
+        }
+        Verb::Start => start_from(alloc, text, scratch),
         _ => plain_line(verb, text).ok_or(FieldError::Malformed),
     }
 }
 
 /// Reads the text of a line that is neither blank nor a comment.
 #[tactic(auto, unfolding(crate::specs::Lines::statement_of))]
-pub fn line_of<'a>(alloc: Global, text: &'a str) -> Result<Line<'a>, FieldError>
+pub fn line_of<'a>(
+    alloc: Global,
+    text: &'a str,
+    scratch: &'a mut Scratch,
+) -> Result<Line<'a>, FieldError>
     ensures { Gives statement_view result (statement_of text.now) }
 {
     match word_and_rest(text) {
         Some((word, rest)) => {
             let verb = Verb::from_word(word).ok_or(FieldError::Malformed)?;
-            line_from(alloc, verb, rest)
+            line_from(alloc, verb, rest, scratch)
         }
         None => {
             let verb = Verb::from_word(text).ok_or(FieldError::Malformed)?;

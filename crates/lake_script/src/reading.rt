@@ -5,6 +5,7 @@ ghost use Rattle.lake_script.specs.Lines.{text_of, reading_of, reading_view};
 
 use crate::fields::FieldError;
 use crate::line::{Line, line_of};
+use json::Scratch;
 use std::alloc::{AllocError, Global};
 use std::str;
 
@@ -35,7 +36,11 @@ fn is_blank(bytes: &[u8]) -> bool
 
 /// Reads one line, without the newline behind it. The only error is that a growth was refused.
 #[tactic(auto, unfolding(crate::specs::Lines::reading_of))]
-pub fn reading_of<'a>(alloc: Global, bytes: &'a [u8]) -> Result<Reading<'a>, AllocError>
+pub fn reading_of<'a>(
+    alloc: Global,
+    bytes: &'a [u8],
+    scratch: &'a mut Scratch,
+) -> Result<Reading<'a>, AllocError>
     ensures { IfOk result (λ reading. reading_view reading ≡ reading_of bytes.now) }
 {
     if is_blank(bytes) || bytes.starts_with(b"#") {
@@ -44,7 +49,7 @@ pub fn reading_of<'a>(alloc: Global, bytes: &'a [u8]) -> Result<Reading<'a>, All
     let Some(text) = text_of(bytes) else {
         return Ok(Reading::Bad);
     };
-    match line_of(alloc, text) {
+    match line_of(alloc, text, scratch) {
         Ok(line) => Ok(Reading::Asks(line)),
         Err(FieldError::Malformed) => Ok(Reading::Bad),
         Err(FieldError::Memory) => Err(AllocError),

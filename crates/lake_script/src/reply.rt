@@ -1,7 +1,7 @@
 // What a line is told, and how it is found.
 ghost use Rattle.std.specs.Prelude.{◌≡◌, ◌<◌, ◌^◌, ◌⊎◌, [], Bool, false, OnOk, OnErr, true};
 ghost use Rattle.std.specs.Io.KnownBytes.{Appends};
-ghost use Rattle.serde_json.specs.View.{items_view};
+ghost use Rattle.json_text.specs.Rows.{rows_data};
 ghost use Rattle.store_core.specs.Calls.{HasRisen};
 ghost use Rattle.store_core.specs.Objects.{Objects, object_at};
 ghost use Rattle.table_log.specs.Known.{IsKnown};
@@ -23,7 +23,7 @@ use crate::line::{Job, Line};
 use crate::outputs::{Output, OutputError};
 use crate::showing::hex_of;
 use commit_core::{CreateFault, create, history};
-use serde_json::Value;
+use json_text::JsonRows;
 use sink_core::{AppendFault, Appended, append};
 use snapshot_core::{SnapshotFault, checkpoint};
 use source_core::{TailFault, tail};
@@ -139,17 +139,17 @@ fn append_batch<S: Store>(
     application: &str,
     number: u64,
     at: u64,
-    rows: &[Value],
+    rows: &JsonRows<'_>,
     restore: bool,
     known: &mut Known,
 ) -> Reply
     requires at { at < 2 ^ 63 }
     requires known { IsKnown (S.objects store.old) known.old }
     ensures known { IsKnown (S.objects store.new) known.new }
-    ensures told { S.is_reliable store.old → RestoresWell restore (S.objects store.old) → Executes (S.objects store.old) (task (append application.now number at (items_view rows.now))) (reply_text result) (S.objects store.new) }
-    ensures whole { S.is_reliable store.old → RestoresWell restore (S.objects store.old) → is_short result ≡ false → IsExecuted (S.objects store.old) (task (append application.now number at (items_view rows.now))) (reply_text result) (S.objects store.new) }
-    ensures grows { S.is_reliable store.old → RestoresWell restore (S.objects store.old) → MayPut (S.objects store.old) (task (append application.now number at (items_view rows.now))) (S.objects store.new) }
-    ensures short { RestoresWell restore (S.objects store.old) → is_short result ≡ true → IsShort (S.objects store.old) (task (append application.now number at (items_view rows.now))) (reply_text result) }
+    ensures told { S.is_reliable store.old → RestoresWell restore (S.objects store.old) → Executes (S.objects store.old) (task (append application.now number at (rows_data rows.now))) (reply_text result) (S.objects store.new) }
+    ensures whole { S.is_reliable store.old → RestoresWell restore (S.objects store.old) → is_short result ≡ false → IsExecuted (S.objects store.old) (task (append application.now number at (rows_data rows.now))) (reply_text result) (S.objects store.new) }
+    ensures grows { S.is_reliable store.old → RestoresWell restore (S.objects store.old) → MayPut (S.objects store.old) (task (append application.now number at (rows_data rows.now))) (S.objects store.new) }
+    ensures short { RestoresWell restore (S.objects store.old) → is_short result ≡ true → IsShort (S.objects store.old) (task (append application.now number at (rows_data rows.now))) (reply_text result) }
     ensures reliable { S.is_reliable store.old → S.is_reliable store.new }
     ensures lost { says_lost result ≡ true → HasRisen (S.fault_count store.old) (S.fault_count store.new) }
     ensures counted { says_lost result ≡ false → S.fault_count store.new ≡ S.fault_count store.old }
@@ -314,8 +314,8 @@ fn execute_job<S: Store>(
             application,
             number,
             at,
-            ref rows,
-        } => append_batch(alloc, store, application, number, at, rows, restore, known),
+            rows,
+        } => append_batch(alloc, store, application, number, at, &rows, restore, known),
         Job::Tail { max, offset } => read(alloc, store, max, offset, restore, known),
         Job::Checkpoint => {
             forget(alloc, known);

@@ -1,5 +1,5 @@
 -- Where as many fields of a struct are found in an object as it has names, no other name stands there.
-use Rattle.std.proofs.Common.{◌≡◌, ℕ, suc, ◌+◌, ◌≤◌, List, [], ◌∷◌, Bool, true, false, ◌||◌, cond, bytes_eq, Option, Some, None, option_map, Bor, Ordering, Less, Equal, Greater, String, Global, length, refl, ap, sym, ◌∙◌, arith}
+use Rattle.std.proofs.Common.{◌≡◌, ℕ, suc, ◌+◌, ◌≤◌, List, [], ◌∷◌, Bool, true, false, ◌||◌, cond, bytes_eq, Option, Some, None, option_map, Bor, Ordering, Less, Equal, Greater, length, refl, ap, sym, ◌∙◌, arith}
 use Rattle.std.specs.Prelude.{not, is_some}
 use Rattle.std.specs.Ordering.{nat_cmp, match_ordering, is_eq}
 use Rattle.std.specs.Cmp.Lexicographic.{slice_cmp}
@@ -7,8 +7,8 @@ use Rattle.std.proofs.lemmas.Map.Text.{is_eq-slice_cmp}
 use Rattle.std.proofs.lemmas.Slice.Eq.{bytes_eq-Decides}
 use Rattle.serde_json.specs.Data.{Data, null, boolean, number, string, array, object, Members, no_members, member}
 use Rattle.serde_json.specs.Find.{get, get_member, as_object}
-use Rattle.serde_json.specs.View.{view, members_view}
-use Rattle.serde_json.specs.declared.value.Value.{Value}
+use Rattle.json_text.specs.View.{view, named_view}
+use Rattle.json_text.specs.declared.value.Value.{Value}
 use Rattle.schema_tree.specs.Limits.{is_named, is_sound, are_sound}
 use Rattle.schema_tree.specs.Tree.{Fields, no_fields, field, Column, fields_of}
 use Rattle.row_core.specs.Reading.{unknown_name}
@@ -114,9 +114,9 @@ none_unknown fs ms sound e =
     let high = known_names fs ms in
     all_known fs ms (omega arith)
 
-pub names-members_view : (es : List (String Global × Value)) → names (members_view es) ≡ length es
-names-members_view [] = refl
-names-members_view (e ∷ es) = ap suc (names-members_view es)
+pub names-named_view : (es : List (Bor (List ℕ) × Bor Value)) → names (named_view es) ≡ length es
+names-named_view [] = refl
+names-named_view (e ∷ es) = ap suc (names-named_view es)
 
 -- ---- one field after another
 

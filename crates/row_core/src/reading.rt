@@ -1,10 +1,9 @@
 //! JSON values read as rows.
 
 ghost use Rattle.std.specs.Prelude.{◌≡◌, ◌≤◌, ◌^◌, option_map, unwrap_or, IsTrue, true, Some, None};
-ghost use Rattle.serde_json.specs.Data.{null};
-ghost use Rattle.serde_json.specs.Find.{as_object};
+ghost use Rattle.serde_json.specs.Data.{null, object};
 ghost use Rattle.schema_tree.specs.Limits.{is_named, is_sound, are_sound};
-ghost use Rattle.serde_json.specs.View.{view as json_view, members_view};
+ghost use Rattle.json_text.specs.View.{view as json_view, named_view};
 ghost use Rattle.lake_bytes.specs.Outcome.{Gives};
 ghost use Rattle.lake_bytes.specs.Results.{refused_as};
 ghost use Rattle.row_core.specs.Fault.{says, inside};
@@ -19,8 +18,8 @@ use crate::ranges::{MAX_BYTES, is_within};
 use crate::support::unsupported;
 use crate::value::Value;
 use hex::FromHexError;
+use json_text::{Named, Value as Json, member_of, named};
 use schema_tree::{Field, Node, Primitive, Schema};
-use serde_json::{Map, Value as Json};
 use std::alloc::{Allocator, Global};
 
 /// The row of a table that a JSON value is.
@@ -38,7 +37,7 @@ use std::alloc::{Allocator, Global};
 pub fn row_from_json<A: Allocator>(
     alloc: Global,
     schema: &Schema<A>,
-    value: &Json,
+    value: &Json<'_>,
 ) -> Result<Value, RowError>
     // The row or the fault is the one that the value has, unless memory runs out.
     ensures { Gives says value_view result (row_of (tree_of schema.now) (json_view value.now)) }
@@ -52,7 +51,7 @@ pub fn row_from_json<A: Allocator>(
     struct_value(alloc, schema.fields(), value)
 }
 
-fn truth_value(value: &Json) -> Result<Value, RowError>
+fn truth_value(value: &Json<'_>) -> Result<Value, RowError>
     ensures { Gives says value_view result (leaf_value Primitive.Boolean (json_view value.now)) }
 {
     match value.as_bool() {
@@ -62,7 +61,7 @@ fn truth_value(value: &Json) -> Result<Value, RowError>
 }
 
 /// The whole number that a value is, from -limit to limit - 1.
-fn whole_value(limit: u64, value: &Json) -> Result<Value, RowError>
+fn whole_value(limit: u64, value: &Json<'_>) -> Result<Value, RowError>
     requires { limit ≤ 2 ^ 63 }
     ensures { Gives says value_view result (whole_value limit (json_view value.now)) }
 {
@@ -76,7 +75,7 @@ fn whole_value(limit: u64, value: &Json) -> Result<Value, RowError>
     }
 }
 
-fn text_value(alloc: Global, value: &Json) -> Result<Value, RowError>
+fn text_value(alloc: Global, value: &Json<'_>) -> Result<Value, RowError>
     ensures { Gives says value_view result (text_value (json_view value.now)) }
 {
     match value.as_str() {
@@ -90,7 +89,7 @@ fn text_value(alloc: Global, value: &Json) -> Result<Value, RowError>
 }
 
 /// The bytes that a hexadecimal text is.
-fn bytes_value(alloc: Global, value: &Json) -> Result<Value, RowError>
+fn bytes_value(alloc: Global, value: &Json<'_>) -> Result<Value, RowError>
     ensures { Gives says value_view result (bytes_value (json_view value.now)) }
 {
     let Some(text) = value.as_str() else {
@@ -104,7 +103,7 @@ fn bytes_value(alloc: Global, value: &Json) -> Result<Value, RowError>
     }
 }
 
-fn leaf_value(alloc: Global, primitive: Primitive, value: &Json) -> Result<Value, RowError>
+fn leaf_value(alloc: Global, primitive: Primitive, value: &Json<'_>) -> Result<Value, RowError>
     ensures { Gives says value_view result (leaf_value primitive (json_view value.now)) }
 {
     match primitive {
@@ -133,31 +132,30 @@ fn is_named<A: Allocator>(name: &str, fields: &[Field<A>]) -> bool
 }
 
 /// The first name, by bytes, that no field has.
-fn unknown_name<'a, A: Allocator>(
+fn unknown_name<'a, 't, A: Allocator>(
     fields: &[Field<A>],
-    members: &'a Map<String, Json>,
+    members: &Named<'a, 't>,
 ) -> Option<&'a str>
     ensures { option_map (λ name. name.now) result
-        ≡ unknown_name (fields_of (field_views fields.now)) (members_view members.now.entries) }
+        ≡ unknown_name (fields_of (field_views fields.now)) (named_view members.now.entries) }
 {
     for (name, _) in members.iter() {
-        if !is_named(name.as_str(), fields) {
-            return Some(name.as_str());
+        if !is_named(name, fields) {
+            return Some(*name);
         }
     }
     None
 }
 
 /// Whether an object has as many names as there are fields that are found in it.
-fn has_just<A: Allocator>(fields: &[Field<A>], value: &Json, members: &Map<String, Json>) -> bool
-    requires sound { are_sound (fields_of (field_views fields.now)) ≡ true }
-    requires object { as_object (json_view value.now) ≡ Some (members_view members.now.entries) }
+fn has_just<'a, 't, A: Allocator>(fields: &'a [Field<A>], members: &Named<'a, 't>) -> bool
+    requires { are_sound (fields_of (field_views fields.now)) ≡ true }
     ensures { IsTrue result
-        → unknown_name (fields_of (field_views fields.now)) (members_view members.now.entries) ≡ None }
+        → unknown_name (fields_of (field_views fields.now)) (named_view members.now.entries) ≡ None }
 {
     let mut found = 0;
     for field in fields {
-        if value.get(field.name.as_str()).is_some() {
+        if member_of(members, field.name.as_str()).is_some() {
             found += 1;
         }
     }
@@ -166,7 +164,11 @@ fn has_just<A: Allocator>(fields: &[Field<A>], value: &Json, members: &Map<Strin
 
 /// The value of a type that a value other than null is.
 #[cycle(read)]
-fn type_value<A: Allocator>(alloc: Global, node: &Node<A>, value: &Json) -> Result<Value, RowError>
+fn type_value<'a, 't, A: Allocator>(
+    alloc: Global,
+    node: &'a Node<A>,
+    value: &'a Json<'t>,
+) -> Result<Value, RowError>
     requires { is_sound (view node.now) ≡ true }
     ensures { Gives says value_view result (value_of (view node.now) (json_view value.now)) }
 {
@@ -180,20 +182,34 @@ fn type_value<A: Allocator>(alloc: Global, node: &Node<A>, value: &Json) -> Resu
 
 /// The struct of these fields that an object is.
 #[cycle(read)]
-fn struct_value<A: Allocator>(
+fn struct_value<'a, 't, A: Allocator>(
     alloc: Global,
-    fields: &[Field<A>],
-    value: &Json,
+    fields: &'a [Field<A>],
+    value: &'a Json<'t>,
 ) -> Result<Value, RowError>
     requires { are_sound (fields_of (field_views fields.now)) ≡ true }
     ensures { Gives says value_view result
         (value_of (struct (fields_of (field_views fields.now))) (json_view value.now)) }
 {
-    let Some(members) = value.as_object() else {
-        return Err(RowFault::wrong_kind().into());
-    };
-    let values = field_values(alloc, fields, value)?;
-    if has_just(fields, value, members) {
+    match named(alloc, value)? {
+        Some(members) => named_struct(alloc, fields, &members),
+        None => Err(RowFault::wrong_kind().into()),
+    }
+}
+
+/// The struct of these fields that an object's members are.
+#[cycle(read)]
+fn named_struct<'a, 't, A: Allocator>(
+    alloc: Global,
+    fields: &'a [Field<A>],
+    members: &Named<'a, 't>,
+) -> Result<Value, RowError>
+    requires { are_sound (fields_of (field_views fields.now)) ≡ true }
+    ensures { Gives says value_view result
+        (value_of (struct (fields_of (field_views fields.now))) (object (named_view members.now.entries))) }
+{
+    let values = field_values(alloc, fields, members)?;
+    if has_just(fields, members) {
         return Ok(Value::Struct(values));
     }
     match unknown_name(fields, members) {
@@ -207,18 +223,18 @@ fn struct_value<A: Allocator>(
 
 /// The values of the fields, in order.
 #[cycle(read)]
-fn field_values<A: Allocator>(
+fn field_values<'a, 't, A: Allocator>(
     alloc: Global,
-    fields: &[Field<A>],
-    value: &Json,
+    fields: &'a [Field<A>],
+    members: &Named<'a, 't>,
 ) -> Result<Vec<Value>, RowError>
     requires { are_sound (fields_of (field_views fields.now)) ≡ true }
     ensures { Gives says (λ values. row_views values.items) result
-        (field_values (fields_of (field_views fields.now)) (json_view value.now)) }
+        (field_values (fields_of (field_views fields.now)) (object (named_view members.now.entries))) }
 {
     let mut values = Vec::with_capacity(alloc, fields.len())?;
     for field in fields {
-        let value = field_value(alloc, field, value)?;
+        let value = field_value(alloc, field, members)?;
         values.push(value)?;
     }
     Ok(values)
@@ -226,17 +242,17 @@ fn field_values<A: Allocator>(
 
 /// The value of a field of an object, a fault told from outside the field.
 #[cycle(read)]
-fn field_value<A: Allocator>(
+fn field_value<'a, 't, A: Allocator>(
     alloc: Global,
-    field: &Field<A>,
-    value: &Json,
+    field: &'a Field<A>,
+    members: &Named<'a, 't>,
 ) -> Result<Value, RowError>
     requires { is_sound (field_view field.now).data_type ≡ true }
-    ensures { let c = field_view field.now in let d = under c.name (json_view value.now) in
+    ensures { let c = field_view field.now in let d = under c.name (object (named_view members.now.entries)) in
         Gives says value_view result
         (refused_as (inside c.name) (unless_null c.nullable d (value_of c.data_type d))) }
 {
-    match value_or_null(alloc, field, value.get(field.name.as_str())) {
+    match value_or_null(alloc, field, member_of(members, field.name.as_str())) {
         Ok(value) => Ok(value),
         Err(error) => Err(error.inside(alloc, field.name.as_str())),
     }
@@ -244,10 +260,10 @@ fn field_value<A: Allocator>(
 
 /// The value of a field, where null or nothing may stand.
 #[cycle(read)]
-fn value_or_null<A: Allocator>(
+fn value_or_null<'a, 't, A: Allocator>(
     alloc: Global,
-    field: &Field<A>,
-    value: Option<&Json>,
+    field: &'a Field<A>,
+    value: Option<&'a Json<'t>>,
 ) -> Result<Value, RowError>
     requires { is_sound (field_view field.now).data_type ≡ true }
     ensures { let c = field_view field.now in

@@ -1,6 +1,7 @@
 -- Where a log is read from a checkpoint, what an append does and answers is what it does and answers over the whole log.
 use Rattle.std.proofs.Common.{◌≡◌, ℕ, List, Bool, false, Result, Ok, Err, refl, ap}
 use Rattle.lake_bytes.specs.Results.{◌>>=◌, refused_as}
+use Rattle.serde_json.specs.Events.{items_len}
 use Rattle.serde_json.specs.Data.{Items}
 use Rattle.store_core.specs.Objects.{Objects}
 use Rattle.delta_actions.specs.Action.{Action}
@@ -9,7 +10,7 @@ use Rattle.table_log.specs.Counts.{commit_count}
 use Rattle.table_log.specs.Restoring.{AreAlike, RestoresWell, seen}
 use Rattle.table_log.specs.Versions.{log_of}
 use Rattle.table_log.proofs.Callers.{same_values, seen_alike}
-use Rattle.sink_core.specs.Appending.{Request, Step, answered, appended_by, checked, count, request_behind, request_of, settled, step_of}
+use Rattle.sink_core.specs.Appending.{Request, Step, answered, appended_by, checked, request_behind, request_of, settled, step_of}
 use Rattle.sink_core.specs.Refusals.{Refusal, bad_log}
 
 -- behind logs that leave the same for each key the same is asked
@@ -32,7 +33,7 @@ behind_alike (Err version) (Ok log) alike next application number items = absurd
 request_alike : (restore : Bool) (objects : Objects) → AreAlike (seen restore objects) (log_of objects) → (application : List ℕ) (number : ℕ) (items : Items)
     → request_of restore objects application number items ≡ request_of false objects application number items
 unfolding request_of
-request_alike restore objects alike application number items = by_check (checked application number (count items))
+request_alike restore objects alike application number items = by_check (checked application number (items_len items))
   where
     by_check : (fine : Result (Unit {0}) Refusal) → (fine >>= λ (x : Unit {0}). refused_as bad_log (seen restore objects) >>= λ (commits : List (List Action)). request_behind (commit_count objects) commits application number items)
         ≡ (fine >>= λ (x : Unit {0}). refused_as bad_log (log_of objects) >>= λ (commits : List (List Action)). request_behind (commit_count objects) commits application number items)

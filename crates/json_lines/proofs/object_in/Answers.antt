@@ -1,13 +1,22 @@
-use Rattle.std.proofs.Common.{sym, ◌∙◌, true≢false}
-use Rattle.serde_json.specs.View.{view}
-use Rattle.json_lines.proofs.Objects.{object_is, no_json}
+use Rattle.std.proofs.Common.{◌≡◌, true, false, Some, sym, ap, ◌∙◌}
+use Rattle.std.specs.Prelude.{is_some}
+use Rattle.serde_json.specs.Read.{read}
+use Rattle.json_text.specs.Rows.{text_data}
+use Rattle.json_lines.specs.Rows.{only_object}
+use Rattle.json_lines.proofs.Objects.{object_is, no_object, no_text}
 use Rattle.json_lines.proofs.object_in.Goals as goal
 
-pub returns-in-Ok : goal.returns-in-Ok
-returns-in-Ok c =
-    let found = c.in-Ok.ensures.ok in
-    object_is c.args.line.now (view c.in-Ok.value) found.0 found.1 (sym c.is_object.ensures ∙ c.if-is_object.true)
+pub returns-in_default : goal.returns-in_default
+returns-in_default c = no_text c.args.line.now c.in_default.ensures.cases.0
 
-pub returns-in-Err-2 : goal.returns-in-Err-2
-returns-in-Err-2 c =
-    no_json c.args.line.now (c.in-Err.ensures.err (λ memory. absurd (true≢false (sym (c.is_memory.ensures.1 memory) ∙ c.if-is_memory.false))))
+pub returns-then-branch : goal.returns-then-branch
+returns-then-branch c =
+    let same = c.in-Ok.ensures.cases.0 in
+    let is : is_some (only_object (read c.args.line.now)) ≡ true = ap (λ t. is_some (only_object (read t))) (sym same) ∙ sym c.in_ok-is_object.ensures ∙ c.if-branch.true in
+    ap (λ t. Some (text_data t)) same ∙ object_is c.args.line.now c.in-Ok.ensures.cases.1 is
+
+pub returns-else-branch : goal.returns-else-branch
+returns-else-branch c =
+    let same = c.in-Ok.ensures.cases.0 in
+    let is : is_some (only_object (read c.args.line.now)) ≡ false = ap (λ t. is_some (only_object (read t))) (sym same) ∙ sym c.in_ok-is_object.ensures ∙ c.if-branch.false in
+    no_object c.args.line.now c.in-Ok.ensures.cases.1 is

@@ -1,8 +1,9 @@
 use Rattle.std.proofs.Common.{ap, sym, refl, map, ◌∙◌}
-use Rattle.serde_json.specs.View.{view, items_of}
+use Rattle.serde_json.specs.View.{items_of}
+use Rattle.json_text.specs.Rows.{text_data}
 use Rattle.json_lines.specs.Rows.{input_lines, object_of}
 use Rattle.lake_script.specs.Lines.{append, create, task}
-use Rattle.lake_command.proofs.FolderLemmas.{rows_of_input}
+use Rattle.lake_command.proofs.FolderLemmas.{rows_are}
 use Rattle.lake_command.proofs.answering.line_of.Goals as goal
 use Rattle.lake_command.proofs.answering.line_of.Goals.{in-Create+in_ok-moment-in-Create, in-Append+in_ok-at-in-Append+in_ok-text-in-Append+in_ok-rows-in-Append, in-Tail, in-Checkpoint, in-Snapshot, in-History}
 
@@ -10,9 +11,11 @@ pub returns-clause-asked : goal.returns-clause-asked
 returns-clause-asked g c = elim c.match-job.branch [
   | in-Create+in_ok-moment-in-Create w ↦ rw (w.in-Create.is, w.line-is) (ap (λ at. create w.in-Create.id.now at w.in-Create.schema.now) w.in_ok-moment-in-Create.ensures.same.0)
   | in-Append+in_ok-at-in-Append+in_ok-text-in-Append+in_ok-rows-in-Append w ↦ rw (w.in-Append.is, w.line-is) (
-    map view w.in_ok-rows-in-Append.rows.items,
-    rows_of_input _ _ _ w.in_ok-text-in-Append.ensures.all (ap (λ text. map object_of (input_lines text)) (sym w.as_slice.ensures.value) ∙ w.in_ok-rows-in-Append.ensures.objects),
-    ap (λ at. task (append w.in-Append.application.now w.in-Append.number at (items_of (map view w.in_ok-rows-in-Append.rows.items)))) w.in_ok-at-in-Append.ensures.same.0,
+    w.in_ok-text-in-Append.field-0.items,
+    map (λ object. text_data object.now) w.in_ok-rows-in-Append.rows.items,
+    w.in_ok-text-in-Append.ensures.all,
+    rows_are w.in_ok-text-in-Append.field-0.items w.in_ok-rows-in-Append.rows.items (ap (λ text. map object_of (input_lines text)) (sym w.as_slice.ensures.value) ∙ w.in_ok-rows-in-Append.ensures.objects),
+    ap (λ at. task (append w.in-Append.application.now w.in-Append.number at (items_of (map (λ object. text_data object.now) w.in_ok-rows-in-Append.rows.items)))) w.in_ok-at-in-Append.ensures.same.0,
   )
   | in-Tail w ↦ rw (w.in-Tail.is, w.line-is) refl
   | in-Checkpoint w ↦ rw (w.in-Checkpoint.is, w.line-is) refl

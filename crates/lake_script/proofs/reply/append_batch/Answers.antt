@@ -1,7 +1,7 @@
 use Rattle.std.proofs.Common.{rules, Err, ap, subst, ◌∙◌, sym}
 use Rattle.std.specs.Str.{IsUtf8}
 use Rattle.lake_bytes.specs.Outcome.{IsSaid}
-use Rattle.serde_json.specs.View.{items_view}
+use Rattle.json_text.specs.Rows.{rows_data}
 use Rattle.sink_core.specs.Appending.{with_append, MayAppend, MayHoldFile, PutsWell}
 use Rattle.sink_core.specs.Puts.{IsSaidBy}
 use Rattle.sink_core.specs.Refusals.{refusal_view, says}
@@ -14,7 +14,7 @@ pub returns-in-Ok-clause-told : goal.returns-in-Ok-clause-told
 returns-in-Ok-clause-told g c = λ reliable well.
     let objects = g.S.Store.objects c.args.store.now in
     let after = g.S.Store.objects c.append.new.store in
-    let items = items_view c.args.rows.now in
+    let items = rows_data c.args.rows.now in
     let said = appended_alike c.args.restore objects well c.args.application.now c.args.number c.args.at items in
     let step = settled_alike c.args.restore objects well c.args.application.now c.args.number c.args.at items in
     has_append objects c.args.application.now c.args.number c.args.at items after (c.in-Ok.ensures.left reliable (λ wrong. cc) ∙ ap (with_append objects) step) c.in-Ok.answer (sym said ∙ c.in-Ok.ensures.told reliable)
@@ -24,7 +24,7 @@ returns-in-Ok-clause-whole g c = λ reliable well enough.
     let objects = g.S.Store.objects c.args.store.now in
     let after = g.S.Store.objects c.append.new.store in
     let application = c.args.application.now in
-    let items = items_view c.args.rows.now in
+    let items = rows_data c.args.rows.now in
     let said = appended_alike c.args.restore objects well application c.args.number c.args.at items in
     let step = settled_alike c.args.restore objects well application c.args.number c.args.at items in
     let text : IsUtf8 application = search rules in
@@ -35,7 +35,7 @@ pub returns-in-Ok-clause-grows : goal.returns-in-Ok-clause-grows
 returns-in-Ok-clause-grows g c = λ reliable well.
     let objects = g.S.Store.objects c.args.store.now in
     let application = c.args.application.now in
-    let step = settled_alike c.args.restore objects well application c.args.number c.args.at (items_view c.args.rows.now) in
+    let step = settled_alike c.args.restore objects well application c.args.number c.args.at (rows_data c.args.rows.now) in
     let text : IsUtf8 application = search rules in
     (text, subst (λ step. MayAppend application c.args.number c.args.at step objects (g.S.Store.objects c.append.new.store)) step c.in-Ok.ensures.grows)
 
@@ -44,7 +44,7 @@ returns-in-Err-clause-told g c = λ reliable well.
     let objects = g.S.Store.objects c.args.store.now in
     let after = g.S.Store.objects c.append.new.store in
     let application = c.args.application.now in
-    let items = items_view c.args.rows.now in
+    let items = rows_data c.args.rows.now in
     let fault = c.in-Err.fault in
     let said = appended_alike c.args.restore objects well application c.args.number c.args.at items in
     let step = settled_alike c.args.restore objects well application c.args.number c.args.at items in
@@ -59,7 +59,7 @@ returns-in-Err-clause-whole g c = λ reliable well enough.
     let objects = g.S.Store.objects c.args.store.now in
     let after = g.S.Store.objects c.append.new.store in
     let application = c.args.application.now in
-    let items = items_view c.args.rows.now in
+    let items = rows_data c.args.rows.now in
     let fault = c.in-Err.fault in
     let said = appended_alike c.args.restore objects well application c.args.number c.args.at items in
     let step = settled_alike c.args.restore objects well application c.args.number c.args.at items in
@@ -72,7 +72,7 @@ pub returns-in-Err-clause-grows : goal.returns-in-Err-clause-grows
 returns-in-Err-clause-grows g c = λ reliable well.
     let objects = g.S.Store.objects c.args.store.now in
     let application = c.args.application.now in
-    let step = settled_alike c.args.restore objects well application c.args.number c.args.at (items_view c.args.rows.now) in
+    let step = settled_alike c.args.restore objects well application c.args.number c.args.at (rows_data c.args.rows.now) in
     let text : IsUtf8 application = search rules in
     (text, subst (λ step. MayAppend application c.args.number c.args.at step objects (g.S.Store.objects c.append.new.store)) step c.in-Err.ensures.grows)
 
@@ -80,6 +80,6 @@ pub returns-in-Err-clause-short : goal.returns-in-Err-clause-short
 returns-in-Err-clause-short g c = λ well short.
     let objects = g.S.Store.objects c.args.store.now in
     let application = c.args.application.now in
-    let items = items_view c.args.rows.now in
+    let items = rows_data c.args.rows.now in
     let step = settled_alike c.args.restore objects well application c.args.number c.args.at items in
     append_short c.in-Err.fault objects application c.args.number c.args.at items short (subst (λ step. IsSaidBy step c.in-Err.fault) step c.in-Err.ensures.refusals)

@@ -1,10 +1,4 @@
-use Rattle.std.proofs.Common.{rules, ◌≡◌, subst}
-use Rattle.serde_json.specs.View.{items_view}
-use Rattle.lake_script.specs.Growth.{MayPut}
-use Rattle.lake_script.specs.Lines.{append, task}
 use Rattle.lake_script.specs.ReplyView.{is_short, reply_text}
-use Rattle.lake_script.specs.Runs.{Executes, IsShort}
-use Rattle.lake_script.specs.Sound.{IsExecuted}
 use Rattle.lake_script.proofs.RunsLemmas.{read_executed}
 use Rattle.lake_script.proofs.reply.execute_job.Goals as goal
 
@@ -15,35 +9,16 @@ pub returns-in-Checkpoint-clause-whole : goal.returns-in-Checkpoint-clause-whole
 returns-in-Checkpoint-clause-whole g c = λ reliable well enough. rw c.in-Checkpoint.is (c.take_checkpoint.ensures.whole reliable well enough)
 
 pub returns-in-Append-clause-told : goal.returns-in-Append-clause-told
-returns-in-Append-clause-told g c = λ reliable well.
-    let objects = g.S.Store.objects c.args.store.now in
-    let after = g.S.Store.objects c.append_batch.new.store in
-    let rows_are : c.deref.result.now ≡ c.in-Append.rows.items = search rules in
-    let told = subst (λ rows. Executes objects (task (append c.in-Append.application.now c.in-Append.number c.in-Append.at (items_view rows))) (reply_text c.append_batch.result) after) rows_are (c.append_batch.ensures.told reliable well) in
-    rw c.in-Append.is told
+returns-in-Append-clause-told g c = λ reliable well. rw c.in-Append.is (c.append_batch.ensures.told reliable well)
 
 pub returns-in-Append-clause-whole : goal.returns-in-Append-clause-whole
-returns-in-Append-clause-whole g c = λ reliable well enough.
-    let objects = g.S.Store.objects c.args.store.now in
-    let after = g.S.Store.objects c.append_batch.new.store in
-    let rows_are : c.deref.result.now ≡ c.in-Append.rows.items = search rules in
-    let executed = subst (λ rows. IsExecuted objects (task (append c.in-Append.application.now c.in-Append.number c.in-Append.at (items_view rows))) (reply_text c.append_batch.result) after) rows_are (c.append_batch.ensures.whole reliable well enough) in
-    rw c.in-Append.is executed
+returns-in-Append-clause-whole g c = λ reliable well enough. rw c.in-Append.is (c.append_batch.ensures.whole reliable well enough)
 
 pub returns-in-Append-clause-grows : goal.returns-in-Append-clause-grows
-returns-in-Append-clause-grows g c = λ reliable well.
-    let objects = g.S.Store.objects c.args.store.now in
-    let after = g.S.Store.objects c.append_batch.new.store in
-    let rows_are : c.deref.result.now ≡ c.in-Append.rows.items = search rules in
-    let grown = subst (λ rows. MayPut objects (task (append c.in-Append.application.now c.in-Append.number c.in-Append.at (items_view rows))) after) rows_are (c.append_batch.ensures.grows reliable well) in
-    rw c.in-Append.is grown
+returns-in-Append-clause-grows g c = λ reliable well. rw c.in-Append.is (c.append_batch.ensures.grows reliable well)
 
 pub returns-in-Append-clause-short : goal.returns-in-Append-clause-short
-returns-in-Append-clause-short g c = λ well short.
-    let objects = g.S.Store.objects c.args.store.now in
-    let rows_are : c.deref.result.now ≡ c.in-Append.rows.items = search rules in
-    let said = subst (λ rows. IsShort objects (task (append c.in-Append.application.now c.in-Append.number c.in-Append.at (items_view rows))) (reply_text c.append_batch.result)) rows_are (c.append_batch.ensures.short well short) in
-    rw c.in-Append.is said
+returns-in-Append-clause-short g c = λ well short. rw c.in-Append.is (c.append_batch.ensures.short well short)
 
 pub returns-in-Tail-clause-told : goal.returns-in-Tail-clause-told
 returns-in-Tail-clause-told g c = λ reliable well.

@@ -1,7 +1,8 @@
-use Rattle.std.proofs.Common.{◌≡◌, true, arith, ◌+◌, ◌++◌, ◌∷◌, [], Ok, drop, ap, sym, ◌∙◌, subst}
+use Rattle.std.proofs.Common.{◌≡◌, true, arith, ◌+◌, ◌++◌, ◌∷◌, [], Ok, drop, ap, sym, refl, ◌∙◌, subst}
 use Rattle.std.proofs.lemmas.List.{map_push}
 use Rattle.std.proofs.lemmas.Result.{err_from_is_err_and}
-use Rattle.serde_json.specs.View.{view as json_view, members_view}
+use Rattle.serde_json.specs.Data.{object}
+use Rattle.json_text.specs.View.{view as json_view, named_view}
 use Rattle.lake_bytes.specs.Outcome.{Gives}
 use Rattle.schema_tree.specs.Limits.{is_sound}
 use Rattle.schema_tree.specs.Tree.{fields_of}
@@ -11,6 +12,7 @@ use Rattle.row_core.specs.Reading.{value_of, field_values}
 use Rattle.row_core.specs.Rows.{Row}
 use Rattle.row_core.specs.Views.{value_view, row_views}
 use Rattle.row_core.proofs.Fields.{struct_seen, next_seen, sound_at, falls_within}
+use Rattle.row_core.proofs.KnownNames.{object_is}
 use Rattle.row_core.proofs.ReadFields.{first_fails, goes_on, struct_is}
 use Rattle.row_core.proofs.Values.{view-Struct}
 use Rattle.row_core.proofs.reading.+read.Goals as goal
@@ -19,19 +21,19 @@ pub type_value-returns-in-Struct : goal.type_value-returns-in-Struct
 type_value-returns-in-Struct g t c =
     subst (λ n. Gives says value_view c.struct_value.result (value_of n (json_view c.args.value.now))) (struct_seen c.in-Struct.fields c.deref.result.now c.args.node.now c.deref.ensures.value c.in-Struct.is) c.struct_value.ensures
 
-pub struct_value-returns-in-None : goal.struct_value-returns-in-None
-struct_value-returns-in-None g t c =
-    let d = json_view c.args.value.now in
+pub named_struct-returns-in-None : goal.named_struct-returns-in-None
+named_struct-returns-in-None g t c =
+    let d = object (named_view c.args.members.now.entries) in
     let fs = fields_of (field_views c.args.fields.now) in
     let values = c.in_ok-values.values in
-    struct_is fs d (members_view c.in-Some.members.now.entries) (row_views values.items) (sym c.in-Some.ensures) c.in_ok-values.ensures (sym c.in-None.ensures) ∙ ap (λ (v : Row). Ok v) (sym (view-Struct values))
+    struct_is fs d (named_view c.args.members.now.entries) (row_views values.items) refl c.in_ok-values.ensures (sym c.in-None.ensures) ∙ ap (λ (v : Row). Ok v) (sym (view-Struct values))
 
 pub field_values-returns-in_err-value : goal.field_values-returns-in_err-value
 field_values-returns-in_err-value g t c =
     let fs = c.args.fields.now in
     let i = c.loop-field.field-index in
     let f = c.field-item.result in
-    let d = json_view c.args.value.now in
+    let d = object (named_view c.args.members.now.entries) in
     let p = err_from_is_err_and c.from_residual-in_err-value.result c.from_residual-in_err-value.ensures.1 in
     rw (p.1, p.2) (first_fails (row_views c.loop-field.values.items) (field_views (drop i fs)) (field_views (drop (i + 1) fs)) (field_view f) d (field_values (fields_of (field_views fs)) d) (says c.in_err-value.field-0.0) (next_seen field_view fs i f c.loop-field-test.true c.field-item.is) c.loop-field.invariant c.in_err-value.ensures)
 
@@ -40,7 +42,7 @@ field_values-loop-field-preserved g t c =
     let fs = c.args.fields.now in
     let i = c.loop-field.field-index in
     let f = c.field-item.result in
-    let d = json_view c.args.value.now in
+    let d = object (named_view c.args.members.now.entries) in
     let v = c.in_ok-value.value in
     let front = row_views c.loop-field.values.items in
     let made : row_views c.push.new.self.items ≡ front ++ value_view v ∷ [] = rw c.in_ok-push.ensures.items (map_push value_view c.loop-field.values.items v) in
@@ -55,9 +57,16 @@ field_values-field_value-requires g t c κs within =
     let size = falls_within fs i f c.loop-field-test.true c.field-item.is in
     (omega arith, (within, sound))
 
-pub struct_value-returns-then-has_just : goal.struct_value-returns-then-has_just
-struct_value-returns-then-has_just g t c =
-    let d = json_view c.args.value.now in
+pub named_struct-returns-then-has_just : goal.named_struct-returns-then-has_just
+named_struct-returns-then-has_just g t c =
+    let d = object (named_view c.args.members.now.entries) in
     let fs = fields_of (field_views c.args.fields.now) in
     let values = c.in_ok-values.values in
-    struct_is fs d (members_view c.in-Some.members.now.entries) (row_views values.items) (sym c.in-Some.ensures) c.in_ok-values.ensures (c.has_just.ensures c.if-has_just.true) ∙ ap (λ (v : Row). Ok v) (sym (view-Struct values))
+    struct_is fs d (named_view c.args.members.now.entries) (row_views values.items) refl c.in_ok-values.ensures (c.has_just.ensures c.if-has_just.true) ∙ ap (λ (v : Row). Ok v) (sym (view-Struct values))
+
+pub struct_value-returns-in-Some : goal.struct_value-returns-in-Some
+struct_value-returns-in-Some g t c =
+    let fs = fields_of (field_views c.args.fields.now) in
+    let ms = named_view c.in-Some.members.entries in
+    let is : json_view c.args.value.now ≡ object ms = object_is (json_view c.args.value.now) ms (sym (rw c.in-Some.is at c.in_ok-members.ensures)) in
+    rw is c.named_struct.ensures

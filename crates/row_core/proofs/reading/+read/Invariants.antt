@@ -1,5 +1,6 @@
 use Rattle.std.proofs.Common.{◌≡◌, drop}
-use Rattle.serde_json.specs.View.{view as json_view}
+use Rattle.serde_json.specs.Data.{object}
+use Rattle.json_text.specs.View.{named_view}
 use Rattle.lake_bytes.proofs.Callers.{with_front}
 use Rattle.schema_tree.specs.Tree.{fields_of}
 use Rattle.schema_tree.specs.View.{field_views}
@@ -10,4 +11,4 @@ use Rattle.row_core.proofs.reading.+read.Given as goal
 -- the values so far and those of the fields that are left are all values
 abbrev pub invariant-field_values-loop-field : goal.invariant-field_values-loop-field
 invariant-field_values-loop-field g l =
-    with_front (row_views l.values.items) (field_values (fields_of (field_views (drop l.field-index l.fields))) (json_view l.value)) ≡ field_values (fields_of (field_views l.fields)) (json_view l.value)
+    with_front (row_views l.values.items) (field_values (fields_of (field_views (drop l.field-index l.fields))) (object (named_view l.members.entries))) ≡ field_values (fields_of (field_views l.fields)) (object (named_view l.members.entries))

@@ -1,0 +1,2 @@
+mod Tokens
+pub mod Views
