@@ -51,7 +51,7 @@ returns-in-Err-clause-told g c = λ reliable well.
     append_refusal_told objects application c.args.number c.args.at items after fault
     (subst (IsSaid (says (refusal_view fault))) said (c.in-Err.ensures.told reliable))
     (λ other. c.in-Err.ensures.left reliable (λ wrong. other cc) ∙ ap (with_append objects) step)
-    (λ memory. subst (λ step. MayHoldFile objects step after) step (c.in-Err.ensures.short reliable (ap Err memory)))
+    (λ memory. subst (λ step. MayHoldFile objects step after) step (c.in-Err.ensures.short (ap Err memory)))
     (λ version lost. c.in-Err.ensures.never_lost reliable version (ap Err lost))
 
 pub returns-in-Err-clause-whole : goal.returns-in-Err-clause-whole
