@@ -17,6 +17,7 @@ import sys
 
 from commands import Folder, Run
 from log import Log
+from pages import page_lines
 from parquet_reader import ReadFault, read_file
 from parquet_writer import write_file
 from table import NotModelled, RowFault, Table
@@ -309,13 +310,6 @@ def digits_of(digits: str) -> bytes:
         raise Misspelled(digits) from error
 
 
-def one_long(column: str) -> dict[str, Any]:
-    """The schema of one required long column; a word of two quotes is the name of no letters."""
-    name = "" if column == '""' else column
-    field = {"name": name, "type": "long", "nullable": False, "metadata": {}}
-    return {"type": "struct", "fields": [field]}
-
-
 def shortened(line: str) -> str:
     """A line, of which the middle is left out where it is long."""
     content = line.encode()
@@ -326,11 +320,10 @@ def shortened(line: str) -> str:
     return f"{front} .. {back} ({len(content)} bytes)"
 
 
-def row_lines(schema: dict[str, Any], content: bytes, are_numbers: bool) -> list[str]:
-    """What a file's rows are, in lines: their count, and each, a number or an object."""
+def row_lines(schema: dict[str, Any], content: bytes) -> list[str]:
+    """What a file's rows are, in lines: their count, and each."""
     rows = read_file(schema, content)
-    told = [compact(next(iter(row.values())) if are_numbers else row) for row in rows]
-    return [f"{len(rows)} rows", *told]
+    return [f"{len(rows)} rows", *map(compact, rows)]
 
 
 def spoiled_lines(tell: Callable[[bytes], list[str]], content: bytes) -> list[str]:
@@ -351,7 +344,7 @@ def spoiled_lines(tell: Callable[[bytes], list[str]], content: bytes) -> list[st
 
 
 class Inspector:
-    """Answers the lines of `crates/lake_inspect` that are of files and rows."""
+    """Answers the lines of `crates/byte_cases` that are of files and rows."""
 
     def __init__(self) -> None:
         self.names: dict[str, bytes | None] = {}
@@ -364,13 +357,15 @@ class Inspector:
                 return [f"{len(self.let(rest))} bytes"]
             if word == "write":
                 return [shortened(self.written(rest).hex())]
-            if word in ("rows", "file"):
-                schema, content = self.file(line)
-                return [shortened(" | ".join(row_lines(schema, content, word == "rows")))]
-            if word == "spoil" and rest.partition(" ")[0] in ("rows", "file"):
+            if word == "file":
                 schema, content = self.file(rest)
-                are_numbers = rest.startswith("rows ")
-                return spoiled_lines(lambda told: row_lines(schema, told, are_numbers), content)
+                return [shortened(" | ".join(row_lines(schema, content)))]
+            if word == "pages":
+                schema, content = self.file(rest)
+                return [shortened(" | ".join(page_lines(schema, content)))]
+            if word == "spoil" and rest.startswith("file "):
+                schema, content = self.file(rest.removeprefix("file "))
+                return spoiled_lines(partial(row_lines, schema), content)
         except Misspelled:
             return [f"bad line {number}"]
         except (ReadFault, RowFault) as fault:
@@ -401,24 +396,16 @@ class Inspector:
         return content
 
     def file(self, text: str) -> tuple[dict[str, Any], bytes]:
-        """The schema and the bytes of `rows COLUMN BYTES` or `file SCHEMA BYTES`."""
-        word, rest = split_once(text)
-        if word == "file":
-            schema_word, rest = split_once(rest)
-            return self.schema(schema_word), self.spelled(rest)
-        column, _, rest = rest.partition(" ")
-        if not column:
-            raise Misspelled(text)
-        return one_long(column), self.spelled(rest)
+        """The schema and the bytes of `SCHEMA BYTES`."""
+        schema_word, rest = split_once(text)
+        return self.schema(schema_word), self.spelled(rest)
 
     def written(self, text: str) -> bytes:
-        """The file that is written for `rows COLUMN N ..` or `file SCHEMA ROWS`."""
+        """The file that is written for `rows SCHEMA N ..` or `file SCHEMA ROWS`."""
         word, _, rest = text.partition(" ")
         if word == "rows":
-            column, _, numbers = rest.partition(" ")
-            schema = one_long(column)
-            name = schema["fields"][0]["name"]
-            return write_file(schema, [{name: number} for number in numbers_of(numbers)])
+            schema_word, _, numbers = rest.partition(" ")
+            return number_file(self.schema(schema_word), list(numbers_of(numbers)))
         if word != "file":
             raise NotModelled(f"write {word}")
         schema_word, rows_text = split_once(rest)
@@ -433,6 +420,21 @@ class Inspector:
         if column is not None:
             raise RowFault(f"V4 Unsupported {column}")
         return write_file(schema, [row_of(schema["fields"], value) for value in values])
+
+
+def number_file(schema: dict[str, Any], numbers: list[int]) -> bytes:
+    """The file of the rows of these numbers, each in every column, which all have to take it."""
+    fields = schema["fields"]
+    column = unsupported_column(fields)
+    if column is not None and numbers:
+        raise Misspelled(f"a number for {column}")
+    if column is not None:
+        raise RowFault(f"V4 Unsupported {column}")
+    try:
+        rows = [row_of(fields, {field["name"]: number for field in fields}) for number in numbers]
+    except RowFault as fault:
+        raise Misspelled("a number that a column can't hold") from fault
+    return write_file(schema, rows)
 
 
 def numbers_of(text: str) -> Iterator[int]:
@@ -458,26 +460,39 @@ def stored_answers(lines: list[str]) -> Iterator[list[str]]:
 
 
 def check_lines() -> Tally:
-    """Compares the lines of `crates/lake_inspect`; comments and blank lines are no cases."""
+    """Compares the lines of `crates/byte_cases`; comments and blank lines are no cases."""
     tally = Tally()
     inspector = Inspector()
-    stored = stored_answers(lines_of("lake_inspect", "stdout"))
-    for number, line in enumerate(lines_of("lake_inspect", "stdin"), 1):
+    stored = stored_answers(lines_of("byte_cases", "stdout"))
+    for number, line in enumerate(lines_of("byte_cases", "stdin"), 1):
         told = next(stored, [])
         if line and not line.startswith("#"):
-            name = f"lake_inspect: line {number}, {shortened(line)}"
+            name = f"byte_cases: line {number}, {shortened(line)}"
             tally.compare(name, partial(inspector.answer, line, number), told)
         elif told != [line]:
-            raise SystemExit(f"lake_inspect: line {number} has no stored answer")
+            raise SystemExit(f"byte_cases: line {number} has no stored answer")
     if next(stored, None) is not None:
-        raise SystemExit("lake_inspect: a stored answer is left over")
+        raise SystemExit("byte_cases: a stored answer is left over")
+    return tally
+
+
+def check_tool() -> Tally:
+    """Compares what `crates/lake_inspect` is run on: the pages of a file in hexadecimal."""
+    tally = Tally()
+    words = lines_of("lake_inspect", "args")
+    if words[:3] != ["pages", "--hex", "--schema"]:
+        raise SystemExit("lake_inspect: other arguments")
+    content = bytes.fromhex("".join(lines_of("lake_inspect", "stdin")))
+    stored = lines_of("lake_inspect", "stdout")
+    tally.compare("lake_inspect", lambda: page_lines(schema_of(words[3]), content), stored)
     return tally
 
 
 def main() -> int:
     """Compares all cases, and prints how many agree."""
     total = Tally()
-    for crate, check in (("lake_cases", check_scripts), ("lake_inspect", check_lines)):
+    checks = {"lake_cases": check_scripts, "byte_cases": check_lines, "lake_inspect": check_tool}
+    for crate, check in checks.items():
         tally = check()
         print(f"{crate}: {tally}")
         total.add(tally)

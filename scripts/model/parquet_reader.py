@@ -469,25 +469,33 @@ class ChunkReader:
     def read(self) -> None:
         """Reads pages until the chunk's values are there."""
         while self.left > 0:
-            if not len(MAGIC) <= self.cursor.place < len(self.cursor.content):
-                raise ReadFault("P6 BadOffset")
-            try:
-                fields = ThriftReader(self.cursor).outermost()
-                header = page_header(fields, self.highest > 0)
-            except ReadFault as fault:
-                raise ReadFault(f"P11 BadPage {fault}") from fault
-            self.test_header(header)
-            body = Cursor(self.cursor.take(header.compressed))
-            try:
-                runs = read_levels(body, self.highest, header.values)
-                present = sum(count for level, count in runs if level == self.highest)
-                values = read_values(body, self.leaf.type, present)
-            except ReadFault as fault:
-                raise ReadFault(f"P11 BadPage {fault}") from fault
-            self.test_content(header, body, runs, values)
+            runs, values = self.body(self.header())
             self.runs += runs
             self.values += values
-            self.left -= header.values
+
+    def header(self) -> PageHeader:
+        """The header of the page at the cursor's place."""
+        if not len(MAGIC) <= self.cursor.place < len(self.cursor.content):
+            raise ReadFault("P6 BadOffset")
+        try:
+            fields = ThriftReader(self.cursor).outermost()
+            return page_header(fields, self.highest > 0)
+        except ReadFault as fault:
+            raise ReadFault(f"P11 BadPage {fault}") from fault
+
+    def body(self, header: PageHeader) -> tuple[Runs, list[Any]]:
+        """What the page behind a header holds: its levels and its values."""
+        self.test_header(header)
+        body = Cursor(self.cursor.take(header.compressed))
+        try:
+            runs = read_levels(body, self.highest, header.values)
+            present = sum(count for level, count in runs if level == self.highest)
+            values = read_values(body, self.leaf.type, present)
+        except ReadFault as fault:
+            raise ReadFault(f"P11 BadPage {fault}") from fault
+        self.test_content(header, body, runs, values)
+        self.left -= header.values
+        return runs, values
 
     def test_header(self, header: PageHeader) -> None:
         """Tests what a page's header says."""
@@ -552,17 +560,28 @@ def assembled(columns: list[Column], cells: Cells, depth: int, level: int) -> di
     return row
 
 
+def chunk_of(group: RowGroup, leaf: FileLeaf) -> ColumnChunk:
+    """The first chunk of a group that has a leaf's path."""
+    path = [name.encode() for name in leaf.path]
+    for chunk in group.columns:
+        if chunk.path == path:
+            return chunk
+    raise ReadFault("P8 SchemaMismatch")
+
+
+def test_codec(chunk: ColumnChunk) -> None:
+    """Refuses a chunk that is compressed."""
+    if chunk.codec != UNCOMPRESSED:
+        raise ReadFault(f"P3 Codec {chunk.codec}")
+
+
 def group_rows(content: bytes, columns: list[Column], group: RowGroup) -> list[dict[str, Any]]:
     """The rows of a group."""
     readers = []
     is_uneven = False
     for leaf in file_leaves(columns):
-        path = [name.encode() for name in leaf.path]
-        chunk = next((chunk for chunk in group.columns if chunk.path == path), None)
-        if chunk is None:
-            raise ReadFault("P8 SchemaMismatch")
-        if chunk.codec != UNCOMPRESSED:
-            raise ReadFault(f"P3 Codec {chunk.codec}")
+        chunk = chunk_of(group, leaf)
+        test_codec(chunk)
         reader = ChunkReader(content, leaf, chunk)
         reader.read()
         readers.append(reader)
@@ -574,8 +593,8 @@ def group_rows(content: bytes, columns: list[Column], group: RowGroup) -> list[d
     return [assembled(columns, dict(zip(paths, cells)), 0, 0) for cells in cells_of_rows]
 
 
-def read_file(schema: dict[str, Any], content: bytes) -> list[dict[str, Any]]:
-    """The rows of a table's file."""
+def split_file(content: bytes) -> tuple[bytes, Footer]:
+    """The bytes before a file's footer, and what the footer says."""
     if len(content) > LARGEST_FILE:
         raise ReadFault("P9 TooLarge")
     is_framed = content.startswith(MAGIC) and content.endswith(MAGIC)
@@ -591,10 +610,21 @@ def read_file(schema: dict[str, Any], content: bytes) -> list[dict[str, Any]]:
         raise ReadFault(f"P2 BadFooter {fault}") from fault
     if max([footer.rows, *(group.rows for group in footer.groups)]) > MOST_ROWS:
         raise ReadFault("P9 TooLarge")
-    columns = fitted(schema["fields"], TreeReader(footer.elements).tree())
+    return content[:footer_start], footer
+
+
+def columns_in(schema: dict[str, Any], footer: Footer) -> list[Column]:
+    """A table's columns as a file has them."""
+    return fitted(schema["fields"], TreeReader(footer.elements).tree())
+
+
+def read_file(schema: dict[str, Any], content: bytes) -> list[dict[str, Any]]:
+    """The rows of a table's file."""
+    front, footer = split_file(content)
+    columns = columns_in(schema, footer)
     rows = []
     for group in footer.groups:
-        rows += group_rows(content[:footer_start], columns, group)
+        rows += group_rows(front, columns, group)
     if len(rows) != footer.rows:
         raise ReadFault("P7 CountMismatch")
     return rows

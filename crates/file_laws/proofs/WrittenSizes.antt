@@ -17,7 +17,7 @@ use Rattle.parquet_footer.specs.Frame.{framed}
 use Rattle.parquet_footer.specs.declared.fault.FileFault.{FileFault}
 use Rattle.parquet_footer.specs.declared.fault.FileFault.TheVariants.{SchemaMismatch, TooLarge}
 use Rattle.parquet_footer.proofs.Callers.{bind_ok, ok_is, passed}
-use Rattle.parquet_pages.specs.Writing.{chunk_written}
+use Rattle.page_writing.specs.Writing.{chunk_written}
 use Rattle.parquet_schema.specs.FileTree.{group}
 use Rattle.parquet_schema.specs.Leaves.{LeafIn, leaves_in}
 use Rattle.parquet_schema.proofs.Callers.{own_tree_fits}

@@ -9,7 +9,7 @@ use Rattle.schema_tree.specs.Tree.{Tree}
 use Rattle.shred.specs.Columns.{Column, columns}
 use Rattle.shred.specs.Shape.{shape_of}
 use Rattle.parquet_footer.specs.Frame.{framed}
-use Rattle.parquet_pages.specs.Writing.{chunk_written}
+use Rattle.page_writing.specs.Writing.{chunk_written}
 use Rattle.parquet_schema.specs.Leaves.{LeafIn, leaves_in}
 use Rattle.parquet_rows.specs.Writing.{footer_form, members}
 

@@ -1,15 +1,16 @@
 -- An append that stands is told so when it is handed in again, and puts nothing.
 use Rattle.std.proofs.Common.{◌≡◌, ◌∙◌, ℕ, Bool, true, false, List, Result, Ok, refl, sym, ap, subst}
 use Rattle.std.specs.Prelude.{if◌then◌else◌}
-use Rattle.lake_bytes.specs.Results.{◌>>=◌}
+use Rattle.lake_bytes.specs.Results.{◌>>=◌, refused_if}
 use Rattle.serde_json.specs.Data.{Items}
 use Rattle.store_core.specs.Objects.{Objects, object_at}
-use Rattle.sink_core.specs.Appending.{Batch, IsWellMade, PutsWell, Request, Step, answered, appended_by, batch_of, file_name, fitting, new_step, puts, repeated_step, request_of, settled, stands, step_of, unless_other, where_same, with_append}
-use Rattle.sink_core.specs.Refusals.{Refusal}
+use Rattle.table_log.specs.Names.{commit_name}
+use Rattle.sink_core.specs.Appending.{Batch, IsWellMade, PutsWell, Request, Step, answered, appended_by, batch_of, file_name, fitting, is_past, new_step, puts, repeated_step, request_of, settled, stands, step_of, unless_other, unless_there, where_same, with_append, with_file}
+use Rattle.sink_core.specs.Refusals.{Refusal, too_large}
 use Rattle.sink_core.specs.declared.appending.Appended.TheVariants.{Already, Committed}
 use Rattle.job_laws.proofs.AppendedFile.{appended_same}
 use Rattle.job_laws.proofs.AppendedLog.{appended_request}
-use Rattle.job_laws.proofs.Requests.{both_done, given, put_is}
+use Rattle.job_laws.proofs.Requests.{both_done, given, passed, put_is}
 
 module _ (objects : Objects) (application : List ℕ) (number at : ℕ) (items : Items) where
   -- A new number's batch is put: its request, and the batch that fits.
@@ -43,25 +44,26 @@ module _ (objects : Objects) (application : List ℕ) (number at : ℕ) (items :
         fits = subst (λ (b : Batch). fitting objects b ≡ Ok (puts batch)) same a.2;
       }
 
-  -- what is told as committed is put
+  -- what is told as committed is put, and a commit may have its version
   step_put : (version : ℕ) (step : Step) → settled false objects application number at items ≡ Ok step → answered objects number step ≡ Ok (Committed version)
-      → (batch : Batch) × (settled false objects application number at items ≡ Ok (puts batch)) × IsNew batch
+      → (batch : Batch) × (settled false objects application number at items ≡ Ok (puts batch)) × IsNew batch × (is_past batch.version ≡ false)
   step_put version stands is told = absurd cc
   step_put version (puts batch) is told =
       let a = both_done (request_of false objects application number items) (step_of objects application number at) (puts batch) is in
-      (batch, is, by_repeats a.0 batch a.1 a.0.repeats refl a.2)
+      let b = both_done (refused_if (is_past batch.version) too_large) (λ small. unless_there batch.version (object_at (with_file objects batch) (commit_name batch.version))) (Committed version) told in
+      (batch, is, by_repeats a.0 batch a.1 a.0.repeats refl a.2, passed (is_past batch.version) too_large b.0 b.1)
 
   pub committed_put : (version : ℕ) → appended_by false objects application number at items ≡ Ok (Committed version)
-      → (batch : Batch) × (settled false objects application number at items ≡ Ok (puts batch)) × IsNew batch
+      → (batch : Batch) × (settled false objects application number at items ≡ Ok (puts batch)) × IsNew batch × (is_past batch.version ≡ false)
   committed_put version is =
       let a = both_done (settled false objects application number at items) (answered objects number) (Committed version) is in
       step_put version a.0 a.1 a.2
 
   -- behind the puts of a batch its append is settled: it stands
-  batch_again : (later : ℕ) (batch : Batch) → IsNew batch → IsWellMade application number at batch → settled false (with_append objects (Ok (puts batch))) application number later items ≡ Ok stands
-  batch_again later batch is well =
+  batch_again : (later : ℕ) (batch : Batch) → IsNew batch → is_past batch.version ≡ false → IsWellMade application number at batch → settled false (with_append objects (Ok (puts batch))) application number later items ≡ Ok stands
+  batch_again later batch is small well =
       let behind = with_append objects (Ok (puts batch)) in
-      let a = appended_request objects application number at items is.request batch is.asked is.new is.made well in
+      let a = appended_request objects application number at items is.request batch is.asked is.new is.made small well in
       let again : Request = record { version = a.0; schema = is.request.schema; rows = is.request.rows; repeats = true } in
       ap (λ (r : Result Request Refusal). r >>= step_of behind application number later) a.1
       ∙ appended_same objects application number at is.request again batch is.made well is.fits refl refl
@@ -71,7 +73,7 @@ module _ (objects : Objects) (application : List ℕ) (number at : ℕ) (items :
   settled_again later version well told =
       let a = committed_put version told in
       subst (λ (step : Result Step Refusal). settled false (with_append objects step) application number later items ≡ Ok stands) (sym a.1)
-      (batch_again later a.0 a.2 (subst (PutsWell application number at) a.1 well))
+      (batch_again later a.0 a.2 a.3 (subst (PutsWell application number at) a.1 well))
 
   pub told_again : (later version : ℕ) → PutsWell application number at (settled false objects application number at items) → appended_by false objects application number at items ≡ Ok (Committed version)
       → appended_by false (with_append objects (settled false objects application number at items)) application number later items ≡ Ok (Already number)

@@ -1,15 +1,15 @@
 -- An append whose data file alone was saved is told the same when it is handed in again.
-use Rattle.std.proofs.Common.{◌≡◌, ◌∙◌, ℕ, Bool, true, false, List, [], Result, Ok, refl, sym, ap, subst}
+use Rattle.std.proofs.Common.{◌≡◌, ◌∙◌, ℕ, Bool, true, false, List, [], Option, Result, Ok, refl, sym, ap, subst}
 use Rattle.std.specs.Prelude.{if◌then◌else◌}
-use Rattle.lake_bytes.specs.Results.{◌>>=◌}
+use Rattle.lake_bytes.specs.Results.{◌>>=◌, refused_if}
 use Rattle.serde_json.specs.Data.{Items}
 use Rattle.store_core.specs.Objects.{Objects, IsInOrder, object_at, with_object}
 use Rattle.store_core.specs.ObjectLaws.{IsInOrder-with_object, object_at-with_object_other, same_objects}
 use Rattle.delta_actions.specs.Names.{data_file_name}
 use Rattle.table_log.specs.Names.{commit_name}
 use Rattle.table_folder.specs.Loads.{is_loaded, is_of_log, loaded}
-use Rattle.sink_core.specs.Appending.{Batch, IsWellMade, PutsWell, Request, Step, answered, appended_by, fitting, new_step, puts, repeated_step, request_of, settled, step_of, unless_there, with_file, with_file_alone}
-use Rattle.sink_core.specs.Refusals.{Refusal}
+use Rattle.sink_core.specs.Appending.{Batch, IsWellMade, PutsWell, Request, Step, answered, appended_by, fitting, is_past, new_step, puts, repeated_step, request_of, settled, step_of, unless_there, with_file, with_file_alone}
+use Rattle.sink_core.specs.Refusals.{Refusal, too_large}
 use Rattle.sink_core.specs.declared.appending.Appended.TheVariants.{Committed}
 use Rattle.job_laws.proofs.Added.{two_names}
 use Rattle.job_laws.proofs.AppendedAgain.{IsNew, committed_put}
@@ -61,7 +61,9 @@ module _ (objects : Objects) (application : List ℕ) (number at version : ℕ) 
   -- and it is answered as before
   answered_again : (batch : Batch) → batch.name ≡ data_file_name application number → answered objects number (puts batch) ≡ Ok (Committed version) → answered (with_file objects batch) number (puts batch) ≡ Ok (Committed version)
   answered_again batch named is =
-      ap (unless_there batch.version) (object_at-with_object_other (with_file objects batch) batch.name batch.file (commit_name batch.version) (file_apart application number batch.name named batch.version)) ∙ is
+      ap (λ (found : Option (List ℕ)). refused_if (is_past batch.version) too_large >>= λ small. unless_there batch.version found)
+      (object_at-with_object_other (with_file objects batch) batch.name batch.file (commit_name batch.version) (file_apart application number batch.name named batch.version))
+      ∙ is
 
   pub told_alone : PutsWell application number at (settled false objects application number at items) → appended_by false objects application number at items ≡ Ok (Committed version)
       → appended_by false (with_file_alone objects (settled false objects application number at items)) application number at items ≡ Ok (Committed version)

@@ -1,16 +1,16 @@
 -- Behind an append its batch's file is found to have the batch's rows; where the file alone stands, the batch still fits.
 use Rattle.std.proofs.Common.{◌≡◌, ◌∙◌, ℕ, Bool, true, false, List, Option, Some, None, Result, Ok, Err, refl, sym, ap, subst}
-use Rattle.std.specs.Prelude.{nat_lt, not, unwrap_or}
+use Rattle.std.specs.Prelude.{if◌then◌else◌, not, unwrap_or}
 use Rattle.lake_bytes.specs.Results.{◌>>=◌, refused_if}
 use Rattle.schema_tree.specs.Tree.{Tree}
-use Rattle.store_core.specs.Objects.{Objects, object_at}
+use Rattle.store_core.specs.Objects.{Objects, object_at, with_object}
 use Rattle.store_core.specs.ObjectLaws.{object_at-with_object_kept, object_at-with_object_same}
 use Rattle.parquet_rows.specs.Reading.{rows_at}
 use Rattle.parquet_rows.proofs.Callers.{rows_only}
 use Rattle.row_core.specs.Rows.{Row}
 use Rattle.row_core.proofs.Callers.{same_rows-is}
 use Rattle.table_log.specs.Names.{commit_name}
-use Rattle.sink_core.specs.Appending.{Batch, IsWellMade, Request, Step, puts, stands, batch_of, file_name, fitting, is_same, repeated_step, unless_other, where_same, with_append, with_file}
+use Rattle.sink_core.specs.Appending.{Batch, IsWellMade, Request, Step, puts, stands, batch_of, file_name, fitting, is_past, is_same, repeated_step, unless_other, where_same, with_append, with_file}
 use Rattle.sink_core.specs.Refusals.{Refusal, differs}
 
 -- ---- the batch
@@ -22,16 +22,13 @@ record IsBatchOf (request : Request) (application : List ℕ) (number : ℕ) (ba
   rows : batch.rows ≡ request.rows
 
 -- what holds of each batch that is made in steps holds of the one that was
-of_made : (P : Batch → Type 0) (large : Bool) (why : Refusal) (file : Result (List ℕ) Refusal) (make : List ℕ → Batch) → ((bytes : List ℕ) → P (make bytes)) → (batch : Batch)
-    → (refused_if large why >>= λ fine. file >>= λ bytes. Ok (make bytes)) ≡ Ok batch → P batch
-of_made P true why file make all batch is = absurd cc
-of_made P false why (Err refusal) make all batch is = absurd cc
-of_made P false why (Ok bytes) make all batch is = let same : make bytes ≡ batch = cc in subst P same (all bytes)
+of_made : (P : Batch → Type 0) (file : Result (List ℕ) Refusal) (make : List ℕ → Batch) → ((bytes : List ℕ) → P (make bytes)) → (batch : Batch) → (file >>= λ bytes. Ok (make bytes)) ≡ Ok batch → P batch
+of_made P (Err refusal) make all batch is = absurd cc
+of_made P (Ok bytes) make all batch is = let same : make bytes ≡ batch = cc in subst P same (all bytes)
 
 batch_is : (request : Request) (application : List ℕ) (number at : ℕ) (batch : Batch) → batch_of request application number at ≡ Ok batch → IsBatchOf request application number batch
 unfolding batch_of
-batch_is request application number at batch is =
-    of_made (IsBatchOf request application number) (nat_lt 999_999_999_999 request.version) _ _ _ (λ bytes. record { name = refl; schema = refl; rows = refl }) batch is
+batch_is request application number at batch is = of_made (IsBatchOf request application number) _ _ (λ bytes. record { name = refl; schema = refl; rows = refl }) batch is
 
 -- ---- the file
 
@@ -65,11 +62,18 @@ module _ (objects : Objects) (batch : Batch) (application : List ℕ) (number at
       ap (λ (found : Option (List ℕ)). unless_other batch.schema batch.rows batch.name found >>= λ fine. Ok (puts batch)) is_there
       ∙ ap (λ (test : Bool). refused_if (not test) (differs batch.name) >>= λ fine. Ok (puts batch)) same_rows_there
 
+  -- it stands behind the commit, which is put where one may have its version
+  stands_behind : object_at (with_append objects (Ok (puts batch))) batch.name ≡ Some behind
+  stands_behind = by_version (is_past batch.version)
+    where
+      by_version : (past : Bool) → object_at (if past then with_file objects batch else with_object (with_file objects batch) (commit_name batch.version) batch.commit) batch.name ≡ Some behind
+      by_version true = is_there
+      by_version false = object_at-with_object_kept (with_file objects batch) (commit_name batch.version) batch.commit batch.name behind is_there
+
   -- the same file is found behind the commit
   found_again : (where_same batch.schema batch.rows batch.name (object_at (with_append objects (Ok (puts batch))) batch.name) >>= λ same. Ok stands) ≡ Ok stands
   found_again =
-      ap (λ (found : Option (List ℕ)). where_same batch.schema batch.rows batch.name found >>= λ same. Ok stands)
-      (object_at-with_object_kept (with_file objects batch) (commit_name batch.version) batch.commit batch.name behind is_there)
+      ap (λ (found : Option (List ℕ)). where_same batch.schema batch.rows batch.name found >>= λ same. Ok stands) stands_behind
       ∙ ap (λ (test : Bool). refused_if (not test) (differs batch.name) >>= λ same. Ok stands) same_rows_there
 
 -- Behind an append, a request for the same rows under the same number finds that its batch stands.

@@ -2,7 +2,7 @@
 use Rattle.std.proofs.Common.{◌≡◌, ◌≢◌, inl, inr, ℕ, zero, suc, ◌+◌, ◌≤◌, ◌<◌, ◌==◌, true, false, List, [], ◌∷◌, ◌++◌, length, Option, Some, None, IsSome, unwrap_or, Result, Ok, refl, sym, ap, subst, ◌∙◌, arith}
 use Rattle.std.specs.Prelude.{codes, nat_lt, option_and_then, option_map}
 use Rattle.std.specs.Option.{option_or}
-use Rattle.std.proofs.lemmas.Bool.{cases_eq}
+use Rattle.std.proofs.lemmas.Bool.{cases_eq, ltb-false}
 use Rattle.std.proofs.lemmas.Bool.Decides.{nat_tests}
 use Rattle.std.proofs.lemmas.Slice.Eq.{bytes_eq-Decides}
 use Rattle.lake_bytes.specs.Results.{◌>>=◌, or_refusal, refused_as, refused_if}
@@ -24,7 +24,7 @@ use Rattle.table_log.specs.Versions.{Version, missing, unreadable, commit, commi
 use Rattle.table_log.proofs.Callers.{count_is, of_commit as read_commit, or_regroup, stands_below}
 use Rattle.table_store.proofs.HoldingNames.{commit_name-data_file_name}
 use Rattle.table_store.proofs.NamesOnce.{commit_name-once}
-use Rattle.sink_core.specs.Appending.{Batch, IsWellMade, Request, appending, batch_of, checked, is_repeat, puts, request_behind, request_of, with_append}
+use Rattle.sink_core.specs.Appending.{Batch, IsWellMade, Request, appending, batch_of, checked, is_past, is_repeat, puts, request_behind, request_of, with_append, with_file}
 use Rattle.sink_core.specs.Refusals.{bad_log, read_only}
 use Rattle.sink_core.specs.RowsIn.{rows_from, takes_rows}
 use Rattle.lake_script.proofs.LogNewest.{newest-cons, of_commit, or_none}
@@ -223,19 +223,24 @@ module _ (objects : Objects) (application : List ℕ) (number at : ℕ) (batch :
   abbrev behind : Objects
   behind = with_append objects (Ok (puts batch))
 
+  -- the commit is put
+  whole_behind : is_past batch.version ≡ false → behind ≡ with_object (with_file objects batch) (commit_name batch.version) batch.commit
+  whole_behind small = rw small refl
+
   -- the log has the batch's commit
-  log_behind : batch.version ≡ commit_count objects → batch.version ≤ 999_999_999_999 → batch.name ≡ data_file_name application number → (commits : List (List actions.Action)) → log_of objects ≡ Ok commits
+  log_behind : batch.version ≡ commit_count objects → is_past batch.version ≡ false → batch.name ≡ data_file_name application number → (commits : List (List actions.Action)) → log_of objects ≡ Ok commits
       → log_of behind ≡ Ok (commits ++ appending application number at batch.name (length batch.file) (length batch.rows) ∷ [])
   log_behind version small named commits is =
-      subst (λ (v : ℕ). log_of (with_object (with_object objects batch.name batch.file) (commit_name v) batch.commit) ≡ Ok (commits ++ appending application number at batch.name (length batch.file) (length batch.rows) ∷ [])) (sym version)
-      (log_with objects batch.name batch.file batch.commit (file_apart application number batch.name named) (omega (arith, version, small)) (appending application number at batch.name (length batch.file) (length batch.rows)) well.commit commits is)
+      ap log_of (whole_behind small)
+      ∙ subst (λ (v : ℕ). log_of (with_object (with_object objects batch.name batch.file) (commit_name v) batch.commit) ≡ Ok (commits ++ appending application number at batch.name (length batch.file) (length batch.rows) ∷ [])) (sym version)
+      (log_with objects batch.name batch.file batch.commit (file_apart application number batch.name named) (omega (arith, version, ltb-false 999_999_999_999 batch.version small)) (appending application number at batch.name (length batch.file) (length batch.rows)) well.commit commits is)
 
 -- Behind an append, the same request is one that repeats.
 pub appended_request : (objects : Objects) (application : List ℕ) (number at : ℕ) (items : Items) (request : Request) (batch : Batch)
-    → request_of false objects application number items ≡ Ok request → request.repeats ≡ false → batch_of request application number at ≡ Ok batch → IsWellMade application number at batch
+    → request_of false objects application number items ≡ Ok request → request.repeats ≡ false → batch_of request application number at ≡ Ok batch → is_past batch.version ≡ false → IsWellMade application number at batch
     → (next : ℕ) × (request_of false (with_append objects (Ok (puts batch))) application number items ≡ Ok (record { version = next; schema = request.schema; rows = request.rows; repeats = true }))
 unfolding request_of
-appended_request objects application number at items request batch is new asks well =
+appended_request objects application number at items request batch is new asks small well =
     let after = with_append objects (Ok (puts batch)) in
     let a = both_done (checked application number (items_len items)) (λ fine. refused_as bad_log (seen false objects) >>= λ commits. request_behind (commit_count objects) commits application number items) request is in
     let b = both_done (refused_as bad_log (seen false objects)) (λ commits. request_behind (commit_count objects) commits application number items) request a.2 in
@@ -245,7 +250,7 @@ appended_request objects application number at items request batch is new asks w
     let version : batch.version ≡ commit_count objects = (batch_asked request application number at batch asks).version ∙ taken_is.version in
     let made = appending application number at batch.name (length batch.file) (length batch.rows) in
     let more = b.0 ++ made ∷ [] in
-    let log_more : log_of after ≡ Ok more = log_behind objects application number at batch well version own.small own.name b.0 log in
+    let log_more : log_of after ≡ Ok more = log_behind objects application number at batch well version small own.name b.0 log in
     let behind_more : request_behind (commit_count after) more application number items ≡ Ok (record { version = commit_count after; schema = request.schema; rows = request.rows; repeats = true }) =
     request_again (commit_count objects) (commit_count after) b.0 more application number items (same_writable application number at batch.name (length batch.file) (length batch.rows) b.0)
     (number_behind application number at batch.name (length batch.file) (length batch.rows) b.0) request taken_is in (

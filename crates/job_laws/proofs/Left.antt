@@ -1,9 +1,9 @@
 -- What a line leaves over the files that are loaded is what is loaded of what it leaves over all objects.
-use Rattle.std.proofs.Common.{◌≡◌, ◌∙◌, ◌++◌, ℕ, true, false, codes, List, Option, None, Some, Result, Ok, Err, inl, inr, refl, sym, ap, subst}
-use Rattle.std.specs.Prelude.{nat_lt, length}
+use Rattle.std.proofs.Common.{◌≡◌, ◌∙◌, ◌++◌, ℕ, Bool, true, false, codes, List, Option, None, Some, Result, Ok, Err, inl, inr, refl, sym, ap, subst}
+use Rattle.std.specs.Prelude.{if◌then◌else◌, nat_lt, length}
 use Rattle.uuid.specs.Text.{hyphenated_text, lower}
 use Rattle.lake_bytes.specs.Results.{◌>>=◌, refused_as, refused_if}
-use Rattle.store_core.specs.Objects.{Objects, IsInOrder}
+use Rattle.store_core.specs.Objects.{Objects, IsInOrder, with_object}
 use Rattle.delta_actions.specs.Action.{MetaDataAction}
 use Rattle.delta_actions.specs.Names.{data_file_name, twenty_digits}
 use Rattle.delta_checkpoint.specs.Names.{checkpoint_id, name_with}
@@ -15,7 +15,7 @@ use Rattle.commit_core.specs.Creating.{commit_from, with_creation}
 use Rattle.commit_core.specs.Texts.{line_of}
 use Rattle.snapshot_core.specs.Faults.{checked}
 use Rattle.snapshot_core.specs.Taking.{most_bytes}
-use Rattle.sink_core.specs.Appending.{Step, puts, stands, settled, with_append, with_file_alone}
+use Rattle.sink_core.specs.Appending.{Batch, Step, puts, stands, is_past, settled, with_append, with_commit, with_file, with_file_alone}
 use Rattle.sink_core.specs.Refusals.{Refusal}
 use Rattle.lake_script.specs.Checkpoints.{Checkpoint, NotPut, by_log, too_large, checkpoint_by, checkpoint_of, newest_version, with_checkpoint}
 use Rattle.lake_script.specs.Lines.{append, checkpoint, Statement, create, task, foreign}
@@ -46,11 +46,20 @@ file_alike files objects application number (Ok (puts batch)) order is own =
 file_alike files objects application number (Ok stands) order is own = alike_before files objects order
 file_alike files objects application number (Err refusal) order is own = alike_before files objects order
 
+-- its commit, which is put where one may have its version
+commit_alike : (files : List (List ℕ)) (objects one other : Objects) (batch : Batch) → IsAlike files objects one other → IsAlike files objects (with_commit one batch) (with_commit other batch)
+commit_alike files objects one other batch alike = by_version (is_past batch.version)
+  where
+    by_version : (past : Bool)
+        → IsAlike files objects (if past then one else with_object one (commit_name batch.version) batch.commit) (if past then other else with_object other (commit_name batch.version) batch.commit)
+    by_version true = alike
+    by_version false = alike_put files objects one other (commit_name batch.version) batch.commit (commit_loaded files batch.version) alike
+
 -- the file, and the commit
 pub append_alike : (files : List (List ℕ)) (objects : Objects) (application : List ℕ) (number : ℕ) (step : Result Step Refusal) → IsInOrder objects → is_loaded files (data_file_name application number) ≡ true → PutsOwn application number step
     → IsAlike files objects (with_append (loaded files objects) step) (with_append objects step)
 append_alike files objects application number (Ok (puts batch)) order is own =
-    alike_put files objects _ _ (commit_name batch.version) batch.commit (commit_loaded files batch.version) (file_alike files objects application number (Ok (puts batch)) order is own)
+    commit_alike files objects (with_file (loaded files objects) batch) (with_file objects batch) batch (file_alike files objects application number (Ok (puts batch)) order is own)
 append_alike files objects application number (Ok stands) order is own = alike_before files objects order
 append_alike files objects application number (Err refusal) order is own = alike_before files objects order
 

@@ -1,9 +1,7 @@
--- What an append puts: a file under its batch's own name, and the commit of a version that names can tell.
-use Rattle.std.proofs.Common.{◌≡◌, ◌≤◌, ℕ, Bool, true, false, List, Result, Ok, Err, refl, subst, if◌then◌else◌}
-use Rattle.std.specs.Prelude.{nat_lt}
-use Rattle.std.proofs.lemmas.Bool.{ltb-false}
+-- What an append puts: a file under its batch's own name.
+use Rattle.std.proofs.Common.{◌≡◌, ℕ, Bool, true, false, List, Result, Ok, Err, refl, subst, if◌then◌else◌}
 use Rattle.serde_json.specs.Data.{Items}
-use Rattle.lake_bytes.specs.Results.{◌>>=◌, refused_if}
+use Rattle.lake_bytes.specs.Results.{◌>>=◌}
 use Rattle.store_core.specs.Objects.{Objects, object_at}
 use Rattle.delta_actions.specs.Names.{data_file_name}
 use Rattle.sink_core.specs.Appending.{Batch, Request, Step, puts, stands, batch_of, file_name, fitting, new_step, repeated_step, request_of, settled, step_of, unless_other, where_same}
@@ -14,10 +12,9 @@ file_named : (application : List ℕ) (number : ℕ) → file_name application n
 unfolding file_name
 file_named application number = refl
 
--- A batch's file has the batch's own name, and its version has at most twelve digits.
+-- A batch's file has the batch's own name.
 pub record IsOwn (application : List ℕ) (number : ℕ) (batch : Batch) : Type 0 where
   pub name : batch.name ≡ data_file_name application number
-  pub small : batch.version ≤ 999_999_999_999
 
 -- what is put is the batch's own
 abbrev pub PutsOwn : (application : List ℕ) (number : ℕ) → Result Step Refusal → Type 0
@@ -41,17 +38,14 @@ by_batch objects application number (Ok batch) all = fitted application number b
 by_batch objects application number (Err refusal) all = tt
 
 -- what holds of each batch that is made in steps holds of the one that was
-of_made : (P : Batch → Type 0) (large : Bool) (why : Refusal) (file : Result (List ℕ) Refusal) (make : List ℕ → Batch) → (large ≡ false → (bytes : List ℕ) → P (make bytes)) → (batch : Batch)
-    → (refused_if large why >>= λ fine. file >>= λ bytes. Ok (make bytes)) ≡ Ok batch → P batch
-of_made P true why file make all batch is = cc
-of_made P false why (Err refusal) make all batch is = cc
-of_made P false why (Ok bytes) make all batch is = let same : make bytes ≡ batch = cc in subst P same (all refl bytes)
+of_made : (P : Batch → Type 0) (file : Result (List ℕ) Refusal) (make : List ℕ → Batch) → ((bytes : List ℕ) → P (make bytes)) → (batch : Batch) → (file >>= λ bytes. Ok (make bytes)) ≡ Ok batch → P batch
+of_made P (Err refusal) make all batch is = cc
+of_made P (Ok bytes) make all batch is = let same : make bytes ≡ batch = cc in subst P same (all bytes)
 
 -- a batch that a request asks for is its own
 pub batch_own : (request : Request) (application : List ℕ) (number at : ℕ) (batch : Batch) → batch_of request application number at ≡ Ok batch → IsOwn application number batch
 unfolding batch_of
-batch_own request application number at batch is =
-    of_made (IsOwn application number) (nat_lt 999_999_999_999 request.version) _ _ _ (λ small bytes. record { name = file_named application number; small = ltb-false 999_999_999_999 request.version small }) batch is
+batch_own request application number at batch is = of_made (IsOwn application number) _ _ (λ bytes. record { name = file_named application number }) batch is
 
 -- whichever is chosen
 chosen : (application : List ℕ) (number : ℕ) (repeats : Bool) (one other : Result Step Refusal) → PutsOwn application number one → PutsOwn application number other → PutsOwn application number (if repeats then one else other)

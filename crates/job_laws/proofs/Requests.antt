@@ -1,6 +1,6 @@
 -- What an append that puts a batch found in the log, and what the batch is.
 use Rattle.std.proofs.Common.{◌≡◌, ℕ, ◌&&◌, Bool, true, false, not, List, length, Result, Ok, Err, refl, sym, ap, subst, ◌∙◌}
-use Rattle.std.specs.Prelude.{nat_lt, if◌then◌else◌}
+use Rattle.std.specs.Prelude.{if◌then◌else◌}
 use Rattle.lake_bytes.specs.Results.{◌>>=◌, refused_as, refused_if}
 use Rattle.serde_json.specs.Events.{items_len}
 use Rattle.serde_json.specs.Data.{Items}
@@ -18,7 +18,7 @@ use Rattle.table_log.specs.Restoring.{seen}
 use Rattle.table_log.specs.Versions.{log_of}
 use Rattle.commit_core.specs.Commits.{commit_text}
 use Rattle.sink_core.specs.Appending.{Batch, Request, appending, batch_of, checked, file_name, file_or_refusal, fitting, is_repeat, new_step, puts, repeated_step, request_behind, request_of, settled, stands, step_of, unless_other, where_same}
-use Rattle.sink_core.specs.Refusals.{Refusal, bad_log, read_only, stream_closed, too_large}
+use Rattle.sink_core.specs.Refusals.{Refusal, bad_log, read_only, stream_closed}
 use Rattle.sink_core.specs.RowsIn.{rows_from, takes_rows}
 
 -- ---- steps that weren't refused
@@ -124,9 +124,8 @@ module _ (request : Request) (application : List ℕ) (number at : ℕ) where
   pub batch_asked : (batch : Batch) → batch_of request application number at ≡ Ok batch → IsAskedBy request application number batch
   unfolding batch_of file_name
   batch_asked batch is =
-      let a = both_done (refused_if (nat_lt 999_999_999_999 request.version) too_large) (λ small. file_or_refusal (written_file request.schema request.rows) >>= with_bytes) batch is in
-      let b = both_done (file_or_refusal (written_file request.schema request.rows)) with_bytes batch a.2 in
-      let same : made b.0 ≡ batch = given {E = Refusal} (made b.0) batch b.2 in
+      let a = both_done (file_or_refusal (written_file request.schema request.rows)) with_bytes batch is in
+      let same : made a.0 ≡ batch = given {E = Refusal} (made a.0) batch a.2 in
       subst (IsAskedBy request application number) same (record { version = refl; schema = refl; name = refl })
 
 -- ---- the step

@@ -2,7 +2,7 @@
 use Rattle.std.proofs.Common.{◌≡◌, ◌∙◌, ℕ, Bool, true, false, List, Option, Result, Ok, Err, cond, refl, sym, ap}
 use Rattle.std.specs.Prelude.{bytes_eq, unwrap_or, None, Some}
 use Rattle.std.proofs.lemmas.Slice.Eq.{bytes_eq-Decides}
-use Rattle.lake_bytes.specs.Results.{◌>>=◌, or_refusal, refused_as}
+use Rattle.lake_bytes.specs.Results.{◌>>=◌, or_refusal, refused_as, refused_if}
 use Rattle.serde_json.specs.Events.{items_len}
 use Rattle.serde_json.specs.Data.{Items}
 use Rattle.store_core.specs.Objects.{Objects, object_at, with_object}
@@ -21,7 +21,7 @@ use Rattle.commit_core.specs.Histories.{history_in, history_of}
 use Rattle.snapshot_core.specs.Faults as faults
 use Rattle.sink_core.specs.Appending as appends
 use Rattle.sink_core.specs.Appending.{Batch, Request, Step, appended_by, answered, batch_of, checked, file_name, file_or_refusal, fitting, puts, request_behind, request_of, settled, stands, step_of, unless_other, where_same}
-use Rattle.sink_core.specs.Refusals.{Refusal, bad_log}
+use Rattle.sink_core.specs.Refusals.{Refusal, bad_log, too_large}
 use Rattle.source_core.specs.Offsets.{offset_of}
 use Rattle.source_core.specs.Tailing as tails
 use Rattle.source_core.specs.Tailing.{bad_offset, handed_by, handed_text, schema_at, tailed, versions_at}
@@ -59,16 +59,14 @@ same_request files objects application number items =
     ∙ ap (λ (next : ℕ). checked application number (items_len items) >>= λ fine. refused_as bad_log (seen false objects) >>= λ commits. request_behind next commits application number items) (same_count files objects)
 
 -- a batch that is made in steps has its name
-made_named : (name : List ℕ) (small : Result (Unit {0}) Refusal) (file : Result (List ℕ) Refusal) (make : List ℕ → Batch) → ((bytes : List ℕ) → (make bytes).name ≡ name) → (batch : Batch)
-    → (small >>= λ fine. file >>= λ bytes. Ok (make bytes)) ≡ Ok batch → batch.name ≡ name
-made_named name (Err refusal) file make all batch is = cc
-made_named name (Ok fine) (Err refusal) make all batch is = cc
-made_named name (Ok fine) (Ok bytes) make all batch is = let same : make bytes ≡ batch = cc in ap (λ b. b.name) (sym same) ∙ all bytes
+made_named : (name : List ℕ) (file : Result (List ℕ) Refusal) (make : List ℕ → Batch) → ((bytes : List ℕ) → (make bytes).name ≡ name) → (batch : Batch) → (file >>= λ bytes. Ok (make bytes)) ≡ Ok batch → batch.name ≡ name
+made_named name (Err refusal) make all batch is = cc
+made_named name (Ok bytes) make all batch is = let same : make bytes ≡ batch = cc in ap (λ b. b.name) (sym same) ∙ all bytes
 
 -- a batch is put under the name of its file
 batch_named : (request : Request) (application : List ℕ) (number at : ℕ) (batch : Batch) → batch_of request application number at ≡ Ok batch → batch.name ≡ file_name application number
 unfolding batch_of
-batch_named request application number at batch is = made_named (file_name application number) _ _ _ (λ bytes. refl) batch is
+batch_named request application number at batch is = made_named (file_name application number) _ _ (λ bytes. refl) batch is
 
 -- what is done for a request, which looks at the batch's file alone
 module _ (files : List (List ℕ)) (objects : Objects) (application : List ℕ) (number at : ℕ) (own : is_loaded files (data_file_name application number) ≡ true) where
@@ -121,7 +119,8 @@ same_behind_put files objects name bytes other own = by_case (bytes_eq other nam
 -- what is answered to it
 same_answered : (files : List (List ℕ)) (objects : Objects) (number : ℕ) (step : Step) → answered (loaded files objects) number step ≡ answered objects number step
 same_answered files objects number (puts batch) =
-    ap (appends.unless_there batch.version) (same_behind_put files objects batch.name batch.file (commit_name batch.version) (commit_loaded files batch.version))
+    ap (λ (found : Option (List ℕ)). refused_if (appends.is_past batch.version) too_large >>= λ small. appends.unless_there batch.version found)
+    (same_behind_put files objects batch.name batch.file (commit_name batch.version) (commit_loaded files batch.version))
 same_answered files objects number stands = refl
 
 -- what an append answers

@@ -1,5 +1,6 @@
 -- Whatever front of what a line put over the files that are loaded is saved beside all objects, the line may have put it.
-use Rattle.std.proofs.Common.{◌≡◌, ◌⊎◌, inl, inr, ◌∙◌, ℕ, List, true, false, Result, Ok, Err, refl, sym, ap, subst}
+use Rattle.std.proofs.Common.{◌≡◌, ◌⊎◌, inl, inr, ◌∙◌, ℕ, List, Bool, true, false, if◌then◌else◌, Result, Ok, Err, refl, sym, ap, subst}
+use Rattle.std.proofs.lemmas.Bool.{ltb-false}
 use Rattle.store_core.specs.Objects.{Objects, IsInOrder, names_of, with_object}
 use Rattle.delta_actions.specs.Names as names
 use Rattle.delta_actions.specs.Names.{data_file_name}
@@ -11,14 +12,14 @@ use Rattle.commit_core.specs.Creating as creations
 use Rattle.commit_core.specs.Creating.{IsPut, commit_from}
 use Rattle.commit_core.specs.Texts.{line_of}
 use Rattle.snapshot_core.specs.Taking.{HasPut, PutsCheckpoint}
-use Rattle.sink_core.specs.Appending.{MayAppend, Step, puts, stands, settled}
+use Rattle.sink_core.specs.Appending.{Batch, IsWellMade, MayAppend, Step, is_past, puts, stands, settled, with_append, with_file}
 use Rattle.sink_core.specs.Refusals.{Refusal}
 use Rattle.lake_script.specs.Growth.{MayPut, MayPutCheckpoint}
 use Rattle.lake_script.specs.Lines.{append, checkpoint, Statement, create, task, foreign}
 use Rattle.job_laws.specs.Looking.{LooksWithin}
 use Rattle.job_laws.proofs.Loaded.{checkpoint_loaded, commit_loaded}
 use Rattle.job_laws.proofs.NameKinds.{commit_is_commit, file_is_data}
-use Rattle.job_laws.proofs.OwnSteps.{PutsOwn, settled_own}
+use Rattle.job_laws.proofs.OwnSteps.{IsOwn, PutsOwn, settled_own}
 use Rattle.job_laws.proofs.SameLogs.{same_count, same_seen}
 use Rattle.job_laws.proofs.SameReads.{same_settled}
 use Rattle.job_laws.proofs.SavedPuts.{none_saved, one_saved, two_saved}
@@ -54,23 +55,41 @@ creation_saved files objects after new id at schema printed order put front = by
 -- ---- appends
 
 module _ (files : List (List ℕ)) (objects after new : Objects) (application : List ℕ) (number at : ℕ) (order : IsInOrder objects) (own_file : is_loaded files (data_file_name application number) ≡ true) (front : IsSaved files objects after new) where
-  append_saved : (step : Result Step Refusal) → PutsOwn application number step → MayAppend application number at step (loaded files objects) after → MayAppend application number at step objects new
-  append_saved step own (inl same) = inl (none_saved files objects after new same front)
-  append_saved (Ok (puts batch)) own (inr (well, inl alone)) =
+  -- a batch's file alone
+  file_saved : (batch : Batch) → IsOwn application number batch → IsWellMade application number at batch → after ≡ with_file (loaded files objects) batch → MayAppend application number at (Ok (puts batch)) objects new
+  file_saved batch own well alone =
       by_case (one_saved files objects after new batch.name batch.file order (ap (is_loaded files) own.name ∙ own_file) alone front)
     where
       by_case : (new ≡ objects) ⊎ (new ≡ with_object objects batch.name batch.file) → MayAppend application number at (Ok (puts batch)) objects new
       by_case (inl same) = inl same
       by_case (inr put) = inr (well, inl put)
-  append_saved (Ok (puts batch)) own (inr (well, inr whole)) =
+
+  -- its file and its commit, whose version a commit may have
+  both_saved : (batch : Batch) → IsOwn application number batch → IsWellMade application number at batch → is_past batch.version ≡ false
+      → after ≡ with_object (with_file (loaded files objects) batch) (commit_name batch.version) batch.commit → MayAppend application number at (Ok (puts batch)) objects new
+  both_saved batch own well small whole =
       by_case (two_saved files objects after batch.name batch.file (commit_name batch.version) batch.commit order (ap (is_loaded files) own.name ∙ own_file) (commit_loaded files batch.version)
-      (ap is_data own.name ∙ file_is_data application number) (own_commit batch.version (commit_is_commit batch.version own.small)) whole new front)
+      (ap is_data own.name ∙ file_is_data application number) (own_commit batch.version (commit_is_commit batch.version (ltb-false 999_999_999_999 batch.version small))) whole new front)
     where
+      whole_is : with_append objects (Ok (puts batch)) ≡ with_object (with_file objects batch) (commit_name batch.version) batch.commit
+      whole_is = rw small refl
+
       by_case : (new ≡ objects) ⊎ ((new ≡ with_object objects batch.name batch.file) ⊎ (new ≡ with_object (with_object objects batch.name batch.file) (commit_name batch.version) batch.commit))
           → MayAppend application number at (Ok (puts batch)) objects new
       by_case (inl same) = inl same
       by_case (inr (inl put)) = inr (well, inl put)
-      by_case (inr (inr both)) = inr (well, inr both)
+      by_case (inr (inr both)) = inr (well, inr (both ∙ sym whole_is))
+
+  append_saved : (step : Result Step Refusal) → PutsOwn application number step → MayAppend application number at step (loaded files objects) after → MayAppend application number at step objects new
+  append_saved step own (inl same) = inl (none_saved files objects after new same front)
+  append_saved (Ok (puts batch)) own (inr (well, inl alone)) = file_saved batch own well alone
+  append_saved (Ok (puts batch)) own (inr (well, inr whole)) = by_version (is_past batch.version) refl whole
+    where
+      by_version : (past : Bool) → is_past batch.version ≡ past
+          → after ≡ (if past then with_file (loaded files objects) batch else with_object (with_file (loaded files objects) batch) (commit_name batch.version) batch.commit)
+          → MayAppend application number at (Ok (puts batch)) objects new
+      by_version true is alone = file_saved batch own well alone
+      by_version false is both = both_saved batch own well is both
   append_saved (Ok stands) own (inr (well, inl same)) = inl (none_saved files objects after new same front)
   append_saved (Ok stands) own (inr (well, inr same)) = inl (none_saved files objects after new same front)
   append_saved (Err refusal) own (inr (well, inl same)) = inl (none_saved files objects after new same front)

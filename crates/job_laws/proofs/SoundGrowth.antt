@@ -1,5 +1,6 @@
 -- What creations, appends and checkpoints put leaves the table of a sound store sound.
 use Rattle.std.proofs.Common.{◌≡◌, ◌≢◌, inl, inr, ℕ, suc, ◌<◌, false, List, [], ◌∷◌, ◌++◌, length, Some, None, Contains, Result, Ok, Err, refl, sym, ap, subst, ◌∙◌, arith, length-append}
+use Rattle.std.proofs.lemmas.Bool.{le-ltb}
 use Rattle.store_core.specs.Objects.{Objects, object_at, with_object}
 use Rattle.store_core.specs.ObjectLaws.{object_at-with_object_other}
 use Rattle.serde_json.specs.Data.{Items}
@@ -21,7 +22,7 @@ use Rattle.table_store.proofs.HoldingPuts.{HasObjectsOf-put}
 use Rattle.table_store.proofs.SoundLemmas.{sound_commit, sound_data_file}
 use Rattle.commit_core.specs.Commits.{creation as created}
 use Rattle.commit_core.specs.Creating.{CreatesWell, IsWellCreated, MayCreate, Refusal, commit_from, with_creation}
-use Rattle.sink_core.specs.Appending.{Batch, MayAppend, PutsWell, Step, puts, settled, stands, with_append, with_file, with_file_alone}
+use Rattle.sink_core.specs.Appending.{Batch, MayAppend, PutsWell, Step, is_past, puts, settled, stands, with_append, with_file, with_file_alone}
 use Rattle.sink_core.specs.Refusals as sink
 use Rattle.job_laws.proofs.Admissible.{admissible}
 use Rattle.job_laws.proofs.Requests.{PutsBatch, puts_batch}
@@ -116,7 +117,8 @@ module _ (objects : Objects) (sound : IsSound objects) (small : commit_count obj
   unfolding commit_name
   whole_sound (Ok (puts batch)) is well =
       let found = puts_batch objects application number at batch items is in
-      sound_commit (with_file objects batch) batch.version batch.commit (omega (arith, found.version, small)) (file_sound batch found) (admissible objects application number at batch well are sound small found)
+      let put : is_past batch.version ≡ false = le-ltb 999_999_999_999 batch.version (omega (arith, found.version, small)) in
+      rw put (sound_commit (with_file objects batch) batch.version batch.commit (omega (arith, found.version, small)) (file_sound batch found) (admissible objects application number at batch well are sound small found))
   whole_sound (Ok stands) is well = sound
   whole_sound (Err why) is well = sound
 

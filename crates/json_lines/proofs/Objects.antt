@@ -64,6 +64,13 @@ lines_are_parts (byte ∷ bytes) some = refl
 abbrev pub Read : List (List ℕ) → List (Bor (List ℕ)) → Type 0
 Read lines objects = map object_of lines ≡ map (λ object. Some (text_data object.now)) objects
 
+-- one more line is a text
+pub text_more : (lines : List (List ℕ)) (objects : List (Bor (List ℕ))) (i : ℕ) (line : List ℕ) (text : Bor (List ℕ)) → i < length lines → line ≡ get_or lines i line → text.now ≡ line
+    → map (λ (o : Bor (List ℕ)). o.now) objects ≡ take i lines → map (λ (o : Bor (List ℕ)). o.now) (objects ++ text ∷ []) ≡ take (i + 1) lines
+text_more lines objects i line text within here is so_far =
+    let more : take (i + 1) lines ≡ take i lines ++ line ∷ [] = take_more lines i line within ∙ ap (λ (x : List ℕ). take i lines ++ x ∷ []) (sym here) in
+    rw (more, map_push (λ (o : Bor (List ℕ)). o.now) objects text, so_far, is) refl
+
 -- one more line
 pub reads_on : (lines : List (List ℕ)) (objects : List (Bor (List ℕ))) (i : ℕ) (line : List ℕ) (text : Bor (List ℕ)) → i < length lines → line ≡ get_or lines i line → Some (text_data text.now) ≡ object_of line
     → Read (take i lines) objects → Read (take (i + 1) lines) (objects ++ text ∷ [])
@@ -72,6 +79,9 @@ reads_on lines objects i line text within here is so_far =
     rw (more, map_push object_of (take i lines) line, map_push (λ (o : Bor (List ℕ)). Some (text_data o.now)) objects text, so_far, ← is) refl
 
 -- no line is left
+pub all_texts : (lines : List (List ℕ)) (objects : List (Bor (List ℕ))) (i : ℕ) → i ≡ length lines → map (λ (o : Bor (List ℕ)). o.now) objects ≡ take i lines → map (λ (o : Bor (List ℕ)). o.now) objects ≡ lines
+all_texts lines objects i whole so_far = so_far ∙ take_all i lines (omega (arith, whole))
+
 pub all_read : (lines : List (List ℕ)) (objects : List (Bor (List ℕ))) (i : ℕ) → i ≡ length lines → Read (take i lines) objects → Read lines objects
 all_read lines objects i whole so_far = let every = take_all i lines (omega (arith, whole)) in rw every at so_far
 

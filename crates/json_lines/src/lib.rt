@@ -1,7 +1,7 @@
 //! JSON objects, one a line.
 #![tactic(auto)]
 
-ghost use Rattle.std.specs.Prelude.{◌≡◌, IfOk, IfErr, map, Some, is_some, option_map};
+ghost use Rattle.std.specs.Prelude.{◌≡◌, IfOk, IfErr, IfSome, map, Some, is_some, option_map};
 ghost use Rattle.serde_json.specs.Read.{read};
 ghost use Rattle.json_text.specs.Rows.{text_data};
 ghost use Rattle.json_lines.specs.Rows.{without_last_newline, input_lines, object_of, only_object, IsFirstBad};
@@ -47,6 +47,8 @@ impl<T: Drop> From<AllocFailed<T>> for LineFault {
 /// line too, unless it is empty. An empty line is no object. The fault names the first line that is none. Takes time linear
 /// in the text.
 pub fn objects_in<'a>(alloc: Global, text: &'a [u8]) -> Result<Vec<&'a str>, LineFault>
+    // They are the text's lines, and each is that of an object.
+    ensures texts { IfOk result (λ objects. map (λ object. object.now) objects.items ≡ input_lines text.now) }
     ensures objects { IfOk result (λ objects. map object_of (input_lines text.now) ≡ map (λ object. Some (text_data object.now)) objects.items) }
     ensures fault { IfErr result (IsFirstBad text.now) }
 {
@@ -80,7 +82,8 @@ fn object_in<'a>(
     line: &'a [u8],
     scratch: &mut Scratch,
 ) -> Result<Option<&'a str>, AllocError>
-    ensures { IfOk result (λ found. option_map (λ text. text_data text.now) found ≡ object_of line.now) }
+    ensures line { IfOk result (λ found. IfSome found (λ text. text.now ≡ line.now)) }
+    ensures object { IfOk result (λ found. option_map (λ text. text_data text.now) found ≡ object_of line.now) }
 {
     let Ok(text) = str::from_utf8(line) else {
         return Ok(None);

@@ -2,7 +2,6 @@
 
 use crate::failure::Failure;
 use crate::notation::number;
-use crate::table::number_of;
 use row_core::Value;
 use std::alloc::Global;
 use std::io::Write;
@@ -111,4 +110,15 @@ fn tell_answer(answer: &Answer, out: &mut Vec<u8>) -> Result<(), Failure> {
         Answer::BadPlace(version) => writeln!(out, "BadPlace {version}")?,
     }
     Ok(())
+}
+
+// The number of a row of one column.
+fn number_of(row: &Value) -> Option<i64> {
+    let Value::Struct(values) = row else {
+        return None;
+    };
+    match values.as_slice() {
+        [Value::Int(number)] => Some(*number),
+        _ => None,
+    }
 }

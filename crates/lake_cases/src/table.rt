@@ -1,7 +1,7 @@
 //! What is told of the store that a script leaves: the slow program of the definitions looks at it.
 
 use crate::failure::Failure;
-use row_core::{Value, row_to_json};
+use row_core::row_to_json;
 use schema_tree::Schema;
 use std::alloc::Global;
 use std::io::Write;
@@ -25,9 +25,9 @@ pub fn tell_table(
     } else {
         "unlawful"
     };
-    match held.schema.long_column() {
-        Some(column) => write!(out, "table {column}")?,
-        None => write!(out, "table {}", held.schema.to_text(alloc)?)?,
+    match &held.schema {
+        Some(schema) => write!(out, "table {}", schema.to_text(alloc)?)?,
+        None => write!(out, "table of any schema")?,
     }
     writeln!(out, ", {count} entries, {judged}")?;
     Ok(())
@@ -42,10 +42,13 @@ pub fn tell_entries(
     let Some(held) = held_by(alloc, store)? else {
         return Ok(());
     };
+    let Some(schema) = &held.schema else {
+        return Ok(());
+    };
     for entry in &held.entries {
         match entry {
             Entry::Creation => writeln!(out, "creation")?,
-            Entry::Group(batches) => tell_group(alloc, &held.schema, batches, out)?,
+            Entry::Group(batches) => tell_group(alloc, schema, batches, out)?,
             Entry::Close(application) => writeln!(out, "close of {application}")?,
         }
     }
@@ -69,7 +72,7 @@ fn tell_group(
     Ok(())
 }
 
-// Adds a batch: its application, its number, and its rows, as numbers where each is one.
+// Adds a batch: its application, its number, and its rows as JSON.
 fn tell_batch(
     alloc: Global,
     schema: &Schema<Global>,
@@ -80,27 +83,11 @@ fn tell_batch(
     let number = batch.number;
     write!(out, "batch {number} of {application}:")?;
     for row in &batch.rows {
-        match number_of(row) {
-            Some(number) => write!(out, " {number}")?,
-            None => {
-                let line = row_to_json(alloc, schema, row)?.to_string(alloc)?;
-                write!(out, " {line}")?;
-            }
-        }
+        let line = row_to_json(alloc, schema, row)?.to_string(alloc)?;
+        write!(out, " {line}")?;
     }
     out.push(b'\n')?;
     Ok(())
-}
-
-/// The number of a row of one column.
-pub fn number_of(row: &Value) -> Option<i64> {
-    let Value::Struct(values) = row else {
-        return None;
-    };
-    match values.as_slice() {
-        [Value::Int(number)] => Some(*number),
-        _ => None,
-    }
 }
 
 /// Adds the names of a store's objects, each with its count of bytes.

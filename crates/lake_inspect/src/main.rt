@@ -1,30 +1,11 @@
 //! A program that prints what bytes are: numbers, Thrift structs, Parquet files, schemas, rows and Delta commits.
 #![tactic(auto)]
 
-mod cases;
-mod commit;
-mod describing;
-mod files;
-mod kind;
-mod local_heap;
-mod notation;
-mod pages;
-mod parquet;
-mod refusal;
-mod rows;
-mod schema;
-mod spoiling;
-mod tree;
 mod words;
-mod writing;
 
-use crate::cases::cases;
-use crate::describing::describe;
-use crate::kind::Kind;
-use crate::notation::{decoded, without_spaces};
-use crate::refusal::Refusal;
-use crate::words::{Request, read_words};
-use std::alloc::Global;
+use crate::words::{Asked, Request, read_words};
+use inspect_text::{Refusal, decoded, describe, describe_file, schema_of};
+use std::alloc::{AllocError, Global};
 use std::io::Read;
 use std::process::ExitCode;
 use std::rt::Files;
@@ -48,29 +29,60 @@ fn bytes_of<R: Files + Input + AllocGlobal>(rt: &R, file: Option<&str>) -> io::R
     }
 }
 
-/// What bytes are, given as they are or as hexadecimal text.
-fn described(
-    alloc: Global,
-    kind: Kind<'_>,
-    bytes: &[u8],
-    is_hex: bool,
-) -> Result<Vec<String>, Refusal> {
-    if is_hex {
-        let digits = without_spaces(alloc, bytes)?;
-        return describe(alloc, kind, &decoded(alloc, &digits)?);
-    }
-    describe(alloc, kind, bytes)
+/// A text without its spaces and line ends.
+fn without_spaces(alloc: Global, text: &[u8]) -> Result<Vec<u8>, AllocError> {
+    text.iter()
+        .copied()
+        .filter(|byte| !byte.is_ascii_whitespace())
+        .collect(alloc)
 }
 
-/// Prints the lines, or the refusal in their place.
-fn show(rt: &impl Print, told: Result<Vec<String>, Refusal>) -> io::Result<ExitCode> {
-    match told {
-        Ok(lines) => {
-            for line in &lines {
-                println!(rt; "{line}")?;
-            }
-            Ok(ExitCode::SUCCESS)
+/// Puts behind the lines what bytes are, given as they are or as hexadecimal text; or tells why they are refused.
+fn push_told(
+    alloc: Global,
+    request: &Request<'_>,
+    bytes: &[u8],
+    lines: &mut Vec<String>,
+) -> Result<(), Refusal> {
+    if request.is_hex {
+        let digits = without_spaces(alloc, bytes)?;
+        return push_described(alloc, request.asked, &decoded(alloc, &digits)?, lines);
+    }
+    push_described(alloc, request.asked, bytes, lines)
+}
+
+/// Puts behind the lines what bytes are; or tells why they are refused.
+fn push_described(
+    alloc: Global,
+    asked: Asked<'_>,
+    bytes: &[u8],
+    lines: &mut Vec<String>,
+) -> Result<(), Refusal> {
+    match asked {
+        Asked::Alone(kind) => {
+            lines.append(&mut describe(alloc, kind, bytes)?)?;
+            Ok(())
         }
+        Asked::OfTable { kind, schema } => {
+            let schema = schema_of(alloc, schema.as_bytes())?;
+            describe_file(alloc, kind, &schema, bytes, lines)
+        }
+    }
+}
+
+/// Prints what the bytes are, and the refusal behind what was told before it.
+fn show<R: Print + AllocGlobal>(
+    rt: &R,
+    request: &Request<'_>,
+    bytes: &[u8],
+) -> io::Result<ExitCode> {
+    let mut lines = Vec::new(rt.alloc());
+    let told = push_told(rt.alloc(), request, bytes, &mut lines);
+    for line in &lines {
+        println!(rt; "{line}")?;
+    }
+    match told {
+        Ok(()) => Ok(ExitCode::SUCCESS),
         Err(refusal) => {
             println!(rt; "{refusal}")?;
             Ok(ExitCode::from(REFUSED))
@@ -81,16 +93,10 @@ fn show(rt: &impl Print, told: Result<Vec<String>, Refusal>) -> io::Result<ExitC
 fn main(rt: HostRuntime) -> io::Result<ExitCode> {
     let words: Vec<String> = env::args(&rt)?.collect(rt.alloc())?;
     match read_words(rt.alloc(), words.as_slice()) {
-        Ok(Request::Cases) => {
-            let text = io::read_to_string(rt.alloc(), rt.stdin())?;
-            let told = cases(rt.alloc(), text.as_str())?;
-            print!(rt; "{told}")?;
-            Ok(ExitCode::SUCCESS)
-        }
-        Ok(Request::Describe { kind, file, is_hex }) => match bytes_of(&rt, file) {
-            Ok(bytes) => show(&rt, described(rt.alloc(), kind, &bytes, is_hex)),
+        Ok(request) => match bytes_of(&rt, request.file) {
+            Ok(bytes) => show(&rt, &request, &bytes),
             Err(error) => {
-                let name = file.unwrap_or("standard input");
+                let name = request.file.unwrap_or("standard input");
                 eprintln!(rt; "{name}: {error}")?;
                 Ok(ExitCode::from(REFUSED))
             }

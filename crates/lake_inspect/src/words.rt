@@ -1,24 +1,33 @@
 //! The words of a command line, which `clap` reads.
 
-use crate::kind::{KINDS, Kind, ROWS, kind_named};
+use clap::error::ErrorKind;
 use clap::{Arg, ArgAction, ArgMatches, Command, Error};
+use inspect_text::{KINDS, Kind, TABLE_KINDS, TableKind, kind_named, table_kind_named};
 use std::alloc::{AllocError, Global};
 use std::convert::AsStr;
 
-/// What the program is asked to do.
+/// What is asked of bytes.
 #[derive(Clone, Copy)]
-pub enum Request<'a> {
-    /// Answer the lines on standard input.
-    Cases,
-    /// Tell what the bytes of a file, or of standard input, are.
-    Describe {
-        kind: Kind<'a>,
-        file: Option<&'a str>,
-        is_hex: bool,
+pub enum Asked<'a> {
+    /// What they are by themselves.
+    Alone(Kind),
+    /// What they are as a file of a table.
+    OfTable {
+        kind: TableKind,
+        /// The JSON text of the table's schema.
+        schema: &'a str,
     },
 }
 
-const CASES: &str = "cases";
+/// What the program is asked to tell.
+#[derive(Clone, Copy)]
+pub struct Request<'a> {
+    pub asked: Asked<'a>,
+    /// The file that has the bytes; without one they stand on standard input.
+    pub file: Option<&'a str>,
+    /// The bytes are given as hexadecimal text.
+    pub is_hex: bool,
+}
 
 const FILE: &str = "file";
 
@@ -47,50 +56,41 @@ fn parser<'a>(alloc: Global) -> Result<Command<'a>, AllocError> {
     for (name, _, about) in KINDS {
         parser = parser.subcommand(subcommand(alloc, name, about)?)?;
     }
-    let schema = Arg::new(alloc, SCHEMA)
-        .long(SCHEMA)
-        .value_name("TEXT")
-        .required(true)
-        .help("The table's schema, the JSON text of a struct");
-    let rows = subcommand(
-        alloc,
-        ROWS,
-        "The rows of a Parquet file of a table, as JSON",
-    )?;
-    let cases = Command::new(alloc, CASES).about(
-        "An answer to each line on standard input, which says what is read or written",
-    );
-    parser.subcommand(rows.arg(schema)?)?.subcommand(cases)
+    for (name, _, about) in TABLE_KINDS {
+        let schema = Arg::new(alloc, SCHEMA)
+            .long(SCHEMA)
+            .value_name("TEXT")
+            .required(true)
+            .help("The table's schema, the JSON text of a struct");
+        parser = parser.subcommand(subcommand(alloc, name, about)?.arg(schema)?)?;
+    }
+    Ok(parser)
 }
 
-fn request_in<'a>(matches: &ArgMatches<'a>) -> Request<'a> {
-    let Some((word, given)) = matches.subcommand() else {
-        return Request::Cases;
-    };
-    let kind = match given_schema(word, given) {
-        Some(text) => Some(Kind::RowsBy(text)),
-        None => kind_named(word),
-    };
-    match kind {
-        Some(kind) => Request::Describe {
-            kind,
-            file: given.get_str(FILE),
-            is_hex: given.get_flag(HEX),
-        },
-        None => Request::Cases,
-    }
+/// What the words ask for. The parser gives none without a subcommand.
+fn request_in<'a>(matches: &ArgMatches<'a>) -> Option<Request<'a>> {
+    let (word, given) = matches.subcommand()?;
+    Some(Request {
+        asked: asked_by(word, given)?,
+        file: given.get_str(FILE),
+        is_hex: given.get_flag(HEX),
+    })
 }
 
-fn given_schema<'a>(word: &str, given: &ArgMatches<'a>) -> Option<&'a str> {
-    if word == ROWS {
-        given.get_str(SCHEMA)
-    } else {
-        None
+fn asked_by<'a>(word: &str, given: &ArgMatches<'a>) -> Option<Asked<'a>> {
+    if let Some(kind) = table_kind_named(word) {
+        let schema = given.get_str(SCHEMA)?;
+        return Some(Asked::OfTable { kind, schema });
     }
+    Some(Asked::Alone(kind_named(word)?))
 }
 
 /// Reads the words of a command line, of which the first is the program's name.
 pub fn read_words<'a, S: AsStr>(alloc: Global, words: &'a [S]) -> Result<Request<'a>, Error> {
-    let matches = parser(alloc)?.try_get_matches_from(words)?;
-    Ok(request_in(&matches))
+    let mut parser = parser(alloc)?;
+    let matches = parser.try_get_matches_from_mut(words)?;
+    match request_in(&matches) {
+        Some(request) => Ok(request),
+        None => Err(parser.error(ErrorKind::MissingSubcommand, "a subcommand is wanted")?),
+    }
 }

@@ -114,16 +114,14 @@ module _ (objects : Objects) (schema : Tree) (entries : List Entry) (kept : IsKe
       let more = kept_more objects schema entries b file made.commit kept lawful free none is_file is_commit in
       let apart = object_at-with_object_other objects (data_file_name application number) file (names.commit_name (length entries)) (commit_name-data_file_name (length entries) application number) ∙ none in
       let alone = no_other_more objects entries b file made.commit utf8 own in
-      rw (same_file_name application number, same_name (length entries), new) (rw apart refl, (rw (same_file_name application number) at more, rw (same_file_name application number) at alone))
+      rw (version_fits entries few, same_file_name application number, same_name (length entries), new) (rw apart refl, (rw (same_file_name application number) at more, rw (same_file_name application number) at alone))
 
   -- what is done for a new number
   new_agrees : appended (handed_in application number rows) entries ≡ Committed (length entries) → object_at objects (data_file_name application number) ≡ None
       → IsSoundStep application number at (new_step objects (asked (length entries) schema rows false) application number at)
       → Agrees objects schema entries number (new_step objects (asked (length entries) schema rows false) application number at) (Ok (handed_in application number rows))
   unfolding batch_of
-  new_agrees new free sound =
-      let fitting_version = version_fits entries few in
-      rw fitting_version (by_file (written_file schema rows) (rw fitting_version at sound))
+  new_agrees new free sound = by_file (written_file schema rows) sound
     where
       by_file : (written : Result (List ℕ) FileFault) → IsSoundStep application number at ((file_or_refusal written >>= λ file. Ok (made_with (length entries) schema rows application number at file)) >>= fitting objects)
           → Agrees objects schema entries number ((file_or_refusal written >>= λ file. Ok (made_with (length entries) schema rows application number at file)) >>= fitting objects) (Ok (handed_in application number rows))

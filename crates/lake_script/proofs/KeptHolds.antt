@@ -1,9 +1,8 @@
 -- A store that keeps a table holds it, and is sound.
 use Rattle.std.proofs.Common.{◌≡◌, ℕ, suc, ◌+◌, ◌<◌, ◌^◌, List, [], ◌∷◌, ◌++◌, length, None, Ok, refl, ap, length-append, arith}
 use Rattle.std.specs.List.{Contains}
-use Rattle.schema_tree.specs.LongColumn.{one_long}
 use Rattle.schema_tree.specs.Reading.{schema_of}
-use Rattle.schema_tree.specs.Tree.{Tree}
+use Rattle.schema_tree.specs.Tree.{Tree, struct, no_fields}
 use Rattle.store_core.specs.Objects.{Objects, object_at}
 use Rattle.delta_actions.specs.Commit.{IsCommit}
 use Rattle.table_store.specs.Commits.{IsCommitOf}
@@ -68,4 +67,4 @@ no_entries_lawful = record { begins = tt; groups = tt; rises = λ application. t
 
 -- A store of nothing is sound: it holds no entry.
 pub nothing_sound : IsSound []
-nothing_sound = record { schema = one_long []; entries = []; holds = refl; lawful = no_entries_lawful; ends = λ version past small. refl }
+nothing_sound = record { schema = struct no_fields; entries = []; holds = refl; lawful = no_entries_lawful; ends = λ version past small. refl }

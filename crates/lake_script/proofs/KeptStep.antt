@@ -158,15 +158,13 @@ module _ (objects : Objects) (schema : Tree) (entries : List Entry) (kept : IsKe
       let alone : Stays (suc most) filed = keeps schema entries filed_kept filed_files (omega (arith, up)) in
       let whole : Stays (suc most) (with_object filed next (made file).commit) =
       keeps schema (entries ++ group (b ∷ []) ∷ []) more (files_commit filed schema (length entries) (made file).commit filed_files) (omega (arith, up, length-append entries (group (b ∷ []) ∷ []))) in
-      rw (same_file_name application number, same_name (length entries)) (alone, rw (same_file_name application number) at whole)
+      rw (version_fits entries few, same_file_name application number, same_name (length entries)) (alone, rw (same_file_name application number) at whole)
 
   -- what is done for a new number
   new_goes_on : appended (handed_in application number rows) entries ≡ Committed (length entries) → PutsWell application number at (new_step objects (asked (length entries) schema rows false) application number at)
       → GoesOn (suc most) objects (new_step objects (asked (length entries) schema rows false) application number at)
   unfolding batch_of
-  new_goes_on new well =
-      let fitting_version = version_fits entries few in
-      rw fitting_version (by_file (written_file schema rows) (rw fitting_version at well))
+  new_goes_on new well = by_file (written_file schema rows) well
     where
       by_fit : (file : List ℕ) (fit : Result (Unit {0}) Refusal) → unless_other schema rows (file_name application number) (object_at objects (file_name application number)) ≡ fit
           → PutsWell application number at (fit >>= λ fits. Ok (puts (made file)))

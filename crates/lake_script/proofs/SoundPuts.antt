@@ -6,7 +6,7 @@ use Rattle.table_log.specs.Names.{commit_name}
 use Rattle.table_log.specs.Restoring.{AreCheckpointsSound, checkpoint_version}
 use Rattle.commit_core.specs.Creating as creations
 use Rattle.commit_core.specs.Creating.{with_creation, commit_from}
-use Rattle.sink_core.specs.Appending.{Batch, Request, Step, puts, stands, batch_of, file_name, fitting, new_step, repeated_step, request_of, settled, step_of, unless_other, where_same, with_append, with_file_alone, MayAppend}
+use Rattle.sink_core.specs.Appending.{Batch, Request, Step, puts, stands, batch_of, file_name, fitting, is_past, new_step, repeated_step, request_of, settled, step_of, unless_other, where_same, with_append, with_commit, with_file, with_file_alone, MayAppend}
 use Rattle.sink_core.specs.Refusals.{Refusal}
 use Rattle.lake_script.specs.Growth.{MayPut}
 use Rattle.lake_script.specs.Lines.{append, checkpoint, Statement, create, task, foreign}
@@ -35,15 +35,13 @@ by_batch : (objects : Objects) (name : List ℕ) (made : Result Batch Refusal) �
 by_batch objects name (Ok batch) all = fitted name batch (unless_other batch.schema batch.rows batch.name _) (all batch refl)
 by_batch objects name (Err refusal) all = tt
 
-made_named : (name : List ℕ) (small : Result (Unit {0}) Refusal) (file : Result (List ℕ) Refusal) (make : List ℕ → Batch) → ((bytes : List ℕ) → (make bytes).name ≡ name) → (batch : Batch)
-    → (small >>= λ fine. file >>= λ bytes. Ok (make bytes)) ≡ Ok batch → batch.name ≡ name
-made_named name (Err refusal) file make all batch is = cc
-made_named name (Ok fine) (Err refusal) make all batch is = cc
-made_named name (Ok fine) (Ok bytes) make all batch is = let same : make bytes ≡ batch = cc in ap (λ b. b.name) (sym same) ∙ all bytes
+made_named : (name : List ℕ) (file : Result (List ℕ) Refusal) (make : List ℕ → Batch) → ((bytes : List ℕ) → (make bytes).name ≡ name) → (batch : Batch) → (file >>= λ bytes. Ok (make bytes)) ≡ Ok batch → batch.name ≡ name
+made_named name (Err refusal) make all batch is = cc
+made_named name (Ok bytes) make all batch is = let same : make bytes ≡ batch = cc in ap (λ b. b.name) (sym same) ∙ all bytes
 
 batch_named : (request : Request) (application : List ℕ) (number at : ℕ) (batch : Batch) → batch_of request application number at ≡ Ok batch → batch.name ≡ file_name application number
 unfolding batch_of
-batch_named request application number at batch is = made_named (file_name application number) _ _ _ (λ bytes. refl) batch is
+batch_named request application number at batch is = made_named (file_name application number) _ _ (λ bytes. refl) batch is
 
 repeated_named : (name : List ℕ) (same : Result (Unit {0}) Refusal) → HasName name (same >>= λ fine. Ok stands)
 repeated_named name (Ok fine) = tt
@@ -68,10 +66,17 @@ file_sound every objects application number (Ok (puts batch)) named sound = soun
 file_sound every objects application number (Ok stands) named sound = sound
 file_sound every objects application number (Err refusal) named sound = sound
 
+-- the commit of a batch, which is put where one may have its version
+commit_sound : (every : Bool) (objects : Objects) (batch : Batch) → AreCheckpointsSound every objects → AreCheckpointsSound every (with_commit objects batch)
+commit_sound every objects batch sound = by_version (is_past batch.version)
+  where
+    by_version : (past : Bool) → AreCheckpointsSound every (if past then objects else with_object objects (commit_name batch.version) batch.commit)
+    by_version true = sound
+    by_version false = sound_beside objects (commit_name batch.version) batch.commit every (commit_is_none batch.version) sound
+
 append_sound : (every : Bool) (objects : Objects) (application : List ℕ) (number : ℕ) (step : Result Step Refusal) → HasName (file_name application number) step → AreCheckpointsSound every objects → AreCheckpointsSound every (with_append objects step)
 append_sound every objects application number (Ok (puts batch)) named sound =
-    sound_beside (with_object objects batch.name batch.file) (commit_name batch.version) batch.commit every (commit_is_none batch.version)
-    (sound_beside objects batch.name batch.file every (no_checkpoint application number batch.name named) sound)
+    commit_sound every (with_file objects batch) batch (sound_beside objects batch.name batch.file every (no_checkpoint application number batch.name named) sound)
 append_sound every objects application number (Ok stands) named sound = sound
 append_sound every objects application number (Err refusal) named sound = sound
 

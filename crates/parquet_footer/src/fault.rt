@@ -20,7 +20,7 @@ pub enum FileFault {
     BadFooter { fault: ThriftFault },
     /// The codec of a column chunk isn't UNCOMPRESSED.
     Codec { n: i64 },
-    /// The values of a page are in another encoding than PLAIN.
+    /// The values of a page are in another encoding than PLAIN, or its levels in another than RLE.
     Encoding { n: i64 },
     /// A page is no data page of version 1.
     PageKind { n: i64 },
@@ -28,10 +28,12 @@ pub enum FileFault {
     BadOffset,
     /// Sizes or counts that don't agree.
     CountMismatch,
-    /// The file's columns aren't those of the table.
+    /// The file's columns aren't those of the table, a row group has no chunk of one, a null or a number out of range
+    /// stands where the table has none, or two columns differ on whether a struct above both is null.
     SchemaMismatch,
-    /// The file is over 64 MiB, it or a row group of it claims more rows than a file may have, or more rows than a
-    /// page may have are to be written.
+    /// The file is over 64 MiB, it or a row group of it claims over 4,194,304 rows, or a text or bytes of it are over
+    /// 1 MiB. Of a file that is to be written: it would have over 4,194,304 rows, or it, a name, a page or the chunks so
+    /// far over 64 MiB.
     TooLarge,
     /// A text isn't UTF-8.
     NotUtf8,

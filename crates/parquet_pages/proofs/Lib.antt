@@ -20,12 +20,4 @@ pub mod PlainFound
 pub mod PlainOnly
 pub mod PlainParts
 pub mod TruthParts
-pub mod WrittenBits
-pub mod WrittenChunk
-pub mod WrittenHeader
-pub mod WrittenHeld
-pub mod WrittenLevels
-pub mod WrittenPlain
-pub mod WrittenSizes
-pub mod WrittenValues
 pub mod Callers

@@ -20,10 +20,6 @@ abbrev pub is_between : ℤ → ℤ → Value → Bool
 is_between least most (whole z) = le_z least z && le_z z most
 is_between least most v = false
 
--- a part of a column whose values are borrowed
-abbrev pub part : List ℕ → List (Bor code.Value) → Column
-part levels values = record { levels = levels; values = map borrowed_value values }
-
 -- The value that reading gives was taken, and the bytes behind it are left. There is no fault where it is there and, if it
 -- is a text, in UTF-8.
 abbrev pub TakesValue : Result (Value × List ℕ) ByteFault → Result code.Value FileError → List ℕ → Type 0

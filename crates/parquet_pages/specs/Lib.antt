@@ -4,7 +4,6 @@ pub mod Levels
 pub mod Headers
 pub mod Pages
 pub mod Reading
-pub mod Writing
 pub mod Views
 pub mod Outcome
 pub mod Internal

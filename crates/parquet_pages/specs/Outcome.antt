@@ -56,8 +56,3 @@ Adds read old (Err e) new = IsSaid (says e) read
 abbrev pub AddsPart : Leaf → (first most : ℕ) → Result Column FileFault → Part → Result (Unit {0}) FileError → Part → Type 0
 AddsPart l first most read old (Ok x) new = (c : Column) × (read ≡ Ok c) × (new ≡ parts_joined old (kept_of l first most c)) × (present (highest l) c.levels ≡ length c.values) × ArePlain c
 AddsPart l first most read old (Err e) new = IsSaid (says e) read
-
--- These bytes were written behind the others; or the fault.
-abbrev pub Writes : Result (List ℕ) FileFault → List ℕ → Result (Unit {0}) FileError → List ℕ → Type 0
-Writes written old (Ok x) new = (bytes : List ℕ) × (written ≡ Ok bytes) × (new ≡ old ++ bytes)
-Writes written old (Err e) new = IsSaid (says e) written

@@ -1,13 +1,13 @@
 //! The numbers that Parquet gives encodings and kinds of page (Apache Parquet, parquet.thrift).
 
 /// Encoding PLAIN.
-pub(crate) const PLAIN: i64 = 0;
+pub const PLAIN: i64 = 0;
 
 /// Encoding RLE.
-pub(crate) const RLE: i64 = 3;
+pub const RLE: i64 = 3;
 
 /// PageType DATA_PAGE, a data page of version 1.
-pub(crate) const DATA_PAGE: i64 = 0;
+pub const DATA_PAGE: i64 = 0;
 
 /// PageType DICTIONARY_PAGE.
 pub(crate) const DICTIONARY_PAGE: i64 = 2;
@@ -16,4 +16,4 @@ pub(crate) const DICTIONARY_PAGE: i64 = 2;
 pub(crate) const MAX_CONTENT: usize = 1_048_576;
 
 /// The most bytes of a page, as of a file: 64 MiB.
-pub(crate) const MAX_PAGE_SIZE: u64 = 67_108_864;
+pub const MAX_PAGE_SIZE: u64 = 67_108_864;

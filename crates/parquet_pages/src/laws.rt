@@ -1,27 +1,12 @@
-//! Laws of pages, each a function with an empty body whose contract is the law.
+//! A law of pages, a function with an empty body whose contract is the law.
 
-ghost use Rattle.std.specs.Prelude.{◌≡◌, ◌≤◌, ◌<◌, ◌++◌, ℕ, ℤ, pos, List, length, All, Ok, true};
-ghost use Rattle.row_core.specs.Conforms.{is_leaf_value};
+ghost use Rattle.std.specs.Prelude.{◌≡◌, ℕ, ℤ, List, length};
 ghost use Rattle.shred.specs.Columns.{Column};
-ghost use Rattle.parquet_pages.specs.Pages.{ChunkHolds, Leaf, Suits, highest, present};
-ghost use Rattle.parquet_pages.specs.Reading.{chunk_at};
-ghost use Rattle.parquet_pages.specs.Writing.{chunk_written};
-ghost use Rattle.parquet_pages.specs.Writing.{IsWhole};
+ghost use Rattle.parquet_pages.specs.Pages.{ChunkHolds, Leaf, Suits};
 
 /// A chunk's pages hold one column of so many values at most that suits the leaf.
 pub fn a_chunk_holds_one_column()
     ensures { (l : Leaf) (given : List ℕ) (stated : ℤ) (c other : Column) → ChunkHolds l given stated c
         → ChunkHolds l given stated other
         → Suits l c → Suits l other → length c.levels ≡ length other.levels → c ≡ other }
-{}
-
-/// The pages that are written for a whole column hold it, whatever stands before them, 4 bytes at least, and behind
-/// them; so they are read again as it, if it suits the leaf.
-pub fn a_written_chunk_holds_its_column()
-    ensures holds { (l : Leaf) (c : Column) (before written behind : List ℕ) → highest l ≤ 16 → IsWhole l c
-        → chunk_written l.leaf_type (highest l) c ≡ Ok written → 4 ≤ length before
-        → ChunkHolds l (before ++ (written ++ behind)) (pos (length before)) c }
-    ensures again { (l : Leaf) (c : Column) (before written behind : List ℕ) → highest l ≤ 16 → IsWhole l c → Suits l c
-        → chunk_written l.leaf_type (highest l) c ≡ Ok written → 4 ≤ length before
-        → chunk_at l (before ++ (written ++ behind)) (pos (length before)) (length c.levels) ≡ Ok c }
 {}

@@ -58,9 +58,9 @@ fn told_levels(
     }
 }
 
-/// The bits of a level.
+/// The bits of a level, where the highest is at most 31 (Apache Parquet, "Run Length Encoding / Bit-Packing Hybrid").
 #[tactic(auto, unfolding(crate::specs::Levels::width_of))]
-pub(crate) fn width_of(highest: u64) -> u32
+pub fn width_of(highest: u64) -> u32
     ensures width { result ≡ width_of highest }
     ensures few { result ≤ 5 }
 {

@@ -24,7 +24,7 @@ use Rattle.shred.specs.Ways.{Step, level_inside, under, ways, ways_from}
 use Rattle.shred.proofs.Callers.{cells_of, cells_of_fields, columns_found, fronts, matrix, row_fits}
 use Rattle.parquet_pages.specs.Pages.{present}
 use Rattle.parquet_pages.specs.Types.{primitive_of}
-use Rattle.parquet_pages.specs.Writing.{IsWhole}
+use Rattle.page_writing.specs.Writing.{IsWhole}
 use Rattle.parquet_pages.specs.declared.types.LeafType.{LeafType}
 use Rattle.parquet_schema.specs.Leaves.{LeafIn, flag_of, leaf_inside, leaves_in, leaves_of_fields}
 use Rattle.parquet_rows.specs.File.{leaf_of}
@@ -246,7 +246,7 @@ no_cell l = record { none_above = All-nil (IsBelow l); value_each = refl; of_typ
 abbrev cell_at : ℕ → Option Value → Cell
 cell_at level o = record { level = level; value = o }
 
-present_more : (top level : ℕ) (levels : List ℕ)
+pub present_more : (top level : ℕ) (levels : List ℕ)
     → present top (level ∷ levels) ≡ cond (eqb level top) 1 0 + present top levels
 present_more top level levels =
     let both = sum_by-append (λ (n : ℕ). cond (eqb n top) 1 0) (level ∷ []) levels in omega (arith, both)

@@ -13,7 +13,7 @@ use Rattle.shred.specs.Shape.{shape_of}
 use Rattle.parquet_footer.proofs.Callers.{bind_ok, ok_is}
 use Rattle.parquet_footer.specs.declared.fault.FileFault.{FileFault}
 use Rattle.parquet_footer.specs.declared.fault.FileFault.TheVariants.{SchemaMismatch, TooLarge}
-use Rattle.parquet_pages.specs.Writing.{chunk_written}
+use Rattle.page_writing.specs.Writing.{chunk_written}
 use Rattle.parquet_schema.specs.Leaves.{LeafIn, leaves_in}
 use Rattle.parquet_rows.specs.Writing.{chunk_from, chunk_tree, chunks_from, group_written, is_short_named}
 use Rattle.parquet_rows.proofs.GroupSteps.{allowed}

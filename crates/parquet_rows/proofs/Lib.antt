@@ -17,6 +17,7 @@ pub mod GroupSteps
 pub mod LeafPaths
 pub mod GroupSizes
 pub mod ShortNames
+pub mod PagesOfRows
 pub mod PartLists
 pub mod PartSteps
 pub mod PutElements

@@ -1,5 +1,6 @@
 -- The chunks of the leaves, written one behind the other.
-use Rattle.std.proofs.Common.{◌≡◌, ℕ, ◌+◌, ◌≤◌, List, [], ◌∷◌, ◌++◌, length, Result, Ok, Err, Bor, Global, refl, sym, ap, ◌∙◌, arith, append_assoc, inl, inr, ◌⊎◌}
+use Rattle.std.proofs.Common.{◌≡◌, ℕ, ◌+◌, ◌≤◌, List, [], ◌∷◌, ◌++◌, length, map, true, is_some, Result, Ok, Err, Vec, Global, refl, sym, ap, subst, ◌∙◌, arith, append_assoc, inl, inr, ◌⊎◌}
+use Rattle.std.specs.List.{AllByRecursion}
 use Rattle.std.proofs.lemmas.List.{append-nil, length-append, map_push}
 use Rattle.lake_bytes.specs.Outcome.{IsSaid}
 use Rattle.lake_bytes.specs.Results.{◌>>=◌}
@@ -7,16 +8,18 @@ use Rattle.lake_bytes.proofs.Callers.{said_too}
 use Rattle.thrift_core.specs.Tree.{Tree}
 use Rattle.thrift_core.specs.View.{view, views}
 use Rattle.thrift_core.specs.declared.value.TValue.{TValue}
-use Rattle.row_core.specs.declared.value.Value.{Value}
-use Rattle.shred.specs.Columns.{Column}
-use Rattle.shred.specs.Views.{borrowed_columns}
-use Rattle.shred.specs.declared.columns.Column.{Column as CodeColumn}
+use Rattle.row_core.specs.Rows.{Row}
+use Rattle.shred.specs.Columns.{Column, column}
+use Rattle.shred.specs.Views.{way_views}
+use Rattle.shred.specs.Ways.{Step, highest}
+use Rattle.shred.specs.declared.ways.Step.{Step as CodeStep}
 use Rattle.parquet_footer.specs.Outcome.{says}
 use Rattle.parquet_footer.specs.declared.fault.FileError.{FileError}
 use Rattle.parquet_footer.specs.declared.fault.FileFault.{FileFault}
 use Rattle.parquet_schema.specs.Leaves.{LeafIn}
 use Rattle.parquet_schema.specs.Views.{leaf_views}
 use Rattle.parquet_schema.specs.declared.leaves.FileLeaf.{FileLeaf}
+use Rattle.parquet_rows.specs.Internal.{column_along, columns_along, levels_of}
 use Rattle.parquet_rows.specs.Writing.{chunk_from, chunks_from}
 
 abbrev pub Written : Type 0
@@ -101,14 +104,48 @@ chunk_refused rows ls cs old new chunks left behind others last l c error here t
     said_too (says error) (chunk_from (length new) rows l c) (chunks_from (length old) rows ls cs)
     (λ fault is. sym so_far.puts ∙ ap (behind_chunks so_far.front chunks) (refused fault is)) said
 
+-- ---- the leaves at the ends of ways
+
+-- The leaves and ways that are left: each way has its leaf's level, and a column of all rows.
+pub record AreAtEnds (rows : List Row) (ls : List LeafIn) (ws : List (List Step)) : Type 0 where
+  pub levels : levels_of ls ≡ map highest ws
+  pub found : AllByRecursion (λ way. is_some (column way rows) ≡ true) ws
+
+-- all of them, as the code has them
+pub at_ends : (rows : List Row) (ls left : List LeafIn) (ws others : List (List Step)) → left ≡ ls → others ≡ ws
+    → levels_of ls ≡ map highest ws → AllByRecursion (λ way. is_some (column way rows) ≡ true) ws
+    → AreAtEnds rows left others
+at_ends rows ls left ws others same equal levels found = record {
+  levels = ap levels_of same ∙ (levels ∙ ap (map highest) (sym equal));
+  found = subst (AllByRecursion (λ way. is_some (column way rows) ≡ true)) (sym equal) found;
+}
+
+-- the first leaf and way, and the others
+pub next_at_end : (rows : List Row) (ls behind : List LeafIn) (l : LeafIn) (ws others : List (List Step))
+    (w : List Step) → ls ≡ l ∷ behind → ws ≡ w ∷ others → AreAtEnds rows ls ws
+    → (length l.nullable ≡ highest w) × (is_some (column w rows) ≡ true) × AreAtEnds rows behind others
+next_at_end rows ls behind l ws others w here there e =
+    let levels : length l.nullable ∷ levels_of behind ≡ highest w ∷ map highest others =
+    sym (ap levels_of here) ∙ (e.levels ∙ ap (map highest) there) in
+    let found = subst (AllByRecursion (λ way. is_some (column way rows) ≡ true)) there e.found in
+    (cc, found.0, record { levels = cc; found = found.1 })
+
+-- the column of the first way, and those of the others
+pub next_column : (rows : List Row) (ws others : List (List Step)) (w way : List Step) → ws ≡ w ∷ others → way ≡ w
+    → columns_along ws rows ≡ column_along way rows ∷ columns_along others rows
+next_column rows ws others w way there is =
+    ap (λ (vs : List (List Step)). columns_along vs rows) there
+    ∙ ap (λ (v : List Step). column_along v rows ∷ columns_along others rows) (sym is)
+
 -- a list has run out, and with it the chunks
-pub none_left : (place rows : ℕ) (fs : List FileLeaf) (ks : List (CodeColumn (Bor Value)))
-    → (length fs ≡ 0) ⊎ (length ks ≡ 0) → chunks_from place rows (leaf_views fs) (borrowed_columns ks) ≡ Ok ([], [])
+pub none_left : (place count : ℕ) (fs : List FileLeaf) (ws : List (Vec CodeStep Global)) (rows : List Row)
+    → (length fs ≡ 0) ⊎ (length ws ≡ 0)
+    → chunks_from place count (leaf_views fs) (columns_along (way_views ws) rows) ≡ Ok ([], [])
 unfolding chunks_from
-none_left place rows [] ks over = refl
-none_left place rows (f ∷ fs) [] over = refl
-none_left place rows (f ∷ fs) (k ∷ ks) (inl e) = absurd (omega (arith, e))
-none_left place rows (f ∷ fs) (k ∷ ks) (inr e) = absurd (omega (arith, e))
+none_left place count [] ws rows over = refl
+none_left place count (f ∷ fs) [] rows over = refl
+none_left place count (f ∷ fs) (w ∷ ws) rows (inl e) = absurd (omega (arith, e))
+none_left place count (f ∷ fs) (w ∷ ws) rows (inr e) = absurd (omega (arith, e))
 
 -- all chunks were written
 pub all_put : (rows : ℕ) (ls : List LeafIn) (cs : List Column) (old new : List ℕ) (chunks : List Tree) (left : List LeafIn)

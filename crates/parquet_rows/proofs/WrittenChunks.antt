@@ -16,10 +16,10 @@ use Rattle.parquet_footer.specs.declared.fault.FileFault.TheVariants.{TooLarge}
 use Rattle.parquet_footer.proofs.Callers.{bind_ok, ok_is}
 use Rattle.parquet_pages.specs.Pages.{ChunkHolds}
 use Rattle.parquet_pages.specs.Types.{physical_type, type_number}
-use Rattle.parquet_pages.specs.Writing.{IsWhole, chunk_written}
+use Rattle.page_writing.specs.Writing.{IsWhole, chunk_written}
 use Rattle.parquet_pages.specs.declared.types.PhysicalType.{PhysicalType}
 use Rattle.parquet_pages.specs.declared.types.PhysicalType.TheVariants as physical
-use Rattle.parquet_pages.proofs.WrittenHeld.{written_held}
+use Rattle.page_writing.proofs.WrittenHeld.{written_held}
 use Rattle.parquet_schema.specs.Leaves.{LeafIn}
 use Rattle.parquet_rows.specs.File.{HoldsColumn, leaf_of}
 use Rattle.parquet_rows.specs.Writing.{chunk_form, chunk_from, chunk_tree, chunks_from, column_form, column_tree, members}

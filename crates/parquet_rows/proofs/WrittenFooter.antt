@@ -19,7 +19,7 @@ use Rattle.schema_tree.specs.declared.primitive.Primitive.{Primitive}
 use Rattle.schema_tree.specs.declared.primitive.Primitive.TheVariants as primitives
 use Rattle.parquet_footer.specs.Footer.{FooterSays}
 use Rattle.parquet_footer.specs.Metadata.{SchemaElement, RowGroup, group_of, metadata_of, schema_of}
-use Rattle.parquet_pages.specs.Writing.{number_field}
+use Rattle.page_writing.specs.Writing.{number_field}
 use Rattle.parquet_schema.specs.FileTree.{FileFields, FileNode, IsSchemaList, field, group, no_fields}
 use Rattle.parquet_schema.specs.Fitting.{file_fields_of, file_node}
 use Rattle.parquet_rows.specs.Writing.{element_form, fields, footer_bytes, footer_form, footer_tree, group_form, is_short_named, members, schema_elements}

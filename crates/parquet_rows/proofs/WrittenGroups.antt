@@ -21,7 +21,7 @@ use Rattle.parquet_footer.specs.Metadata.{ColumnChunk, RowGroup, chunk_of, group
 use Rattle.parquet_footer.specs.declared.fault.FileFault.{FileFault}
 use Rattle.parquet_footer.specs.declared.fault.FileFault.TheVariants.{SchemaMismatch}
 use Rattle.parquet_footer.proofs.Callers.{bind_ok, ok_is}
-use Rattle.parquet_pages.specs.Writing.{IsWhole}
+use Rattle.page_writing.specs.Writing.{IsWhole}
 use Rattle.parquet_schema.specs.Leaves.{LeafIn, leaves_in}
 use Rattle.parquet_rows.specs.File.{IsGroup, leaf_of}
 use Rattle.parquet_rows.specs.Writing.{chunk_form, chunks_from, group_form, group_tree, group_written, is_short_named, members}

@@ -7,11 +7,12 @@ use Rattle.parquet_footer.specs.Metadata.{ColumnChunk, RowGroup}
 use Rattle.parquet_footer.specs.declared.fault.FileFault.{FileFault}
 use Rattle.parquet_footer.specs.declared.fault.FileFault.TheVariants.{Codec, SchemaMismatch}
 use Rattle.parquet_schema.specs.Leaves.{LeafIn, leaves_in}
+use Rattle.row_core.specs.Rows.{Row}
 use Rattle.row_core.specs.declared.value.Value.{Value}
 use Rattle.schema_tree.specs.Tree.{Tree}
-use Rattle.shred.specs.Columns.{Column}
+use Rattle.shred.specs.Columns.{Column, column}
 use Rattle.shred.specs.Shape.{Shape}
-use Rattle.shred.specs.Ways.{highest, ways}
+use Rattle.shred.specs.Ways.{Step, highest, ways}
 use Rattle.shred.specs.declared.columns.ColumnPart.{ColumnPart}
 use Rattle.parquet_pages.specs.Parts.{IsPartOf}
 use Rattle.parquet_rows.specs.File.{leaf_of}
@@ -38,9 +39,25 @@ ArePartsOf first most [] [] [] = Unit {0}
 ArePartsOf first most (l ∷ ls) (p ∷ ps) (c ∷ cs) = IsPartOf (leaf_of l) first most p c × ArePartsOf first most ls ps cs
 ArePartsOf first most _ _ _ = ⊥
 
+-- the highest level of each leaf
+abbrev pub levels_of : List LeafIn → List ℕ
+levels_of leaves = map (λ l. length l.nullable) leaves
+
 -- The leaves of a table in a file where its rows have this shape: one for each way, of the way's highest level, and at
 -- least one.
 pub record AreLeavesOf (t : Tree) (shape : Shape) (leaves : List LeafIn) : Type 0 where
   pub are : leaves ≡ leaves_in t shape
-  pub levels : map (λ l. length l.nullable) leaves ≡ map highest (ways shape)
+  pub levels : levels_of leaves ≡ map highest (ways shape)
   pub some : 0 < length leaves
+
+-- the column that was found, or that of no rows
+abbrev pub column_or_none : Option Column → Column
+column_or_none (Some c) = c
+column_or_none None = record { levels = []; values = [] }
+
+-- the column of the leaf at the end of a way, and those at the ends of several
+abbrev pub column_along : List Step → List Row → Column
+column_along way rows = column_or_none (column way rows)
+
+abbrev pub columns_along : List (List Step) → List Row → List Column
+columns_along ways rows = map (λ way. column_along way rows) ways

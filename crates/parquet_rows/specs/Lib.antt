@@ -1,6 +1,7 @@
 pub mod File
 pub mod Reading
 pub mod Outcome
+pub mod FaultTexts
 pub mod Internal
 pub mod Writing
 pub mod Views

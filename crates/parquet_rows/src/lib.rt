@@ -3,6 +3,7 @@
 #![tactic(auto)]
 
 mod columns;
+mod error;
 mod forms;
 mod groups;
 mod laws;
@@ -10,6 +11,7 @@ mod rows;
 mod trees;
 mod writing;
 
+pub use error::RowsError;
 pub use laws::one_list_of_rows;
 pub use rows::{FilePart, read_part, read_rows};
 pub use writing::write_file;

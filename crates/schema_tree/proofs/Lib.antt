@@ -4,8 +4,6 @@ pub mod FieldLoops
 pub mod PrintedFields
 pub mod SameFields
 pub mod FieldLeaves
-pub mod Callers
-pub mod LongColumns
 pub mod PrimitiveNames
 pub mod PrintedReads
 mod Members

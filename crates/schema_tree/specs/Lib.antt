@@ -2,7 +2,6 @@ pub mod Primitives
 pub mod Tree
 pub mod Printing
 pub mod Limits
-pub mod LongColumn
 pub mod Fault
 pub mod FaultTexts
 pub mod Reading

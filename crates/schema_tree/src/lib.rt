@@ -7,7 +7,6 @@ mod counts;
 mod fault;
 mod fractions;
 mod laws;
-mod long_column;
 mod metadata;
 mod node;
 mod paths;

@@ -6,7 +6,6 @@ ghost use Rattle.serde_json.specs.Find.{as_object};
 ghost use Rattle.serde_json.specs.Read.{max_depth};
 ghost use Rattle.serde_json.specs.View.{view};
 ghost use Rattle.serde_json.specs.Written.{has_float};
-ghost use Rattle.schema_tree.specs.LongColumn.{is_empty};
 ghost use Rattle.schema_tree.specs.Metadata.{IsCompactObject, value_of};
 
 use serde_json::Value;
@@ -53,13 +52,6 @@ impl<A: Allocator> Metadata<A> {
         ensures compact { IsCompactObject result.now }
     {
         self.text.as_str()
-    }
-
-    /// Whether it has no entries.
-    pub(crate) fn is_empty(&self) -> bool
-        ensures { result ≡ is_empty (metadata_of self.now) }
-    {
-        self.text.as_str() == "{}"
     }
 
     /// The JSON object.

@@ -24,4 +24,5 @@ pub use laws::{
 };
 pub use parts::assemble_part;
 pub use shapes::{Shape, ShapeField};
-pub use shredding::shred;
+pub use shredding::{column_of, shred};
+pub use ways::{Step, ways_of};

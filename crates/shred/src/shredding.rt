@@ -12,7 +12,8 @@ use crate::ways::{Step, ways_of};
 use row_core::Value;
 use std::alloc::{AllocError, Global};
 
-/// The columns of rows, one for each leaf of the shape, depth first. The values are borrowed.
+/// The columns of rows, one for each leaf of the shape, depth first. The values are borrowed. [`column_of`] makes one of
+/// them, or that of a few rows.
 ///
 /// Each row has to fit the shape: a struct with one value for each field, which is null only where the field is
 /// optional; a leaf has a value that is no struct. The time is linear in rows times leaves, and for each of these in
@@ -51,8 +52,11 @@ fn columns_of<'a>(
     Ok(Some(columns))
 }
 
-/// The column of a way, where all cells are there.
-fn column_of<'a>(
+/// The column of the leaf at the end of a way. The values are borrowed. `None` where a row has no such leaf, or a null
+/// stands on the way where none may: for rows that fit the shape of the way there is one.
+///
+/// The time is linear in rows times steps.
+pub fn column_of<'a>(
     alloc: Global,
     way: &[Step],
     rows: &'a [Value],

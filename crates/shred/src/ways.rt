@@ -8,17 +8,17 @@ ghost use Rattle.shred.specs.Views.{shape_view, field_view, field_views, step_vi
 use crate::shapes::{Shape, ShapeField};
 use std::alloc::{AllocError, Global};
 
-/// One step down.
+/// One step down, from a struct to a field of it.
 #[derive(Clone, Copy, Debug)]
-pub(crate) struct Step {
-    /// The place of a field in its struct, from 0.
-    pub(crate) place: usize,
+pub struct Step {
+    /// The place of the field in its struct, from 0.
+    pub place: usize,
     /// Whether the field may be null.
-    pub(crate) optional: bool,
+    pub optional: bool,
 }
 
-/// The ways to the leaves, depth first.
-pub(crate) fn ways_of(alloc: Global, shape: &Shape) -> Result<Vec<Vec<Step>>, AllocError>
+/// The ways through a shape to its leaves, depth first. The time is linear in their steps.
+pub fn ways_of(alloc: Global, shape: &Shape) -> Result<Vec<Vec<Step>>, AllocError>
     ensures { IfOk result (λ v. way_views v.items ≡ ways (shape_view shape.now)) }
 {
     let mut above = Vec::new(alloc);

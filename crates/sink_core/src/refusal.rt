@@ -16,7 +16,7 @@ use thiserror::Error;
 pub enum AppendFault {
     /// The application's id has no bytes, or over 64.
     BadApp,
-    /// The number passes 999,999,999,999, or there are more than 65,536 rows.
+    /// The number passes 999,999,999,999, there are more than 65,536 rows, or no commit has the version that comes next.
     TooLarge,
     /// The file passes 64 MiB.
     FileTooLarge,

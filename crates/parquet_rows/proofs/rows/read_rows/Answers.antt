@@ -2,7 +2,7 @@ use Rattle.std.proofs.Common.{ℕ, ◌≤◌, Ok, arith}
 use Rattle.std.proofs.lemmas.Result.{err_from_is_err_and}
 use Rattle.lake_bytes.proofs.Callers.{said_too}
 use Rattle.schema_tree.specs.Schema.{tree_of}
-use Rattle.parquet_footer.specs.Outcome.{says}
+use Rattle.parquet_rows.specs.Outcome.{says_of_rows}
 use Rattle.parquet_rows.specs.Reading.{part_at, rows_at}
 use Rattle.parquet_rows.specs.Views.{file_part_view}
 use Rattle.parquet_rows.proofs.PartSteps.{part_read_fails, whole_read}
@@ -17,7 +17,7 @@ returns-in_err-part_in-clause-only g c =
     let e = c.in_err-part_in.field-0.0 in
     let p = err_from_is_err_and c.from_residual.result c.from_residual.ensures.1 in
     let answer : IsAnswer bytes t c.from_residual.result =
-    rw (p.1, p.2) (said_too (says e) (part_at bytes t 0 all) (rows_at bytes t) (part_read_fails 0 all (rows_at bytes t))
+    rw (p.1, p.2) (said_too (says_of_rows e) (part_at bytes t 0 all) (rows_at bytes t) (part_read_fails 0 all (rows_at bytes t))
     c.in_err-part_in.ensures.exact) in
     is_read bytes t c.from_residual.result c.args.schema.now.within_limits answer
 

@@ -1,0 +1,9 @@
+pub mod WrittenBits
+pub mod WrittenChunk
+pub mod WrittenHeader
+pub mod WrittenHeld
+pub mod WrittenLevels
+pub mod WrittenPlain
+pub mod WrittenSizes
+pub mod WrittenValues
+pub mod Callers

@@ -1,0 +1,21 @@
+use Rattle.std.proofs.Common.{◌≡◌, ◌<◌, length, get_or, map, arith, sym, ap, ◌∙◌}
+use Rattle.std.proofs.lemmas.List.{get_or-map, length-map}
+use Rattle.shred.specs.Views.{borrowed_value}
+use Rattle.page_writing.specs.Writing.{value_bytes}
+use Rattle.page_writing.proofs.WrittenPlain.{value_within}
+use Rattle.page_writing.proofs.plain.write_plain.Goals as goal
+
+pub write_value-requires : goal.write_value-requires
+write_value-requires c =
+    let values = c.args.values.now in
+    let i = c.loop-value.value-index in
+    let v = borrowed_value c.value-item.result in
+    let within : i < length (map borrowed_value values) = omega (arith, length-map values borrowed_value) in
+    let same : get_or (map borrowed_value values) i v ≡ v =
+    get_or-map borrowed_value values i c.value-item.result v c.loop-value-test.true
+    ∙ ap borrowed_value (sym c.value-item.is) in
+    omega (
+      arith,
+      value_within c.args.physical_type (map borrowed_value values) i v c.in_default.not-Boolean within,
+      ap (λ x. length (value_bytes c.args.physical_type x)) same,
+    )
