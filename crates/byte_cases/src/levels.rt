@@ -8,7 +8,8 @@ use crate::notation::{Names, number, spelled};
 use inspect_text::Refusal;
 use lake_bytes::{Cursor, hybrid_read, hybrid_write};
 use page_writing::{MAX_PAGE_ROWS, write_page};
-use parquet_pages::{Leaf, LeafType, read_chunk, test_chunk};
+use parquet_footer::FileError;
+use parquet_pages::{ColumnReader, Leaf, LeafType, test_chunk};
 use row_core::Value;
 use schema_tree::Primitive;
 use shred::Column;
@@ -62,8 +63,8 @@ fn width_of(word: &str) -> Result<u32, Refusal>
 }
 
 /// What the pages of a chunk hold, for `TYPE FLAGS OFFSET COUNT BYTES`: the levels and the values. FLAGS is `-`, or has
-/// for each node that may be null in the file `n` where the table lets it be null, and `r` where it doesn't. A test that
-/// keeps nothing has to come to the same.
+/// for each node that may be null in the file `n` where the table lets it be null, and `r` where it doesn't. The pages
+/// are tested, and read then.
 pub fn chunk_line(alloc: Global, names: &Names, rest: &str) -> Result<String, Refusal> {
     let (word, rest) = rest.split_once(' ').ok_or(Refusal::BadSpelling)?;
     let (flags, rest) = rest.split_once(' ').ok_or(Refusal::BadSpelling)?;
@@ -77,10 +78,32 @@ pub fn chunk_line(alloc: Global, names: &Names, rest: &str) -> Result<String, Re
     let bytes = spelled(alloc, names, rest)?;
     let offset = number(offset)?;
     let count = number(count)?;
-    let tested = test_chunk(alloc, &leaf, &bytes, offset, count);
-    let column = read_chunk(alloc, &leaf, &bytes, offset, count)?;
-    tested?;
+    test_chunk(alloc, &leaf, &bytes, offset, count)?;
+    let reader = ColumnReader::open(alloc, leaf, &bytes, offset, count)?;
+    let column = column_of_chunk(alloc, reader, bytes.len())?;
     Ok(told_column(alloc, &column)?)
+}
+
+/// The column that the reader of a chunk has left, in at most so many pages; what [`test_chunk`] passes is read.
+fn column_of_chunk(
+    alloc: Global,
+    mut reader: ColumnReader,
+    pages: usize,
+) -> Result<Column<Value>, FileError> {
+    let mut column = Column {
+        levels: Vec::new(alloc),
+        values: Vec::new(alloc),
+    };
+    for _page in 0..pages {
+        let count = reader.fill(alloc)?;
+        if count == 0 {
+            return Ok(column);
+        }
+        let mut part = reader.take(alloc, count, 0, count)?;
+        column.levels.append(&mut part.kept.levels)?;
+        column.values.append(&mut part.kept.values)?;
+    }
+    Ok(column)
 }
 
 /// The pages that are written, for `TYPE HIGHEST COLUMN`, the column as JSON: pages of [`MAX_PAGE_ROWS`] levels, the

@@ -4,8 +4,9 @@ use crate::footer::{chunk_line, group_line};
 use crate::headers::header_line;
 use crate::refusal::Refusal;
 use lake_bytes::Run;
-use parquet_footer::{ColumnChunk, FileFault, Footer, MAGIC, RowGroup, split_file};
-use parquet_pages::{Leaf, Page, read_chunk_part, read_header, read_page};
+use parquet_footer::{FileFault, Footer, RowGroup, split_file};
+use parquet_pages::{Leaf, Page, first_place, read_header, read_page};
+use parquet_rows::chunk_named;
 use parquet_schema::{FileLeaf, fit};
 use schema_tree::Schema;
 use std::alloc::{AllocError, Global};
@@ -48,10 +49,7 @@ fn push_chunk(
     bytes: &[u8],
     lines: &mut Vec<String>,
 ) -> Result<(), Refusal> {
-    let mut chunks = group.columns.iter();
-    let chunk = chunks
-        .find(|chunk| is_of(chunk, leaf))
-        .ok_or(FileFault::SchemaMismatch)?;
+    let chunk = chunk_named(&group.columns, &leaf.names).ok_or(FileFault::SchemaMismatch)?;
     lines.push(chunk_line(alloc, chunk)?)?;
     if chunk.codec != UNCOMPRESSED {
         return Err(FileFault::Codec { n: chunk.codec }.into());
@@ -59,25 +57,12 @@ fn push_chunk(
     if chunk.num_values == 0 {
         return Ok(());
     }
-    let place = usize::try_from(chunk.data_page_offset).unwrap_or(0);
-    if place < MAGIC.len() {
-        return Err(FileFault::BadOffset.into());
-    }
+    let place = first_place(chunk.data_page_offset)?;
     let leaf = Leaf {
         leaf_type: leaf.leaf_type,
         nullable: &leaf.nullable,
     };
     push_chunk_pages(alloc, &leaf, bytes, place, chunk.num_values, lines)
-}
-
-/// Whether a chunk has a leaf's path.
-fn is_of(chunk: &ColumnChunk, leaf: &FileLeaf) -> bool {
-    let path = &chunk.path_in_schema;
-    path.len() == leaf.names.len()
-        && path
-            .iter()
-            .zip(&leaf.names)
-            .all(|(name, own)| name.as_slice() == own.as_bytes())
 }
 
 /// Puts the pages from a place on behind the lines, up to so many values.
@@ -99,7 +84,7 @@ fn push_chunk_pages(
         let page = read_page(alloc, leaf, bytes, place, left);
         push_header(alloc, leaf, bytes, place, lines)?;
         let page = page?;
-        lines.push(level_line(alloc, leaf, bytes, place, &page)?)?;
+        lines.push(level_line(alloc, leaf, &page)?)?;
         left = left.saturating_sub(page.num_values());
         place = page.next();
     }
@@ -123,17 +108,9 @@ fn push_header(
     Ok(())
 }
 
-/// The levels of the page at a place, as runs that are as long as can be, and how many of its values aren't null.
-fn level_line(
-    alloc: Global,
-    leaf: &Leaf,
-    bytes: &[u8],
-    place: usize,
-    page: &Page,
-) -> Result<String, Refusal> {
-    let stated = i64::try_from(place).unwrap_or(i64::MAX);
-    let part = read_chunk_part(alloc, leaf, bytes, stated, page.num_values(), 0, 0)?;
-    let runs = longest_runs(alloc, &part.levels)?;
+/// The levels of a page, as runs that are as long as can be, and how many of its values aren't null.
+fn level_line(alloc: Global, leaf: &Leaf, page: &Page) -> Result<String, AllocError> {
+    let runs = longest_runs(alloc, page.levels())?;
     let title = if runs.is_empty() {
         "no levels"
     } else {

@@ -1,13 +1,10 @@
 -- Reading one page after another, as a loop does.
-use Rattle.std.proofs.Common.{◌≡◌, ℕ, zero, suc, ◌-◌, ◌+◌, ◌≤◌, ◌<◌, true, not, nat_lt, List, length, drop, Result, Ok, Err, refl, sym, ap, ◌∙◌, arith}
-use Rattle.std.proofs.lemmas.List.{append-nil}
-use Rattle.std.proofs.Common.{append_assoc}
-use Rattle.std.specs.List.{list_all}
+use Rattle.std.proofs.Common.{◌≡◌, ℕ, zero, suc, ◌-◌, ◌+◌, ◌≤◌, ◌<◌, not, nat_lt, List, length, drop, Result, Ok, Err, refl, sym, ap, ◌∙◌, arith}
 use Rattle.lake_bytes.specs.Outcome.{IsSaid}
 use Rattle.lake_bytes.specs.Results.{◌>>=◌}
 use Rattle.shred.specs.Columns.{Column}
 use Rattle.parquet_pages.specs.Outcome.{says}
-use Rattle.parquet_pages.specs.Pages.{Leaf, has_levels, highest, is_proper, joined, no_cells}
+use Rattle.parquet_pages.specs.Pages.{Leaf, has_levels, highest, joined, no_cells}
 use Rattle.parquet_pages.specs.Reading.{body_at, cells_at, column_in, header_at, in_page, page_at, pages_at, tested}
 use Rattle.parquet_footer.specs.declared.fault.FileError.{FileError}
 use Rattle.parquet_footer.specs.declared.fault.FileError.TheVariants as errors
@@ -18,10 +15,9 @@ use Rattle.parquet_pages.proofs.CodeSteps.{fine_step, kept_step, ok_step}
 
 -- ---- a page that was read
 
--- it has no more values than are left, and its texts are UTF-8
+-- it has no more values than are left
 pub record Fits (left : ℕ) (c : Column) : Type 0 where
   pub few : length c.levels ≤ left
-  pub proper : list_all is_proper c.values ≡ true
 
 column_fits : (l : Leaf) (left count : ℕ) (body : List ℕ) (c : Column) → column_in l left count body ≡ Ok c
     → Fits left c
@@ -30,7 +26,7 @@ column_fits l left count body c h =
     let cells = fine_step in_page (cells_at l.leaf_type (highest l) count body) (λ cells. tested l left cells.0 cells.1)
     c h in
     let p = tested_passes l left cells.0.0 cells.0.1 c cells.2 in
-    rw (sym p.same) (record { few = p.few; proper = p.proper })
+    rw (sym p.same) (record { few = p.few })
 
 -- a column, and the place behind it
 abbrev ended : (behind : ℕ) → Result Column FileFault → Result (Column × ℕ) FileFault
@@ -69,22 +65,11 @@ page_fits l given place left c next h =
     let body = page_body l given place left c next h in
     column_fits l left body.0.0 body.0.1 c body.1
 
--- ---- pages whose cells are kept
+-- ---- one page and those behind it
 
 -- a column, with what is read behind it
 abbrev pub with_column : Column → Result Column FileFault → Result Column FileFault
 with_column old read = read >>= λ c. Ok (joined old c)
-
-pub joined_twice : (a b c : Column) → joined a (joined b c) ≡ joined (joined a b) c
-joined_twice a b c = rw (append_assoc a.levels b.levels c.levels, append_assoc a.values b.values c.values) refl
-
-with_twice : (a b : Column) (read : Result Column FileFault)
-    → with_column a (with_column b read) ≡ with_column (joined a b) read
-with_twice a b (Ok c) = ap (λ (all : Column). Ok all) (joined_twice a b c)
-with_twice a b (Err e) = refl
-
-pub with_none : (a : Column) → joined a no_cells ≡ a
-with_none a = rw (append-nil a.levels, append-nil a.values) refl
 
 -- the pages from a page on
 pub next_page : (l : Leaf) (given : List ℕ) (most i place left next : ℕ) (c : Column) → i < most → 0 < left
@@ -97,12 +82,12 @@ next_page l given most i place (suc left) next c lt some h =
     let k : most - i ≡ suc (most - (i + 1)) = omega arith in
     rw (k, h) refl
 
-pub no_page_left : (l : Leaf) (given : List ℕ) (most place left : ℕ) → left ≡ 0
+no_page_left : (l : Leaf) (given : List ℕ) (most place left : ℕ) → left ≡ 0
     → pages_at most l given place left ≡ Ok no_cells
 unfolding pages_at
 no_page_left l given most place left none = rw none refl
 
-pub page_fails : (l : Leaf) (given : List ℕ) (most i place left : ℕ) (fault : FileFault) → i < most → 0 < left
+page_fails : (l : Leaf) (given : List ℕ) (most i place left : ℕ) (fault : FileFault) → i < most → 0 < left
     → page_at l given place left ≡ Err fault → pages_at (most - i) l given place left ≡ Err fault
 unfolding pages_at
 page_fails l given most i place zero fault lt some h = absurd (omega arith)
@@ -110,56 +95,13 @@ page_fails l given most i place (suc left) fault lt some h =
     let k : most - i ≡ suc (most - (i + 1)) = omega arith in
     rw (k, h) refl
 
-pub pages_run_out : (l : Leaf) (given : List ℕ) (most i place left : ℕ) → most ≤ i → 0 < left
+pages_run_out : (l : Leaf) (given : List ℕ) (most i place left : ℕ) → most ≤ i → 0 < left
     → pages_at (most - i) l given place left ≡ Err BadOffset
 unfolding pages_at
 pages_run_out l given most i place zero le some = absurd (omega arith)
 pages_run_out l given most i place (suc left) le some =
     let k : most - i ≡ 0 = omega arith in
     rw k refl
-
-pub page_goes_on : (l : Leaf) (given : List ℕ) (old new : Column) (most i place left next : ℕ) (c : Column)
-    (total : Result Column FileFault) → i < most → 0 < left → page_at l given place left ≡ Ok (c, next)
-    → new ≡ joined old c
-    → with_column old (pages_at (most - i) l given place left) ≡ total
-    → with_column new (pages_at (most - (i + 1)) l given next (left - length c.levels)) ≡ total
-page_goes_on l given old new most i place left next c total lt some h is so_far =
-    ap (λ (a : Column). with_column a (pages_at (most - (i + 1)) l given next (left - length c.levels))) is
-    ∙ sym (with_twice old c (pages_at (most - (i + 1)) l given next (left - length c.levels)))
-    ∙ ap (with_column old) (sym (next_page l given most i place left next c lt some h)) ∙ so_far
-
-refused : (old new : Column) (fault : FileFault) (read : Result Column FileFault)
-    → with_column new (Err fault) ≡ with_column old read → read ≡ Err fault
-refused old new fault (Ok c) h = absurd cc
-refused old new fault (Err e) h = cc
-
-pub page_ends : (l : Leaf) (given : List ℕ) (old new : Column) (e : FileError) (most i place left : ℕ)
-    (read : Result Column FileFault) → i < most → 0 < left → IsSaid (says e) (page_at l given place left)
-    → with_column new (pages_at (most - i) l given place left) ≡ with_column old read → IsSaid (says e) read
-page_ends l given old new errors.Memory most i place left read lt some h so_far = tt
-page_ends l given old new (errors.Fault fault) most i place left read lt some h so_far =
-    refused old new fault read (ap (with_column new) (sym (page_fails l given most i place left fault lt some h))
-    ∙ so_far)
-
-pub pages_done : (l : Leaf) (given : List ℕ) (old new : Column) (most place left : ℕ) (read : Result Column FileFault)
-    → left ≡ 0
-    → with_column new (pages_at most l given place left) ≡ with_column old read
-    → (c : Column) × (read ≡ Ok c) × (new ≡ joined old c)
-pages_done l given old new most place left read none so_far =
-    by_read read (ap (λ (c : Column). Ok c) (sym (with_none new))
-    ∙ ap (with_column new) (sym (no_page_left l given most place left none)) ∙ so_far)
-  where
-    by_read : (read : Result Column FileFault) → ◌≡◌ {A = Result Column FileFault} (Ok new) (with_column old read)
-        → (c : Column) × (read ≡ Ok c) × (new ≡ joined old c)
-    by_read (Ok c) h = (c, refl, cc)
-    by_read (Err e) h = absurd cc
-
-pub pages_missing : (l : Leaf) (given : List ℕ) (old new : Column) (most i place left : ℕ)
-    (read : Result Column FileFault) → most ≤ i → 0 < left
-    → with_column new (pages_at (most - i) l given place left) ≡ with_column old read → read ≡ Err BadOffset
-pages_missing l given old new most i place left read le some so_far =
-    refused old new BadOffset read
-    (ap (with_column new) (sym (pages_run_out l given most i place left le some)) ∙ so_far)
 
 -- ---- pages that are tested
 

@@ -97,16 +97,11 @@ pub record Passed (left : ℕ) (c : Column) (behind : List ℕ) (given : Column)
   pub same : c ≡ given
   pub ends : behind ≡ []
   pub few : length c.levels ≤ left
-  pub proper : list_all is_proper c.values ≡ true
 
 ends_of : (behind : List ℕ) (b : Bool) → (not (eqb (length behind) 0) || b) ≡ false → (behind ≡ []) × (b ≡ false)
 ends_of [] b h = (refl, h)
 ends_of (x ∷ xs) b h = absurd (let no = ne_eqb (length (x ∷ xs)) 0 (omega arith) in let e : true ≡ false =
     rw no at h in cc)
-
-true_of : (b : Bool) → not b ≡ false → b ≡ true
-true_of true h = refl
-true_of false h = absurd cc
 
 pub tested_passes : (l : Leaf) (left : ℕ) (c : Column) (behind : List ℕ) (given : Column)
     → tested l left c behind ≡ Ok given → Passed left c behind given
@@ -121,7 +116,6 @@ tested_passes l left c behind given h =
       same = same_value c given suits.1;
       ends = e.0;
       few = ltb-false left (length c.levels) e.1;
-      proper = true_of (list_all is_proper c.values) texts.0;
     }
   where
     same_value : (a b : Column) → ◌≡◌ {A = Result Column FileFault} (Ok a) (Ok b) → a ≡ b

@@ -2,7 +2,8 @@ pub mod CodeChunks
 pub mod CodeFixed
 pub mod CodeLeaves
 pub mod CodePages
-pub mod CodeParts
+pub mod HeldCells
+pub mod HeldPages
 pub mod CodeRanges
 pub mod CodeRuns
 pub mod CodeSteps

@@ -125,10 +125,10 @@ plain_read Binary count given values rest h = values_read Binary count given val
 -- ---- where values are cut
 
 -- The first values of those that are read, and those behind them.
-record AreSplit (type : LeafType) (a b : ℕ) (given : List ℕ) (values : List Value) (rest : List ℕ) : Type 0 where
-  between : List ℕ
-  front : values_at type a given ≡ done (take a values) between
-  behind : values_at type b between ≡ done (drop a values) rest
+pub record AreSplit (type : LeafType) (a b : ℕ) (given : List ℕ) (values : List Value) (rest : List ℕ) : Type 0 where
+  pub between : List ℕ
+  pub front : values_at type a given ≡ done (take a values) between
+  pub behind : values_at type b between ≡ done (drop a values) rest
 
 one_more : (type : LeafType) (a b : ℕ) (given after : List ℕ) (v : Value) (values : List Value) (rest : List ℕ)
     → value_at type given ≡ one v after → AreSplit type a b after values rest
@@ -140,7 +140,7 @@ one_more type a b given after v values rest is s = record {
   behind = s.behind;
 }
 
-values_split : (type : LeafType) (a b : ℕ) (given : List ℕ) (values : List Value) (rest : List ℕ)
+pub values_split : (type : LeafType) (a b : ℕ) (given : List ℕ) (values : List Value) (rest : List ℕ)
     → values_at type (a + b) given ≡ done values rest → AreSplit type a b given values rest
 unfolding values_at
 values_split type zero b given values rest h =

@@ -1,12 +1,10 @@
 -- What private contracts speak of.
-use Rattle.std.specs.Prelude.{◌≡◌, ℕ, ℤ, List, length, map, Bool, true, false, ◌&&◌, Result, Ok, Err}
-use Rattle.std.specs.Borrow.{Bor}
+use Rattle.std.specs.Prelude.{◌≡◌, ℕ, ℤ, List, length, Bool, true, false, ◌&&◌, Result, Ok, Err}
 use Rattle.std.specs.Int.Signed.{le_z}
 use Rattle.row_core.specs.Rows.{Value, whole}
 use Rattle.row_core.specs.declared.value.Value as code
 use Rattle.row_core.specs.Views.{value_view}
 use Rattle.shred.specs.Columns.{Column}
-use Rattle.shred.specs.Views.{borrowed_value}
 use Rattle.lake_bytes.specs.declared.fault.ByteFault.{ByteFault}
 use Rattle.lake_bytes.specs.Hybrid.{values_of}
 use Rattle.parquet_pages.specs.Pages.{Leaf, highest, is_proper, present}

@@ -8,3 +8,4 @@ pub mod Views
 pub mod Outcome
 pub mod Internal
 pub mod Parts
+pub mod Held

@@ -1,11 +1,8 @@
 -- What a function answered, next to what reading gives: the same, unless memory ran out.
-use Rattle.std.specs.Prelude.{◌≡◌, ℕ, List, ◌++◌, length, Bool, true, Result, Ok, Err, Vec}
+use Rattle.std.specs.Prelude.{◌≡◌, ℕ, List, ◌++◌, Bool, true, Result, Ok, Err, Vec}
 use Rattle.std.specs.List.{list_all, list_any}
 use Rattle.row_core.specs.Rows.{Value}
-use Rattle.shred.specs.Columns.{Column}
-use Rattle.parquet_pages.specs.Pages.{Leaf, highest, is_proper, joined, present}
-use Rattle.parquet_pages.specs.Parts.{kept_of, parts_joined}
-use Rattle.shred.specs.Parts.{Part, ArePlain}
+use Rattle.parquet_pages.specs.Pages.{is_proper}
 use Rattle.parquet_pages.specs.Reading.{is_too_long}
 use Rattle.std.specs.declared.alloc.Global.{Global}
 use Rattle.lake_bytes.specs.declared.fault.ByteFault.{ByteFault}
@@ -46,13 +43,8 @@ abbrev pub Takes : {X A : Type 0} → (X → A) → Result (A × List ℕ) ByteF
 Takes view read (Ok x) new = read ≡ Ok (view x, new)
 Takes view read (Err fault) new = read ≡ Err fault
 
--- The column that reading gives was added; or the fault.
-abbrev pub Adds : Result Column FileFault → Column → Result (Unit {0}) FileError → Column → Type 0
-Adds read old (Ok x) new = (c : Column) × (read ≡ Ok c) × (new ≡ joined old c)
-Adds read old (Err e) new = IsSaid (says e) read
-
--- What is kept of the column that reading gives was added. The column has a value for each highest level, and none that
--- is null or a struct. Or the fault.
-abbrev pub AddsPart : Leaf → (first most : ℕ) → Result Column FileFault → Part → Result (Unit {0}) FileError → Part → Type 0
-AddsPart l first most read old (Ok x) new = (c : Column) × (read ≡ Ok c) × (new ≡ parts_joined old (kept_of l first most c)) × (present (highest l) c.levels ≡ length c.values) × ArePlain c
-AddsPart l first most read old (Err e) new = IsSaid (says e) read
+-- This is so of what was found, unless memory ran out.
+abbrev pub FindsWhere : {X : Type 0} → (X → Type 0) → Result X FileError → Type 0
+FindsWhere Is (Ok x) = Is x
+FindsWhere Is (Err errors.Memory) = Unit {0}
+FindsWhere Is (Err (errors.Fault fault)) = ⊥

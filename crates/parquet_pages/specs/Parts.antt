@@ -1,11 +1,11 @@
 -- What is kept of a column whose pages were read.
-use Rattle.std.specs.Prelude.{◌≡◌, ℕ, ◌++◌, length}
+use Rattle.std.specs.Prelude.{◌≡◌, ℕ, length}
 use Rattle.shred.specs.Columns.{Column}
 use Rattle.shred.specs.Parts.{Part, cut_out, ArePlain}
 use Rattle.shred.specs.Views.{part_view}
 use Rattle.shred.specs.declared.columns.ColumnPart.{ColumnPart}
 use Rattle.row_core.specs.declared.value.Value.{Value}
-use Rattle.parquet_pages.specs.Pages.{Leaf, highest, present, joined}
+use Rattle.parquet_pages.specs.Pages.{Leaf, highest, present}
 
 -- the cells of at most so many rows, from a place on
 abbrev pub cut_cells : Leaf → (first most : ℕ) → Column → Column
@@ -20,7 +20,3 @@ pub record IsPartOf (l : Leaf) (first most : ℕ) (p : ColumnPart Value) (c : Co
   pub kept : part_view p ≡ kept_of l first most c
   pub value_each : present (highest l) c.levels ≡ length c.values
   pub plain : ArePlain c
-
--- what is kept, and behind it what is kept of what follows
-abbrev pub parts_joined : Part → Part → Part
-parts_joined a b = record { levels = a.levels ++ b.levels; kept = joined a.kept b.kept }

@@ -1,15 +1,14 @@
 //! One data page: what it holds of its column.
 
-ghost use Rattle.std.specs.Prelude.{◌≡◌, ◌≤◌, ◌++◌, length, replicate, All, Ok, Err, IfOk, OnOk, true};
+ghost use Rattle.std.specs.Prelude.{◌≡◌, ◌≤◌, ◌++◌, length, replicate, Ok, IfOk, OnOk};
 ghost use Rattle.lake_bytes.specs.Reading.{IsReading};
 ghost use Rattle.lake_bytes.specs.declared.fault.ByteFault.{ByteFault};
 ghost use Rattle.shred.specs.Columns as columns;
-ghost use Rattle.shred.specs.Views.{column_view};
 ghost use Rattle.lake_bytes.specs.Hybrid.{values_of};
 ghost use Rattle.std.specs.List.{list_any};
 ghost use Rattle.parquet_pages.specs.Internal.{HasCells};
-ghost use Rattle.parquet_pages.specs.Outcome.{Finds, GivesWhere};
-ghost use Rattle.parquet_pages.specs.Pages.{IsPage, Suits, is_proper, joined};
+ghost use Rattle.parquet_pages.specs.Outcome.{GivesWhere};
+ghost use Rattle.parquet_pages.specs.Pages.{IsPage, Suits};
 ghost use Rattle.parquet_pages.specs.Reading.{DataPage, data_page_in, num_values_in, encoding_fault, unless_fault, body_at, column_in, is_too_long, page_at, in_page, tested};
 ghost use Rattle.parquet_pages.specs.Views.{header_view, leaf_view, IsCells, IsPageOf};
 
@@ -17,13 +16,11 @@ use crate::enums::{PLAIN, RLE};
 use crate::header::{PageContent, PageHeader, read_header};
 use crate::leaf::Leaf;
 use crate::levels::{present, read_levels};
-use crate::plain::{add_values, bad_bytes, pass_values};
+use crate::plain::{bad_bytes, pass_values};
 use crate::testing::{are_in_range, are_proper, nulls_may_stand};
 use crate::types::LeafType;
 use lake_bytes::{Cursor, HybridError, Run};
 use parquet_footer::{FileError, FileFault};
-use row_core::Value;
-use shred::Column;
 use std::alloc::{AllocError, Global};
 
 /// What a data page holds of its column: the levels as runs, and the bytes of its values, which lie in the file's.
@@ -36,7 +33,7 @@ pub struct Page<'a> {
     next: usize,
 }
 
-impl Page<'_> {
+impl<'a> Page<'a> {
     /// How many values it has, nulls among them.
     pub fn num_values(&self) -> u64
         ensures { result ≡ self.now.num_values }
@@ -45,17 +42,24 @@ impl Page<'_> {
     }
 
     /// Its levels, as runs.
-    pub(crate) fn levels(&self) -> &[Run]
+    pub fn levels(&self) -> &[Run]
         ensures { result.now ≡ self.now.levels.items }
     {
         &self.levels
     }
 
     /// The bytes of its values.
-    pub(crate) fn values(&self) -> &[u8]
+    pub(crate) fn values(&self) -> &'a [u8]
         ensures { result.now ≡ self.now.values.now }
     {
         self.values
+    }
+
+    /// Its levels, as runs, without the rest.
+    pub(crate) fn into_levels(self) -> Vec<Run>
+        ensures { result ≡ self.entry.levels }
+    {
+        self.levels
     }
 
     /// The place behind the page.
@@ -241,27 +245,6 @@ fn bad_levels(error: HybridError) -> FileError
         HybridError::Memory => FileError::Memory,
         HybridError::Fault(fault) => bad_bytes(fault),
     }
-}
-
-/// Adds what a page holds to its column. The time is linear in its values, nulls among them.
-pub(crate) fn add_cells(
-    alloc: Global,
-    leaf: &Leaf,
-    page: &Page,
-    column: &mut Column<Value>,
-) -> Result<(), FileError>
-    // What the page holds stands behind what the column had, unless memory runs out.
-    ensures { (c : columns.Column) → IsCells (leaf_view leaf.now) page.now c → All (λ v. is_proper v ≡ true) c.values
-        → Finds (λ _. column_view column.new) (joined (column_view column.old) c) result }
-{
-    add_levels(&page.levels, &mut column.levels)?;
-    add_values(
-        alloc,
-        leaf.leaf_type,
-        page.present,
-        page.values,
-        &mut column.values,
-    )
 }
 
 /// Adds the levels of runs.

@@ -53,11 +53,6 @@ columns_counted given group (l ∷ ls) cs fits e =
 
 -- ---- the rows of a group
 
-pub group_fails : (given : List ℕ) (t : Tree) (shape : Shape) (group : RowGroup) (ls : List LeafIn) (fault : FileFault) → ls ≡ leaves_in t shape
-    → columns_at given group.columns ls ≡ Err fault → rows_of_group given t shape group ≡ Err fault
-unfolding rows_of_group
-group_fails given t shape group ls fault are e = rw (sym are, e) refl
-
 pub group_uncounted : (given : List ℕ) (t : Tree) (shape : Shape) (group : RowGroup) (ls : List LeafIn) (cs : List Column) → IsBytes given → ls ≡ leaves_in t shape
     → columns_at given group.columns ls ≡ Ok cs → are_counted group ls ≡ false → rows_of_group given t shape group ≡ Err CountMismatch
 unfolding rows_of_group
@@ -97,14 +92,14 @@ made_many shape (suc n) columns rows e =
     let whole : b.0 ∷ k.0 ≡ rows = ok_is (b.0 ∷ k.0) rows k.2 in
     ap length (sym whole) ∙ ap suc (made_many shape n left k.0 k.1)
 
-assembled_many : (shape : Shape) (cs : List Column) (rows : List Row) → assembled shape cs ≡ Ok rows → length rows ≡ row_count cs
+pub assembled_many : (shape : Shape) (cs : List Column) (rows : List Row) → assembled shape cs ≡ Ok rows → length rows ≡ row_count cs
 unfolding assembled
 assembled_many shape cs rows e =
     let b = bind_ok (cells_of_columns (row_count cs) (map highest (ways shape)) cs) (λ cells. rows_made shape (row_count cs) cells) rows e in
     made_many shape (row_count cs) b.0 rows b.2
 
 -- columns that all have so many rows, where there is one
-pub first_counts : (given : List ℕ) (group : RowGroup) (ls : List LeafIn) (cs : List Column) → 0 < length ls → columns_at given group.columns ls ≡ Ok cs
+first_counts : (given : List ℕ) (group : RowGroup) (ls : List LeafIn) (cs : List Column) → 0 < length ls → columns_at given group.columns ls ≡ Ok cs
     → list_all (has_rows group.num_rows) cs ≡ true → row_count cs ≡ group.num_rows
 first_counts given group [] cs some e all = absurd (omega (arith, some))
 first_counts given group (l ∷ ls) [] some e all =

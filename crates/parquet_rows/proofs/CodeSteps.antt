@@ -39,9 +39,6 @@ test_done rest read none so_far =
 
 -- ---- each of a list
 
-pub each_first : {A B E : Type 0} (read : A → Result B E) (xs rest : List A) (x : A) (y : B) → xs ≡ x ∷ rest → read x ≡ Ok y → each read xs ≡ with_front (y ∷ []) (each read rest)
-each_first read xs rest x y here h = rw (here, h) refl
-
 pub each_none : {A B E : Type 0} (read : A → Result B E) (xs : List A) → xs ≡ [] → each read xs ≡ Ok []
 each_none read xs none = rw none refl
 

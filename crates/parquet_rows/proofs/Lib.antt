@@ -11,7 +11,6 @@ pub mod ColumnsWhole
 pub mod StructForms
 pub mod FooterForms
 pub mod FooterElements
-pub mod GroupParts
 pub mod GroupRows
 pub mod GroupSteps
 pub mod LeafPaths
@@ -24,6 +23,8 @@ pub mod PutElements
 pub mod PutChunks
 pub mod PutGroup
 pub mod PutFile
+pub mod ReadersLeft
+pub mod RowsAtHand
 pub mod RowsFound
 pub mod RowsOnly
 pub mod RowsTold

@@ -1,5 +1,5 @@
 -- What private contracts speak of.
-use Rattle.std.specs.Prelude.{◌≡◌, ℕ, ◌<◌, pos, List, [], ◌∷◌, length, map, ◌==◌, not, Bool, false, Option, Some, None, Result, Ok}
+use Rattle.std.specs.Prelude.{◌≡◌, ℕ, ◌<◌, ◌≤◌, pos, All, List, [], ◌∷◌, length, map, ◌==◌, not, Bool, false, Option, Some, None, Result, Ok}
 use Rattle.std.specs.List.{list_all}
 use Rattle.std.specs.Ordering.{int_eq}
 use Rattle.lake_bytes.specs.Results.{◌>>=◌, or_refusal, refused_if}
@@ -14,7 +14,9 @@ use Rattle.shred.specs.Columns.{Column, column}
 use Rattle.shred.specs.Shape.{Shape}
 use Rattle.shred.specs.Ways.{Step, highest, ways}
 use Rattle.shred.specs.declared.columns.ColumnPart.{ColumnPart}
+use Rattle.parquet_pages.specs.Held.{at_hand, AreLeft}
 use Rattle.parquet_pages.specs.Parts.{IsPartOf}
+use Rattle.parquet_pages.specs.declared.reader.ColumnReader.{ColumnReader}
 use Rattle.parquet_rows.specs.File.{leaf_of}
 use Rattle.parquet_rows.specs.Reading.{chunk_named}
 
@@ -38,6 +40,19 @@ abbrev pub ArePartsOf : (first most : ℕ) → List LeafIn → List (ColumnPart 
 ArePartsOf first most [] [] [] = Unit {0}
 ArePartsOf first most (l ∷ ls) (p ∷ ps) (c ∷ cs) = IsPartOf (leaf_of l) first most p c × ArePartsOf first most ls ps cs
 ArePartsOf first most _ _ _ = ⊥
+
+-- Each reader, one for each leaf, has the column of its leaf left.
+abbrev pub AreAllLeft : List LeafIn → List ColumnReader → List Column → Type 0
+AreAllLeft [] [] [] = Unit {0}
+AreAllLeft (l ∷ ls) (r ∷ rs) (c ∷ cs) = AreLeft (leaf_of l) r c × AreAllLeft ls rs cs
+AreAllLeft _ _ _ = ⊥
+
+-- Each reader has so many cells at hand.
+abbrev pub AreAtHand : ℕ → List ColumnReader → Type 0
+AreAtHand count readers = All (λ r. count ≤ at_hand r) readers
+
+abbrev pub HasLevels : Column → Type 0
+HasLevels c = 0 < length c.levels
 
 -- the highest level of each leaf
 abbrev pub levels_of : List LeafIn → List ℕ

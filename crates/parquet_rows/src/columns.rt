@@ -1,71 +1,66 @@
 //! The columns of a row group.
 
-ghost use Rattle.std.specs.Prelude.{◌≡◌, map, option_map, string_bytes};
+ghost use Rattle.std.specs.Prelude.{◌≡◌, List, map, option_map, string_bytes, Ok, Err, IfOk};
 ghost use Rattle.lake_bytes.specs.Reading.{IsReading};
-ghost use Rattle.parquet_pages.specs.Outcome.{GivesWhere};
-ghost use Rattle.parquet_pages.specs.Parts.{IsPartOf};
+ghost use Rattle.shred.specs.Columns.{Column};
 ghost use Rattle.parquet_footer.specs.Views.{chunk_view, chunk_views, group_view};
+ghost use Rattle.parquet_footer.specs.declared.fault.FileFault.{FileFault};
+ghost use Rattle.parquet_pages.specs.Held.{AreLeft};
+ghost use Rattle.parquet_pages.specs.Outcome.{FindsWhere};
 ghost use Rattle.thrift_core.specs.View.{texts_view};
 ghost use Rattle.parquet_schema.specs.Views.{leaf_view, leaf_views};
-ghost use Rattle.parquet_rows.specs.Internal.{are_counted, is_counted, plain_chunk_named, ArePartsOf};
+ghost use Rattle.parquet_rows.specs.Internal.{are_counted, is_counted, plain_chunk_named, AreAllLeft};
 ghost use Rattle.parquet_rows.specs.Outcome.{Tests};
 ghost use Rattle.parquet_rows.specs.Reading.{chunk_named, column_at, columns_at, same_path};
 ghost use Rattle.parquet_pages.specs.Views.{leaf_view as pages_view};
 ghost use Rattle.parquet_rows.specs.File.{leaf_of};
 
 use parquet_footer::{ColumnChunk, FileError, FileFault, RowGroup};
-use parquet_pages::{Leaf, read_chunk_part, test_chunk};
+use parquet_pages::{ColumnReader, Leaf, test_chunk};
 use parquet_schema::FileLeaf;
-use row_core::Value;
-use shred::ColumnPart;
 use std::alloc::{Allocator, Global};
 
 /// CompressionCodec UNCOMPRESSED.
 const UNCOMPRESSED: i64 = 0;
 
-/// What is kept of the columns of the leaves, in order: the values of at most `most` rows from the one of the number
-/// `first` on.
-pub(crate) fn read_columns<A: Allocator>(
+/// The readers of the leaves' chunks, in order. P8 where there is no chunk of a leaf, P3 for its codec, P6 for its place.
+pub(crate) fn open_columns<'a, A: Allocator>(
     alloc: Global,
-    bytes: &[u8],
+    bytes: &'a [u8],
     chunks: &[ColumnChunk<A>],
-    leaves: &[FileLeaf],
-    first: u64,
-    most: u64,
-) -> Result<Vec<ColumnPart<Value>>, FileError>
-    ensures { GivesWhere (λ parts columns. ArePartsOf first most (leaf_views leaves.now) parts.items columns) result
-        (columns_at bytes.now (chunk_views chunks.now) (leaf_views leaves.now)) }
+    leaves: &'a [FileLeaf],
+) -> Result<Vec<ColumnReader<'a>>, FileError>
+    ensures { (columns : List Column) → columns_at bytes.now (chunk_views chunks.now) (leaf_views leaves.now) ≡ Ok columns
+        → FindsWhere (λ readers. AreAllLeft (leaf_views leaves.now) readers.items columns) result }
 {
-    let mut parts = Vec::with_capacity(alloc, leaves.len())?;
+    let mut readers = Vec::with_capacity(alloc, leaves.len())?;
     for leaf in leaves {
-        parts.push(read_column(alloc, bytes, chunks, leaf, first, most)?)?;
+        readers.push(open_column(alloc, bytes, chunks, leaf)?)?;
     }
-    Ok(parts)
+    Ok(readers)
 }
 
-/// What is kept of the column of a leaf. P8 where there is no chunk of it, P3 for its codec, and then as its pages have
-/// it.
+/// The reader of a leaf's chunk.
 #[tactic(auto, unfolding(crate::specs::Reading::column_at))]
-fn read_column<A: Allocator>(
+fn open_column<'a, A: Allocator>(
     alloc: Global,
-    bytes: &[u8],
+    bytes: &'a [u8],
     chunks: &[ColumnChunk<A>],
-    leaf: &FileLeaf,
-    first: u64,
-    most: u64,
-) -> Result<ColumnPart<Value>, FileError>
-    ensures { GivesWhere (IsPartOf (leaf_of (leaf_view leaf.now)) first most) result
-        (column_at bytes.now (chunk_views chunks.now) (leaf_view leaf.now)) }
+    leaf: &'a FileLeaf,
+) -> Result<ColumnReader<'a>, FileFault>
+    ensures left { IfOk result (λ reader. (column : Column)
+        → column_at bytes.now (chunk_views chunks.now) (leaf_view leaf.now) ≡ Ok column
+        → AreLeft (leaf_of (leaf_view leaf.now)) reader column) }
+    ensures refused { (fault : FileFault) → result ≡ Err fault
+        → column_at bytes.now (chunk_views chunks.now) (leaf_view leaf.now) ≡ Err fault }
 {
     let chunk = plain_chunk(chunks, leaf)?;
-    read_chunk_part(
+    ColumnReader::open(
         alloc,
-        &pages_of(leaf),
+        pages_of(leaf),
         bytes,
         chunk.data_page_offset,
         chunk.num_values,
-        first,
-        most,
     )
 }
 
@@ -132,7 +127,7 @@ fn plain_chunk<'a, A: Allocator>(
 }
 
 /// The first chunk with this path.
-pub(crate) fn chunk_named<'a, A: Allocator>(
+pub fn chunk_named<'a, A: Allocator>(
     chunks: &'a [ColumnChunk<A>],
     path: &[String],
 ) -> Option<&'a ColumnChunk<A>>

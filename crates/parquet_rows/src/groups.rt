@@ -1,27 +1,20 @@
 //! The rows of row groups.
 
-ghost use Rattle.std.specs.Prelude.{◌≡◌, ◌≢◌, ◌==◌, ◌<◌, ◌^◌, ℕ, List, All, map};
+ghost use Rattle.std.specs.Prelude.{◌≡◌, ◌==◌};
 ghost use Rattle.row_core.specs.Views.{row_views};
 ghost use Rattle.schema_tree.specs.Tree.{Tree};
-ghost use Rattle.lake_bytes.specs.Results.{refused_as};
-ghost use Rattle.shred.specs.Assembly.{assembled, row_count, AreEven};
-ghost use Rattle.shred.specs.Columns as columns;
-ghost use Rattle.shred.specs.Parts.{parts_of, rows_part, ArePlain};
-ghost use Rattle.shred.specs.Views.{part_views, shape_view};
-ghost use Rattle.shred.specs.Ways.{highest, ways};
-ghost use Rattle.parquet_footer.specs.Outcome.{Gives};
+ghost use Rattle.shred.specs.Views.{shape_view};
 ghost use Rattle.parquet_footer.specs.Views.{group_view, group_views};
-ghost use Rattle.parquet_footer.specs.declared.fault.FileFault.TheVariants.{SchemaMismatch};
 ghost use Rattle.parquet_schema.specs.Views.{leaf_views};
 ghost use Rattle.parquet_rows.specs.Internal.{AreLeavesOf};
 ghost use Rattle.parquet_rows.specs.Outcome.{AddsPart, Tests};
 ghost use Rattle.parquet_rows.specs.Reading.{claimed_rows, rows_of_group, rows_of_groups};
 
-use crate::columns::{are_counted, read_columns, test_columns};
+use crate::assembling::add_rows;
+use crate::columns::{are_counted, open_columns, test_columns};
 use parquet_footer::{FileError, FileFault, RowGroup};
 use parquet_schema::FileShape;
 use row_core::Value;
-use shred::{ColumnPart, Shape, ShredError, assemble_part};
 use std::alloc::{Allocator, Global};
 
 /// Several groups claim so many rows together.
@@ -80,8 +73,8 @@ pub(crate) fn add_groups<A: Allocator>(
     Ok(())
 }
 
-/// Adds at most `most` rows of a group, from the one of the number `first` on. Where its chunks haven't as many values
-/// as it has rows, nothing of them is kept.
+/// Adds at most `most` rows of a group, from the one of the number `first` on. All its pages are tested first, leaf by
+/// leaf, and read again for the rows, of each leaf one page at a time.
 #[tactic(auto, unfolding(crate::specs::Reading::rows_of_group))]
 fn add_group<A: Allocator>(
     alloc: Global,
@@ -96,44 +89,20 @@ fn add_group<A: Allocator>(
         → AddsPart first most (rows_of_group bytes.now t (shape_view file.now.shape) (group_view group.now))
         (row_views rows.old.items) result (row_views rows.new.items) }
 {
+    test_columns(alloc, bytes, &group.columns, &file.leaves)?;
     if !are_counted(group, &file.leaves) {
-        test_columns(alloc, bytes, &group.columns, &file.leaves)?;
         return Err(FileFault::CountMismatch.into());
     }
-    let parts = read_columns(alloc, bytes, &group.columns, &file.leaves, first, most)?;
+    let mut readers = open_columns(alloc, bytes, &group.columns, &file.leaves)?;
     // A proof knows a number's range once it is read.
-    let _num_rows = group.num_rows;
-    let mut added = rows_of_parts(alloc, &file.shape, first, parts)?;
-    rows.append(&mut added)?;
-    Ok(())
-}
-
-/// Some of the rows whose columns these are, from the one of the number `first` on. P8 for columns that are those of no
-/// rows.
-fn rows_of_parts(
-    alloc: Global,
-    shape: &Shape,
-    first: u64,
-    parts: Vec<ColumnPart<Value>>,
-) -> Result<Vec<Value>, FileError>
-    ensures { (most : ℕ) (given : List columns.Column) → part_views parts.items ≡ parts_of first most (map highest (ways (shape_view shape.now))) given
-        → AreEven (shape_view shape.now) given → All ArePlain given → row_count given < 2 ^ 64
-        → Gives (λ rows. row_views rows.items) result
-        (refused_as (λ fault. SchemaMismatch) (rows_part first most (assembled (shape_view shape.now) given))) }
-{
-    match assemble_part(alloc, shape, first, parts) {
-        Ok(rows) => Ok(rows),
-        Err(error) => Err(no_rows(error)),
-    }
-}
-
-/// Columns that are those of no rows.
-fn no_rows(error: ShredError) -> FileError
-    ensures memory { error ≡ ShredError.Memory → result ≡ FileError.Memory }
-    ensures fault { error ≢ ShredError.Memory → result ≡ FileError.Fault SchemaMismatch }
-{
-    match error {
-        ShredError::Memory => FileError::Memory,
-        _ => FileError::Fault(FileFault::SchemaMismatch),
-    }
+    let num_rows = group.num_rows;
+    add_rows(
+        alloc,
+        &file.shape,
+        num_rows,
+        &mut readers,
+        first,
+        most,
+        rows,
+    )
 }

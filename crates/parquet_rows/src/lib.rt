@@ -2,6 +2,7 @@
 //! batches.
 #![tactic(auto)]
 
+mod assembling;
 mod columns;
 mod error;
 mod forms;
@@ -11,6 +12,7 @@ mod rows;
 mod trees;
 mod writing;
 
+pub use columns::chunk_named;
 pub use error::RowsError;
 pub use laws::one_list_of_rows;
 pub use rows::{FilePart, read_part, read_rows};

@@ -24,6 +24,7 @@ use std::alloc::{Allocator, Global};
 /// A part of the rows of a file.
 #[derive(Debug, Drop)]
 pub struct FilePart {
+    /// The rows, in the file's order.
     pub rows: Vec<Value>,
     /// How many rows the whole file has.
     pub total: u64,
@@ -42,8 +43,9 @@ pub struct FilePart {
 /// struct above both is null. At last P7 where the groups haven't as many rows as the file.
 ///
 /// The time is linear in the footer's bytes, those of the pages of each group, and rows times leaves; pages that
-/// several groups state are read once for each, and paths are compared leaf by chunk. Beside the footer the memory
-/// holds at most the rows that the file claims, and the columns of one row group with the runs of its levels.
+/// several groups state are read for each, and paths are compared leaf by chunk. Beside the footer the memory holds at
+/// most the rows that the file claims, and of each leaf the levels of one page, as runs, and the cells of the rows that
+/// are made of the pages at hand.
 pub fn read_rows<A: Allocator, H: Allocator + Copy>(
     alloc: Global,
     heap: H,
@@ -67,10 +69,11 @@ pub fn read_rows<A: Allocator, H: Allocator + Copy>(
 /// Reads at most `most` rows of a file, from the one of the number `first` on, and how many there are (Apache Parquet,
 /// File Format). The whole file is tested, with the faults of [`read_rows`] in the same order, and in the same memories.
 ///
-/// The time is linear in the footer's bytes, the headers and levels of the pages of each group, their runs of levels
-/// times the leaves, the bytes of columns of texts, bytes, and numbers of one or two bytes, and the rows that are given
-/// times the leaves; other values of a fixed size cost nothing. Beside the footer the memory holds the rows that are
-/// given and their levels, and the levels of one group as runs.
+/// The time is linear in the footer's bytes, the headers and levels of the pages of each group, their runs of levels,
+/// their pages and each 4,096 of their rows times the leaves, the bytes of columns of texts, bytes, and numbers of one or
+/// two bytes, and the rows that are given times the leaves; other values of a fixed size cost nothing. Beside the footer
+/// the memory holds the rows that are given, and of each leaf the levels of one page, as runs, and the cells of the rows
+/// that are made of the pages at hand.
 pub fn read_part<A: Allocator, H: Allocator + Copy>(
     alloc: Global,
     heap: H,

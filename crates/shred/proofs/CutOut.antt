@@ -32,7 +32,7 @@ drop_on false top n l ls v vs is one other =
     let right : drop (suc n) (cells_in top (l ∷ ls) (v ∷ vs)) ≡ drop n (cells_in top ls (v ∷ vs)) = rw is refl in
     ap (λ m. cells_in top (drop n ls) (drop m (v ∷ vs))) same ∙ (other ∙ sym right)
 
-cells_dropped : (top n : ℕ) (ls : List ℕ) (vs : List Value) → cells_in top (drop n ls) (drop (tops_in top (take n ls)) vs) ≡ drop n (cells_in top ls vs)
+pub cells_dropped : (top n : ℕ) (ls : List ℕ) (vs : List Value) → cells_in top (drop n ls) (drop (tops_in top (take n ls)) vs) ≡ drop n (cells_in top ls vs)
 cells_dropped top zero ls vs = refl
 cells_dropped top (suc n) [] vs = refl
 cells_dropped top (suc n) (l ∷ ls) [] = ap (cells_in top (drop n ls)) (drop-nil (tops_in top (l ∷ take n ls)) ∙ sym (drop-nil (tops_in top (take n ls)))) ∙ cells_dropped top n ls []
@@ -59,7 +59,7 @@ cells_taken top (suc n) [] vs = refl
 cells_taken top (suc n) (l ∷ ls) [] = ap (cells_in top (l ∷ take n ls)) (take-nil (tops_in top (l ∷ take n ls))) ∙ ap (λ cs. absent_cell l ∷ cs) (ap (cells_in top (take n ls)) (sym (take-nil (tops_in top (take n ls)))) ∙ cells_taken top n ls [])
 cells_taken top (suc n) (l ∷ ls) (v ∷ vs) = take_on (l == top) top n l ls v vs refl (cells_taken top n ls vs) (cells_taken top n ls (v ∷ vs))
 
-cells_cut_out : (first most top : ℕ) (c : Column) → cells_in top (cut_out first most top c).levels (cut_out first most top c).values ≡ part_of first most (cells_in top c.levels c.values)
+pub cells_cut_out : (first most top : ℕ) (c : Column) → cells_in top (cut_out first most top c).levels (cut_out first most top c).values ≡ part_of first most (cells_in top c.levels c.values)
 cells_cut_out first most top c = cells_taken top most (drop first c.levels) (drop (highest_in top (take first c.levels)) c.values) ∙ ap (take most) (cells_dropped top first c.levels c.values)
 
 -- the cells of the kept columns are those of these rows
@@ -76,7 +76,7 @@ cells_kept first most (w ∷ ws) (c ∷ cs) =
 abbrev pub so_many : (rows first most : ℕ) → ℕ
 so_many rows first most = min most (rows - first)
 
-tops_split : (top n : ℕ) (ls : List ℕ) → tops_in top ls ≡ tops_in top (take n ls) + tops_in top (drop n ls)
+pub tops_split : (top n : ℕ) (ls : List ℕ) → tops_in top ls ≡ tops_in top (take n ls) + tops_in top (drop n ls)
 tops_split top n ls = ap (tops_in top) (sym (take-append-drop n ls)) ∙ sum_by-append (λ level. cond (level == top) 1 0) (take n ls) (drop n ls)
 
 -- the column of some rows of an even column is even

@@ -25,5 +25,6 @@ pub mod RowsBefore
 pub mod Masked
 pub mod CutOut
 pub mod RowParts
+pub mod Fronts
 pub mod LevelLoops
 pub mod KeptRows

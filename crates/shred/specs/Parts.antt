@@ -18,6 +18,20 @@ part_of first most xs = take most (drop first xs)
 abbrev pub cut_out : (first most top : ℕ) → Column → Column
 cut_out first most top c = record { levels = part_of first most c.levels; values = part_of (highest_in top (take first c.levels)) (highest_in top (part_of first most c.levels)) c.values }
 
+-- the column of the rows behind so many
+abbrev pub cut_off : (rows top : ℕ) → Column → Column
+cut_off rows top c = record { levels = drop rows c.levels; values = drop (highest_in top (take rows c.levels)) c.values }
+
+-- of each column, one for each highest level, that of the first rows
+abbrev pub fronts : (rows : ℕ) → List ℕ → List Column → List Column
+fronts rows (top ∷ tops) (c ∷ cs) = cut_out 0 rows top c ∷ fronts rows tops cs
+fronts rows _ _ = []
+
+-- and that of the rows behind them
+abbrev pub rests : (rows : ℕ) → List ℕ → List Column → List Column
+rests rows (top ∷ tops) (c ∷ cs) = cut_off rows top c ∷ rests rows tops cs
+rests rows _ _ = []
+
 -- the levels of all rows, and the column of some of them
 pub record Part : Type 0 where
   pub levels : List ℕ

@@ -1,0 +1,246 @@
+-- Cells taken from the front of those that are held: runs of levels, values in PLAIN, and columns.
+use Rattle.std.proofs.Common.{◌≡◌, ℕ, ◌+◌, ◌-◌, ◌≤◌, ◌<◌, ◌^◌, cond, nat_eq, true, List, [], ◌∷◌, ◌++◌, length, take, drop, replicate, Err, refl, sym, ap, ◌∙◌, arith, append_assoc}
+use Rattle.std.proofs.lemmas.List.{drop-append-le, drop_all, drop-drop, drop-take, length-drop, length-take, replicate-append-replicate, take-append-le, take-take, take_all}
+use Rattle.std.proofs.lemmas.List.Elements.{All-drop, All-take}
+use Rattle.std.proofs.lemmas.List.Sums.{sum_by-take-drop, sum_by-take-le}
+use Rattle.lake_bytes.specs.Hybrid.{values_of}
+use Rattle.lake_bytes.specs.declared.run.Run.{Run}
+use Rattle.row_core.specs.Rows.{Value}
+use Rattle.shred.specs.Columns.{Column}
+use Rattle.shred.specs.Fits.{is_plain}
+use Rattle.shred.specs.Parts.{ArePlain, Part, cut_off, cut_out, part_of}
+use Rattle.parquet_footer.specs.declared.fault.FileError.{FileError}
+use Rattle.parquet_footer.specs.declared.fault.FileError.TheVariants as errors
+use Rattle.parquet_pages.specs.Held.{HasValuesLeft}
+use Rattle.parquet_pages.specs.Outcome.{FindsWhere}
+use Rattle.parquet_pages.specs.Pages.{is_proper, joined, present}
+use Rattle.parquet_pages.specs.Plain.{plain_at}
+use Rattle.parquet_pages.specs.declared.types.LeafType.{LeafType}
+use Rattle.parquet_pages.specs.declared.types.LeafType.TheVariants.{Boolean}
+use Rattle.parquet_pages.specs.declared.values.PlainReader.{PlainReader}
+use Rattle.parquet_pages.proofs.CodeValues.{done}
+use Rattle.parquet_pages.proofs.PartsJoined.{cut_counts, drop_both, same_column, take_both}
+use Rattle.parquet_pages.proofs.PlainParts.{plain_values, values_split}
+
+-- ---- lists
+
+take_behind : {A : Type 0} (n : ℕ) (xs ys : List A) → length xs ≤ n → take n (xs ++ ys) ≡ xs ++ take (n - length xs) ys
+take_behind n xs ys short =
+    take_both n xs ys ∙ ap (λ zs. zs ++ take (n - length xs) ys) (take_all n xs short)
+
+drop_behind : {A : Type 0} (n : ℕ) (xs ys : List A) → length xs ≤ n → drop n (xs ++ ys) ≡ drop (n - length xs) ys
+drop_behind n xs ys short =
+    drop_both n xs ys ∙ ap (λ zs. zs ++ drop (n - length xs) ys) (drop_all n xs short)
+
+-- what is kept of the front is kept of the whole
+pub part_front : {A : Type 0} (first most whole : ℕ) (xs : List A) → first + most ≤ whole
+    → part_of first most (take whole xs) ≡ part_of first most xs
+part_front first most whole xs within =
+    let all : whole ≡ first + (whole - first) = omega arith in
+    let few : most ≤ whole - first = omega arith in
+    ap (λ (n : ℕ). part_of first most (take n xs)) all
+    ∙ ap (take most) (drop-take first (whole - first) xs)
+    ∙ take-take most (whole - first) (drop first xs) few
+
+-- ---- runs
+
+-- What is taken of a run and what is left of it, in front of the runs behind it, are the run and these.
+pub run_in_two : (run : Run) (runs left : List Run) (kept : ℕ) → kept ≤ run.count
+    → left ≡ record { value = run.value; count = run.count - kept } ∷ runs
+    → values_of (run ∷ runs) ≡ replicate kept run.value ++ values_of left
+run_in_two run runs left kept less is =
+    let all : kept + (run.count - kept) ≡ run.count = omega arith in
+    let both : replicate run.count run.value ≡ replicate kept run.value ++ replicate (run.count - kept) run.value =
+    ap (λ (n : ℕ). replicate n run.value) (sym all)
+    ∙ sym (replicate-append-replicate kept (run.count - kept) run.value) in
+    ap (λ (xs : List ℕ). xs ++ values_of runs) both
+    ∙ append_assoc (replicate kept run.value) (replicate (run.count - kept) run.value) (values_of runs)
+    ∙ ap (λ (rs : List Run). replicate kept run.value ++ values_of rs) (sym is)
+
+-- a run that is taken whole
+pub run_whole : (run : Run) (runs left : List Run) (kept : ℕ) → kept ≡ run.count → left ≡ runs
+    → values_of (run ∷ runs) ≡ replicate kept run.value ++ values_of left
+run_whole run runs left kept all is = rw (all, is) refl
+
+-- What is taken and what is wanted behind it stay the same where some of what is wanted is taken.
+pub take_goes_on : (old new some runs left whole : List ℕ) (wanted kept : ℕ) → kept ≤ wanted → length some ≡ kept
+    → runs ≡ some ++ left → new ≡ old ++ some → old ++ take wanted runs ≡ whole
+    → new ++ take (wanted - kept) left ≡ whole
+take_goes_on old new some runs left whole wanted kept less many is added so_far =
+    let short : length some ≤ wanted = omega arith in
+    let here : take wanted runs ≡ some ++ take (wanted - kept) left =
+    ap (take wanted) is ∙ take_behind wanted some left short
+    ∙ ap (λ (n : ℕ). some ++ take (wanted - n) left) many in
+    ap (λ (xs : List ℕ). xs ++ take (wanted - kept) left) added
+    ∙ append_assoc old some (take (wanted - kept) left)
+    ∙ ap (λ (xs : List ℕ). old ++ xs) (sym here) ∙ so_far
+
+-- And so does what is behind it.
+pub drop_goes_on : (some runs left whole : List ℕ) (wanted kept : ℕ) → kept ≤ wanted → length some ≡ kept
+    → runs ≡ some ++ left → drop wanted runs ≡ whole → drop (wanted - kept) left ≡ whole
+drop_goes_on some runs left whole wanted kept less many is so_far =
+    let short : length some ≤ wanted = omega arith in
+    ap (λ (n : ℕ). drop (wanted - n) left) (sym many) ∙ sym (drop_behind wanted some left short)
+    ∙ ap (drop wanted) (sym is) ∙ so_far
+
+-- ---- values
+
+-- Of values that are left the first so many are read, and the others are left behind these.
+pub record ArePassed (type : LeafType) (count : ℕ) (r : PlainReader) (values : List Value) : Type 0 where
+  pub front : List Value
+  pub between : List ℕ
+  pub read : plain_at type count r.bytes.now ≡ done front between
+  pub left : (after : PlainReader) → after.leaf_type ≡ type → after.bytes.now ≡ between → after.passed ≡ r.passed
+      → HasValuesLeft type after (drop count values)
+
+pub passes : (type : LeafType) (count : ℕ) (r : PlainReader) (values : List Value) → (type ≡ Boolean → ⊥)
+    → HasValuesLeft type r values → count ≤ length values → ArePassed type count r values
+passes type count r values other held less =
+    let many : length values ≡ length held.all - r.passed = ap length held.left ∙ length-drop r.passed held.all in
+    let passed_few : r.passed ≤ length held.all = held.passed in
+    let few = held.few in
+    let total : length held.all ≡ count + (length held.all - count) = omega arith in
+    let there = sym (plain_values type (length held.all) r.bytes.now other) ∙ held.read in
+    let split = values_split type count (length held.all - count) r.bytes.now held.all [] (rw total at there) in
+    let behind = length-drop count held.all in
+    record {
+      front = take count held.all;
+      between = split.between;
+      read = plain_values type count r.bytes.now other ∙ split.front;
+      left = λ after of_type bytes passed. record {
+        of_type = of_type;
+        all = drop count held.all;
+        read = ap (λ (n : ℕ). plain_at type n after.bytes.now) behind
+            ∙ ap (λ (given : List ℕ). plain_at type (length held.all - count) given) bytes
+            ∙ plain_values type (length held.all - count) split.between other ∙ split.behind;
+        proper = All-drop (λ v. is_proper v ≡ true) count held.all held.proper;
+        few = omega arith;
+        passed = omega (arith, behind, passed);
+        left = ap (drop count) held.left ∙ drop-drop count r.passed held.all
+            ∙ ap (λ (n : ℕ). drop n held.all) (omega (arith, passed)) ∙ sym (drop-drop after.passed count held.all);
+      };
+    }
+
+-- ---- cells
+
+-- the front of what is held is the front of the column
+pub cut_front : (top count : ℕ) (a b : Column) → count ≤ length a.levels → present top a.levels ≡ length a.values
+    → cut_out 0 count top (joined a b) ≡ cut_out 0 count top a
+cut_front top count a b within each =
+    let is_top : ℕ → ℕ = λ level. cond (nat_eq level top) 1 0 in
+    let levels : take count (a.levels ++ b.levels) ≡ take count a.levels =
+    take-append-le count a.levels b.levels within in
+    let few : present top (take count a.levels) ≤ present top a.levels = sum_by-take-le is_top a.levels count in
+    let less : present top (take count a.levels) ≤ length a.values = omega arith in
+    same_column (take count (a.levels ++ b.levels)) (take count a.levels)
+    (take (present top (take count (a.levels ++ b.levels))) (a.values ++ b.values))
+    (take (present top (take count a.levels)) a.values) levels
+    (ap (λ (ls : List ℕ). take (present top ls) (a.values ++ b.values)) levels
+    ∙ take-append-le (present top (take count a.levels)) a.values b.values less)
+
+-- what is left of what is held, in front of the same column
+pub cut_behind : (top count : ℕ) (a b : Column) → count ≤ length a.levels → present top a.levels ≡ length a.values
+    → cut_off count top (joined a b) ≡ joined (cut_off count top a) b
+cut_behind top count a b within each =
+    let is_top : ℕ → ℕ = λ level. cond (nat_eq level top) 1 0 in
+    let levels : take count (a.levels ++ b.levels) ≡ take count a.levels =
+    take-append-le count a.levels b.levels within in
+    let few : present top (take count a.levels) ≤ present top a.levels = sum_by-take-le is_top a.levels count in
+    let less : present top (take count a.levels) ≤ length a.values = omega arith in
+    same_column (drop count (a.levels ++ b.levels)) (drop count a.levels ++ b.levels)
+    (drop (present top (take count (a.levels ++ b.levels))) (a.values ++ b.values))
+    (drop (present top (take count a.levels)) a.values ++ b.values) (drop-append-le count a.levels b.levels within)
+    (ap (λ (ls : List ℕ). drop (present top ls) (a.values ++ b.values)) levels
+    ∙ drop-append-le (present top (take count a.levels)) a.values b.values less)
+
+-- there is a value for each highest level in the front, and behind it
+pub front_each : (top count : ℕ) (c : Column) → present top c.levels ≡ length c.values
+    → present top (take count c.levels) ≡ length (take (present top (take count c.levels)) c.values)
+front_each top count c each =
+    let is_top : ℕ → ℕ = λ level. cond (nat_eq level top) 1 0 in
+    let few : present top (take count c.levels) ≤ present top c.levels = sum_by-take-le is_top c.levels count in
+    omega (arith, length-take (present top (take count c.levels)) c.values)
+
+pub behind_each : (top count : ℕ) (c : Column) → present top c.levels ≡ length c.values
+    → present top (drop count c.levels) ≡ length (drop (present top (take count c.levels)) c.values)
+behind_each top count c each =
+    let is_top : ℕ → ℕ = λ level. cond (nat_eq level top) 1 0 in
+    let all : present top (take count c.levels) + present top (drop count c.levels) ≡ present top c.levels =
+    sum_by-take-drop is_top c.levels count in
+    omega (arith, length-drop (present top (take count c.levels)) c.values)
+
+-- no value among them is null or a struct
+pub front_plain : (top count : ℕ) (c : Column) → ArePlain c → ArePlain (cut_out 0 count top c)
+front_plain top count c plain =
+    All-take (λ v. is_plain v ≡ true) (present top (take count c.levels)) c.values plain
+
+pub behind_plain : (top count : ℕ) (c : Column) → ArePlain c → ArePlain (cut_off count top c)
+behind_plain top count c plain =
+    All-drop (λ v. is_plain v ≡ true) (present top (take count c.levels)) c.values plain
+
+-- What is kept of the front, whose values were taken one part behind the other.
+pub kept_is : (top count first most : ℕ) (c : Column) (levels : List ℕ) (values : List Value)
+    → levels ≡ part_of first most (take count c.levels)
+    → values ≡ take (present top (part_of first most (take count c.levels)))
+    (drop (present top (take first (take count c.levels))) c.values)
+    → ◌≡◌ {A = Column} (record { levels = levels; values = values }) (cut_out first most top (cut_out 0 count top c))
+kept_is top count first most c levels values is are =
+    let front = take count c.levels in
+    let within : present top (take first front) + present top (part_of first most front) ≤ present top front =
+    cut_counts top first most front in
+    same_column levels (part_of first most front) values
+    (part_of (present top (take first front)) (present top (part_of first most front))
+    (take (present top front) c.values))
+    is
+    (are
+    ∙ sym (part_front (present top (take first front)) (present top (part_of first most front)) (present top front)
+    c.values within))
+
+pub same_part : (levels others : List ℕ) (kept more : Column) → levels ≡ others → kept ≡ more
+    → ◌≡◌ {A = Part} (record { levels = levels; kept = kept }) (record { levels = others; kept = more })
+same_part levels others kept more is are = rw (is, are) refl
+
+-- ---- counts
+
+-- how many levels of runs are the highest
+pub present_is : (told top n : ℕ) (runs : List Run) (levels : List ℕ) → told ≡ top → values_of runs ≡ levels
+    → length levels < 2 ^ 64 → (length (values_of runs) < 2 ^ 64 → n ≡ present told (values_of runs))
+    → n ≡ present top levels
+present_is told top n runs levels same are few is =
+    is (omega (arith, ap length are)) ∙ ap (λ (m : ℕ). present m (values_of runs)) same ∙ ap (present top) are
+
+-- So many of the values that are held are passed over, kept, and passed over behind these.
+pub record AreThere (top count first most : ℕ) (c : Column) : Type 0 where
+  pub passed : present top (take first (take count c.levels)) ≤ length c.values
+  pub kept : present top (part_of first most (take count c.levels))
+      ≤ length (drop (present top (take first (take count c.levels))) c.values)
+  pub others : present top (take count c.levels) - present top (take first (take count c.levels))
+      ≤ length (drop (present top (take first (take count c.levels))) c.values)
+  pub all : drop (present top (take count c.levels) - present top (take first (take count c.levels)))
+      (drop (present top (take first (take count c.levels))) c.values)
+      ≡ drop (present top (take count c.levels)) c.values
+
+pub are_there : (top count first most : ℕ) (c : Column) → present top c.levels ≡ length c.values
+    → AreThere top count first most c
+are_there top count first most c each =
+    let is_top : ℕ → ℕ = λ level. cond (nat_eq level top) 1 0 in
+    let front = take count c.levels in
+    let skipped = present top (take first front) in
+    let within : skipped + present top (part_of first most front) ≤ present top front =
+    cut_counts top first most front in
+    let few : present top front ≤ present top c.levels = sum_by-take-le is_top c.levels count in
+    let left = length-drop skipped c.values in
+    let whole : skipped + (present top front - skipped) ≡ present top front = omega arith in
+    record {
+      passed = omega arith;
+      kept = omega arith;
+      others = omega arith;
+      all = drop-drop (present top front - skipped) skipped c.values ∙ ap (λ (n : ℕ). drop n c.values) whole;
+    }
+
+-- ---- faults
+
+-- Where no fault is found, memory ran out.
+pub no_fault : (e : FileError) → FindsWhere {X = Unit {0}} (λ x. Unit {0}) (Err e) → e ≡ errors.Memory
+no_fault errors.Memory h = refl
+no_fault (errors.Fault fault) h = absurd h
