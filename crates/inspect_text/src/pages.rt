@@ -130,10 +130,13 @@ fn level_line(alloc: Global, leaf: &Leaf, page: &Page) -> Result<String, AllocEr
     Ok(line)
 }
 
-/// The same values as runs, of which no two neighbours have one value.
+/// The same values as runs, none of which is empty, and no two neighbours have one value.
 fn longest_runs(alloc: Global, runs: &[Run]) -> Result<Vec<Run>, AllocError> {
     let mut longest: Vec<Run> = Vec::new(alloc);
     for run in runs {
+        if run.count == 0 {
+            continue;
+        }
         match longest.last_mut() {
             Some(last) if last.value == run.value => {
                 last.count = last.count.saturating_add(run.count);
