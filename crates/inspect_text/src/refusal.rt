@@ -5,7 +5,7 @@ ghost use Rattle.inspect_text.specs.declared.refusal.Refusal.TheVariants.{Memory
 
 use delta_actions::ActionFault;
 use lake_bytes::{ByteFault, HybridError};
-use parquet_footer::{FileError, FileFault};
+use parquet_footer::{FileError, FileFault, FooterError};
 use parquet_rows::RowsError;
 use row_core::{RowError, RowFault};
 use schema_tree::SchemaFault;
@@ -88,6 +88,15 @@ impl From<FileError> for Refusal {
         match error {
             FileError::Memory => Refusal::Memory,
             FileError::Fault(fault) => Refusal::File(fault),
+        }
+    }
+}
+
+impl From<FooterError> for Refusal {
+    fn from(error: FooterError) -> Refusal {
+        match error {
+            FooterError::NoRoom => Refusal::Memory,
+            FooterError::Fault(fault) => Refusal::File(fault),
         }
     }
 }

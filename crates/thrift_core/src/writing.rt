@@ -18,10 +18,10 @@ use std::alloc::{AllocError, Allocator, Global};
 
 /// The bytes of a struct (Thrift compact protocol, "Struct encoding"), with the types that the form names.
 ///
-/// Each form is the shortest: varints without needless bytes, a size below 15 and a rise of an id up to 15 in
-/// their headers. A boolean in a list or a map is 1 or 2, and its type there 2.
+/// Each form is the shortest: varints without needless bytes, a size below 15 and a rise of an id of 1 to 15 in
+/// their headers; a first id at or below 0 stands behind its header. A boolean in a list or a map is 1 or 2, and its type there 2.
 ///
-/// The tree has to be of the form: the ids of each struct rise from 1 and stand in the form, which may name
+/// The tree has to be of the form: the ids of each struct rise, from any one, and stand in the form, which may name
 /// more; each value is of the type named for it; sizes are below 2 ^ 31; nothing is skipped. Of another tree
 /// some bytes are written, which may spell no tree.
 ///
@@ -110,7 +110,7 @@ fn write_field_header(out: &mut Vec<u8>, last: i16, id: i16, number: u8) -> Resu
     ensures { OnOk result (out.new.items ≡ out.old.items ++ field_header_bytes last id number) }
 {
     let rise = id.abs_diff(last);
-    if rise == 0 || rise > 15 {
+    if id <= last || rise > 15 {
         out.push(number)?;
         return write_zigzag(out, i64::from(id));
     }
