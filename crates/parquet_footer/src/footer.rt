@@ -14,7 +14,7 @@ use crate::metadata::read_metadata;
 use std::alloc::{Allocator, Global};
 
 /// What a file's footer says (Parquet, FileMetaData), as far as rows are read by it.
-#[derive(Debug, Drop)]
+#[derive(Drop)]
 pub struct Footer<A: Allocator = Global> {
     /// The nodes of the schema, depth first. The first is the root.
     pub schema: Vec<SchemaElement<A>, A>,
@@ -25,7 +25,7 @@ pub struct Footer<A: Allocator = Global> {
 }
 
 /// A node of the schema (Parquet, SchemaElement).
-#[derive(Debug, Drop)]
+#[derive(Drop)]
 pub struct SchemaElement<A: Allocator = Global> {
     /// The physical type, by its number: 2 is INT64. A leaf has one.
     pub physical_type: Option<i64>,
@@ -38,7 +38,7 @@ pub struct SchemaElement<A: Allocator = Global> {
 }
 
 /// A row group (Parquet, RowGroup).
-#[derive(Debug, Drop)]
+#[derive(Drop)]
 pub struct RowGroup<A: Allocator = Global> {
     /// Its column chunks.
     pub columns: Vec<ColumnChunk<A>, A>,
@@ -47,7 +47,7 @@ pub struct RowGroup<A: Allocator = Global> {
 }
 
 /// One column of a row group (Parquet, ColumnChunk with its ColumnMetaData).
-#[derive(Debug, Drop)]
+#[derive(Drop)]
 pub struct ColumnChunk<A: Allocator = Global> {
     /// The names from below the root to the leaf, in the bytes of the file.
     pub path_in_schema: Vec<Vec<u8, A>, A>,

@@ -39,7 +39,10 @@ pub(crate) fn read_metadata<A: Allocator + Copy>(
 }
 
 /// What a footer's tree says, within the limits.
-fn limited_metadata<A: Allocator + Copy>(alloc: A, tree: &TValue<A>) -> Result<Footer<A>, FooterError>
+fn limited_metadata<A: Allocator + Copy>(
+    alloc: A,
+    tree: &TValue<A>,
+) -> Result<Footer<A>, FooterError>
     ensures { GivesFooter footer_view result (limited_metadata_of (view tree.now)) }
 {
     let metadata = metadata(alloc, tree).map_err(in_footer)?;
