@@ -7,7 +7,7 @@ use delta_actions::{print_commit, read_commit};
 use inspect_text::Refusal;
 use lake_bytes::{Cursor, write_i32_le, write_i64_le, write_u32_le, write_varint, write_zigzag};
 use std::alloc::Global;
-use thrift_core::{FieldForm, Form, read_struct, write_struct};
+use thrift_core::{FieldForm, Form, is_writable, read_struct, write_struct};
 
 /// The bytes that are written: of a number for `varint N`, `zigzag N`, `u32 N`, `i32 N` and `i64 N`; for
 /// `rows SCHEMA N ..` the file of a table's rows of these numbers, where `N..M` stands for those from N up to M, which
@@ -32,14 +32,19 @@ pub fn written(alloc: Global, names: &Names, text: &str) -> Result<Vec<u8>, Refu
             let actions = read_commit(alloc, &spelled(alloc, names, rest)?)?;
             return Ok(print_commit(alloc, &actions)?);
         }
-        "thrift" => {
-            let bytes = spelled(alloc, names, rest)?;
-            let tree = read_struct(alloc, &mut Cursor::new(&bytes))?;
-            return Ok(write_struct(alloc, &tree, &SAMPLE)?);
-        }
+        "thrift" => return written_struct(alloc, &spelled(alloc, names, rest)?),
         _ => return Err(Refusal::BadSpelling),
     }
     Ok(out)
+}
+
+/// The struct that the bytes are, written again as a [`SAMPLE`]. They are misspelled where it can't be.
+fn written_struct(alloc: Global, bytes: &[u8]) -> Result<Vec<u8>, Refusal> {
+    let tree = read_struct(alloc, &mut Cursor::new(bytes))?;
+    if !is_writable(&tree, &SAMPLE) {
+        return Err(Refusal::BadSpelling);
+    }
+    Ok(write_struct(alloc, &tree, &SAMPLE)?)
 }
 
 /// A struct with a field of each type that is written.

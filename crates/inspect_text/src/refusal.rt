@@ -6,7 +6,7 @@ ghost use Rattle.inspect_text.specs.declared.refusal.Refusal.TheVariants.{Memory
 use delta_actions::ActionFault;
 use lake_bytes::{ByteFault, HybridError};
 use parquet_file::RowsError;
-use parquet_footer::{FileError, FileFault};
+use parquet_footer::{FileError, FileFault, FooterError};
 use row_core::{RowError, RowFault};
 use schema_tree::SchemaFault;
 use shred::ShredError;
@@ -88,6 +88,15 @@ impl From<FileError> for Refusal {
         match error {
             FileError::Memory => Refusal::Memory,
             FileError::Fault(fault) => Refusal::File(fault),
+        }
+    }
+}
+
+impl From<FooterError> for Refusal {
+    fn from(error: FooterError) -> Refusal {
+        match error {
+            FooterError::NoRoom => Refusal::Memory,
+            FooterError::Fault(fault) => Refusal::File(fault),
         }
     }
 }

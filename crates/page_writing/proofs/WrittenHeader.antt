@@ -1,5 +1,5 @@
 -- A page's header is spelled by what is written for it, and says what it is to say.
-use Rattle.std.proofs.Common.{◌≡◌, ℕ, ◌<◌, ◌≤◌, ◌^◌, ℤ, pos, List, [], ◌∷◌, Bool, true, false, Some, Ok, refl, arith, FitsSigned, w32}
+use Rattle.std.proofs.Common.{◌≡◌, ℕ, ◌<◌, ◌≤◌, ◌^◌, ℤ, pos, negsuc, ◌<ℤ◌, List, [], ◌∷◌, Bool, true, false, Some, Ok, refl, arith, FitsSigned, w32}
 use Rattle.std.proofs.lemmas.Int.{ints}
 use Rattle.thrift_core.specs.Form.{Forms, forms, form_at, struct_form, int32_form}
 use Rattle.thrift_core.specs.Spelling.{SpellsStruct}
@@ -22,39 +22,39 @@ data_tree n = struct (fields_of (number_field 1 n ∷ number_field 2 0 ∷ numbe
 
 -- ---- the form
 
-number_stands : (fs : Forms) (last id n : ℕ) (others : List (ℤ × Tree)) → last < id → id ≤ 32767 → n < 2 ^ 31
+number_stands : (fs : Forms) (last : ℤ) (id n : ℕ) (others : List (ℤ × Tree)) → last <ℤ pos id → id ≤ 32767 → n < 2 ^ 31
     → form_at (pos id) fs ≡ Some int32_form → FieldsHaveForm fs (pos id) (fields_of others)
-    → FieldsHaveForm fs (pos last) (fields_of (number_field id n ∷ others))
+    → FieldsHaveForm fs last (fields_of (number_field id n ∷ others))
 number_stands fs last id n others rises fits few at h =
     let number : FitsSigned w32 (pos n) = omega (arith, ints) in
-    (omega (arith, ints), omega (arith, ints), int32_form, at, number, h)
+    (rises, omega (arith, ints), int32_form, at, number, h)
 
 data_has_form : (n : ℕ) → n < 2 ^ 31 → HasForm (struct_form data_forms) (data_tree n)
 data_has_form n few = (
   data_forms,
   refl,
-  number_stands data_forms 0 1 n (number_field 2 0 ∷ number_field 3 3 ∷ number_field 4 3 ∷ []) (omega arith)
+  number_stands data_forms (negsuc 32768) 1 n (number_field 2 0 ∷ number_field 3 3 ∷ number_field 4 3 ∷ []) (omega (arith, ints))
       (omega arith) few refl
-      (number_stands data_forms 1 2 0 (number_field 3 3 ∷ number_field 4 3 ∷ []) (omega arith) (omega arith)
+      (number_stands data_forms (pos 1) 2 0 (number_field 3 3 ∷ number_field 4 3 ∷ []) (omega (arith, ints)) (omega arith)
       (omega arith) refl
-      (number_stands data_forms 2 3 3 (number_field 4 3 ∷ []) (omega arith) (omega arith) (omega arith) refl
-      (number_stands data_forms 3 4 3 [] (omega arith) (omega arith) (omega arith) refl tt))),
+      (number_stands data_forms (pos 2) 3 3 (number_field 4 3 ∷ []) (omega (arith, ints)) (omega arith) (omega arith) refl
+      (number_stands data_forms (pos 3) 4 3 [] (omega (arith, ints)) (omega arith) (omega arith) refl tt))),
 )
 
 abbrev data_field : ℕ → ℤ × Tree
 data_field n = (pos 5, data_tree n)
 
-header_has_form : (n size : ℕ) → n < 2 ^ 31 → size < 2 ^ 31 → HasForm header_form (header_tree n size)
+pub header_has_form : (n size : ℕ) → n < 2 ^ 31 → size < 2 ^ 31 → HasForm header_form (header_tree n size)
 header_has_form n size few short =
     let inner : FieldsHaveForm page_forms (pos 3) (fields_of (data_field n ∷ [])) =
     (omega (arith, ints), omega (arith, ints), struct_form data_forms, refl, data_has_form n few, tt) in (
       page_forms,
       refl,
-      number_stands page_forms 0 1 0 (number_field 2 size ∷ number_field 3 size ∷ data_field n ∷ []) (omega arith)
+      number_stands page_forms (negsuc 32768) 1 0 (number_field 2 size ∷ number_field 3 size ∷ data_field n ∷ []) (omega (arith, ints))
           (omega arith) (omega arith) refl
-          (number_stands page_forms 1 2 size (number_field 3 size ∷ data_field n ∷ []) (omega arith) (omega arith) short
+          (number_stands page_forms (pos 1) 2 size (number_field 3 size ∷ data_field n ∷ []) (omega (arith, ints)) (omega arith) short
           refl
-          (number_stands page_forms 2 3 size (data_field n ∷ []) (omega arith) (omega arith) short refl inner)),
+          (number_stands page_forms (pos 2) 3 size (data_field n ∷ []) (omega (arith, ints)) (omega arith) short refl inner)),
     )
 
 pub header_spelled : (n size : ℕ) → n < 2 ^ 31 → size < 2 ^ 31

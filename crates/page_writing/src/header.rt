@@ -52,6 +52,8 @@ const PAGE_HEADER: Form = Form::Struct(&[
 
 /// The header of a data page of so many values in PLAIN, of so many bytes (Apache Parquet, PageHeader).
 pub(crate) fn header_bytes(alloc: Global, num_values: u32, size: u32) -> Result<Vec<u8>, AllocError>
+    requires few { num_values < 2 ^ 31 }
+    requires short { size < 2 ^ 31 }
     ensures { IfOk result (λ bytes. bytes.items ≡ written header_form (header_tree num_values size)) }
 {
     let tree = header_tree(alloc, num_values, size)?;

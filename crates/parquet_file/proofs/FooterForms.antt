@@ -1,5 +1,5 @@
 -- What is known of a tree that has a form.
-use Rattle.std.proofs.Common.{◌≡◌, ℕ, suc, ◌+◌, ◌≤◌, max, ℤ, pos, List, [], ◌∷◌, ◌++◌, Bool, true, false, cond, Some, refl, sym, subst, arith}
+use Rattle.std.proofs.Common.{◌≡◌, ℕ, suc, ◌+◌, ◌≤◌, max, ℤ, pos, negsuc, List, [], ◌∷◌, ◌++◌, Bool, true, false, cond, Some, refl, sym, subst, arith}
 use Rattle.std.specs.Ordering.{int_eq}
 use Rattle.thrift_core.specs.Fields.{all_as, as_struct}
 use Rattle.thrift_core.specs.Tree.{Tree, boolean, integer, binary, list, map, struct, skipped, Trees, no_trees, tree, Entries, no_entries, entry, Fields, no_fields, field, trees_of, depth, depth_of_trees, depth_of_entries, depth_of_fields, nodes_of_trees}
@@ -68,7 +68,7 @@ mutual
   depth_by_form f (map es) (k, v, is, few, all) =
       let inner = entries_by_form k v es all in subst (λ g. depth (map es) ≤ rank g) (sym is) (omega (arith, inner))
   depth_by_form f (struct fs) (forms, is, all) =
-      let inner = fields_by_form forms (pos 0) fs all in
+      let inner = fields_by_form forms (negsuc 32768) fs all in
       subst (λ g. depth (struct fs) ≤ rank g) (sym is) (omega (arith, inner))
   depth_by_form f skipped h = absurd h
 

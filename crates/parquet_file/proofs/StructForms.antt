@@ -1,5 +1,5 @@
 -- A struct has its form where its ids rise, and each value has the form that stands for its id.
-use Rattle.std.proofs.Common.{◌≡◌, ℕ, ◌<◌, ◌^◌, ℤ, pos, ◌<ℤ◌, ◌≤ℤ◌, Bool, true, false, ◌&&◌, Option, None, Some, refl, FitsSigned, w32, w64, arith}
+use Rattle.std.proofs.Common.{◌≡◌, ℕ, ◌<◌, ◌^◌, ℤ, pos, negsuc, ◌<ℤ◌, ◌≤ℤ◌, Bool, true, false, ◌&&◌, Option, None, Some, refl, FitsSigned, w32, w64, arith}
 use Rattle.std.specs.Int.Signed.{lt_z, le_z}
 use Rattle.std.proofs.lemmas.Bool.{and_parts}
 use Rattle.std.proofs.lemmas.Int.{ints}
@@ -50,7 +50,7 @@ fields_have_form forms last (field id v fs) rise h =
 -- ---- whole structs
 
 abbrev pub struct_rises : Tree → Bool
-struct_rises (struct fs) = ids_rise (pos 0) fs
+struct_rises (struct fs) = ids_rise (negsuc 32768) fs
 struct_rises other = false
 
 abbrev pub FieldValues : Form → Fields → Type 0
@@ -61,8 +61,8 @@ abbrev pub StructValues : Form → Tree → Type 0
 StructValues f (struct fs) = FieldValues f fs
 StructValues f other = ⊥
 
-of_fields : (f : Form) (fs : Fields) → ids_rise (pos 0) fs ≡ true → FieldValues f fs → HasForm f (struct fs)
-of_fields (struct_form forms) fs rise h = (forms, refl, fields_have_form forms (pos 0) fs rise h)
+of_fields : (f : Form) (fs : Fields) → ids_rise (negsuc 32768) fs ≡ true → FieldValues f fs → HasForm f (struct fs)
+of_fields (struct_form forms) fs rise h = (forms, refl, fields_have_form forms (negsuc 32768) fs rise h)
 of_fields other fs rise h = absurd h
 
 -- A struct of this form: that its ids rise is computed.

@@ -7,6 +7,7 @@ use Rattle.thrift_core.specs.Fields.{each}
 use Rattle.thrift_core.specs.Tree as thrift
 use Rattle.thrift_core.specs.Tree.{nodes_of_trees, trees_of}
 use Rattle.thrift_core.specs.Writing.{MembersHaveForm}
+use Rattle.thrift_core.proofs.Callers.{Conditions, conditions}
 use Rattle.row_core.specs.Conforms.{Conforms}
 use Rattle.row_core.specs.Rows.{Row}
 use Rattle.row_core.specs.Unsupported.{unsupported}
@@ -24,11 +25,11 @@ use Rattle.parquet_footer.proofs.Callers.{bind_ok, ok_is, passed}
 use Rattle.parquet_schema.specs.FileTree.{group}
 use Rattle.parquet_schema.proofs.Callers.{own_tree_fits}
 use Rattle.parquet_file.specs.File.{AreGroups, IsFile, KeepsLimits, has_texts}
-use Rattle.parquet_file.specs.Writing.{footer_bytes, group_form, group_written, groups_written, is_short_named, written_file}
+use Rattle.parquet_file.specs.Writing.{footer_bytes, footer_form, footer_tree, group_form, group_written, groups_written, is_short_named, written_file}
 use Rattle.parquet_file.proofs.GroupSizes.{group_small}
 use Rattle.parquet_file.proofs.GroupSteps.{allowed}
 use Rattle.parquet_file.proofs.RowsOnly.{rows_one}
-use Rattle.parquet_file.proofs.WrittenFooter.{footer_says, own_tree}
+use Rattle.parquet_file.proofs.WrittenFooter.{footer_formed, footer_says, own_tree}
 use Rattle.parquet_file.proofs.WrittenGroups.{group_is_written}
 
 -- ---- what the limits let through
@@ -105,6 +106,17 @@ groups_are_written cols (row ∷ rows) groups limits supported named conform few
     subst (λ x. AreWritten (tree.struct cols) (row ∷ rows) x)
     (ok_is {E = FileFault} (made.0.0, made.0.1 ∷ []) groups made.2)
     (one_group cols (row ∷ rows) made.0 limits supported named conform few made.1)
+
+-- What is written as the footer of the rows has its form, so it meets what writing it needs.
+pub footer_conditions : (cols : tree.Fields) (rows : List Row) (bytes : List ℕ) (groups : List thrift.Tree) (count : ℕ)
+    → IsWithinLimits (tree.struct cols) → unsupported (tree.struct cols) ≡ None
+    → is_short_named (tree.struct cols) ≡ true → All (Conforms (tree.struct cols)) rows → length rows ≤ 4194304
+    → count ≡ length rows → groups_written (tree.struct cols) rows ≡ Ok (bytes, groups)
+    → Conditions footer_form (footer_tree (tree.struct cols) groups count)
+footer_conditions cols rows bytes groups count limits supported named conform few counted e =
+    let w = groups_are_written cols rows (bytes, groups) limits supported named conform few e in
+    let form = footer_formed cols groups (length rows) limits.nodes_fit named w.of_form w.one few in
+    rw counted (conditions footer_form (footer_tree (tree.struct cols) groups (length rows)) form)
 
 -- ---- the file
 

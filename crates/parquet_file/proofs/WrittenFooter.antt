@@ -103,6 +103,14 @@ footer_has_form elements groups rows few schema of_form =
     struct_has_form footer_form (footer_around elements groups rows) refl
     (fits_32 1 (omega arith), (schema, (fits_64 rows (omega arith), (of_form, ((refl, omega arith), tt)))))
 
+-- What is written as the footer of a table's columns, of these rows and of at most one group has its form.
+pub footer_formed : (cols : tree.Fields) (groups : List thrift.Tree) (rows : ℕ) → nodes (tree.struct cols) ≤ 1024
+    → is_short_named (tree.struct cols) ≡ true → MembersHaveForm group_form (trees_of groups) → length groups ≤ 1
+    → rows ≤ 4194304 → HasForm footer_form (footer_tree (tree.struct cols) groups rows)
+footer_formed cols groups rows fit named of_form one few =
+    footer_has_form (members (schema_elements (tree.struct cols))) (members groups) rows few
+    (elements_stand cols fit named) (few_groups groups one of_form)
+
 -- ---- it is spelled
 
 footer_spelled : (cols : tree.Fields) (groups : List thrift.Tree) (rows : ℕ) → nodes (tree.struct cols) ≤ 1024
@@ -137,8 +145,7 @@ pub footer_says : (cols : tree.Fields) (fs : FileFields) (groups : List thrift.T
 footer_says cols fs groups gs rows limits named own read of_form one small few =
     let said = schema_said cols fs limits.sound own in
     let elements = schema_elements (tree.struct cols) in
-    let form = footer_has_form (members elements) (members groups) rows few
-    (elements_stand cols limits.nodes_fit named) (few_groups groups one of_form) in
+    let form = footer_formed cols groups rows limits.nodes_fit named of_form one few in
     let alone = structs_alone _ elements (schema_has_form cols named limits.nodes_fit) in
     let these = structs_alone _ groups of_form in (
       said.list,

@@ -7,6 +7,9 @@ use Rattle.shred.specs.Parts.{part_of}
 use Rattle.parquet_footer.specs.Outcome.{says}
 use Rattle.parquet_footer.specs.declared.fault.FileFault.{FileFault}
 use Rattle.parquet_footer.specs.declared.fault.FileError.{FileError}
+use Rattle.parquet_footer.specs.declared.fault.FileError.TheVariants as files
+use Rattle.parquet_footer.specs.declared.fault.FooterError.{FooterError}
+use Rattle.parquet_footer.specs.declared.fault.FooterError.TheVariants as footers
 use Rattle.parquet_file.specs.declared.error.RowsError.{RowsError}
 use Rattle.parquet_file.specs.declared.error.RowsError.TheVariants as errors
 
@@ -31,6 +34,16 @@ abbrev pub says_of_rows : RowsError → Said FileFault
 says_of_rows errors.Memory = says_nothing
 says_of_rows errors.NoRoom = says_nothing
 says_of_rows (errors.Fault fault) = refuses fault
+
+-- an error of the footer's reading: its want of memory is that of the footer's
+abbrev pub of_footer : FooterError → RowsError
+of_footer footers.NoRoom = errors.NoRoom
+of_footer (footers.Fault fault) = errors.Fault fault
+
+-- an error of what the footer says: its want of memory is the caller's
+abbrev pub of_rows : FileError → RowsError
+of_rows files.Memory = errors.Memory
+of_rows (files.Fault fault) = errors.Fault fault
 
 -- the rows, seen by view, or the fault
 abbrev pub GivesRows : {X A : Type 0} → (X → A) → Result X RowsError → Result A FileFault → Type 0

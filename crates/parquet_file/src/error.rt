@@ -2,9 +2,10 @@
 
 ghost use Rattle.std.specs.Prelude.{◌≡◌, Some};
 ghost use Rattle.parquet_file.specs.FaultTexts.{error_text};
+ghost use Rattle.parquet_file.specs.Outcome.{of_footer, of_rows};
 ghost use Rattle.parquet_file.specs.declared.error.RowsError.TheVariants.{Fault};
 
-use parquet_footer::FileFault;
+use parquet_footer::{FileError, FileFault, FooterError};
 use std::fmt;
 use std::fmt::{Display, Formatter};
 use thiserror::Error;
@@ -38,5 +39,27 @@ impl From<FileFault> for RowsError {
 
     fn from(fault: FileFault) -> RowsError {
         RowsError::Fault(fault)
+    }
+}
+
+impl From<FooterError> for RowsError {
+    ghost from_gives = { λ f e. e ≡ of_footer f };
+
+    fn from(error: FooterError) -> RowsError {
+        match error {
+            FooterError::NoRoom => RowsError::NoRoom,
+            FooterError::Fault(fault) => RowsError::Fault(fault),
+        }
+    }
+}
+
+impl From<FileError> for RowsError {
+    ghost from_gives = { λ f e. e ≡ of_rows f };
+
+    fn from(error: FileError) -> RowsError {
+        match error {
+            FileError::Memory => RowsError::Memory,
+            FileError::Fault(fault) => RowsError::Fault(fault),
+        }
     }
 }

@@ -6,7 +6,6 @@ ghost use Rattle.row_core.specs.Views.{row_views};
 ghost use Rattle.schema_tree.specs.Schema.{tree_of};
 ghost use Rattle.parquet_footer.specs.Frame.{frame_of};
 ghost use Rattle.parquet_footer.specs.Outcome.{Gives};
-ghost use Rattle.parquet_footer.specs.Reading.{metadata_at};
 ghost use Rattle.parquet_footer.specs.Views.{footer_view};
 ghost use Rattle.parquet_file.specs.File.{IsFile, KeepsLimits};
 ghost use Rattle.parquet_file.specs.Outcome.{FindsRows, GivesRows, RefusesRows};
@@ -110,23 +109,8 @@ fn part_in<A: Allocator, H: Allocator + Copy>(
     ensures early { RefusesRows result (frame_of bytes.now) }
 {
     let (front, footer) = split_file(bytes)?;
-    let footer = footer_of(heap, footer)?;
-    match part_by_footer(alloc, schema, front, &footer, first, most) {
-        Ok(part) => Ok(part),
-        Err(FileError::Memory) => Err(RowsError::Memory),
-        Err(FileError::Fault(fault)) => Err(RowsError::Fault(fault)),
-    }
-}
-
-/// What a footer's bytes say, in a memory of its own.
-fn footer_of<H: Allocator + Copy>(heap: H, footer: &[u8]) -> Result<Footer<H>, RowsError>
-    ensures { GivesRows footer_view result (metadata_at footer.now) }
-{
-    match Footer::of_bytes(heap, footer) {
-        Ok(footer) => Ok(footer),
-        Err(FileError::Memory) => Err(RowsError::NoRoom),
-        Err(FileError::Fault(fault)) => Err(RowsError::Fault(fault)),
-    }
+    let footer = Footer::of_bytes(heap, footer)?;
+    Ok(part_by_footer(alloc, schema, front, &footer, first, most)?)
 }
 
 /// A part of the rows that a footer says stand in the bytes before it.

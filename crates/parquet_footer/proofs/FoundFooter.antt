@@ -4,11 +4,11 @@ use Rattle.lake_bytes.specs.Varint.{IsBytes}
 use Rattle.parquet_footer.specs.Metadata.{FileMetaData}
 use Rattle.parquet_footer.specs.Footer.{HasFooter, ClaimsWithinLimit}
 use Rattle.parquet_footer.specs.Frame.{frame_of}
-use Rattle.parquet_footer.specs.Outcome.{Gives, Finds}
+use Rattle.parquet_footer.specs.Outcome.{GivesFooter, FindsFooter}
 use Rattle.parquet_footer.specs.Reading.{metadata_at, footer_at}
 use Rattle.parquet_footer.specs.Views.{footer_view}
-use Rattle.parquet_footer.specs.declared.fault.FileError.{FileError}
-use Rattle.parquet_footer.specs.declared.fault.FileError.TheVariants as errors
+use Rattle.parquet_footer.specs.declared.fault.FooterError.{FooterError}
+use Rattle.parquet_footer.specs.declared.fault.FooterError.TheVariants as errors
 use Rattle.parquet_footer.specs.declared.fault.FileFault.{FileFault}
 use Rattle.parquet_footer.specs.declared.footer.Footer.{Footer}
 use Rattle.parquet_footer.proofs.FoundSteps.{bind_ok, ok_is, no_fault}
@@ -17,14 +17,14 @@ use Rattle.parquet_footer.proofs.FooterSays.{metadata_found, metadata_again}
 use Rattle.parquet_footer.proofs.OnlyFrame.{Parts, parts_again, frame_again}
 
 -- What is given is found, as the reading has it.
-pub answer_found : {A : Type 0} (P : FileMetaData → Type 0) (read : Result FileMetaData FileFault) (result : Result (Footer A) FileError) → Gives footer_view result read → ((metadata : FileMetaData) → read ≡ Ok metadata → P metadata)
+pub answer_found : {A : Type 0} (P : FileMetaData → Type 0) (read : Result FileMetaData FileFault) (result : Result (Footer A) FooterError) → GivesFooter footer_view result read → ((metadata : FileMetaData) → read ≡ Ok metadata → P metadata)
     → IfOk result (λ footer. P (footer_view footer))
 answer_found P read (Ok footer) e holds = holds (footer_view footer) e
 answer_found P read (Err e) h holds = tt
 
-pub answer_finds : {A : Type 0} (metadata : FileMetaData) (read : Result FileMetaData FileFault) (result : Result (Footer A) FileError) → Gives footer_view result read → read ≡ Ok metadata → Finds footer_view metadata result
+pub answer_finds : {A : Type 0} (metadata : FileMetaData) (read : Result FileMetaData FileFault) (result : Result (Footer A) FooterError) → GivesFooter footer_view result read → read ≡ Ok metadata → FindsFooter footer_view metadata result
 answer_finds metadata read (Ok footer) e is = ok_is (footer_view footer) metadata (sym e ∙ is)
-answer_finds metadata read (Err errors.Memory) e is = tt
+answer_finds metadata read (Err errors.NoRoom) e is = tt
 answer_finds metadata read (Err (errors.Fault fault)) e is = no_fault fault metadata (sym e ∙ is)
 
 pub footer_found : (bytes : List ℕ) (metadata : FileMetaData) → IsBytes bytes → footer_at bytes ≡ Ok metadata → HasFooter bytes metadata × ClaimsWithinLimit metadata

@@ -6,6 +6,8 @@ use Rattle.parquet_footer.specs.declared.fault.FileFault.{FileFault}
 use Rattle.parquet_footer.specs.declared.fault.FileFault.TheVariants.{BadMagic, BadFooter, Codec, Encoding, PageKind, BadOffset, CountMismatch, SchemaMismatch, TooLarge, NotUtf8, BadPage}
 use Rattle.parquet_footer.specs.declared.fault.FileError.{FileError}
 use Rattle.parquet_footer.specs.declared.fault.FileError.TheVariants.{Memory, Fault}
+use Rattle.parquet_footer.specs.declared.fault.FooterError.{FooterError}
+use Rattle.parquet_footer.specs.declared.fault.FooterError.TheVariants as footer
 
 abbrev pub fault_text : FileFault → List ℕ
 fault_text BadMagic = codes "P1 BadMagic"
@@ -24,3 +26,8 @@ fault_text (BadPage fault) = codes "P11 BadPage " ++ trees.fault_text fault
 abbrev pub error_text : FileError → List ℕ
 error_text Memory = codes "out of memory"
 error_text (Fault fault) = fault_text fault
+
+-- the same of an error of a footer's reading
+abbrev pub footer_error_text : FooterError → List ℕ
+footer_error_text footer.NoRoom = codes "P9 TooLarge"
+footer_error_text (footer.Fault fault) = fault_text fault

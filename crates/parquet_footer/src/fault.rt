@@ -1,8 +1,9 @@
 //! Why bytes are no file of a table's rows, or no file can be written.
 
 ghost use Rattle.std.specs.Prelude.{◌≡◌, Some};
-ghost use Rattle.parquet_footer.specs.FaultTexts.{error_text, fault_text};
+ghost use Rattle.parquet_footer.specs.FaultTexts.{error_text, fault_text, footer_error_text};
 ghost use Rattle.parquet_footer.specs.declared.fault.FileError.TheVariants.{Memory, Fault};
+ghost use Rattle.parquet_footer.specs.declared.fault.FooterError.TheVariants as footer;
 
 use std::alloc::{AllocError, AllocFailed};
 use std::fmt;
@@ -102,5 +103,33 @@ impl From<FileFault> for FileError {
 
     fn from(fault: FileFault) -> FileError {
         FileError::Fault(fault)
+    }
+}
+
+/// Why a footer could not be read into a memory of its own. Its texts are written by hand, so that contracts know them.
+#[derive(Debug, Drop, Error)]
+pub enum FooterError {
+    /// What the footer says has no room in the memory that it is read in.
+    NoRoom,
+    /// What is wrong with the file.
+    Fault(FileFault),
+}
+
+impl Display for FooterError {
+    ghost output = { λ error. Some (footer_error_text error) };
+
+    fn fmt<W: fmt::Write>(&self, f: &mut Formatter<W>) -> fmt::Result {
+        match self {
+            FooterError::NoRoom => f.write_str("P9 TooLarge"),
+            FooterError::Fault(fault) => write!(f, "{fault}"),
+        }
+    }
+}
+
+impl From<FileFault> for FooterError {
+    ghost from_gives = { λ f e. e ≡ footer.Fault f };
+
+    fn from(fault: FileFault) -> FooterError {
+        FooterError::Fault(fault)
     }
 }

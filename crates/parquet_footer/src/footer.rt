@@ -4,17 +4,17 @@ ghost use Rattle.std.specs.Prelude.{◌≡◌, ◌≤◌, length, IfOk};
 ghost use Rattle.parquet_footer.specs.Footer.{FooterSays, HasFooter, ClaimsWithinLimit};
 ghost use Rattle.parquet_footer.specs.Frame.{frame_of};
 ghost use Rattle.parquet_footer.specs.Metadata.{FileMetaData};
-ghost use Rattle.parquet_footer.specs.Outcome.{Gives, Finds, Refuses};
+ghost use Rattle.parquet_footer.specs.Outcome.{GivesFooter, FindsFooter, RefusesFooter};
 ghost use Rattle.parquet_footer.specs.Reading.{footer_at, metadata_at};
 ghost use Rattle.parquet_footer.specs.Views.{footer_view};
 
-use crate::fault::FileError;
+use crate::fault::FooterError;
 use crate::frame::split_file;
 use crate::metadata::read_metadata;
 use std::alloc::{Allocator, Global};
 
 /// What a file's footer says (Parquet, FileMetaData), as far as rows are read by it.
-#[derive(Debug, Drop)]
+#[derive(Drop)]
 pub struct Footer<A: Allocator = Global> {
     /// The nodes of the schema, depth first. The first is the root.
     pub schema: Vec<SchemaElement<A>, A>,
@@ -25,7 +25,7 @@ pub struct Footer<A: Allocator = Global> {
 }
 
 /// A node of the schema (Parquet, SchemaElement).
-#[derive(Debug, Drop)]
+#[derive(Drop)]
 pub struct SchemaElement<A: Allocator = Global> {
     /// The physical type, by its number: 2 is INT64. A leaf has one.
     pub physical_type: Option<i64>,
@@ -38,7 +38,7 @@ pub struct SchemaElement<A: Allocator = Global> {
 }
 
 /// A row group (Parquet, RowGroup).
-#[derive(Debug, Drop)]
+#[derive(Drop)]
 pub struct RowGroup<A: Allocator = Global> {
     /// Its column chunks.
     pub columns: Vec<ColumnChunk<A>, A>,
@@ -47,7 +47,7 @@ pub struct RowGroup<A: Allocator = Global> {
 }
 
 /// One column of a row group (Parquet, ColumnChunk with its ColumnMetaData).
-#[derive(Debug, Drop)]
+#[derive(Drop)]
 pub struct ColumnChunk<A: Allocator = Global> {
     /// The names from below the root to the leaf, in the bytes of the file.
     pub path_in_schema: Vec<Vec<u8, A>, A>,
@@ -66,19 +66,19 @@ impl<A: Allocator + Copy> Footer<A> {
     /// P9 for a file of over 64 MiB. P1 for one of under 12 bytes, or without the magic bytes at both ends. P2 with
     /// what is wrong with the footer: its stated length is above the file's less 12 (B1 Short), its struct can't be
     /// read, a field that is needed is missing or of another kind (TH4), or a count is negative (B3). P9 where the
-    /// file or a group claims more than 4,194,304 rows. `Memory` where `alloc` refuses a growth.
+    /// file or a group claims more than 4,194,304 rows. `NoRoom` where `alloc` refuses a growth.
     ///
     /// What is read lies in the memory of `alloc`, names and paths too. The time is linear in the footer's bytes, the
     /// memory in its values.
-    pub fn read(alloc: A, bytes: &[u8]) -> Result<Footer<A>, FileError>
+    pub fn read(alloc: A, bytes: &[u8]) -> Result<Footer<A>, FooterError>
         // The bytes are framed, and a front of their footer spells what was read, within the limits.
         ensures found { IfOk result (λ footer. HasFooter bytes.now (footer_view footer) × ClaimsWithinLimit (footer_view footer)) }
-        // What the footer of a framed file says is read, unless memory runs out.
-        ensures only { (metadata : FileMetaData) → HasFooter bytes.now metadata → length bytes.now ≤ 67108864 → ClaimsWithinLimit metadata → Finds footer_view metadata result }
+        // What the footer of a framed file says is read, unless it has no room.
+        ensures only { (metadata : FileMetaData) → HasFooter bytes.now metadata → length bytes.now ≤ 67108864 → ClaimsWithinLimit metadata → FindsFooter footer_view metadata result }
         // A fault of the frame is answered whatever the memory.
-        ensures early { Refuses result (frame_of bytes.now) }
+        ensures early { RefusesFooter result (frame_of bytes.now) }
         // Which fault it is: the first one in the order of the tests.
-        ensures exact { Gives footer_view result (footer_at bytes.now) }
+        ensures exact { GivesFooter footer_view result (footer_at bytes.now) }
     {
         footer_in(alloc, bytes)
     }
@@ -87,15 +87,15 @@ impl<A: Allocator + Copy> Footer<A> {
     /// [`crate::split_file`]).
     ///
     /// P2 with what is wrong with them, and P9 where the file or a group claims more than 4,194,304 rows, as
-    /// [`Footer::read`] has them. `Memory` where `alloc` refuses a growth. Time and memory are those of
+    /// [`Footer::read`] has them. `NoRoom` where `alloc` refuses a growth. Time and memory are those of
     /// [`Footer::read`].
-    pub fn of_bytes(alloc: A, footer: &[u8]) -> Result<Footer<A>, FileError>
+    pub fn of_bytes(alloc: A, footer: &[u8]) -> Result<Footer<A>, FooterError>
         // A front of the bytes spells what was read, within the limits.
         ensures found { IfOk result (λ metadata. FooterSays footer.now (footer_view metadata) × ClaimsWithinLimit (footer_view metadata)) }
-        // What the bytes say is read, unless memory runs out.
-        ensures only { (metadata : FileMetaData) → FooterSays footer.now metadata → ClaimsWithinLimit metadata → Finds footer_view metadata result }
+        // What the bytes say is read, unless it has no room.
+        ensures only { (metadata : FileMetaData) → FooterSays footer.now metadata → ClaimsWithinLimit metadata → FindsFooter footer_view metadata result }
         // Which fault it is: the first one in the order of the tests.
-        ensures exact { Gives footer_view result (metadata_at footer.now) }
+        ensures exact { GivesFooter footer_view result (metadata_at footer.now) }
     {
         read_metadata(alloc, footer)
     }
@@ -103,9 +103,9 @@ impl<A: Allocator + Copy> Footer<A> {
 
 /// The footer of a file, in the order of the tests.
 #[tactic(auto, unfolding(crate::specs::Reading::footer_at))]
-fn footer_in<A: Allocator + Copy>(alloc: A, bytes: &[u8]) -> Result<Footer<A>, FileError>
-    ensures exact { Gives footer_view result (footer_at bytes.now) }
-    ensures early { Refuses result (frame_of bytes.now) }
+fn footer_in<A: Allocator + Copy>(alloc: A, bytes: &[u8]) -> Result<Footer<A>, FooterError>
+    ensures exact { GivesFooter footer_view result (footer_at bytes.now) }
+    ensures early { RefusesFooter result (frame_of bytes.now) }
 {
     let (_, footer) = split_file(bytes)?;
     read_metadata(alloc, footer)

@@ -7,7 +7,7 @@ mod footer;
 mod frame;
 mod metadata;
 
-pub use fault::{FileError, FileFault};
+pub use fault::{FileError, FileFault, FooterError};
 pub use footer::{ColumnChunk, Footer, RowGroup, SchemaElement};
 pub use frame::{MAGIC, MAX_FILE_SIZE, split_file};
 pub use metadata::MAX_FILE_ROWS;

@@ -5,12 +5,12 @@ ghost use Rattle.lake_bytes.specs.Reading.{IsReading};
 ghost use Rattle.thrift_core.specs.Fields.{each, TreeGives};
 ghost use Rattle.thrift_core.specs.View.{view, views};
 ghost use Rattle.parquet_footer.specs.Metadata.{root_of, node_of, physical_type_of, schema_of, chunk_of, group_of, metadata_of};
-ghost use Rattle.parquet_footer.specs.Outcome.{Gives};
+ghost use Rattle.parquet_footer.specs.Outcome.{GivesFooter};
 ghost use Rattle.parquet_footer.specs.Reading.{limited_metadata_of, metadata_at, within_limits, claims_within_limit};
 ghost use Rattle.parquet_footer.specs.declared.fault.FileFault.TheVariants.{BadFooter};
 ghost use Rattle.parquet_footer.specs.Views.{element_view, element_views, chunk_view, chunk_views, group_view, group_views, footer_view};
 
-use crate::fault::{FileError, FileFault};
+use crate::fault::{FileFault, FooterError};
 use crate::footer::{ColumnChunk, Footer, RowGroup, SchemaElement};
 use lake_bytes::Cursor;
 use std::alloc::Allocator;
@@ -28,8 +28,8 @@ pub const MAX_FILE_ROWS: u64 = 4_194_304;
 pub(crate) fn read_metadata<A: Allocator + Copy>(
     alloc: A,
     footer: &[u8],
-) -> Result<Footer<A>, FileError>
-    ensures exact { Gives footer_view result (metadata_at footer.now) }
+) -> Result<Footer<A>, FooterError>
+    ensures exact { GivesFooter footer_view result (metadata_at footer.now) }
 {
     let mut cursor = Cursor::new(footer);
     match read_struct(alloc, &mut cursor) {
@@ -39,21 +39,24 @@ pub(crate) fn read_metadata<A: Allocator + Copy>(
 }
 
 /// What a footer's tree says, within the limits.
-fn limited_metadata<A: Allocator + Copy>(alloc: A, tree: &TValue<A>) -> Result<Footer<A>, FileError>
-    ensures { Gives footer_view result (limited_metadata_of (view tree.now)) }
+fn limited_metadata<A: Allocator + Copy>(
+    alloc: A,
+    tree: &TValue<A>,
+) -> Result<Footer<A>, FooterError>
+    ensures { GivesFooter footer_view result (limited_metadata_of (view tree.now)) }
 {
     let metadata = metadata(alloc, tree).map_err(in_footer)?;
     Ok(within_limits(metadata)?)
 }
 
 /// A fault of a footer's tree.
-fn in_footer(error: ReadError) -> FileError
-    ensures memory { error ≡ ReadError.Memory → result ≡ FileError.Memory }
-    ensures fault { (fault : ThriftFault) → error ≡ ReadError.Fault fault → result ≡ FileError.Fault (BadFooter fault) }
+fn in_footer(error: ReadError) -> FooterError
+    ensures no_room { error ≡ ReadError.Memory → result ≡ FooterError.NoRoom }
+    ensures fault { (fault : ThriftFault) → error ≡ ReadError.Fault fault → result ≡ FooterError.Fault (BadFooter fault) }
 {
     match error {
-        ReadError::Memory => FileError::Memory,
-        ReadError::Fault(fault) => FileError::Fault(FileFault::BadFooter { fault }),
+        ReadError::Memory => FooterError::NoRoom,
+        ReadError::Fault(fault) => FooterError::Fault(FileFault::BadFooter { fault }),
     }
 }
 

@@ -12,5 +12,7 @@ pub mod Written
 pub mod AsSpells
 pub mod WrittenSpells
 pub mod Shortest
+pub mod Conditions
+pub mod Tested
 pub mod FieldKinds
 pub mod Callers

@@ -50,11 +50,10 @@ field_goes_on read front last most i source header mid x after total lt first mo
     let one : with_front_beside front (fields_ahead read last (most - i) source) ≡ with_front_beside (front ++ x ∷ []) (fields_ahead read x.0 (most - (i + 1)) after) = rw (k, first, ne_eqb header 0 more, h) (regroup_beside front (x ∷ []) (fields_ahead read x.0 (most - (i + 1)) after)) in
     sym one ∙ so_far
 
-pub header_fails : (read : WireType → Source → Result (Tree × Source) ThriftFault) (e : ReadError) (front : List (ℤ × Tree)) (last : ℤ) (most i : ℕ) (source : Source) (total : Result (List (ℤ × Tree) × Source) ThriftFault)
-    → i < most → IsSaid (says e) (byte_ahead source) → with_front_beside front (fields_ahead read last (most - i) source) ≡ total → IsSaid (says e) total
+pub header_fails : (read : WireType → Source → Result (Tree × Source) ThriftFault) (f : ThriftFault) (front : List (ℤ × Tree)) (last : ℤ) (most i : ℕ) (source : Source) (total : Result (List (ℤ × Tree) × Source) ThriftFault)
+    → i < most → byte_ahead source ≡ Err f → with_front_beside front (fields_ahead read last (most - i) source) ≡ total → total ≡ Err f
 unfolding fields_ahead
-header_fails read errors.Memory front last most i source total lt h so_far = tt
-header_fails read (errors.Fault f) front last most i source total lt h so_far =
+header_fails read f front last most i source total lt h so_far =
     let k : most - i ≡ suc (most - (i + 1)) = omega arith in
     let one : with_front_beside front (fields_ahead read last (most - i) source) ≡ Err f = rw (k, h) refl in
     sym so_far ∙ one

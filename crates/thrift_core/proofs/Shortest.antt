@@ -1,5 +1,6 @@
 -- No spelling of a tree with the types named has fewer bytes than what is written.
-use Rattle.std.proofs.Common.{◌≡◌, ◌≢◌, ℕ, suc, ◌+◌, ◌*◌, ◌<◌, ◌≤◌, ℤ, pos, ◌+ℤ◌, ◌-ℤ◌, Bool, true, false, cond, List, [], ◌∷◌, ◌++◌, length, sym, subst, arith, inl, inr, unsigned_abs, length-append, ltb, nat_eq, ◌||◌}
+use Rattle.std.proofs.Common.{◌≡◌, ◌≢◌, ℕ, suc, ◌+◌, ◌*◌, ◌<◌, ◌≤◌, ℤ, pos, ◌+ℤ◌, ◌-ℤ◌, Bool, true, false, cond, List, [], ◌∷◌, ◌++◌, length, sym, subst, arith, inl, inr, unsigned_abs, length-append, ltb, ◌||◌}
+use Rattle.std.specs.Int.Signed.{le_z}
 use Rattle.std.proofs.lemmas.Int.{ints}
 use Rattle.std.proofs.lemmas.Bool.{ne_eqb, lt-ltb, le-ltb, cases_lt}
 use Rattle.lake_bytes.specs.Varint.{SpellsNumber, varint_bytes}
@@ -52,16 +53,17 @@ map_header_shortest of_keys of_values size key value other (filled_map k v ks vs
 rise_near : (last id : ℤ) (rise : ℕ) → 0 < rise → rise ≤ 15 → id ≡ last +ℤ pos rise → unsigned_abs (id -ℤ last) ≡ rise
 rise_near last id rise some near is = omega (arith, ints)
 
+rise_above : (last id : ℤ) (rise : ℕ) → 0 < rise → id ≡ last +ℤ pos rise → le_z id last ≡ false
+rise_above last id rise some is = grind (arith, ints)
+
 -- Where another header is short, its rise is one for which a short header is written.
 field_header_shortest : (last id : ℤ) (number number' : ℕ) (other : List ℕ) → FieldHeader last number' id other → length (field_header_bytes last id number) ≤ length other
 unfolding field_header_bytes
 field_header_shortest last id number number' other (id_rises rise some near is most bytes) =
-    let risen = rise_near last id rise some near is in
-    let filled : rise ≢ 0 = omega arith in
-    rw (risen, ne_eqb rise 0 filled, le-ltb 15 rise near, bytes) (omega arith)
+    rw (rise_above last id rise some is, rise_near last id rise some near is, le-ltb 15 rise near, bytes) (omega arith)
 field_header_shortest last id number number' other (id_behind behind spelled bytes) =
     rw bytes
-    (one_of (nat_eq rise 0 || ltb 15 rise) (number ∷ varint_bytes (zigzag id)) ((16 * rise + number) ∷ []) (suc (length behind))
+    (one_of (le_z id last || ltb 15 rise) (number ∷ varint_bytes (zigzag id)) ((16 * rise + number) ∷ []) (suc (length behind))
     (omega (arith, number_shortest (zigzag id) behind spelled.number)) (omega arith))
   where
     rise : ℕ

@@ -8,11 +8,11 @@ use Rattle.thrift_core.specs.Writing.{list_header_bytes, map_header_bytes, writt
 use Rattle.thrift_core.specs.declared.value.TValue.{TValue}
 use Rattle.thrift_core.specs.declared.value.MapEntry.{MapEntry}
 
-count-views : {A : Type 0} (vs : List (TValue A)) → count_of_trees (trees_of (views vs)) ≡ length vs
+pub count-views : {A : Type 0} (vs : List (TValue A)) → count_of_trees (trees_of (views vs)) ≡ length vs
 count-views [] = refl
 count-views (v ∷ vs) = ap suc (count-views vs)
 
-count-entry_views : {A : Type 0} (es : List (MapEntry A)) → count_of_entries (entries_of (entry_views es)) ≡ length es
+pub count-entry_views : {A : Type 0} (es : List (MapEntry A)) → count_of_entries (entries_of (entry_views es)) ≡ length es
 count-entry_views [] = refl
 count-entry_views (e ∷ es) = ap suc (count-entry_views es)
 

@@ -1,7 +1,8 @@
 -- What is written spells the tree, with the types named.
 use Rattle.std.proofs.Common.{◌≡◌, ◌≢◌, ℕ, zero, suc, ◌+◌, ◌-◌, ◌*◌, ◌%◌, ◌^◌, ◌<◌, ℤ, pos, negsuc, ◌+ℤ◌, ◌-ℤ◌, ◌<ℤ◌, ◌≤ℤ◌, Bool, true, false, cond, List, [], ◌∷◌, ◌++◌, length, refl, sym, subst, arith, inl, inr, FitsSigned, unsigned_abs, w8, w16, w32, w64}
 use Rattle.std.specs.Int.{cast_unsigned, cast_signed}
-use Rattle.std.proofs.lemmas.Int.{ints, to_z_pos}
+use Rattle.std.specs.Int.Signed.{le_z}
+use Rattle.std.proofs.lemmas.Int.{ints, to_z_pos, by_lt_z}
 use Rattle.std.proofs.Math.Facts.{to_z-neg}
 use Rattle.std.proofs.lemmas.Bool.{ne_eqb, lt-ltb, le-ltb, cases_lt}
 use Rattle.lake_bytes.specs.Varint.{SpellsNumber, varint_bytes}
@@ -79,21 +80,27 @@ rise_is last id lt = omega (arith, ints)
 rise_positive : (last id : ℤ) → last <ℤ id → 0 < unsigned_abs (id -ℤ last)
 rise_positive last id lt = omega (arith, ints)
 
-id_below : (last id : ℤ) → pos 0 ≤ℤ last → last <ℤ id → id ≤ℤ pos 32767 → zigzag id < 2 ^ 16
-id_below last (pos n) start lt most = omega (arith, ints)
-id_below last (negsuc n) start lt most = absurd (omega (arith, ints))
+id_below : (id : ℤ) → negsuc 32767 ≤ℤ id → id ≤ℤ pos 32767 → zigzag id < 2 ^ 16
+id_below (pos n) least most = omega (arith, ints)
+id_below (negsuc n) least most = omega (arith, ints)
 
-field_header_spelled : (last id : ℤ) (number : ℕ) → pos 0 ≤ℤ last → last <ℤ id → id ≤ℤ pos 32767 → FieldHeader last number id (field_header_bytes last id number)
+not_risen : (last id : ℤ) → id ≤ℤ last → le_z id last ≡ true
+not_risen last id falls = grind (arith, ints)
+
+risen : (last id : ℤ) → last <ℤ id → le_z id last ≡ false
+risen last id rises = grind (arith, ints)
+
+-- the rise is written where it is small, and else the id
+field_header_spelled : (last id : ℤ) (number : ℕ) → negsuc 32767 ≤ℤ id → id ≤ℤ pos 32767 → FieldHeader last number id (field_header_bytes last id number)
 unfolding field_header_bytes
-field_header_spelled last id number start lt most =
+field_header_spelled last id number least most =
     let rise = unsigned_abs (id -ℤ last) in
-    let positive : 0 < rise = rise_positive last id lt in
-    let some : rise ≢ 0 = omega arith in
-    let small = id_below last id start lt most in
-    elim (cases_lt 15 rise) [
-      | inl far ↦ id_behind (varint_bytes (zigzag id)) (signed_spelled 16 id small (omega arith)) (rw (ne_eqb rise 0 some, lt-ltb 15 rise far) refl)
-      | inr near ↦ id_rises rise positive near (rise_is last id lt) most (rw (ne_eqb rise 0 some, le-ltb 15 rise near) refl)
-    ]
+    let spelled = signed_spelled 16 id (id_below id least most) (omega (arith, id_below id least most)) in
+    by_lt_z last id
+    (λ lt. elim (cases_lt 15 rise) [
+      | inl far ↦ id_behind (varint_bytes (zigzag id)) spelled (rw (risen last id lt, lt-ltb 15 rise far) refl)
+      | inr near ↦ id_rises rise (rise_positive last id lt) near (rise_is last id lt) most (rw (risen last id lt, le-ltb 15 rise near) refl)
+    ]) (λ le. id_behind (varint_bytes (zigzag id)) spelled (rw (not_risen last id le) refl))
 
 -- ---- values
 
@@ -156,8 +163,12 @@ in_field f (map es) h spelled = apart (wire_of f) (rw h.2 (omega arith)) (number
 in_field f (struct fs) h spelled = apart (wire_of f) (rw h.1 (omega arith)) (number_announces f) spelled
 in_field f skipped h spelled = absurd h
 
-positive_still : (last id : ℤ) → pos 0 ≤ℤ last → last <ℤ id → pos 0 ≤ℤ id
-positive_still last id start lt = omega (arith, ints)
+-- an id above another is of 16 bits, and no id of 16 bits is below it
+above : (last id : ℤ) → negsuc 32768 ≤ℤ last → last <ℤ id → negsuc 32767 ≤ℤ id
+above last id start lt = omega (arith, ints)
+
+above_still : (id : ℤ) → negsuc 32767 ≤ℤ id → negsuc 32768 ≤ℤ id
+above_still id least = omega (arith, ints)
 
 mutual
   pub written_spells : (f : Form) (t : Tree) → HasForm f t → SpellsAs f (written f t) t
@@ -175,7 +186,7 @@ mutual
       (h.0, h.1, refl, record { front = map_header_bytes (number_of h.0) (number_of h.1) (count_of_entries es); back = written_entries h.0 h.1 es; first = map_header_spelled h.0 h.1 (count_of_entries es) h.3; second = entries_spell h.0 h.1 es h.4; whole = refl })
   written_spells f (struct fs) h =
       subst (λ (g : Form). SpellsAs g (written g (struct fs)) (struct fs)) (sym h.1)
-      (h.0, refl, fields_spell h.0 (pos 0) fs (omega (arith, ints)) h.2)
+      (h.0, refl, fields_spell h.0 (pos 0) (negsuc 32768) fs (omega (arith, ints)) h.2)
   written_spells f skipped h = absurd h
 
   members_spell : (f : Form) (ts : Trees) → MembersHaveForm f ts → SpellsMembersAs f (written_members f ts) ts
@@ -192,10 +203,12 @@ mutual
     whole = refl;
   }
 
-  fields_spell : (forms : Forms) (last : ℤ) (fs : Fields) → pos 0 ≤ℤ last → FieldsHaveForm forms last fs → SpellsFieldsAs forms last (written_fields forms last fs) fs
-  fields_spell forms last no_fields start h = refl
-  fields_spell forms last (field id v fs) start h =
+  -- fields behind one of the id `last`, whose ids are above `under`
+  fields_spell : (forms : Forms) (last under : ℤ) (fs : Fields) → negsuc 32768 ≤ℤ under → FieldsHaveForm forms under fs → SpellsFieldsAs forms last (written_fields forms last fs) fs
+  fields_spell forms last under no_fields start h = refl
+  fields_spell forms last under (field id v fs) start h =
       let f = h.2 in
+      let least = above under id start h.0 in
       let header = field_header_bytes last id (field_number f v) in
       let value = cond (is_boolean v) [] (written f v) in (
         field_number f v,
@@ -205,8 +218,8 @@ mutual
         record {
           front = header ++ value;
           back = written_fields forms id fs;
-          first = record { front = header; back = value; first = field_header_spelled last id (field_number f v) start h.0 h.1; second = in_field f v h.4 (written_spells f v h.4); whole = refl };
-          second = fields_spell forms id fs (positive_still last id start h.0) h.5;
+          first = record { front = header; back = value; first = field_header_spelled last id (field_number f v) least h.1; second = in_field f v h.4 (written_spells f v h.4); whole = refl };
+          second = fields_spell forms id id fs (above_still id least) h.5;
           whole = rw h.3 refl;
         },
       )

@@ -5,6 +5,7 @@ pub mod Reading
 pub mod View
 pub mod Form
 pub mod Writing
+pub mod Writable
 pub mod SpellsAs
 pub mod FaultTexts
 pub mod Fields

@@ -29,9 +29,14 @@ abbrev pub Reads : {X A : Type 0} → (X → A) → Result (A × Source) ThriftF
 Reads view read (Ok x) new = read ≡ Ok (view x, new)
 Reads view read (Err e) new = IsSaid (says e) read
 
-abbrev pub Counts : Result Source ThriftFault → Result Unit ReadError → Source → Type 0
+-- The same of a function that takes no memory: each of its faults is the one that reading gives.
+abbrev pub ReadsExactly : {X A : Type 0} → (X → A) → Result (A × Source) ThriftFault → Result X ThriftFault → Source → Type 0
+ReadsExactly view read (Ok x) new = read ≡ Ok (view x, new)
+ReadsExactly view read (Err fault) new = read ≡ Err fault
+
+abbrev pub Counts : Result Source ThriftFault → Result Unit ThriftFault → Source → Type 0
 Counts counts (Ok x) new = counts ≡ Ok new
-Counts counts (Err e) new = IsSaid (says e) counts
+Counts counts (Err fault) new = counts ≡ Err fault
 
 -- a reading of bytes alone
 abbrev pub of_bytes : {A : Type 0} → Result (A × List ℕ) ByteFault → Source → Result (A × Source) ThriftFault

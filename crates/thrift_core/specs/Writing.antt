@@ -1,6 +1,7 @@
 -- The bytes that are written for a tree, each value as its form has it.
-use Rattle.std.specs.Prelude.{◌≡◌, ℕ, ◌+◌, ◌*◌, ◌%◌, ◌<◌, ◌^◌, ◌==◌, ◌||◌, nat_lt, ℤ, pos, ◌-ℤ◌, ◌<ℤ◌, ◌≤ℤ◌, List, [], ◌∷◌, ◌++◌, length, Bool, true, false, Option, Some, None, if◌then◌else◌, FitsSigned, unsigned_abs}
+use Rattle.std.specs.Prelude.{◌≡◌, ℕ, ◌+◌, ◌*◌, ◌%◌, ◌<◌, ◌^◌, ◌==◌, ◌||◌, nat_lt, ℤ, pos, negsuc, ◌-ℤ◌, ◌<ℤ◌, ◌≤ℤ◌, List, [], ◌∷◌, ◌++◌, length, Bool, true, false, Option, Some, None, if◌then◌else◌, FitsSigned, unsigned_abs}
 use Rattle.std.specs.Int.{w8, w16, w32, w64, cast_unsigned}
+use Rattle.std.specs.Int.Signed.{le_z}
 use Rattle.lake_bytes.specs.Varint.{varint_bytes}
 use Rattle.lake_bytes.specs.Zigzag.{zigzag}
 use Rattle.thrift_core.specs.declared.wire.WireType.{WireType}
@@ -29,7 +30,7 @@ map_header_bytes key value size = if size == 0 then 0 ∷ [] else varint_bytes s
 
 -- the short header where the id is 1 to 15 above the last one
 unfoldable pub field_header_bytes : ℤ → ℤ → ℕ → List ℕ
-field_header_bytes last id number = if unsigned_abs (id -ℤ last) == 0 || nat_lt 15 (unsigned_abs (id -ℤ last)) then number ∷ varint_bytes (zigzag id) else (16 * unsigned_abs (id -ℤ last) + number) ∷ []
+field_header_bytes last id number = if le_z id last || nat_lt 15 (unsigned_abs (id -ℤ last)) then number ∷ varint_bytes (zigzag id) else (16 * unsigned_abs (id -ℤ last) + number) ∷ []
 
 -- the number of a field's type, which for a boolean is its value
 abbrev pub field_number : Form → Tree → ℕ
@@ -81,7 +82,7 @@ IntegerHasForm int64_form z = FitsSigned w64 z
 IntegerHasForm other z = ⊥
 
 -- The tree can be written in this form: each value is of the type named for it, sizes are below 2 ^ 31, the ids
--- of a struct rise from 1 and stand in the form, and nothing is skipped.
+-- of a struct rise, are of 16 bits and stand in the form, and nothing is skipped.
 abbrev mutual
   pub HasForm : Form → Tree → Type 0
   HasForm f (boolean b) = f ≡ boolean_form
@@ -89,7 +90,7 @@ abbrev mutual
   HasForm f (binary text) = (f ≡ binary_form) × (length text < 2 ^ 31)
   HasForm f (list ts) = (m : Form) × (f ≡ list_form m) × (count_of_trees ts < 2 ^ 31) × MembersHaveForm m ts
   HasForm f (map es) = (k v : Form) × (f ≡ map_form k v) × (count_of_entries es < 2 ^ 31) × EntriesHaveForm k v es
-  HasForm f (struct fs) = (forms : Forms) × (f ≡ struct_form forms) × FieldsHaveForm forms (pos 0) fs
+  HasForm f (struct fs) = (forms : Forms) × (f ≡ struct_form forms) × FieldsHaveForm forms (negsuc 32768) fs
   HasForm f skipped = ⊥
 
   pub MembersHaveForm : Form → Trees → Type 0
@@ -100,6 +101,7 @@ abbrev mutual
   EntriesHaveForm k v no_entries = Unit {0}
   EntriesHaveForm k v (entry key value es) = HasForm k key × HasForm v value × EntriesHaveForm k v es
 
+  -- fields whose ids are above this one
   pub FieldsHaveForm : Forms → ℤ → Fields → Type 0
   FieldsHaveForm forms last no_fields = Unit {0}
   FieldsHaveForm forms last (field id v fs) = (last <ℤ id) × (id ≤ℤ pos 32767) × (f : Form) × (form_at id forms ≡ Some f) × HasForm f v × FieldsHaveForm forms id fs

@@ -11,6 +11,7 @@ mod reading;
 mod source;
 mod value;
 mod wire;
+mod writable;
 mod writing;
 
 pub use fault::{ReadError, ThriftFault};
@@ -19,4 +20,5 @@ pub use laws::one_tree_in_front;
 pub use reading::{MAX_DEPTH, MAX_NODES, read_struct};
 pub use value::{Field, MapEntry, TValue};
 pub use wire::WireType;
+pub use writable::is_writable;
 pub use writing::write_struct;

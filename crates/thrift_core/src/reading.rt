@@ -5,7 +5,7 @@ ghost use Rattle.lake_bytes.specs.Reading.{ReadsFront};
 ghost use Rattle.lake_bytes.specs.Varint.{IsBytes};
 ghost use Rattle.thrift_core.specs.Tree.{Tree};
 ghost use Rattle.thrift_core.specs.Spelling.{SpellsStruct};
-ghost use Rattle.thrift_core.specs.Reading.{Reads, Gives, struct_at, boolean_ahead, byte_number_ahead, integer_ahead, double_ahead, binary_ahead, flag_ahead, value_ahead, repeated, entry_ahead, field_ahead, fields_ahead, list_ahead, map_ahead, struct_ahead};
+ghost use Rattle.thrift_core.specs.Reading.{Reads, ReadsExactly, Gives, struct_at, boolean_ahead, byte_number_ahead, integer_ahead, double_ahead, binary_ahead, flag_ahead, value_ahead, repeated, entry_ahead, field_ahead, fields_ahead, list_ahead, map_ahead, struct_ahead};
 ghost use Rattle.thrift_core.specs.View.{view, views, entry_view, entry_views, field_views};
 
 use crate::fault::{ReadError, ThriftFault};
@@ -74,8 +74,8 @@ fn next_struct<A: Allocator + Copy>(
 impl<'a> Source<'a> {
     /// A boolean in a list, a set or a map.
     #[tactic(auto, unfolding(crate::specs::Reading::boolean_ahead))]
-    fn boolean<A: Allocator>(&mut self) -> Result<TValue<A>, ReadError>
-        ensures { Reads view (boolean_ahead self.old) result self.new }
+    fn boolean<A: Allocator>(&mut self) -> Result<TValue<A>, ThriftFault>
+        ensures { ReadsExactly view (boolean_ahead self.old) result self.new }
     {
         let byte = self.byte()?;
         if byte == 1 {
@@ -84,36 +84,36 @@ impl<'a> Source<'a> {
         if byte < 3 {
             return Ok(TValue::Bool(false));
         }
-        Err(ThriftFault::BadType.into())
+        Err(ThriftFault::BadType)
     }
 
     #[tactic(auto, unfolding(crate::specs::Reading::byte_number_ahead))]
-    fn byte_number<A: Allocator>(&mut self) -> Result<TValue<A>, ReadError>
-        ensures { Reads view (byte_number_ahead self.old) result self.new }
+    fn byte_number<A: Allocator>(&mut self) -> Result<TValue<A>, ThriftFault>
+        ensures { ReadsExactly view (byte_number_ahead self.old) result self.new }
     {
         let byte = self.byte()?;
         Ok(TValue::Int(i64::from(byte.cast_signed())))
     }
 
     #[tactic(auto, unfolding(crate::specs::Reading::integer_ahead))]
-    fn int16_number<A: Allocator>(&mut self) -> Result<TValue<A>, ReadError>
-        ensures { Reads view (integer_ahead 16 self.old) result self.new }
+    fn int16_number<A: Allocator>(&mut self) -> Result<TValue<A>, ThriftFault>
+        ensures { ReadsExactly view (integer_ahead 16 self.old) result self.new }
     {
         let number = self.int16()?;
         Ok(TValue::Int(i64::from(number)))
     }
 
     #[tactic(auto, unfolding(crate::specs::Reading::integer_ahead))]
-    fn int32_number<A: Allocator>(&mut self) -> Result<TValue<A>, ReadError>
-        ensures { Reads view (integer_ahead 32 self.old) result self.new }
+    fn int32_number<A: Allocator>(&mut self) -> Result<TValue<A>, ThriftFault>
+        ensures { ReadsExactly view (integer_ahead 32 self.old) result self.new }
     {
         let number = self.int32()?;
         Ok(TValue::Int(i64::from(number)))
     }
 
     #[tactic(auto, unfolding(crate::specs::Reading::integer_ahead))]
-    fn int64_number<A: Allocator>(&mut self) -> Result<TValue<A>, ReadError>
-        ensures { Reads view (integer_ahead 64 self.old) result self.new }
+    fn int64_number<A: Allocator>(&mut self) -> Result<TValue<A>, ThriftFault>
+        ensures { ReadsExactly view (integer_ahead 64 self.old) result self.new }
     {
         let number = self.int64()?;
         Ok(TValue::Int(number))
@@ -121,8 +121,8 @@ impl<'a> Source<'a> {
 
     /// A double, of which nothing is kept.
     #[tactic(auto, unfolding(crate::specs::Reading::double_ahead))]
-    fn double<A: Allocator>(&mut self) -> Result<TValue<A>, ReadError>
-        ensures { Reads view (double_ahead self.old) result self.new }
+    fn double<A: Allocator>(&mut self) -> Result<TValue<A>, ThriftFault>
+        ensures { ReadsExactly view (double_ahead self.old) result self.new }
     {
         self.bytes(8)?;
         Ok(TValue::Skipped)
@@ -139,8 +139,8 @@ impl<'a> Source<'a> {
 
     /// A boolean field, whose value is its type.
     #[tactic(auto, unfolding(crate::specs::Reading::flag_ahead))]
-    fn flag<A: Allocator>(&mut self, value: bool) -> Result<TValue<A>, ReadError>
-        ensures { Reads view (flag_ahead value self.old) result self.new }
+    fn flag<A: Allocator>(&mut self, value: bool) -> Result<TValue<A>, ThriftFault>
+        ensures { ReadsExactly view (flag_ahead value self.old) result self.new }
     {
         self.count()?;
         Ok(TValue::Bool(value))
@@ -159,12 +159,12 @@ impl<'a> Source<'a> {
     {
         self.count()?;
         match wire {
-            WireType::Boolean => self.boolean(),
-            WireType::Byte => self.byte_number(),
-            WireType::Int16 => self.int16_number(),
-            WireType::Int32 => self.int32_number(),
-            WireType::Int64 => self.int64_number(),
-            WireType::Double => self.double(),
+            WireType::Boolean => Ok(self.boolean()?),
+            WireType::Byte => Ok(self.byte_number()?),
+            WireType::Int16 => Ok(self.int16_number()?),
+            WireType::Int32 => Ok(self.int32_number()?),
+            WireType::Int64 => Ok(self.int64_number()?),
+            WireType::Double => Ok(self.double()?),
             WireType::Binary => self.binary(alloc),
             WireType::List => self.list(alloc, deeper(depth)?),
             WireType::Map => self.map(alloc, deeper(depth)?),

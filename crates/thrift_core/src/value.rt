@@ -4,7 +4,7 @@ use std::alloc::Allocator;
 
 /// A value of the Thrift compact protocol: a tree, which owns what is in it, all of it in one allocator's memory.
 #[cycle(tree)]
-#[derive(Debug, Drop, PartialEq, Eq)]
+#[derive(Drop)]
 pub enum TValue<A: Allocator> {
     /// A truth value.
     Bool(bool),
@@ -24,7 +24,7 @@ pub enum TValue<A: Allocator> {
 
 /// A key of a map and its value.
 #[cycle(tree)]
-#[derive(Debug, Drop, PartialEq, Eq)]
+#[derive(Drop)]
 pub struct MapEntry<A: Allocator> {
     /// The key.
     pub key: TValue<A>,
@@ -34,7 +34,7 @@ pub struct MapEntry<A: Allocator> {
 
 /// A field of a struct.
 #[cycle(tree)]
-#[derive(Debug, Drop, PartialEq, Eq)]
+#[derive(Drop)]
 pub struct Field<A: Allocator> {
     /// The field's id.
     pub id: i16,

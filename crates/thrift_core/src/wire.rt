@@ -6,7 +6,7 @@ ghost use Rattle.thrift_core.specs.Wire.{announced};
 use crate::fault::ThriftFault;
 
 /// What a type number announces (Thrift compact protocol, "Struct encoding" and "List and Set").
-#[derive(Clone, Copy, Debug, PartialEq, Eq)]
+#[derive(Clone, Copy)]
 pub enum WireType {
     /// Numbers 1 and 2. In a field the number is the value.
     Boolean,

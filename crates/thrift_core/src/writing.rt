@@ -5,7 +5,8 @@ ghost use Rattle.lake_bytes.specs.Varint.{varint_bytes};
 ghost use Rattle.thrift_core.specs.Form.{form_view, field_form_view, field_form_views, form_at, number_of};
 ghost use Rattle.thrift_core.specs.Tree.{trees_of, entries_of, fields_of, depth, nodes};
 ghost use Rattle.thrift_core.specs.View.{view, views, entry_views, field_view, field_views};
-ghost use Rattle.thrift_core.specs.Writing.{integer_bytes, list_header_bytes, map_header_bytes, field_header_bytes, field_number, written, written_members, written_entries, written_field, written_fields, HasForm, wire_of};
+ghost use Rattle.thrift_core.specs.Writing.{integer_bytes, list_header_bytes, map_header_bytes, field_header_bytes, field_number, written, written_members, written_entries, written_field, written_fields, wire_of};
+ghost use Rattle.thrift_core.specs.Writable.{EachValue, IdsRise, SizeFits, IsKept, HasTypes};
 ghost use Rattle.thrift_core.specs.Reading.{struct_at};
 ghost use Rattle.thrift_core.specs.Spelling.{Spells};
 ghost use Rattle.thrift_core.specs.SpellsAs.{SpellsAs};
@@ -18,12 +19,11 @@ use std::alloc::{AllocError, Allocator, Global};
 
 /// The bytes of a struct (Thrift compact protocol, "Struct encoding"), with the types that the form names.
 ///
-/// Each form is the shortest: varints without needless bytes, a size below 15 and a rise of an id up to 15 in
-/// their headers. A boolean in a list or a map is 1 or 2, and its type there 2.
+/// Each form is the shortest: varints without needless bytes, a size below 15 and a rise of an id of 1 to 15 in
+/// their headers; a first id at or below 0 stands behind its header. A boolean in a list or a map is 1 or 2, and its type there 2.
 ///
-/// The tree has to be of the form: the ids of each struct rise from 1 and stand in the form, which may name
-/// more; each value is of the type named for it; sizes are below 2 ^ 31; nothing is skipped. Of another tree
-/// some bytes are written, which may spell no tree.
+/// The form may name more fields than the tree has, and an id may be 0 or negative. [`crate::is_writable`] tests the
+/// conditions.
 ///
 /// The tree may lie in any allocator's memory; the bytes lie in that of `alloc`.
 ///
@@ -33,18 +33,24 @@ pub fn write_struct<A: Allocator>(
     tree: &TValue<A>,
     form: &Form,
 ) -> Result<Vec<u8>, AllocError>
+    // In each struct the ids rise.
+    requires ids_rise { EachValue IdsRise (view tree.now) }
+    // Each value is of the type named for it, and each id of a field stands in the form.
+    requires types_named { HasTypes (form_view form.now) (view tree.now) }
+    // Texts, lists and maps are shorter than 2 ^ 31.
+    requires sizes_fit { EachValue SizeFits (view tree.now) }
+    requires nothing_skipped { EachValue IsKept (view tree.now) }
+    // The form is that of a struct.
+    requires is_struct { wire_of (form_view form.now) ≡ wire.Struct }
     // The bytes spell the tree.
-    ensures spells { HasForm (form_view form.now) (view tree.now) → wire_of (form_view form.now) ≡ wire.Struct
-        → IfOk result (λ bytes. Spells wire.Struct bytes.items (view tree.now)) }
+    ensures spells { IfOk result (λ bytes. Spells wire.Struct bytes.items (view tree.now)) }
     // They spell it with the types that the form names.
-    ensures with_these_types { HasForm (form_view form.now) (view tree.now)
-        → IfOk result (λ bytes. SpellsAs (form_view form.now) bytes.items (view tree.now)) }
+    ensures with_these_types { IfOk result (λ bytes. SpellsAs (form_view form.now) bytes.items (view tree.now)) }
     // No bytes that spell the tree with these types are fewer.
     ensures shortest { IfOk result (λ bytes. (other : List ℕ) → SpellsAs (form_view form.now) other (view tree.now)
         → length bytes.items ≤ length other) }
     // Whatever follows them, they are read again as the tree, if it keeps the limits.
-    ensures read_again { HasForm (form_view form.now) (view tree.now) → wire_of (form_view form.now) ≡ wire.Struct
-        → depth (view tree.now) ≤ 32 → nodes (view tree.now) ≤ 262144
+    ensures read_again { depth (view tree.now) ≤ 32 → nodes (view tree.now) ≤ 262144
         → IfOk result (λ bytes. (rest : List ℕ) → struct_at (bytes.items ++ rest) ≡ Ok (view tree.now, rest)) }
     // Which bytes they are.
     ensures exact { IfOk result (λ bytes. bytes.items ≡ written (form_view form.now) (view tree.now)) }
@@ -110,7 +116,7 @@ fn write_field_header(out: &mut Vec<u8>, last: i16, id: i16, number: u8) -> Resu
     ensures { OnOk result (out.new.items ≡ out.old.items ++ field_header_bytes last id number) }
 {
     let rise = id.abs_diff(last);
-    if rise == 0 || rise > 15 {
+    if id <= last || rise > 15 {
         out.push(number)?;
         return write_zigzag(out, i64::from(id));
     }
@@ -131,7 +137,7 @@ fn number_in_field<A: Allocator>(form: &Form, value: &TValue<A>) -> u8
 }
 
 /// The type of the field of this id.
-fn find_form(forms: &[FieldForm], id: i16) -> Option<&Form>
+pub(crate) fn find_form(forms: &[FieldForm], id: i16) -> Option<&Form>
     ensures { option_map (λ s. form_view s.now) result ≡ form_at id (field_form_views forms.now) }
 {
     for field in forms {

@@ -1,16 +1,17 @@
-use Rattle.std.proofs.Common.{◌≡◌, ℕ, List, ◌+◌, ◌<◌, ◌++◌, length, ap, sym, ◌∙◌, arith}
+use Rattle.std.proofs.Common.{◌≡◌, ℕ, List, ◌+◌, ◌<◌, ◌++◌, length, refl, ap, sym, ◌∙◌, arith}
 use Rattle.std.proofs.lemmas.List.{length-map}
 use Rattle.std.proofs.lemmas.Result.{err_from_is_err_and}
 use Rattle.thrift_core.specs.View.{view, views}
 use Rattle.thrift_core.specs.Writing.{written}
 use Rattle.thrift_core.specs.declared.form.Form.{the_lemmas}
 use Rattle.row_core.specs.Views.{row_views, value_view}
-use Rattle.schema_tree.specs.Schema.{tree_of}
+use Rattle.schema_tree.specs.Schema.{columns_of, tree_of}
 use Rattle.schema_tree.specs.Tree.{fields_of}
 use Rattle.std.specs.Int.{w32, to_le_bytes}
 use Rattle.parquet_footer.specs.Frame.{magic}
 use Rattle.parquet_file.specs.Writing.{are_short_named, footer_form}
 use Rattle.parquet_file.proofs.PutFile.{AreWritten, MayBeWritten, are_written, file_refused, too_long, whole_file}
+use Rattle.parquet_file.proofs.WrittenFile.{footer_conditions}
 use Rattle.parquet_file.proofs.writing.file_of.Goals.{then-len-gt-MAX_FILE_SIZE-via-then-len-gt-MAX_FILE_SIZE, then-len-gt-MAX_FILE_SIZE-via-else-len-gt-MAX_FILE_SIZE+then-len-gt-MAX_FILE_SIZE-2}
 use Rattle.parquet_file.proofs.writing.file_of.Goals as goal
 
@@ -82,3 +83,50 @@ returns g c =
           ))
           (c.in_ok-write_footer.ensures ∙ ap (λ (f : List ℕ). c.write_groups.new.out.items ++ (f ++ (to_le_bytes w32 (length f) ++ magic))) c.deref.ensures.value);
     }
+
+pub write_struct-requires-clause-ids_rise : goal.write_struct-requires-clause-ids_rise
+write_struct-requires-clause-ids_rise g c =
+    let rows = row_views c.args.rows.now in
+    let many : length rows ≡ length c.args.rows.now = length-map c.args.rows.now value_view in
+    let named = ap (λ cs. are_short_named (fields_of cs)) (sym c.fields.ensures) ∙ sym c.if-not-are_short_named.ensures in
+    let put = c.in_ok-groups.ensures.written in
+    let h = footer_conditions (fields_of (columns_of c.args.schema.now)) rows put.0 (views c.in_ok-groups.groups.items) _
+    c.args.schema.now.within_limits c.requires.supported named c.requires.conform
+    (omega (arith, many, c.if-rows-gt-MAX_FILE_ROWS.false)) (sym many) put.1 in
+    rw c.in_ok-tree.ensures h.ids
+
+pub write_struct-requires-clause-types_named : goal.write_struct-requires-clause-types_named
+write_struct-requires-clause-types_named g c =
+    let rows = row_views c.args.rows.now in
+    let many : length rows ≡ length c.args.rows.now = length-map c.args.rows.now value_view in
+    let named = ap (λ cs. are_short_named (fields_of cs)) (sym c.fields.ensures) ∙ sym c.if-not-are_short_named.ensures in
+    let put = c.in_ok-groups.ensures.written in
+    let h = footer_conditions (fields_of (columns_of c.args.schema.now)) rows put.0 (views c.in_ok-groups.groups.items) _
+    c.args.schema.now.within_limits c.requires.supported named c.requires.conform
+    (omega (arith, many, c.if-rows-gt-MAX_FILE_ROWS.false)) (sym many) put.1 in
+    rw c.in_ok-tree.ensures (simp the_lemmas h.types)
+
+pub write_struct-requires-clause-sizes_fit : goal.write_struct-requires-clause-sizes_fit
+write_struct-requires-clause-sizes_fit g c =
+    let rows = row_views c.args.rows.now in
+    let many : length rows ≡ length c.args.rows.now = length-map c.args.rows.now value_view in
+    let named = ap (λ cs. are_short_named (fields_of cs)) (sym c.fields.ensures) ∙ sym c.if-not-are_short_named.ensures in
+    let put = c.in_ok-groups.ensures.written in
+    let h = footer_conditions (fields_of (columns_of c.args.schema.now)) rows put.0 (views c.in_ok-groups.groups.items) _
+    c.args.schema.now.within_limits c.requires.supported named c.requires.conform
+    (omega (arith, many, c.if-rows-gt-MAX_FILE_ROWS.false)) (sym many) put.1 in
+    rw c.in_ok-tree.ensures h.sizes
+
+pub write_struct-requires-clause-nothing_skipped : goal.write_struct-requires-clause-nothing_skipped
+write_struct-requires-clause-nothing_skipped g c =
+    let rows = row_views c.args.rows.now in
+    let many : length rows ≡ length c.args.rows.now = length-map c.args.rows.now value_view in
+    let named = ap (λ cs. are_short_named (fields_of cs)) (sym c.fields.ensures) ∙ sym c.if-not-are_short_named.ensures in
+    let put = c.in_ok-groups.ensures.written in
+    let h = footer_conditions (fields_of (columns_of c.args.schema.now)) rows put.0 (views c.in_ok-groups.groups.items) _
+    c.args.schema.now.within_limits c.requires.supported named c.requires.conform
+    (omega (arith, many, c.if-rows-gt-MAX_FILE_ROWS.false)) (sym many) put.1 in
+    rw c.in_ok-tree.ensures h.kept
+
+pub write_struct-requires-clause-is_struct : goal.write_struct-requires-clause-is_struct
+write_struct-requires-clause-is_struct g c = simp the_lemmas refl

@@ -1,0 +1,76 @@
+use Rattle.std.proofs.Common.{rules, ◌≡◌, ◌+◌, ◌&&◌, true, false, drop, pos, ◌<ℤ◌, ◌≤ℤ◌, sym, ◌∙◌, arith, FitsSigned, w16, w32, to_z, of_z}
+use Rattle.std.proofs.lemmas.Int.{ints}
+use Rattle.thrift_core.specs.Form.{form_view, field_form_views}
+use Rattle.thrift_core.specs.Tree as tree
+use Rattle.thrift_core.specs.Tree.{trees_of, entries_of, fields_of}
+use Rattle.thrift_core.specs.View.{view, views, entry_view, entry_views, field_view, field_views}
+use Rattle.thrift_core.specs.Writable.{is_writable, entries_are_writable, fields_are_writable}
+use Rattle.thrift_core.specs.declared.value.TValue.{the_lemmas}
+use Rattle.thrift_core.proofs.Tested.{falls, first_apart, first_decides, list_tested, map_tested, not_all, others_decide, stands, unfit}
+use Rattle.thrift_core.proofs.Views.{view-List, view-Map}
+use Rattle.thrift_core.proofs.writable.+writable.Goals.{are_fields-then-id-last-via-then-id-last, are_fields-then-id-last-via-else-id-last+then-not-is_field}
+use Rattle.thrift_core.proofs.writable.+writable.Goals as goal
+
+pub are_entries-returns-then-not-is_entry : goal.are_entries-returns-then-not-is_entry
+are_entries-returns-then-not-is_entry g t c =
+    let k = form_view c.args.key.now in
+    let v = form_view c.args.value.now in
+    let es = c.args.entries.now in
+    let i = c.loop-entry.entry-index in
+    let e = c.entry-item.result in
+    let never : false ≡ (is_writable k (entry_view e).0 && is_writable v (entry_view e).1) = sym c.if-not-is_entry.true ∙ c.is_entry.ensures in
+    not_all _ _
+    (first_decides _ _ _ _ (first_apart (λ vs. entries_are_writable k v (entries_of (entry_views vs))) es i e c.loop-entry-test.true c.entry-item.is) never c.loop-entry.invariant)
+
+pub are_entries-loop-entry-preserved : goal.are_entries-loop-entry-preserved
+are_entries-loop-entry-preserved g t c =
+    let k = form_view c.args.key.now in
+    let v = form_view c.args.value.now in
+    let es = c.args.entries.now in
+    let i = c.loop-entry.entry-index in
+    let e = c.entry-item.result in
+    let yes : true ≡ (is_writable k (entry_view e).0 && is_writable v (entry_view e).1) = sym c.if-not-is_entry.false ∙ c.is_entry.ensures in
+    others_decide _ _ _ _ (first_apart (λ vs. entries_are_writable k v (entries_of (entry_views vs))) es i e c.loop-entry-test.true c.entry-item.is) yes c.loop-entry.invariant
+
+pub are_fields-returns-then-id-last : goal.are_fields-returns-then-id-last
+are_fields-returns-then-id-last g t c =
+    let forms = field_form_views c.args.forms.now in
+    let fs = c.args.fields.now in
+    let i = c.loop-field.field-index in
+    let f = c.field-item.result in
+    let last = to_z w32 c.loop-field.last-bits in
+    let id : c.from-id.result ≡ (field_view f).0 = search (rules, the_lemmas) in
+    let here = first_apart (λ vs. fields_are_writable forms last (fields_of (field_views vs))) fs i f c.loop-field-test.true c.field-item.is in
+    elim c.then-id-last.branch [
+      | are_fields-then-id-last-via-then-id-last w ↦
+          let below : (field_view f).0 ≤ℤ last = omega (arith, ints, w.if-id-last.true, id) in
+          first_decides _ _ _ _ here (falls last (field_view f).0 _ below) c.loop-field.invariant
+      | are_fields-then-id-last-via-else-id-last+then-not-is_field w ↦
+          first_decides _ _ _ _ here (unfit _ _ _ (sym w.if-not-is_field.true ∙ w.is_field.ensures)) c.loop-field.invariant
+    ]
+
+pub are_fields-loop-field-preserved : goal.are_fields-loop-field-preserved
+are_fields-loop-field-preserved g t c =
+    let forms = field_form_views c.args.forms.now in
+    let fs = c.args.fields.now in
+    let i = c.loop-field.field-index in
+    let f = c.field-item.result in
+    let last = to_z w32 c.loop-field.last-bits in
+    let id : c.from-id.result ≡ (field_view f).0 = search (rules, the_lemmas) in
+    let fits : FitsSigned w16 (field_view f).0 = search (rules, the_lemmas) in
+    let kept : to_z w32 (of_z w32 c.from-id.result) ≡ (field_view f).0 = omega (arith, ints, fits, id) in
+    let rises : last <ℤ (field_view f).0 = omega (arith, ints, c.if-id-last.false, id) in
+    let small : (field_view f).0 ≤ℤ pos 32767 = omega (arith, ints, fits) in
+    let here = first_apart (λ vs. fields_are_writable forms last (fields_of (field_views vs))) fs i f c.loop-field-test.true c.field-item.is in
+    rw kept
+    (others_decide _ _ _ _ here (stands last (field_view f).0 _ rises small (sym c.if-not-is_field.false ∙ c.is_field.ensures)) c.loop-field.invariant)
+
+pub is_value-returns-in-Some : goal.is_value-returns-in-Some
+is_value-returns-in-Some g t c =
+    let seen : view c.args.value.now ≡ tree.list (trees_of (views c.in-List.members.items)) = rw c.in-List.is (view-List c.in-List.members) in
+    list_tested (form_view c.args.form.now) (form_view c.in-Some.member.now) (view c.args.value.now) c.deref.result.now c.in-List.members.items c.are_members.result seen c.in-Some.ensures c.deref.ensures.value c.are_members.ensures
+
+pub is_value-returns-in-Some-entry : goal.is_value-returns-in-Some-entry
+is_value-returns-in-Some-entry g t c =
+    let seen : view c.args.value.now ≡ tree.map (entries_of (entry_views c.in-Map.entries.items)) = rw c.in-Map.is (view-Map c.in-Map.entries) in
+    map_tested (form_view c.args.form.now) (form_view c.in-Some-entry.key.now) (form_view c.in-Some-entry.value.now) (view c.args.value.now) c.deref-in-Some-entry.result.now c.in-Map.entries.items c.are_entries.result seen c.in-Some-entry.ensures c.deref-in-Some-entry.ensures.value c.are_entries.ensures
