@@ -19,9 +19,9 @@ use Rattle.parquet_pages.specs.Pages.{joined, no_cells}
 use Rattle.parquet_pages.specs.Reading.{chunk_at, first_place, page_at, pages_at}
 use Rattle.parquet_pages.proofs.PagesFound.{page_found}
 use Rattle.parquet_schema.specs.Leaves.{LeafIn}
-use Rattle.parquet_rows.specs.File.{leaf_of}
-use Rattle.parquet_rows.specs.Reading.{chunk_named, column_at, same_path}
-use Rattle.parquet_rows.proofs.GroupRows.{chunk_found, path_decides}
+use Rattle.parquet_file.specs.File.{leaf_of}
+use Rattle.parquet_file.specs.Reading.{chunk_named, column_at, same_path}
+use Rattle.parquet_file.proofs.GroupRows.{chunk_found, path_decides}
 use Rattle.file_laws.specs.Faults.{FaultStands, begins_early, begins_late, chunk_is_missing}
 use Rattle.file_laws.specs.Places.{HasChunk, HasLeaf, IsReached, MeetsPage, PagePlace, at_first, behind_page}
 use Rattle.file_laws.proofs.PageSizes.{page_few, page_takes}

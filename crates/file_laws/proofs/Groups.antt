@@ -27,12 +27,12 @@ use Rattle.parquet_schema.specs.FileTree.{fields_of, group}
 use Rattle.parquet_schema.specs.Fitting.{fitted, fitted_list}
 use Rattle.parquet_schema.specs.Leaves.{LeafIn, leaves_in}
 use Rattle.parquet_schema.specs.Reading.{file_fields}
-use Rattle.parquet_rows.specs.File.{leaf_of}
-use Rattle.parquet_rows.specs.Reading.{chunk_named, column_at, columns_at, has_rows, rows_at, rows_of, rows_of_group, rows_of_groups}
-use Rattle.parquet_rows.proofs.CellsSuit.{some_ways}
-use Rattle.parquet_rows.proofs.CodeGroups.{groups_many}
-use Rattle.parquet_rows.proofs.FittedShapes.{leaves_for_ways, shape_has}
-use Rattle.parquet_rows.proofs.GroupRows.{chunk_found}
+use Rattle.parquet_file.specs.File.{leaf_of}
+use Rattle.parquet_file.specs.Reading.{chunk_named, column_at, columns_at, has_rows, rows_at, rows_of, rows_of_group, rows_of_groups}
+use Rattle.parquet_file.proofs.CellsSuit.{some_ways}
+use Rattle.parquet_file.proofs.CodeGroups.{groups_many}
+use Rattle.parquet_file.proofs.FittedShapes.{leaves_for_ways, shape_has}
+use Rattle.parquet_file.proofs.GroupRows.{chunk_found}
 use Rattle.file_laws.specs.Faults.{FaultStands, HasCountMismatch, chunk_differs, columns_differ, groups_differ, structs_differ}
 use Rattle.file_laws.specs.Places.{HasGroup, HasLeaf, HoldsSuiting, Opens}
 use Rattle.file_laws.proofs.Chunks.{column_fault}

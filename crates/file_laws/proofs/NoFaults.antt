@@ -31,11 +31,11 @@ use Rattle.parquet_pages.specs.Reading.{chunk_at, first_place, header_at, is_too
 use Rattle.parquet_pages.specs.Types.{primitive_of}
 use Rattle.parquet_pages.proofs.Callers as pages
 use Rattle.parquet_schema.specs.Leaves.{LeafIn, leaves_in}
-use Rattle.parquet_rows.specs.File.{IsChunkOf, IsFile, KeepsLimits, leaf_of}
-use Rattle.parquet_rows.specs.Reading.{chunk_named, column_at, columns_at, rows_at}
-use Rattle.parquet_rows.proofs.Callers.{rows_only}
-use Rattle.parquet_rows.proofs.CodeGroups.{groups_many}
-use Rattle.parquet_rows.proofs.GroupRows.{chunk_again, chunk_found}
+use Rattle.parquet_file.specs.File.{IsChunkOf, IsFile, KeepsLimits, leaf_of}
+use Rattle.parquet_file.specs.Reading.{chunk_named, column_at, columns_at, rows_at}
+use Rattle.parquet_file.proofs.Callers.{rows_only}
+use Rattle.parquet_file.proofs.CodeGroups.{groups_many}
+use Rattle.parquet_file.proofs.GroupRows.{chunk_again, chunk_found}
 use Rattle.file_laws.specs.Faults.{FaultStands, HasBadFooter, HasBadOffset, HasBadPage, HasCountMismatch, HasEncoding, HasNoFrame, HasPageKind, HasSchemaMismatch, HasTooMuch, begins_early, begins_late, begins_otherwise, bytes_are_left, cells_are_bad, chunk_differs, chunk_is_missing, claims_rows, columns_differ, ends_early, ends_late, ends_otherwise, file_too_long, group_claims_rows, groups_differ, header_is_no_struct, header_lacks_field, is_no_struct, lacks_field, levels_encoded, null_is_out_of_place, sizes_differ, structs_differ, too_short, value_is_out_of_range, value_too_long, values_are_many, values_encoded}
 use Rattle.file_laws.specs.Places.{HoldsSuiting}
 use Rattle.file_laws.proofs.Groups.{shape_fits}

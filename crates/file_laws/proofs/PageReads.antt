@@ -18,8 +18,8 @@ use Rattle.parquet_pages.specs.Reading.{body_at, cells_at, chunk_at, column_in, 
 use Rattle.parquet_pages.specs.Types.{primitive_of}
 use Rattle.parquet_pages.proofs.HeaderFound.{body_found, header_told}
 use Rattle.parquet_pages.proofs.PagesOnly.{page_only}
-use Rattle.parquet_rows.specs.File.{leaf_of}
-use Rattle.parquet_rows.specs.Reading.{rows_at}
+use Rattle.parquet_file.specs.File.{leaf_of}
+use Rattle.parquet_file.specs.Reading.{rows_at}
 use Rattle.file_laws.proofs.PageSizes.{PageSteps, page_steps}
 use Rattle.file_laws.proofs.Chunks.{first_is}
 use Rattle.file_laws.proofs.ReadSteps.{chunk_read}

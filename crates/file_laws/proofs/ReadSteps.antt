@@ -22,9 +22,9 @@ use Rattle.parquet_footer.proofs.Callers.{Parts, bind_ok, frame_again, held, ok_
 use Rattle.parquet_pages.specs.Reading.{chunk_at}
 use Rattle.parquet_schema.specs.Fitting.{fitted_list}
 use Rattle.parquet_schema.specs.Leaves.{LeafIn, leaves_in}
-use Rattle.parquet_rows.specs.File.{leaf_of}
-use Rattle.parquet_rows.specs.Reading.{chunk_named, column_at, columns_at, has_rows, rows_at, rows_of, rows_of_group, rows_of_groups}
-use Rattle.parquet_rows.proofs.GroupRows.{chunk_again}
+use Rattle.parquet_file.specs.File.{leaf_of}
+use Rattle.parquet_file.specs.Reading.{chunk_named, column_at, columns_at, has_rows, rows_at, rows_of, rows_of_group, rows_of_groups}
+use Rattle.parquet_file.proofs.GroupRows.{chunk_again}
 use Rattle.file_laws.specs.Places.{HasChunk, HasGroup, HasLeaf, Opens}
 use Rattle.file_laws.proofs.Steps.{let_through, there, told_ok}
 

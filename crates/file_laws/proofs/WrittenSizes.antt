@@ -21,9 +21,9 @@ use Rattle.page_writing.specs.Writing.{chunk_written}
 use Rattle.parquet_schema.specs.FileTree.{group}
 use Rattle.parquet_schema.specs.Leaves.{LeafIn, leaves_in}
 use Rattle.parquet_schema.proofs.Callers.{own_tree_fits}
-use Rattle.parquet_rows.specs.Writing.{chunk_from, chunk_tree, chunks_from, column_tree, footer_bytes, footer_tree, group_tree, group_written, groups_written, is_short_named, written_file}
-use Rattle.parquet_rows.proofs.FittedShapes.{leaves_for_ways}
-use Rattle.parquet_rows.proofs.WrittenFooter.{own_tree}
+use Rattle.parquet_file.specs.Writing.{chunk_from, chunk_tree, chunks_from, column_tree, footer_bytes, footer_tree, group_tree, group_written, groups_written, is_short_named, written_file}
+use Rattle.parquet_file.proofs.FittedShapes.{leaves_for_ways}
+use Rattle.parquet_file.proofs.WrittenFooter.{own_tree}
 use Rattle.file_laws.specs.Sizes.{SayChunks, SayGroups, SaysChunk, SaysGroup, SaysItsSizes, chunk, no_chunk}
 use Rattle.file_laws.proofs.Steps.{some_step, there}
 

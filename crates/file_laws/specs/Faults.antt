@@ -23,8 +23,8 @@ use Rattle.parquet_pages.specs.Reading.{cells_at, is_too_long}
 use Rattle.parquet_pages.specs.Types.{primitive_of}
 use Rattle.parquet_schema.specs.Fitting.{fitted_list}
 use Rattle.parquet_schema.specs.Leaves.{LeafIn, leaves_in}
-use Rattle.parquet_rows.specs.File.{leaf_of}
-use Rattle.parquet_rows.specs.Reading.{claimed_rows}
+use Rattle.parquet_file.specs.File.{leaf_of}
+use Rattle.parquet_file.specs.Reading.{claimed_rows}
 use Rattle.file_laws.specs.Places.{HasNoStruct, HoldsSuiting, BeginsWithStruct, Opens, HasGroup, HasLeaf, HasChunk, PagePlace, MeetsPage, HasHeader, HasBody, HasCells}
 
 -- ---- the frame and the footer

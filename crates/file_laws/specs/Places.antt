@@ -16,7 +16,7 @@ use Rattle.parquet_pages.specs.Pages.{IsPage, Leaf, Suits, has_levels, plain_hea
 use Rattle.parquet_pages.specs.Reading.{cells_at}
 use Rattle.parquet_schema.specs.Fitting.{fitted_list}
 use Rattle.parquet_schema.specs.Leaves.{LeafIn, leaves_in}
-use Rattle.parquet_rows.specs.File.{HoldsColumn, IsChunkOf, leaf_of}
+use Rattle.parquet_file.specs.File.{HoldsColumn, IsChunkOf, leaf_of}
 
 -- ---- structs
 

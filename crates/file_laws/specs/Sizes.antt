@@ -11,7 +11,7 @@ use Rattle.shred.specs.Shape.{shape_of}
 use Rattle.parquet_footer.specs.Frame.{framed}
 use Rattle.page_writing.specs.Writing.{chunk_written}
 use Rattle.parquet_schema.specs.Leaves.{LeafIn, leaves_in}
-use Rattle.parquet_rows.specs.Writing.{footer_form, members}
+use Rattle.parquet_file.specs.Writing.{footer_form, members}
 
 -- The struct has this number in the field of this id.
 abbrev pub SaysNumber : thrift.Tree → (id number : ℕ) → Type 0

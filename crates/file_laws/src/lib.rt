@@ -9,13 +9,13 @@ ghost use Rattle.row_core.specs.Unsupported.{unsupported};
 ghost use Rattle.schema_tree.specs.Limits.{IsWithinLimits};
 ghost use Rattle.schema_tree.specs.Tree.{Tree, Fields, struct};
 ghost use Rattle.parquet_footer.specs.declared.fault.FileFault.{FileFault};
-ghost use Rattle.parquet_rows.specs.File.{IsFile, KeepsLimits};
-ghost use Rattle.parquet_rows.specs.Reading.{rows_at};
-ghost use Rattle.parquet_rows.specs.Writing.{written_file};
+ghost use Rattle.parquet_file.specs.File.{IsFile, KeepsLimits};
+ghost use Rattle.parquet_file.specs.Reading.{rows_at};
+ghost use Rattle.parquet_file.specs.Writing.{written_file};
 ghost use Rattle.file_laws.specs.Faults.{FaultStands};
 ghost use Rattle.file_laws.specs.Sizes.{SaysItsSizes};
 
-/// Where bytes are refused, what the fault says is so of them. `parquet_rows::read_rows` answers just the fault that
+/// Where bytes are refused, what the fault says is so of them. `parquet_file::read_rows` answers just the fault that
 /// `rows_at` gives, unless memory runs out.
 pub fn a_named_fault_stands()
     ensures { (bytes : List ℕ) (t : Tree) (fault : FileFault) → IsWithinLimits t → IsBytes bytes

@@ -5,8 +5,8 @@ ghost use Rattle.inspect_text.specs.declared.refusal.Refusal.TheVariants.{Memory
 
 use delta_actions::ActionFault;
 use lake_bytes::{ByteFault, HybridError};
+use parquet_file::RowsError;
 use parquet_footer::{FileError, FileFault};
-use parquet_rows::RowsError;
 use row_core::{RowError, RowFault};
 use schema_tree::SchemaFault;
 use shred::ShredError;

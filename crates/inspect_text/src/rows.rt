@@ -1,7 +1,7 @@
 //! The rows of a Parquet file in lines.
 
 use crate::refusal::Refusal;
-use parquet_rows::read_rows;
+use parquet_file::read_rows;
 use row_core::{Value, row_to_json};
 use schema_tree::Schema;
 use std::alloc::{AllocError, Allocator, Global};

@@ -5,8 +5,8 @@ use Rattle.store_core.specs.Objects.{Objects, object_at}
 use Rattle.store_core.specs.ObjectLaws.{object_at-with_object_kept, object_at-with_object_same}
 use Rattle.delta_actions.specs.Names.{data_file_name}
 use Rattle.parquet_footer.specs.declared.fault.FileFault.{FileFault}
-use Rattle.parquet_rows.specs.Reading.{rows_at}
-use Rattle.parquet_rows.proofs.RowsFound.{rows_found}
+use Rattle.parquet_file.specs.Reading.{rows_at}
+use Rattle.parquet_file.proofs.RowsFound.{rows_found}
 use Rattle.row_core.specs.Rows.{Row}
 use Rattle.row_core.proofs.Callers.{same_rows-is}
 use Rattle.table_log.specs.Counts.{commit_count}

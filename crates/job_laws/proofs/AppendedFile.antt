@@ -5,8 +5,8 @@ use Rattle.lake_bytes.specs.Results.{◌>>=◌, refused_if}
 use Rattle.schema_tree.specs.Tree.{Tree}
 use Rattle.store_core.specs.Objects.{Objects, object_at, with_object}
 use Rattle.store_core.specs.ObjectLaws.{object_at-with_object_kept, object_at-with_object_same}
-use Rattle.parquet_rows.specs.Reading.{rows_at}
-use Rattle.parquet_rows.proofs.Callers.{rows_only}
+use Rattle.parquet_file.specs.Reading.{rows_at}
+use Rattle.parquet_file.proofs.Callers.{rows_only}
 use Rattle.row_core.specs.Rows.{Row}
 use Rattle.row_core.proofs.Callers.{same_rows-is}
 use Rattle.table_log.specs.Names.{commit_name}

@@ -5,7 +5,7 @@ use Rattle.std.proofs.lemmas.List.Elements.{Contains-append_left, Contains-appen
 use Rattle.schema_tree.specs.Tree.{Tree}
 use Rattle.store_core.specs.Objects.{Objects, object_at}
 use Rattle.row_core.specs.Rows.{Row}
-use Rattle.parquet_rows.specs.File.{KeepsLimits}
+use Rattle.parquet_file.specs.File.{KeepsLimits}
 use Rattle.delta_actions.specs.Names.{data_file_name}
 use Rattle.table_model.specs.Lawful.{BeginsWithCreation}
 use Rattle.table_model.specs.Reads.{Answer, handed, beyond, bad_place, position, read, IsPart, MayEnd}

@@ -6,7 +6,7 @@ use Rattle.std.proofs.lemmas.List.Elements.{Contains-append_right}
 use Rattle.lake_bytes.specs.Results.{◌>>=◌, or_refusal}
 use Rattle.schema_tree.specs.Tree.{Tree}
 use Rattle.row_core.specs.Rows.{Row}
-use Rattle.parquet_rows.specs.Reading.{rows_at}
+use Rattle.parquet_file.specs.Reading.{rows_at}
 use Rattle.store_core.specs.Objects.{Objects}
 use Rattle.delta_actions.specs.Kinds.{Path}
 use Rattle.table_log.specs.FromCheckpoints.{looked_at, no_start}

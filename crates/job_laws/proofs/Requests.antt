@@ -11,7 +11,7 @@ use Rattle.delta_actions.specs.Names.{data_file_name}
 use Rattle.delta_replay.specs.Closes.{is_closed}
 use Rattle.delta_replay.specs.Keys.{last_number}
 use Rattle.delta_replay.specs.Support.{writable}
-use Rattle.parquet_rows.specs.Writing.{written_file}
+use Rattle.parquet_file.specs.Writing.{written_file}
 use Rattle.row_core.specs.Rows.{Row}
 use Rattle.table_log.specs.Counts.{commit_count}
 use Rattle.table_log.specs.Restoring.{seen}

@@ -6,7 +6,7 @@ use Rattle.lake_bytes.specs.Results.{◌>>=◌, or_refusal}
 use Rattle.schema_tree.specs.Tree.{Tree}
 use Rattle.row_core.specs.Rows.{Row}
 use Rattle.store_core.specs.Objects.{Objects, object_at}
-use Rattle.parquet_rows.specs.Reading.{rows_at}
+use Rattle.parquet_file.specs.Reading.{rows_at}
 use Rattle.commit_core.specs.Texts.{line_of, refused}
 use Rattle.table_log.specs.InForce.{Told}
 use Rattle.table_log.specs.Reads.{first_standing}

@@ -9,8 +9,8 @@ use Rattle.schema_tree.specs.Tree.{Tree}
 use Rattle.store_core.specs.Objects.{Objects, object_at}
 use Rattle.store_core.specs.ObjectLaws.{object_at-with_object_other}
 use Rattle.parquet_footer.specs.declared.fault.FileFault.{FileFault}
-use Rattle.parquet_rows.specs.Reading.{rows_at}
-use Rattle.parquet_rows.specs.Writing.{written_file}
+use Rattle.parquet_file.specs.Reading.{rows_at}
+use Rattle.parquet_file.specs.Writing.{written_file}
 use Rattle.table_model.specs.Appends.{appended, with_batch}
 use Rattle.table_model.specs.declared.table.Appended.TheVariants.{Committed, Already, Differs, StreamClosed}
 use Rattle.table_model.specs.Lawful.{IsLawful}

@@ -1,8 +1,8 @@
 -- The file of an application's last batch, where its number is handed in again, and how the file of a batch is read.
 use Rattle.std.proofs.Common.{◌≡◌, ℕ, List, Some, Ok, Contains, sym}
 use Rattle.std.specs.Bool.{one_answer}
-use Rattle.parquet_rows.specs.Reading.{rows_at}
-use Rattle.parquet_rows.proofs.Callers.{rows_only}
+use Rattle.parquet_file.specs.Reading.{rows_at}
+use Rattle.parquet_file.proofs.Callers.{rows_only}
 use Rattle.schema_tree.specs.Tree.{Tree}
 use Rattle.row_core.specs.Rows.{Row, same_rows}
 use Rattle.table_model.specs.Table.{Batch, Entry, batches, last_batch}

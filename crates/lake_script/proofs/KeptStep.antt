@@ -9,8 +9,8 @@ use Rattle.schema_tree.specs.Tree.{Tree}
 use Rattle.store_core.specs.Objects.{Objects, object_at, with_object}
 use Rattle.store_core.specs.ObjectLaws.{object_at-with_object_same, object_at-with_object_other}
 use Rattle.parquet_footer.specs.declared.fault.FileFault.{FileFault}
-use Rattle.parquet_rows.specs.Reading.{rows_at}
-use Rattle.parquet_rows.specs.Writing.{written_file}
+use Rattle.parquet_file.specs.Reading.{rows_at}
+use Rattle.parquet_file.specs.Writing.{written_file}
 use Rattle.table_model.specs.Appends.{appended}
 use Rattle.table_model.specs.declared.table.Appended.TheVariants.{Committed, StreamClosed}
 use Rattle.table_model.specs.Lawful.{IsLawful}

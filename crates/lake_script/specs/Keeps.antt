@@ -5,7 +5,7 @@ use Rattle.std.specs.List.{AllByRecursion, Contains}
 use Rattle.std.specs.Str.{IsUtf8}
 use Rattle.store_core.specs.Objects.{Objects, object_at}
 use Rattle.delta_actions.specs.Names.{commit_name, data_file_name}
-use Rattle.parquet_rows.specs.File.{KeepsLimits}
+use Rattle.parquet_file.specs.File.{KeepsLimits}
 use Rattle.table_model.specs.Lawful.{IsLawful}
 use Rattle.table_model.specs.Table.{Batch, Entry, creation, batches_of, batches}
 use Rattle.table_store.specs.Commits.{IsCommitOf}

@@ -2,7 +2,7 @@
 use Rattle.std.specs.Prelude.{ℕ, List}
 use Rattle.schema_tree.specs.Limits.{IsWithinLimits}
 use Rattle.schema_tree.specs.Tree.{Tree}
-use Rattle.parquet_rows.specs.File.{IsFile}
+use Rattle.parquet_file.specs.File.{IsFile}
 use Rattle.row_core.specs.Rows.{Row}
 
 -- a schema: the struct of the table's columns

@@ -1,0 +1,14 @@
+use Rattle.std.proofs.Common.{drop}
+use Rattle.row_core.specs.Views.{row_views}
+use Rattle.schema_tree.specs.Tree.{Tree}
+use Rattle.shred.specs.Views.{shape_view}
+use Rattle.parquet_footer.specs.Views.{group_views}
+use Rattle.parquet_schema.specs.Views.{leaf_views}
+use Rattle.parquet_file.specs.Internal.{AreLeavesOf}
+use Rattle.parquet_file.specs.Reading.{rows_of_groups}
+use Rattle.parquet_file.proofs.PartSteps.{KeptSoFar}
+use Rattle.parquet_file.proofs.groups.add_groups.Given as goal
+
+abbrev pub invariant-loop-group : goal.invariant-loop-group
+invariant-loop-group g l = (t : Tree) → AreLeavesOf t (shape_view l.file.shape) (leaf_views l.file.leaves.items)
+    → KeptSoFar l.first l.most (row_views l.fn.rows.items) (row_views l.rows.items) (rows_of_groups l.bytes t (shape_view l.file.shape) (group_views (drop l.group-index l.groups))) (rows_of_groups l.bytes t (shape_view l.file.shape) (group_views l.groups)) l.skip l.wanted

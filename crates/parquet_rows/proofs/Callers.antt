@@ -1,3 +1,0 @@
--- The lemmas that proofs of other crates may cite.
-pub use Rattle.parquet_rows.proofs.PartLists.{part_behind, part_of_none, part_whole}
-pub use Rattle.parquet_rows.proofs.RowsOnly.{rows_one, rows_only}

@@ -1,5 +1,0 @@
-use Rattle.parquet_rows.proofs.RowsOnly.{rows_one}
-use Rattle.parquet_rows.proofs.laws.one_list_of_rows.Goals as goal
-
-pub returns : goal.returns
-returns c = rows_one
