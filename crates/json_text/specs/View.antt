@@ -26,7 +26,7 @@ view = fold-Value Data view_step
 abbrev pub items_view : List Value → Items
 items_view vs = items_of (map view vs)
 
--- the members of a text, the last value of each name
+-- the members of an object, the last value of each name
 abbrev pub members_view : List (Bor (List ℕ) × Value) → Members
 members_view ms = members_onto (map (λ m. (m.0, view m.1)) ms) no_members
 

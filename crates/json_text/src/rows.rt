@@ -3,6 +3,7 @@ ghost use Rattle.std.specs.Prelude.{◌≡◌};
 ghost use Rattle.serde_json.specs.Events.{items_len};
 ghost use Rattle.json_text.specs.Rows.{rows_data};
 
+use crate::array::ArrayText;
 use crate::value::Value;
 
 /// Rows of JSON.
@@ -12,6 +13,8 @@ pub enum JsonRows<'a> {
     Values(Vec<Value<'a>>),
     /// The text of each row, which is read when its turn comes.
     Texts(Vec<&'a str>),
+    /// The text of the array, owned, which is read when its turn comes.
+    Array(ArrayText),
 }
 
 impl JsonRows<'_> {
@@ -22,6 +25,7 @@ impl JsonRows<'_> {
         match self {
             JsonRows::Values(values) => values.len(),
             JsonRows::Texts(texts) => texts.len(),
+            JsonRows::Array(array) => array.len(),
         }
     }
 }

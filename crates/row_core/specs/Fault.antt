@@ -34,7 +34,11 @@ fault_of (faults.OutOfRange path) = out_of_range (path_of path)
 fault_of (faults.Unsupported path) = unsupported (path_of path)
 fault_of (faults.Unknown name) = unknown (string_bytes name)
 
+-- what a fault of the code says
+abbrev pub tells : RowFault → Said Fault
+tells fault = refuses (fault_of fault)
+
 -- what each error of the code says
 abbrev pub says : RowError → Said Fault
 says errors.Memory = says_nothing
-says (errors.Fault fault) = refuses (fault_of fault)
+says (errors.Fault fault) = tells fault

@@ -6,7 +6,7 @@ ghost use Rattle.schema_tree.specs.Limits.{is_named, is_sound, are_sound};
 ghost use Rattle.json_text.specs.View.{view as json_view, named_view};
 ghost use Rattle.lake_bytes.specs.Outcome.{Gives};
 ghost use Rattle.lake_bytes.specs.Results.{refused_as};
-ghost use Rattle.row_core.specs.Fault.{says, inside};
+ghost use Rattle.row_core.specs.Fault.{says, tells, inside};
 ghost use Rattle.row_core.specs.Reading.{row_of, value_of, field_values, leaf_value, whole_value, text_value, bytes_value, unless_null, under, unknown_name};
 ghost use Rattle.row_core.specs.Views.{value_view, row_views};
 ghost use Rattle.schema_tree.specs.Schema.{tree_of};
@@ -51,27 +51,27 @@ pub fn row_from_json<A: Allocator>(
     struct_value(alloc, schema.fields(), value)
 }
 
-fn truth_value(value: &Json<'_>) -> Result<Value, RowError>
-    ensures { Gives says value_view result (leaf_value Primitive.Boolean (json_view value.now)) }
+fn truth_value(value: &Json<'_>) -> Result<Value, RowFault>
+    ensures { Gives tells value_view result (leaf_value Primitive.Boolean (json_view value.now)) }
 {
     match value.as_bool() {
         Some(truth) => Ok(Value::Bool(truth)),
-        None => Err(RowFault::wrong_kind().into()),
+        None => Err(RowFault::wrong_kind()),
     }
 }
 
 /// The whole number that a value is, from -limit to limit - 1.
-fn whole_value(limit: u64, value: &Json<'_>) -> Result<Value, RowError>
+fn whole_value(limit: u64, value: &Json<'_>) -> Result<Value, RowFault>
     requires { limit ≤ 2 ^ 63 }
-    ensures { Gives says value_view result (whole_value limit (json_view value.now)) }
+    ensures { Gives tells value_view result (whole_value limit (json_view value.now)) }
 {
     match value.as_number() {
         Some(number) => match number.as_i128() {
             Some(whole) if is_within(limit, whole) => Ok(Value::Int(whole as i64)),
-            Some(_) => Err(RowFault::out_of_range().into()),
-            None => Err(RowFault::wrong_kind().into()),
+            Some(_) => Err(RowFault::out_of_range()),
+            None => Err(RowFault::wrong_kind()),
         },
-        None => Err(RowFault::wrong_kind().into()),
+        None => Err(RowFault::wrong_kind()),
     }
 }
 
@@ -107,11 +107,11 @@ fn leaf_value(alloc: Global, primitive: Primitive, value: &Json<'_>) -> Result<V
     ensures { Gives says value_view result (leaf_value primitive (json_view value.now)) }
 {
     match primitive {
-        Primitive::Boolean => truth_value(value),
-        Primitive::Byte => whole_value(1 << 7, value),
-        Primitive::Short => whole_value(1 << 15, value),
-        Primitive::Integer | Primitive::Date => whole_value(1 << 31, value),
-        Primitive::Long => whole_value(1 << 63, value),
+        Primitive::Boolean => Ok(truth_value(value)?),
+        Primitive::Byte => Ok(whole_value(1 << 7, value)?),
+        Primitive::Short => Ok(whole_value(1 << 15, value)?),
+        Primitive::Integer | Primitive::Date => Ok(whole_value(1 << 31, value)?),
+        Primitive::Long => Ok(whole_value(1 << 63, value)?),
         Primitive::String => text_value(alloc, value),
         Primitive::Binary => bytes_value(alloc, value),
         Primitive::Timestamp | Primitive::Float | Primitive::Double | Primitive::Decimal { .. } =>

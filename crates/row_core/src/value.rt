@@ -6,7 +6,7 @@ ghost use Rattle.row_core.specs.Views.{value_view, row_views};
 
 /// A value of a row: a tree. A row is a struct.
 #[cycle(tree)]
-#[derive(Debug, Drop)]
+#[derive(Drop)]
 pub enum Value {
     /// No value.
     Null,

@@ -71,10 +71,9 @@ unfolding struct_of
 struct_is_empty read d met [] h none = rw h refl
 struct_is_empty read d met (v ∷ vs) h none = absurd (omega arith)
 
-pub struct_fails : (read : Reader) (d : Data) (met : Met) (e : ReadError) → IsSaid (says e) (needed as_array (codes "fields") d) → IsSaid (says e) (struct_of read d met)
+pub struct_fails : (read : Reader) (d : Data) (met : Met) (e : Fault) → needed as_array (codes "fields") d ≡ Err e → struct_of read d met ≡ Err e
 unfolding struct_of
-struct_fails read d met errors.Memory h = tt
-struct_fails read d met (errors.Fault f) h = rw h refl
+struct_fails read d met e h = rw h refl
 
 -- ---- fields, one after another
 

@@ -48,7 +48,11 @@ fault_of faults.TooDeep = too_deep
 fault_of faults.TooMany = too_many
 fault_of (faults.NoFields path) = no_fields (path_of path)
 
+-- what a fault of the code says
+abbrev pub tells : SchemaFault → Said Fault
+tells fault = refuses (fault_of fault)
+
 -- what each error of the code says
 abbrev pub says : ReadError → Said Fault
 says errors.Memory = says_nothing
-says (errors.Fault fault) = refuses (fault_of fault)
+says (errors.Fault fault) = tells fault

@@ -6,6 +6,7 @@ use Rattle.schema_tree.specs.Leaves.{LeafPath}
 use Rattle.schema_tree.specs.Reading.{Met}
 use Rattle.schema_tree.specs.declared.counts.Counts.{Counts}
 use Rattle.schema_tree.specs.declared.fault.ReadError.{ReadError}
+use Rattle.schema_tree.specs.declared.fault.SchemaFault.{SchemaFault}
 use Rattle.schema_tree.specs.declared.fault.ReadError.TheVariants as errors
 
 -- what the reader has met
@@ -18,9 +19,9 @@ Reads view said (Ok x) new = said ≡ Ok (view x, met_of new)
 Reads view said (Err e) new = IsSaid (says e) said
 
 -- the same of counting alone
-abbrev pub CountsAs : Result Met Fault → Result Unit ReadError → Counts → Type 0
+abbrev pub CountsAs : Result Met Fault → Result Unit SchemaFault → Counts → Type 0
 CountsAs said (Ok x) new = said ≡ Ok (met_of new)
-CountsAs said (Err e) new = IsSaid (says e) said
+CountsAs said (Err e) new = said ≡ Err (fault_of e)
 
 -- The second error is the first one told from outside the field of this name, unless memory ran out.
 abbrev pub IsToldOutside : List ℕ → ReadError → ReadError → Type 0

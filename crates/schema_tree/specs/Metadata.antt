@@ -9,7 +9,7 @@ use Rattle.serde_json.specs.Written.{has_float, compact_text}
 abbrev pub value_of : List ℕ → Data
 value_of text = unwrap_or (read text) null
 
--- A JSON object's text with no space; where it has a number with a fraction or an exponent, how that is written is left open.
+-- A JSON object's text, with no space and its keys in order of bytes; where a number has a fraction or an exponent, how it is written is left open.
 pub record IsCompactObject (text : List ℕ) : Type 0 where
   pub object : is_some (as_object (value_of text)) ≡ true
   pub compact : has_float (value_of text) ≡ false → text ≡ compact_text (value_of text)

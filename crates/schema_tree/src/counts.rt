@@ -4,7 +4,7 @@ ghost use Rattle.schema_tree.specs.Internal.{met_of, CountsAs};
 ghost use Rattle.schema_tree.specs.Reading.{counted};
 ghost use Rattle.serde_json.specs.View.{view};
 
-use crate::fault::{ReadError, SchemaFault};
+use crate::fault::SchemaFault;
 use serde_json::Value;
 
 /// The most types that a schema may have, the root counted.
@@ -23,15 +23,15 @@ pub(crate) struct Counts {
 impl Counts {
     /// One more type. TooMany where that is above the limits.
     #[tactic(auto, unfolding(crate::specs::Reading::counted))]
-    pub(crate) fn count(&mut self, value: &Value) -> Result<(), ReadError>
+    pub(crate) fn count(&mut self, value: &Value) -> Result<(), SchemaFault>
         ensures { CountsAs (counted (view value.now) (met_of self.old)) result self.new }
     {
         if self.nodes >= MAX_NODES {
-            return Err(SchemaFault::TooMany.into());
+            return Err(SchemaFault::TooMany);
         }
         if value.is_string() {
             if self.leaves >= MAX_LEAVES {
-                return Err(SchemaFault::TooMany.into());
+                return Err(SchemaFault::TooMany);
             }
             self.leaves += 1;
         }

@@ -11,8 +11,9 @@ ghost use Rattle.schema_tree.specs.Metadata.{IsCompactObject, value_of};
 use serde_json::Value;
 use std::alloc::{AllocError, Allocator, Global};
 
-/// A field's metadata (Delta PROTOCOL.md, "Struct Field"): a JSON object, kept as its text with no spaces and
-/// keys in order of bytes.
+/// A field's metadata (Delta PROTOCOL.md, "Struct Field"): a JSON object, kept as its text. The text has no spaces,
+/// and keys in order of bytes, where no number has a fraction or an exponent or doesn't fit 64 bits; how it is written
+/// otherwise is left open.
 #[derive(Drop)]
 pub struct Metadata<A: Allocator> {
     text: String<A>,
@@ -46,7 +47,8 @@ impl Metadata<Global> {
 impl<A: Allocator> Metadata<A> {
     ghost use Rattle.schema_tree.specs.View.{metadata_of};
 
-    /// The JSON text: no spaces, and keys in order of bytes.
+    /// The JSON text. Where no number has a fraction or an exponent or doesn't fit 64 bits, it has no spaces, and keys
+    /// in order of bytes.
     pub fn as_str(&self) -> &str
         ensures object { value_of result.now ≡ metadata_of self.now }
         ensures compact { IsCompactObject result.now }

@@ -5,7 +5,7 @@ ghost use Rattle.std.specs.List.{list_any};
 ghost use Rattle.serde_json.specs.Data.{depth, items_depth, object, no_members};
 ghost use Rattle.serde_json.specs.Find.{as_str, as_bool, as_array};
 ghost use Rattle.lake_bytes.specs.Outcome.{Gives};
-ghost use Rattle.schema_tree.specs.Fault.{says};
+ghost use Rattle.schema_tree.specs.Fault.{says, tells};
 ghost use Rattle.serde_json.specs.Read.{max_depth};
 ghost use Rattle.serde_json.specs.View.{view as value_view, items_view};
 ghost use Rattle.schema_tree.specs.Internal.{met_of, Reads};
@@ -22,49 +22,49 @@ use std::alloc::Global;
 
 /// The member of that name, which has to be there.
 #[tactic(auto, unfolding(crate::specs::Reading::needed))]
-fn needed<'a>(value: &'a Value, name: &str) -> Result<&'a Value, ReadError>
-    ensures found { Gives says (λ v. value_view v.now) result (needed any_value name.now (value_view value.now)) }
+fn needed<'a>(value: &'a Value, name: &str) -> Result<&'a Value, SchemaFault>
+    ensures found { Gives tells (λ v. value_view v.now) result (needed any_value name.now (value_view value.now)) }
     ensures inside { IfOk result (λ v. depth (value_view v.now) ≤ depth (value_view value.now)) }
 {
     match value.get(name) {
         Some(found) => Ok(found),
-        None => Err(SchemaFault::bad_type().into()),
+        None => Err(SchemaFault::bad_type()),
     }
 }
 
 /// The text of that name, which has to be there.
 #[tactic(auto, unfolding(crate::specs::Reading::needed))]
-pub(crate) fn needed_text<'a>(value: &'a Value, name: &str) -> Result<&'a str, ReadError>
-    ensures { Gives says (λ s. s.now) result (needed as_str name.now (value_view value.now)) }
+pub(crate) fn needed_text<'a>(value: &'a Value, name: &str) -> Result<&'a str, SchemaFault>
+    ensures { Gives tells (λ s. s.now) result (needed as_str name.now (value_view value.now)) }
 {
     match needed(value, name)?.as_str() {
         Some(text) => Ok(text),
-        None => Err(SchemaFault::bad_type().into()),
+        None => Err(SchemaFault::bad_type()),
     }
 }
 
 /// The items of the array of that name, which has to be there.
 #[tactic(auto, unfolding(crate::specs::Reading::needed))]
-fn needed_items<'a>(value: &'a Value, name: &str) -> Result<&'a [Value], ReadError>
-    ensures found { Gives says (λ v. items_view v.now) result (needed as_array name.now (value_view value.now)) }
+fn needed_items<'a>(value: &'a Value, name: &str) -> Result<&'a [Value], SchemaFault>
+    ensures found { Gives tells (λ v. items_view v.now) result (needed as_array name.now (value_view value.now)) }
     ensures inside { IfOk result (λ v. items_depth (items_view v.now) ≤ depth (value_view value.now)) }
 {
     match needed(value, name)?.as_array() {
         Some(items) => Ok(items),
-        None => Err(SchemaFault::bad_type().into()),
+        None => Err(SchemaFault::bad_type()),
     }
 }
 
 /// The truth value of that name; true where it is absent.
 #[tactic(auto, unfolding(crate::specs::Reading::defaulted))]
-fn truth_or_true(value: &Value, name: &str) -> Result<bool, ReadError>
-    ensures { Gives says (λ b. b) result (defaulted as_bool name.now true (value_view value.now)) }
+fn truth_or_true(value: &Value, name: &str) -> Result<bool, SchemaFault>
+    ensures { Gives tells (λ b. b) result (defaulted as_bool name.now true (value_view value.now)) }
 {
     match value.get(name) {
         None => Ok(true),
         Some(found) => match found.as_bool() {
             Some(truth) => Ok(truth),
-            None => Err(SchemaFault::bad_type().into()),
+            None => Err(SchemaFault::bad_type()),
         },
     }
 }
@@ -90,12 +90,12 @@ fn is_name_of(fields: &[Field<Global>], name: &str) -> bool
     fields.iter().any(|f| f.name.as_str() == name)
 }
 
-fn primitive(name: &str) -> Result<Node<Global>, ReadError>
-    ensures { Gives says view result (leaf_of name.now) }
+fn primitive(name: &str) -> Result<Node<Global>, SchemaFault>
+    ensures { Gives tells view result (leaf_of name.now) }
 {
     match Primitive::from_name(name) {
         Some(primitive) => Ok(Node::Leaf(primitive)),
-        None => Err(SchemaFault::bad_type().into()),
+        None => Err(SchemaFault::bad_type()),
     }
 }
 
@@ -117,7 +117,7 @@ impl Counts {
         }
         self.count(value)?;
         match value {
-            Value::String(name) => primitive(name.as_str()),
+            Value::String(name) => Ok(primitive(name.as_str())?),
             Value::Object(_) => self.nested(alloc, below - 1, value),
             _ => Err(SchemaFault::bad_type().into()),
         }

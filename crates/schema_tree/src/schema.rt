@@ -90,7 +90,7 @@ impl<A: Allocator> Schema<A> {
     }
 
     /// The schema's JSON text (Delta PROTOCOL.md, "Schema Serialization Format"): no spaces, and keys in order of
-    /// bytes. It fails only for want of memory; the time is linear in the text.
+    /// bytes where [`Schema::has_fraction`] is false. It fails only for want of memory; the time is linear in the text.
     pub fn to_text(&self, alloc: Global) -> Result<String, AllocError>
         // It is read as the same schema.
         ensures reads { IfOk result (λ s. schema_of (string_bytes s) ≡ Ok (tree_of self.now)) }

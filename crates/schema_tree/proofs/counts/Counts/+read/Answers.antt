@@ -8,7 +8,8 @@ use Rattle.serde_json.specs.View.{view as value_view, items_view, members_view}
 use Rattle.serde_json.specs.declared.value.Value.{the_lemmas}
 use Rattle.serde_json.proofs.Views.{view-Object}
 use Rattle.schema_tree.specs.Tree.{Tree}
-use Rattle.schema_tree.specs.Fault.{says, no_fields}
+use Rattle.schema_tree.specs.declared.fault.ReadError.TheVariants as errors
+use Rattle.schema_tree.specs.Fault.{says, fault_of, no_fields}
 use Rattle.schema_tree.specs.Internal.{met_of}
 use Rattle.schema_tree.specs.Reading.{node_of, struct_of, fields_behind, field_of}
 use Rattle.schema_tree.specs.View.{view, field_view, field_views}
@@ -28,7 +29,7 @@ array-returns t c =
 pub fields-returns-in_err-items : goal.fields-returns-in_err-items
 fields-returns-in_err-items t c =
     let p = err_from_is_err_and c.from_residual.result c.from_residual.ensures.1 in
-    rw (p.1, p.2) (struct_fails (node_of c.args.below) (value_view c.args.value.now) (met_of c.args.self.now) c.in_err-items.field-0.0 c.in_err-items.ensures.found)
+    rw (p.1, p.2) (struct_fails (node_of c.args.below) (value_view c.args.value.now) (met_of c.args.self.now) (fault_of c.in_err-items.field-0.0) c.in_err-items.ensures.found)
 
 pub fields-returns-then-is_empty : goal.fields-returns-then-is_empty
 fields-returns-then-is_empty t c =
@@ -53,14 +54,26 @@ map-returns t c =
     c.in_ok-value_contains_null.ensures c.in_ok-key_type.ensures.found c.in_ok-value_type.ensures.found c.in_ok-key.ensures c.in_ok-value.ensures
     ∙ ap (λ (t : Tree). Ok (t, met_of c.node-2.new.self)) (rw (← same_key, ← same_value) (sym (view-Map k v nullable)))
 
-pub node-returns-in-String : goal.node-returns-in-String
-node-returns-in-String t c =
+pub node-returns-in_ok-primitive-in-String : goal.node-returns-in_ok-primitive-in-String
+node-returns-in_ok-primitive-in-String t c =
     let below = c.args.below in
     let d = value_view c.args.value.now in
     let name = c.as_str.result.now in
+    let found = c.in_ok-primitive-in-String in
     let k : below ≡ suc (below - 1) = omega arith in
     let is : d ≡ string name = ap value_view c.in-String.is ∙ rw c.as_str.ensures.value (search (rules, the_lemmas)) in
-    string_node below (below - 1) d name (met_of c.args.self.now) c.count.new.self c.primitive.result k is c.in_ok-count.ensures c.primitive.ensures
+    string_node below (below - 1) d name (met_of c.args.self.now) c.count.new.self (Ok found.field-0) k is c.in_ok-count.ensures found.ensures
+
+pub node-returns-in_err-primitive-in-String : goal.node-returns-in_err-primitive-in-String
+node-returns-in_err-primitive-in-String t c =
+    let below = c.args.below in
+    let d = value_view c.args.value.now in
+    let name = c.as_str.result.now in
+    let refused = c.in_err-primitive-in-String in
+    let k : below ≡ suc (below - 1) = omega arith in
+    let is : d ≡ string name = ap value_view c.in-String.is ∙ rw c.as_str.ensures.value (search (rules, the_lemmas)) in
+    let p = err_from_is_err_and c.from_residual-in_err-primitive-in-String.result c.from_residual-in_err-primitive-in-String.ensures.1 in
+    rw (p.1, p.2) (string_node below (below - 1) d name (met_of c.args.self.now) c.count.new.self (Err (errors.Fault refused.field-0.0)) k is c.in_ok-count.ensures refused.ensures)
 
 pub node-returns-in-Object : goal.node-returns-in-Object
 node-returns-in-Object t c =
