@@ -78,7 +78,7 @@ module _ (objects : Objects) (schema : Schema) where
   AreMadeFor (entry ∷ entries) (made ∷ log) = StandFor schema entry (without_commit_info made) × FilesStand objects schema entry × AreMadeFor entries log
 
   -- a store's log stands for the entries that the store holds
-  made_for : (version : ℕ) (entries : List Entry) (log : List (List actions.Action)) → HoldsFrom objects schema version entries → LogFrom objects version log → AreMadeFor entries log
+  pub made_for : (version : ℕ) (entries : List Entry) (log : List (List actions.Action)) → HoldsFrom objects schema version entries → LogFrom objects version log → AreMadeFor entries log
   made_for version [] [] p q = tt
   made_for version [] (made ∷ log) p q = let none : None ≡ Some q.0.0 = sym p ∙ q.0.1 in absurd cc
   made_for version (entry ∷ entries) [] p q = let none : None ≡ Some p.0.0 = sym q ∙ p.0.1 in absurd cc
