@@ -17,17 +17,13 @@ pub mod KeptStep
 pub mod KeptTail
 pub mod KeptTails
 pub mod KeptVersions
-pub mod LineLemmas
 pub mod LogCloses
 pub mod LogNewest
 pub mod LogNumbers
 pub mod LogSchema
-pub mod Moments
-pub mod Numbers
 pub mod RestoredLemmas
 pub mod RunLemmas
 pub mod RunsLemmas
 pub mod ScriptLemmas
 pub mod SoundPuts
 pub mod StreamLemmas
-pub mod Texts

@@ -7,7 +7,7 @@ use Rattle.commit_core.specs.Creating.{MayCreate}
 use Rattle.commit_core.specs.Texts.{line_of}
 use Rattle.table_log.specs.Names.{commit_name}
 use Rattle.snapshot_core.specs.Taking.{HasPut}
-use Rattle.lake_script.specs.Lines.{append, checkpoint, Statement, create, task, foreign}
+use Rattle.script_lines.specs.Lines.{append, checkpoint, Statement, create, task, foreign}
 
 -- the checkpoint of the newest version was put, or nothing
 abbrev pub MayPutCheckpoint : Objects → Objects → Type 0

@@ -11,7 +11,7 @@ use Rattle.lake_script.specs.Growth.{MayPut}
 use Rattle.commit_core.specs.Histories.{unanswered}
 use Rattle.snapshot_core.specs.Taking as checkpoints
 use Rattle.lake_script.specs.Checkpoints.{not_put_text, too_large}
-use Rattle.lake_script.specs.Lines.{append, checkpoint, tail, Statement, create, task, history, show, hex, snapshot, foreign, Reading, skipped, bad, asks, reading_of}
+use Rattle.script_lines.specs.Lines.{append, checkpoint, tail, Statement, create, task, history, show, hex, snapshot, foreign, Reading, skipped, bad, asks, reading_of}
 use Rattle.sink_core.specs.Refusals.{refusal_text, memory, file_too_large}
 use Rattle.commit_core.specs.Texts.{create_fault_text, refused, line_of}
 use Rattle.lake_script.specs.Replies.{bad_line}

@@ -9,7 +9,7 @@ use Rattle.delta_actions.specs.Commit.{lines_of}
 use Rattle.table_store.specs.LawfulLogs.{HasLawfulLog}
 use Rattle.commit_core.specs.Sound.{IsSoundStore}
 use Rattle.lake_script.specs.Keeps.{Keeps, KeepsBeside}
-use Rattle.lake_script.specs.Lines.{Statement, hex, show, snapshot, foreign, Reading, skipped, bad, asks, reading_of}
+use Rattle.script_lines.specs.Lines.{Statement, hex, show, snapshot, foreign, Reading, skipped, bad, asks, reading_of}
 use Rattle.lake_script.specs.Replies.{bad_line}
 use Rattle.lake_script.specs.Tables as tables
 use Rattle.lake_script.specs.Tables.{State, nothing, table, expected_from, expected_output, left, entries_of, AreOfTable}

@@ -7,7 +7,7 @@ use Rattle.store_core.specs.Objects.{Objects}
 use Rattle.sink_core.specs.Appending.{settled, PutsWell}
 use Rattle.commit_core.specs.Creating.{too_large, commit_from, CreatesWell}
 use Rattle.lake_script.specs.Checkpoints.{checkpoint_by, IsWellPut}
-use Rattle.lake_script.specs.Lines.{append, checkpoint, Statement, create, task, Reading, skipped, bad, asks, reading_of}
+use Rattle.script_lines.specs.Lines.{append, checkpoint, Statement, create, task, Reading, skipped, bad, asks, reading_of}
 use Rattle.sink_core.specs.Refusals.{file_too_large}
 use Rattle.lake_script.specs.Streams.{StandsIn}
 use Rattle.lake_script.specs.Told.{is_bad, UnlessBad, IsPrintedStatement, IsPrintedLine, ArePrinted, ArePrintedInPart, reply_to_statement, left_by_statement, reply_to, left_by}

@@ -22,7 +22,7 @@ use Rattle.commit_core.specs.Histories.{close_told, number_told}
 use Rattle.commit_core.specs.Histories as histories
 use Rattle.snapshot_core.specs.Faults.{bad_log, unsupported}
 use Rattle.lake_script.specs.Checkpoints.{by_log, checkpointed_at, not_put_text}
-use Rattle.lake_script.specs.Lines.{Statement, create, task, history, show, hex, snapshot, foreign, append, checkpoint, tail, Reading, skipped, bad, asks, reading_of}
+use Rattle.script_lines.specs.Lines.{Statement, create, task, history, show, hex, snapshot, foreign, append, checkpoint, tail, Reading, skipped, bad, asks, reading_of}
 use Rattle.source_core.specs.Offsets.{offset_of}
 use Rattle.sink_core.specs.Refusals as appends
 use Rattle.commit_core.specs.Texts as texts

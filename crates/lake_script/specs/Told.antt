@@ -1,7 +1,7 @@
 -- What a script is told. Beside a line that creates a table stands the text that its schema is printed as, beside one
 -- that puts a checkpoint its bytes, and beside one that tells a snapshot its text: no other line looks at the text that
 -- stands beside it. All is told by the whole log: that a log may be read from a checkpoint doesn't show.
-use Rattle.std.specs.Prelude.{◌≡◌, ◌==◌, ◌+◌, ◌++◌, ℕ, Bool, true, false, List, [], ◌∷◌, Option, Some, None, Result, Ok, Err, ⊤, if◌then◌else◌}
+use Rattle.std.specs.Prelude.{◌≡◌, ◌+◌, ◌++◌, ℕ, Bool, true, false, List, [], ◌∷◌, Option, Some, None, Result, Ok, Err, ⊤, if◌then◌else◌}
 use Rattle.delta_actions.specs.Commit.{lines_of}
 use Rattle.hex.specs.Hex.{encode_lower}
 use Rattle.store_core.specs.Objects.{Objects, object_at, with_object}
@@ -18,7 +18,7 @@ use Rattle.commit_core.specs.Creating.{commit_from, created_by, with_creation, I
 use Rattle.commit_core.specs.Histories.{history_of}
 use Rattle.snapshot_core.specs.Faults.{readable_log}
 use Rattle.lake_script.specs.Checkpoints.{checkpoint_by, checkpoint_reply, snapshot_reply, with_checkpoint, IsItsCheckpoint, IsItsSnapshot}
-use Rattle.lake_script.specs.Lines.{append, checkpoint, tail, Statement, create, task, history, show, hex, snapshot, foreign, Reading, skipped, bad, asks, reading_of}
+use Rattle.script_lines.specs.Lines.{append, checkpoint, tail, Statement, create, task, history, show, hex, snapshot, foreign, Reading, skipped, bad, asks, reading_of}
 use Rattle.sink_core.specs.Refusals.{Refusal, refusal_text}
 use Rattle.lake_script.specs.Replies.{fault_text, created, committed_at, already, put_word, bad_line}
 use Rattle.commit_core.specs.Texts as texts
@@ -26,16 +26,6 @@ use Rattle.commit_core.specs.Texts.{refused, line_of}
 use Rattle.source_core.specs.TailFaults as tail_texts
 use Rattle.source_core.specs.Tailing as tails
 use Rattle.source_core.specs.Tailing.{tailed}
-
--- a newline
-abbrev pub is_newline : ℕ → Bool
-is_newline byte = byte == 10
-
--- The lines of what is left, if something is. A line ends at a newline and nowhere else; behind the last newline stands
--- a last line, which may be empty.
-abbrev pub lines_left : Option (List ℕ) → List (List ℕ)
-lines_left None = []
-lines_left (Some text) = lines_of text
 
 -- the reply to a line that creates a table
 abbrev pub created_reply : Result (List ℕ) creations.Refusal → List ℕ

@@ -1,7 +1,7 @@
 // What one line of a script is.
 ghost use Rattle.std.specs.Prelude.{◌≡◌, IfOk, option_map};
 ghost use Rattle.delta_actions.specs.Commit.{is_blank};
-ghost use Rattle.lake_script.specs.Lines.{text_of, reading_of, reading_view};
+ghost use Rattle.script_lines.specs.Lines.{text_of, reading_of, reading_view};
 
 use crate::fields::FieldError;
 use crate::line::{Line, line_of};
