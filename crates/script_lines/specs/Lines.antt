@@ -221,12 +221,26 @@ statement_view (line.Foreign version action) = foreign version action.now
 -- a moment fits where a commit keeps one
 abbrev pub IsTimelyTask : Task → Type 0
 IsTimelyTask (append application number at rows) = at < 2 ^ 63
-IsTimelyTask _ = ⊤
+IsTimelyTask (close application at) = ⊤
+IsTimelyTask checkpoint = ⊤
+IsTimelyTask (tail max offset) = ⊤
 
 abbrev pub IsTimely : Statement → Type 0
 IsTimely (create id at schema) = at < 2 ^ 63
 IsTimely (task job) = IsTimelyTask job
-IsTimely _ = ⊤
+IsTimely snapshot = ⊤
+IsTimely history = ⊤
+IsTimely (show version) = ⊤
+IsTimely (hex name) = ⊤
+IsTimely (foreign version action) = ⊤
+IsTimely (tries count) = ⊤
+IsTimely (fault kind) = ⊤
+IsTimely (start actor job) = ⊤
+IsTimely (until actor) = ⊤
+IsTimely (step actor kind) = ⊤
+IsTimely (finish actor) = ⊤
+IsTimely (die actor) = ⊤
+IsTimely (land put) = ⊤
 
 -- what the code took a line for
 abbrev pub reading_view : readings.Reading → Reading
