@@ -18,7 +18,7 @@ use Rattle.snapshot_core.specs.Taking.{most_bytes}
 use Rattle.sink_core.specs.Appending.{Batch, Step, puts, stands, is_past, settled, with_append, with_commit, with_file, with_file_alone}
 use Rattle.sink_core.specs.Refusals.{Refusal}
 use Rattle.lake_script.specs.Checkpoints.{Checkpoint, NotPut, by_log, too_large, checkpoint_by, checkpoint_of, newest_version, with_checkpoint}
-use Rattle.lake_script.specs.Lines.{append, checkpoint, Statement, create, task, foreign}
+use Rattle.script_lines.specs.Lines.{append, checkpoint, Statement, create, task, foreign}
 use Rattle.lake_script.specs.Runs.{Executes, MayLeave}
 use Rattle.lake_script.specs.Told.{left_by_statement}
 use Rattle.job_laws.specs.Looking.{LooksWithin}

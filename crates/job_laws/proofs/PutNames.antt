@@ -15,7 +15,7 @@ use Rattle.commit_core.specs.Texts.{line_of}
 use Rattle.sink_core.specs.Appending.{MayAppend, Step, settled, with_append, with_file_alone}
 use Rattle.sink_core.specs.Refusals.{Refusal}
 use Rattle.lake_script.specs.Growth.{MayPut}
-use Rattle.lake_script.specs.Lines.{append, checkpoint, Statement, create, task, foreign}
+use Rattle.script_lines.specs.Lines.{append, checkpoint, Statement, create, task, foreign}
 use Rattle.job_laws.specs.Looking.{LooksWithin}
 use Rattle.job_laws.proofs.Added.{IsAlike, alike_before, alike_put}
 use Rattle.job_laws.proofs.Left.{append_alike, created_alike, file_alike}

@@ -3,7 +3,7 @@ use Rattle.std.proofs.Common.{ℕ, List, Contains, sym, subst, ◌<◌}
 use Rattle.store_core.specs.Objects.{Objects}
 use Rattle.table_folder.specs.Loads.{loaded}
 use Rattle.table_log.specs.Versions.{Version}
-use Rattle.lake_script.specs.Lines.{Statement, task, append, tail, hex}
+use Rattle.script_lines.specs.Lines.{Statement, task, append, tail, hex}
 use Rattle.job_laws.specs.Looking.{files_in, LooksWithin, MayLookAt}
 use Rattle.job_laws.proofs.SameLogs.{same_count, same_version}
 

@@ -12,7 +12,7 @@ use Rattle.snapshot_core.specs.Faults.{readable_log}
 use Rattle.snapshot_core.specs.Taking.{IsNewestCheckpoint, most_bytes}
 use Rattle.snapshot_core.specs.Telling.{TellsSnapshot}
 use Rattle.lake_script.specs.Checkpoints.{by_log, checkpoint_by, checkpoint_of, checkpoint_reply, newest_version, snapshot_reply, too_large}
-use Rattle.lake_script.specs.Lines.{append, checkpoint, close, tail, Statement, create, die, fault, finish, foreign, hex, history, land, show, snapshot, start, step, task, tries, until}
+use Rattle.script_lines.specs.Lines.{append, checkpoint, close, tail, Statement, create, die, fault, finish, foreign, hex, history, land, show, snapshot, start, step, task, tries, until}
 use Rattle.lake_script.specs.Replies.{put_word}
 use Rattle.lake_script.specs.Told.{appended_reply, created_reply, in_hex, reply_to_statement, shown, tailed_reply, IsPrintedStatement}
 use Rattle.commit_core.specs.Texts.{line_of}

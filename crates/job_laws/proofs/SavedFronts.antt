@@ -15,7 +15,7 @@ use Rattle.snapshot_core.specs.Taking.{HasPut, PutsCheckpoint}
 use Rattle.sink_core.specs.Appending.{Batch, IsWellMade, MayAppend, Step, is_past, puts, stands, settled, with_append, with_file}
 use Rattle.sink_core.specs.Refusals.{Refusal}
 use Rattle.lake_script.specs.Growth.{MayPut, MayPutCheckpoint}
-use Rattle.lake_script.specs.Lines.{append, checkpoint, Statement, create, task, foreign}
+use Rattle.script_lines.specs.Lines.{append, checkpoint, Statement, create, task, foreign}
 use Rattle.job_laws.specs.Looking.{LooksWithin}
 use Rattle.job_laws.proofs.Loaded.{checkpoint_loaded, commit_loaded}
 use Rattle.job_laws.proofs.NameKinds.{commit_is_commit, file_is_data}

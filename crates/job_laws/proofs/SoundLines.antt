@@ -6,7 +6,7 @@ use Rattle.table_log.specs.Counts.{commit_count}
 use Rattle.table_store.specs.Sound.{IsSound, greatest_version}
 use Rattle.log_laws.specs.Sound.{IsSoundStore}
 use Rattle.lake_script.specs.Growth.{MayPut}
-use Rattle.lake_script.specs.Lines.{Statement, append, asks, checkpoint, create, foreign, task}
+use Rattle.script_lines.specs.Lines.{Statement, append, asks, checkpoint, create, foreign, task}
 use Rattle.lake_script.specs.Told.{IsPutHere}
 use Rattle.lake_script.proofs.SoundPuts.{puts_sound}
 use Rattle.job_laws.specs.Bytes.{AreBytes, LooksAtBytes}

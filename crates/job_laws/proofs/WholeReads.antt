@@ -17,7 +17,7 @@ use Rattle.table_folder.specs.Loads.{is_loaded, loaded}
 use Rattle.source_core.specs.Offsets.{offset_of}
 use Rattle.source_core.specs.TailFaults.{refusal_text}
 use Rattle.source_core.specs.Tailing.{Handed, Item, LogFile, Refusal, actions_in, bad_offset, behind, data_file, end_of, ended, hand, hand_on, handed_by, handed_text, is_done, items_at, memory, missing_file, or_bad_file, rows_behind, rows_left, rows_of, schema_at, tailed, unless_beyond, unless_gone, unless_no_file, unless_removed, version_fault, versions_at}
-use Rattle.lake_script.specs.Lines.{task, tail}
+use Rattle.script_lines.specs.Lines.{task, tail}
 use Rattle.lake_script.specs.Runs.{Executes}
 use Rattle.lake_script.specs.Told.{tailed_reply}
 use Rattle.job_laws.specs.Enough.{HasRows, line_count}

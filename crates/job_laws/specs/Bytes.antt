@@ -2,7 +2,7 @@
 use Rattle.std.specs.Prelude.{◌≡◌, ℕ, List, Some}
 use Rattle.lake_bytes.specs.Varint.{IsBytes}
 use Rattle.store_core.specs.Objects.{Objects, object_at}
-use Rattle.lake_script.specs.Lines.{Statement}
+use Rattle.script_lines.specs.Lines.{Statement}
 use Rattle.job_laws.specs.Looking.{MayLookAt}
 
 -- each object is of numbers of eight bits

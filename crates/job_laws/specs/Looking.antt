@@ -9,7 +9,7 @@ use Rattle.table_folder.specs.Loads.{is_loaded}
 use Rattle.table_model.specs.declared.reading.Offset.{Offset}
 use Rattle.source_core.specs.Offsets.{offset_of}
 use Rattle.source_core.specs.Tailing.{paths_in}
-use Rattle.lake_script.specs.Lines.{Statement, task, append, tail, hex}
+use Rattle.script_lines.specs.Lines.{Statement, task, append, tail, hex}
 
 -- the keys of paths
 abbrev pub keys_of : List Path → List (List ℕ)

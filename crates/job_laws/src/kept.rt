@@ -14,7 +14,7 @@ ghost use Rattle.source_core.specs.Offsets.{offset_of};
 ghost use Rattle.source_core.specs.Tailing.{Handed, read_by};
 ghost use Rattle.source_core.specs.Tails.{tails};
 ghost use Rattle.lake_script.specs.Keeps.{HasNoOther, IsKept, Keeps, KeepsBeside};
-ghost use Rattle.lake_script.specs.Lines.{Statement, asks};
+ghost use Rattle.script_lines.specs.Lines.{Statement, asks};
 ghost use Rattle.lake_script.specs.Scripts.{reply_over};
 ghost use Rattle.lake_script.specs.Sound.{IsSoundStatement};
 ghost use Rattle.lake_script.specs.Tables as tables;

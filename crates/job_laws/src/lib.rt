@@ -18,7 +18,7 @@ ghost use Rattle.log_laws.specs.Sound.{IsSoundStore};
 ghost use Rattle.sink_core.specs.Appending.{PutsWell, appended_by, settled, stands, with_append, with_file_alone};
 ghost use Rattle.sink_core.specs.declared.appending.Appended.TheVariants.{Already, Committed};
 ghost use Rattle.lake_script.specs.Growth.{MayPut};
-ghost use Rattle.lake_script.specs.Lines.{Statement, asks, tail, task};
+ghost use Rattle.script_lines.specs.Lines.{Statement, asks, tail, task};
 ghost use Rattle.lake_script.specs.Runs.{Executes};
 ghost use Rattle.lake_script.specs.Told.{IsPutHere, reply_to_statement};
 ghost use Rattle.job_laws.specs.Bytes.{LooksAtBytes};

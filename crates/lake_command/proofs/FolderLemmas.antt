@@ -15,11 +15,11 @@ use Rattle.table_folder.specs.declared.fault.SaveFault.{SaveFault}
 use Rattle.table_folder.specs.declared.fault.SaveFault.TheVariants as saves
 use Rattle.json_lines.specs.Rows.{input_lines, object_of}
 use Rattle.lake_script.specs.Growth.{MayPut}
-use Rattle.lake_script.specs.Lines.{Statement, asks, statement_view}
+use Rattle.script_lines.specs.Lines.{Statement, asks, statement_view}
 use Rattle.lake_script.specs.ReplyView.{reply_text}
 use Rattle.lake_script.specs.Runs.{Executes}
 use Rattle.lake_script.specs.Told.{IsPutHere}
-use Rattle.lake_script.specs.declared.line.Line.{Line}
+use Rattle.script_lines.specs.declared.line.Line.{Line}
 use Rattle.lake_script.specs.declared.reply.Reply.{Reply}
 use Rattle.job_laws.specs.Bytes.{AreBytes}
 use Rattle.job_laws.specs.Looking.{LooksWithin}

@@ -5,7 +5,7 @@ use Rattle.std.proofs.lemmas.List.{take_more, map_push}
 use Rattle.store_core.specs.Objects.{Objects}
 use Rattle.table_log.specs.Restoring.{RestoresWell}
 use Rattle.table_folder.specs.Loads.{loaded}
-use Rattle.lake_script.specs.Lines.{task, tail}
+use Rattle.script_lines.specs.Lines.{task, tail}
 use Rattle.lake_script.specs.Runs.{Executes}
 use Rattle.job_laws.specs.Enough.{HasRows}
 use Rattle.job_laws.proofs.Callers.{restores, whole}

@@ -14,7 +14,7 @@ use Rattle.lake_script.specs.declared.inputs.InputError.{InputError}
 use Rattle.lake_script.specs.declared.inputs.InputError.TheVariants as inputs
 use Rattle.lake_script.specs.declared.inputs.TheConstants.{MOST_BYTES, MOST_READS}
 use Rattle.lake_script.specs.Growth.{MayPut}
-use Rattle.lake_script.specs.Lines.{Statement}
+use Rattle.script_lines.specs.Lines.{Statement}
 use Rattle.lake_words.specs.Asked.{Work}
 use Rattle.lake_words.specs.Asked as words
 use Rattle.lake_command.specs.declared.failure.Failure.{Failure}

@@ -8,7 +8,7 @@ use Rattle.json_lines.specs.Rows.{input_lines, object_of}
 use Rattle.lake_words.specs.Asked.{Work}
 use Rattle.lake_words.specs.Asked as words
 use Rattle.lake_script.specs.Growth.{MayPut}
-use Rattle.lake_script.specs.Lines.{Statement, create, task, append, checkpoint, tail, snapshot, history}
+use Rattle.script_lines.specs.Lines.{Statement, create, task, append, checkpoint, tail, snapshot, history}
 use Rattle.lake_script.specs.Runs.{Executes}
 use Rattle.lake_script.specs.ReplyView.{reply_text}
 use Rattle.lake_script.specs.Told.{not_yet}

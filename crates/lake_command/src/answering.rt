@@ -7,7 +7,7 @@ ghost use Rattle.table_log.specs.Counts.{commit_count};
 ghost use Rattle.table_store.specs.Sound.{greatest_version};
 ghost use Rattle.table_log.specs.Restoring.{RestoresWell};
 ghost use Rattle.lake_words.specs.Asked.{work_view};
-ghost use Rattle.lake_script.specs.Lines.{statement_view, IsTimely};
+ghost use Rattle.script_lines.specs.Lines.{statement_view, IsTimely};
 ghost use Rattle.lake_script.specs.ReplyView.{reply_text};
 ghost use Rattle.lake_script.specs.Streams.{read_failed, unread};
 ghost use Rattle.lake_command.specs.Failures.{ComesOfACall, IsByFolder, IsCaused, IsNotRead, IsOfInput, Leaves};

@@ -3,7 +3,7 @@ ghost use Rattle.std.specs.Prelude.{◌≡◌, [], ℕ, List, Some, None, Ok, tr
 ghost use Rattle.store_core.specs.Memory.{stored_objects};
 ghost use Rattle.store_core.specs.Objects.{object_at, Objects};
 ghost use Rattle.table_log.specs.Restoring.{RestoresWell};
-ghost use Rattle.lake_script.specs.Lines.{statement_view, task, tail, IsTimely};
+ghost use Rattle.script_lines.specs.Lines.{statement_view, task, tail, IsTimely};
 ghost use Rattle.lake_script.specs.ReplyView.{reply_text};
 ghost use Rattle.lake_script.specs.Runs.{Executes};
 ghost use Rattle.lake_command.specs.Failures.{ComesOfACall, CountsFolderFault, IsByFolder, IsLoading, IsOfFolder, NamesPut};

@@ -18,7 +18,7 @@ use Rattle.snapshot_core.specs.declared.fault.SnapshotFault.{SnapshotFault}
 use Rattle.snapshot_core.specs.declared.fault.SnapshotFault.TheVariants as faults
 use Rattle.lake_script.specs.declared.reply.Reply.TheVariants.{Checkpointed, NoSnapshot}
 use Rattle.lake_script.specs.Checkpoints.{checkpoint_by, newest_version}
-use Rattle.lake_script.specs.Lines.{Statement, checkpoint, snapshot, task}
+use Rattle.script_lines.specs.Lines.{Statement, checkpoint, snapshot, task}
 use Rattle.lake_script.specs.ReplyView.{reply_text, is_short}
 use Rattle.lake_script.specs.Runs.{Executes, Has, IsShort, no_room_to_tell}
 use Rattle.lake_script.specs.Sound.{IsExecuted}

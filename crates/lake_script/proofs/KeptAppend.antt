@@ -25,7 +25,7 @@ use Rattle.table_store.proofs.Callers.{commit_name-data_file_name}
 use Rattle.table_model.proofs.Callers.{append_keeps}
 use Rattle.sink_core.specs.Appending.{Batch, Request, Step, puts, stands, checked, appending, file_name, is_repeat, request_of, file_or_refusal, batch_of, fitting, new_step, repeated_step, step_of, settled, answered, with_append, IsWellMade, PutsWell}
 use Rattle.commit_core.specs.Commits.{commit_text}
-use Rattle.lake_script.specs.Lines.{append, task}
+use Rattle.script_lines.specs.Lines.{append, task}
 use Rattle.sink_core.specs.Refusals.{Refusal, bad_app, too_large, file_too_large, stale, differs, bad_log}
 use Rattle.commit_core.specs.Texts.{line_of}
 use Rattle.lake_bytes.specs.Results.{◌>>=◌, refused_if}

@@ -12,7 +12,7 @@ use Rattle.commit_core.specs.Texts.{refused, line_of}
 use Rattle.snapshot_core.specs.Faults.{bad_log, unsupported}
 use Rattle.snapshot_core.specs.Taking.{most_bytes}
 use Rattle.lake_script.specs.Checkpoints.{Checkpoint, NotPut, by_log, too_large, checkpoint_by, checkpoint_of, checkpoint_reply, checkpointed_at, not_put_text, with_checkpoint, IsWellPut}
-use Rattle.lake_script.specs.Lines.{checkpoint, task}
+use Rattle.script_lines.specs.Lines.{checkpoint, task}
 use Rattle.lake_script.specs.Sound.{IsSoundStatement}
 use Rattle.lake_script.specs.Tables as tables
 use Rattle.lake_script.specs.Tables.{State, nothing, table, entries_of}

@@ -14,7 +14,7 @@ use Rattle.table_store.proofs.Callers.{commit_name-data_file_name, commit_name-o
 use Rattle.commit_core.specs.Commits.{commit_text, creation as created}
 use Rattle.table_log.specs.Names.{commit_name}
 use Rattle.commit_core.specs.Creating.{Refusal, bad_schema, bad_id, too_large, id_of, described, within, most_bytes, commit_from, unless_there, with_creation}
-use Rattle.lake_script.specs.Lines.{create}
+use Rattle.script_lines.specs.Lines.{create}
 use Rattle.lake_bytes.specs.Results.{◌>>=◌, or_refusal, refused_as}
 use Rattle.commit_core.specs.Creating.{IsWellCreated, CreatesWell}
 use Rattle.lake_script.specs.Sound.{IsSoundStatement}

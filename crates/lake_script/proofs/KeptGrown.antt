@@ -19,7 +19,7 @@ use Rattle.sink_core.specs.Appending.{MayAppend}
 use Rattle.lake_script.specs.Growth.{MayPut}
 use Rattle.table_log.specs.Restoring.{AreCheckpointsSound, HasOnlySoundCheckpoints, seen}
 use Rattle.snapshot_core.specs.Taking.{HasPut}
-use Rattle.lake_script.specs.Lines.{append, checkpoint, Statement, create, task, foreign, Reading, skipped, bad, asks, reading_of}
+use Rattle.script_lines.specs.Lines.{append, checkpoint, Statement, create, task, foreign, Reading, skipped, bad, asks, reading_of}
 use Rattle.sink_core.specs.Refusals.{Refusal}
 use Rattle.lake_script.specs.Runs.{Replies, RunsInPart, waits, begins, follows}
 use Rattle.lake_script.specs.Told.{IsPutHere, ArePutHere}

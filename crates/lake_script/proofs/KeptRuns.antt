@@ -11,7 +11,7 @@ use Rattle.table_model.specs.declared.table.Appended.{Appended}
 use Rattle.table_model.specs.declared.table.Appended.TheVariants.{Committed, Already, Stale, Differs, StreamClosed}
 use Rattle.commit_core.specs.Creating as creations
 use Rattle.commit_core.specs.Histories.{history_of, bad_log}
-use Rattle.lake_script.specs.Lines.{Statement, create, task, history, show, hex, snapshot, foreign, append, checkpoint, tail, Reading, skipped, bad, asks, reading_of}
+use Rattle.script_lines.specs.Lines.{Statement, create, task, history, show, hex, snapshot, foreign, append, checkpoint, tail, Reading, skipped, bad, asks, reading_of}
 use Rattle.source_core.specs.Offsets.{offset_of}
 use Rattle.sink_core.specs.Refusals.{Refusal}
 use Rattle.lake_script.specs.Sound.{IsSoundStatement, IsSound, AreSound}

@@ -17,13 +17,9 @@ pub mod KeptStep
 pub mod KeptTail
 pub mod KeptTails
 pub mod KeptVersions
-pub mod LineLemmas
-pub mod Moments
-pub mod Numbers
 pub mod RestoredLemmas
 pub mod RunLemmas
 pub mod RunsLemmas
 pub mod ScriptLemmas
 pub mod SoundPuts
 pub mod StreamLemmas
-pub mod Texts

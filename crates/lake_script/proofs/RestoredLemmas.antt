@@ -15,7 +15,7 @@ use Rattle.sink_core.specs.declared.refusal.AppendFault.{AppendFault}
 use Rattle.sink_core.specs.declared.refusal.AppendFault.TheVariants as faults
 use Rattle.lake_script.specs.declared.reply.Reply.TheVariants as replies
 use Rattle.lake_script.specs.declared.reply.Reply.TheVariants.{NotAppended}
-use Rattle.lake_script.specs.Lines.{append, task}
+use Rattle.script_lines.specs.Lines.{append, task}
 use Rattle.lake_script.specs.ReplyView.{reply_text, is_short}
 use Rattle.lake_script.specs.Runs.{Executes}
 use Rattle.lake_script.specs.Sound.{IsExecuted}

@@ -4,10 +4,11 @@ use Rattle.std.specs.Io.KnownBytes.{Appends, append_known}
 use Rattle.std.proofs.lemmas.Bool.{cond-true, cond-false}
 use Rattle.delta_actions.specs.Commit.{lines_of}
 use Rattle.store_core.specs.Objects.{Objects}
-use Rattle.lake_script.specs.Lines.{Statement, Reading, skipped, bad, asks, reading_of}
+use Rattle.script_lines.specs.Lines.{Statement, Reading, skipped, bad, asks, reading_of}
 use Rattle.lake_script.specs.Sound.{IsExecuted, IsAnswered, AreSound, IsRun, IsRunInPart}
 use Rattle.lake_script.specs.Streams.{StandsIn}
-use Rattle.lake_script.specs.Told.{reply_to, left_by, is_bad, UnlessBad, ArePrinted, ArePrintedInPart, expected_from, left_from, first_bad_from, lines_left}
+use Rattle.lake_script.specs.Told.{reply_to, left_by, is_bad, UnlessBad, ArePrinted, ArePrintedInPart, expected_from, left_from, first_bad_from}
+use Rattle.script_lines.specs.Splitting.{lines_left}
 use Rattle.lake_script.proofs.StreamLemmas.{Appends-none, Appends-both, nothing_known, stands_in_whole}
 
 -- a line that has what it asks for is answered

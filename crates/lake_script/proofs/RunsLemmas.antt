@@ -12,7 +12,7 @@ use Rattle.sink_core.specs.Appending.{settled}
 use Rattle.sink_core.specs.Puts.{IsSaidBy}
 use Rattle.source_core.specs.Tailing.{tailed}
 use Rattle.lake_script.specs.declared.reply.Reply.TheVariants.{NotCreated, NotAppended}
-use Rattle.lake_script.specs.Lines.{append, Statement, create, tail, task, reading_of}
+use Rattle.script_lines.specs.Lines.{append, Statement, create, tail, task, reading_of}
 use Rattle.lake_script.specs.ReplyView.{reply_text, is_short}
 use Rattle.lake_script.specs.Runs.{IsShort, IsWantOfMemory, MayLeave, Executes, IsCutOff, Replies, Runs, done, stops, goes_on, RunsInPart, waits, begins, follows, no_room_to_read, FallsShort, here, later, Tells, TellsFront, TellsShort}
 use Rattle.lake_script.specs.Streams.{StandsIn}

@@ -9,7 +9,7 @@ use Rattle.commit_core.specs.Creating.{with_creation, commit_from}
 use Rattle.sink_core.specs.Appending.{Batch, Request, Step, puts, stands, batch_of, file_name, fitting, is_past, new_step, repeated_step, request_of, settled, step_of, unless_other, where_same, with_append, with_commit, with_file, with_file_alone, MayAppend}
 use Rattle.sink_core.specs.Refusals.{Refusal}
 use Rattle.lake_script.specs.Growth.{MayPut}
-use Rattle.lake_script.specs.Lines.{append, checkpoint, Statement, create, task, foreign}
+use Rattle.script_lines.specs.Lines.{append, checkpoint, Statement, create, task, foreign}
 use Rattle.snapshot_core.proofs.Callers.{put_sound}
 use Rattle.table_log.proofs.Callers.{commit_is_none, data_file_is_none, sound_beside}
 use Rattle.lake_script.proofs.KeptNames.{same_file_name}

@@ -7,7 +7,7 @@ use Rattle.commit_core.specs.Creating.{MayCreate}
 use Rattle.commit_core.specs.Texts.{line_of}
 use Rattle.table_log.specs.Names.{commit_name}
 use Rattle.snapshot_core.specs.Taking.{HasPut}
-use Rattle.lake_script.specs.Lines.{append, checkpoint, Statement, create, task, foreign}
+use Rattle.script_lines.specs.Lines.{Statement, append, close, checkpoint, tail, create, task, snapshot, history, show, hex, tries, fault, start, until, step, finish, die, land, foreign}
 
 -- the checkpoint of the newest version was put, or nothing
 abbrev pub MayPutCheckpoint : Objects → Objects → Type 0
@@ -19,4 +19,17 @@ MayPut old (create id at schema) new = MayCreate id at schema old new
 MayPut old (task (append application number at items)) new = IsUtf8 application × MayAppend application number at (settled false old application number at items) old new
 MayPut old (task checkpoint) new = MayPutCheckpoint old new
 MayPut old (foreign version action) new = (new ≡ old) ⊎ (new ≡ with_object old (commit_name version) (line_of action))
-MayPut old _ new = new ≡ old
+MayPut old (task (tail max offset)) new = new ≡ old
+MayPut old snapshot new = new ≡ old
+MayPut old history new = new ≡ old
+MayPut old (show version) new = new ≡ old
+MayPut old (hex name) new = new ≡ old
+MayPut old (task (close application at)) new = new ≡ old
+MayPut old (tries count) new = new ≡ old
+MayPut old (fault kind) new = new ≡ old
+MayPut old (start actor job) new = new ≡ old
+MayPut old (until actor) new = new ≡ old
+MayPut old (step actor kind) new = new ≡ old
+MayPut old (finish actor) new = new ≡ old
+MayPut old (die actor) new = new ≡ old
+MayPut old (land put) new = new ≡ old

@@ -1,9 +1,6 @@
 pub mod Checkpoints
-pub mod Fields
 pub mod Growth
 pub mod Keeps
-pub mod Lines
-pub mod Names
 pub mod Replies
 pub mod ReplyView
 pub mod Runs

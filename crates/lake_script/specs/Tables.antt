@@ -22,7 +22,7 @@ use Rattle.commit_core.specs.Histories.{close_told, number_told}
 use Rattle.commit_core.specs.Histories as histories
 use Rattle.snapshot_core.specs.Faults.{bad_log, unsupported}
 use Rattle.lake_script.specs.Checkpoints.{by_log, checkpointed_at, not_put_text}
-use Rattle.lake_script.specs.Lines.{Statement, create, task, history, show, hex, snapshot, foreign, append, checkpoint, tail, Reading, skipped, bad, asks, reading_of}
+use Rattle.script_lines.specs.Lines.{Statement, append, close, checkpoint, tail, create, task, snapshot, history, show, hex, tries, fault, start, until, step, finish, die, land, foreign, Reading, skipped, bad, asks, reading_of}
 use Rattle.source_core.specs.Offsets.{offset_of}
 use Rattle.sink_core.specs.Refusals as appends
 use Rattle.commit_core.specs.Texts as texts
@@ -134,20 +134,47 @@ checkpoint_reply (table schema entries) =
 
 -- ---- lines
 
--- the reply to what a line asks for; a line that isn't there yet is told so
+-- the reply to what a line asks for; a line that isn't there yet is told so, and here those that aren't of the table too
 abbrev pub reply_to_statement : State → Statement → List ℕ
 reply_to_statement state (create id at schema) = created_reply (creating state (described id schema))
 reply_to_statement state (task (append application number at items)) = appended_reply state (batch_in state application number items)
 reply_to_statement state (task (tail max offset)) = tail_reply state max (offset_of offset)
 reply_to_statement state (task checkpoint) = checkpoint_reply state
 reply_to_statement state history = history_reply state
-reply_to_statement state _ = not_yet
+reply_to_statement state snapshot = not_yet
+reply_to_statement state (show version) = not_yet
+reply_to_statement state (hex name) = not_yet
+reply_to_statement state (foreign version action) = not_yet
+reply_to_statement state (task (close application at)) = not_yet
+reply_to_statement state (tries count) = not_yet
+reply_to_statement state (fault kind) = not_yet
+reply_to_statement state (start actor job) = not_yet
+reply_to_statement state (until actor) = not_yet
+reply_to_statement state (step actor kind) = not_yet
+reply_to_statement state (finish actor) = not_yet
+reply_to_statement state (die actor) = not_yet
+reply_to_statement state (land put) = not_yet
 
 -- the table behind it
 abbrev pub left_by_statement : State → Statement → State
 left_by_statement state (create id at schema) = with_table state (creating state (described id schema))
 left_by_statement state (task (append application number at items)) = with_append state (batch_in state application number items)
-left_by_statement state _ = state
+left_by_statement state (task (tail max offset)) = state
+left_by_statement state (task checkpoint) = state
+left_by_statement state snapshot = state
+left_by_statement state history = state
+left_by_statement state (show version) = state
+left_by_statement state (hex name) = state
+left_by_statement state (foreign version action) = state
+left_by_statement state (task (close application at)) = state
+left_by_statement state (tries count) = state
+left_by_statement state (fault kind) = state
+left_by_statement state (start actor job) = state
+left_by_statement state (until actor) = state
+left_by_statement state (step actor kind) = state
+left_by_statement state (finish actor) = state
+left_by_statement state (die actor) = state
+left_by_statement state (land put) = state
 
 -- the reply to a line of that number
 abbrev pub reply_to : ℕ → State → Reading → List ℕ
@@ -189,7 +216,20 @@ AsksTable snapshot = ⊥
 AsksTable (show version) = ⊥
 AsksTable (hex name) = ⊥
 AsksTable (foreign version action) = ⊥
-AsksTable _ = Unit {0}
+AsksTable (create id at schema) = Unit {0}
+AsksTable (task (append application number at items)) = Unit {0}
+AsksTable (task (tail max offset)) = Unit {0}
+AsksTable (task checkpoint) = Unit {0}
+AsksTable history = Unit {0}
+AsksTable (task (close application at)) = Unit {0}
+AsksTable (tries count) = Unit {0}
+AsksTable (fault kind) = Unit {0}
+AsksTable (start actor job) = Unit {0}
+AsksTable (until actor) = Unit {0}
+AsksTable (step actor kind) = Unit {0}
+AsksTable (finish actor) = Unit {0}
+AsksTable (die actor) = Unit {0}
+AsksTable (land put) = Unit {0}
 
 abbrev pub IsOfTable : Reading → Type 0
 IsOfTable skipped = Unit {0}

@@ -1,7 +1,7 @@
 -- What a script is told. Beside a line that creates a table stands the text that its schema is printed as, beside one
 -- that puts a checkpoint its bytes, and beside one that tells a snapshot its text: no other line looks at the text that
 -- stands beside it. All is told by the whole log: that a log may be read from a checkpoint doesn't show.
-use Rattle.std.specs.Prelude.{◌≡◌, ◌==◌, ◌+◌, ◌++◌, ℕ, Bool, true, false, List, [], ◌∷◌, Option, Some, None, Result, Ok, Err, ⊤, if◌then◌else◌}
+use Rattle.std.specs.Prelude.{◌≡◌, ◌+◌, ◌++◌, ℕ, Bool, true, false, List, [], ◌∷◌, Option, Some, None, Result, Ok, Err, ⊤, if◌then◌else◌}
 use Rattle.delta_actions.specs.Commit.{lines_of}
 use Rattle.hex.specs.Hex.{encode_lower}
 use Rattle.store_core.specs.Objects.{Objects, object_at, with_object}
@@ -18,7 +18,7 @@ use Rattle.commit_core.specs.Creating.{commit_from, created_by, with_creation, I
 use Rattle.commit_core.specs.Histories.{history_of}
 use Rattle.snapshot_core.specs.Faults.{readable_log}
 use Rattle.lake_script.specs.Checkpoints.{checkpoint_by, checkpoint_reply, snapshot_reply, with_checkpoint, IsItsCheckpoint, IsItsSnapshot}
-use Rattle.lake_script.specs.Lines.{append, checkpoint, tail, Statement, create, task, history, show, hex, snapshot, foreign, Reading, skipped, bad, asks, reading_of}
+use Rattle.script_lines.specs.Lines.{Statement, append, close, checkpoint, tail, create, task, snapshot, history, show, hex, tries, fault, start, until, step, finish, die, land, foreign, Reading, skipped, bad, asks, reading_of}
 use Rattle.sink_core.specs.Refusals.{Refusal, refusal_text}
 use Rattle.lake_script.specs.Replies.{fault_text, created, committed_at, already, put_word, bad_line}
 use Rattle.commit_core.specs.Texts as texts
@@ -26,16 +26,6 @@ use Rattle.commit_core.specs.Texts.{refused, line_of}
 use Rattle.source_core.specs.TailFaults as tail_texts
 use Rattle.source_core.specs.Tailing as tails
 use Rattle.source_core.specs.Tailing.{tailed}
-
--- a newline
-abbrev pub is_newline : ℕ → Bool
-is_newline byte = byte == 10
-
--- The lines of what is left, if something is. A line ends at a newline and nowhere else; behind the last newline stands
--- a last line, which may be empty.
-abbrev pub lines_left : Option (List ℕ) → List (List ℕ)
-lines_left None = []
-lines_left (Some text) = lines_of text
 
 -- the reply to a line that creates a table
 abbrev pub created_reply : Result (List ℕ) creations.Refusal → List ℕ
@@ -73,7 +63,21 @@ abbrev pub IsPrintedStatement : Objects → Statement → (printed : List ℕ) �
 IsPrintedStatement objects (create id at schema) printed = IsPrintedFor id schema printed
 IsPrintedStatement objects (task checkpoint) printed = IsItsCheckpoint objects printed
 IsPrintedStatement objects snapshot printed = IsItsSnapshot objects printed
-IsPrintedStatement objects _ printed = Unit {0}
+IsPrintedStatement objects (task (append application number at rows)) printed = Unit {0}
+IsPrintedStatement objects (task (tail max offset)) printed = Unit {0}
+IsPrintedStatement objects history printed = Unit {0}
+IsPrintedStatement objects (show version) printed = Unit {0}
+IsPrintedStatement objects (hex name) printed = Unit {0}
+IsPrintedStatement objects (foreign version action) printed = Unit {0}
+IsPrintedStatement objects (task (close application at)) printed = Unit {0}
+IsPrintedStatement objects (tries count) printed = Unit {0}
+IsPrintedStatement objects (fault kind) printed = Unit {0}
+IsPrintedStatement objects (start actor job) printed = Unit {0}
+IsPrintedStatement objects (until actor) printed = Unit {0}
+IsPrintedStatement objects (step actor kind) printed = Unit {0}
+IsPrintedStatement objects (finish actor) printed = Unit {0}
+IsPrintedStatement objects (die actor) printed = Unit {0}
+IsPrintedStatement objects (land put) printed = Unit {0}
 
 -- the reply to what a line asks for, over the objects that stand
 abbrev pub reply_to_statement : Objects → Statement → (printed : List ℕ) → List ℕ
@@ -86,7 +90,15 @@ reply_to_statement objects history printed = history_of objects
 reply_to_statement objects (show version) printed = shown (object_at objects (commit_name version))
 reply_to_statement objects (hex name) printed = in_hex (object_at objects name)
 reply_to_statement objects (foreign version action) printed = line_of (put_word (object_at objects (commit_name version)))
-reply_to_statement objects _ printed = not_yet
+reply_to_statement objects (task (close application at)) printed = not_yet
+reply_to_statement objects (tries count) printed = not_yet
+reply_to_statement objects (fault kind) printed = not_yet
+reply_to_statement objects (start actor job) printed = not_yet
+reply_to_statement objects (until actor) printed = not_yet
+reply_to_statement objects (step actor kind) printed = not_yet
+reply_to_statement objects (finish actor) printed = not_yet
+reply_to_statement objects (die actor) printed = not_yet
+reply_to_statement objects (land put) printed = not_yet
 
 -- the objects that stand once a line has what it asks for
 abbrev pub left_by_statement : Objects → Statement → (printed : List ℕ) → Objects
@@ -94,7 +106,20 @@ left_by_statement objects (create id at schema) printed = with_creation objects 
 left_by_statement objects (task (append application number at rows)) printed = with_append objects (settled false objects application number at rows)
 left_by_statement objects (task checkpoint) printed = with_checkpoint objects printed (checkpoint_by objects printed)
 left_by_statement objects (foreign version action) printed = with_object objects (commit_name version) (line_of action)
-left_by_statement objects _ printed = objects
+left_by_statement objects (task (tail max offset)) printed = objects
+left_by_statement objects snapshot printed = objects
+left_by_statement objects history printed = objects
+left_by_statement objects (show version) printed = objects
+left_by_statement objects (hex name) printed = objects
+left_by_statement objects (task (close application at)) printed = objects
+left_by_statement objects (tries count) printed = objects
+left_by_statement objects (fault kind) printed = objects
+left_by_statement objects (start actor job) printed = objects
+left_by_statement objects (until actor) printed = objects
+left_by_statement objects (step actor kind) printed = objects
+left_by_statement objects (finish actor) printed = objects
+left_by_statement objects (die actor) printed = objects
+left_by_statement objects (land put) printed = objects
 
 -- the same three of a line as it is read, of that number
 abbrev pub IsPrintedLine : Objects → Reading → (printed : List ℕ) → Type 0
@@ -115,7 +140,25 @@ left_by objects (asks statement) printed = left_by_statement objects statement p
 -- a line doesn't put another tool's commit
 abbrev pub IsPutHere : Reading → Type 0
 IsPutHere (asks (foreign version action)) = ⊥
-IsPutHere _ = Unit {0}
+IsPutHere skipped = Unit {0}
+IsPutHere bad = Unit {0}
+IsPutHere (asks (create id at schema)) = Unit {0}
+IsPutHere (asks (task (append application number at rows))) = Unit {0}
+IsPutHere (asks (task (tail max offset))) = Unit {0}
+IsPutHere (asks (task checkpoint)) = Unit {0}
+IsPutHere (asks snapshot) = Unit {0}
+IsPutHere (asks history) = Unit {0}
+IsPutHere (asks (show version)) = Unit {0}
+IsPutHere (asks (hex name)) = Unit {0}
+IsPutHere (asks (task (close application at))) = Unit {0}
+IsPutHere (asks (tries count)) = Unit {0}
+IsPutHere (asks (fault kind)) = Unit {0}
+IsPutHere (asks (start actor job)) = Unit {0}
+IsPutHere (asks (until actor)) = Unit {0}
+IsPutHere (asks (step actor kind)) = Unit {0}
+IsPutHere (asks (finish actor)) = Unit {0}
+IsPutHere (asks (die actor)) = Unit {0}
+IsPutHere (asks (land put)) = Unit {0}
 
 -- no line puts another tool's commit, so that what is put is this program's
 abbrev pub ArePutHere : List (List ℕ) → Type 0

@@ -1,8 +1,8 @@
 // The engine of `script`: it reads its input to the end, then answers line by line.
-ghost use Rattle.std.specs.Prelude.{◌≡◌, ◌≢◌, ◌+◌, ◌<◌, ◌≤◌, ◌^◌, [], ◌∷◌, ◌⊎◌, Bool, true, false, not, length, position, option_map, ⊤, OnOk, OnErr, IfOk, IfErr, IfSome};
+ghost use Rattle.std.specs.Prelude.{◌≡◌, ◌≢◌, ◌+◌, ◌<◌, ◌≤◌, ◌^◌, [], ◌⊎◌, Bool, true, false, not, length, ⊤, OnOk, OnErr, IfOk, IfErr, IfSome};
 ghost use Rattle.std.specs.Io.KnownBytes.{Appends};
 ghost use Rattle.lake_script.specs.declared.inputs.TheConstants.{MOST_BYTES, MOST_READS};
-ghost use Rattle.lake_script.specs.Lines.{reading_of};
+ghost use Rattle.script_lines.specs.Lines.{reading_of};
 ghost use Rattle.lake_script.specs.Runs.{FallsShort, IsCutOff, Replies, Runs, RunsInPart, Tells, TellsFront, TellsShort};
 ghost use Rattle.lake_script.specs.Keeps.{Keeps, KeepsBeside};
 ghost use Rattle.lake_script.specs.Scripts.{IsScript, StaysSound};
@@ -12,13 +12,13 @@ ghost use Rattle.lake_script.specs.Tables.{State, entries_of};
 ghost use Rattle.delta_actions.specs.Commit.{lines_of};
 ghost use Rattle.table_log.specs.Known.{IsKnown};
 ghost use Rattle.table_log.specs.Restoring.{AreCheckpointsSound, HasOnlySoundCheckpoints, RestoresWell};
-ghost use Rattle.lake_script.specs.Told.{ArePutHere, lines_left, is_newline, is_bad, first_bad, Finishes, fell_short};
+ghost use Rattle.lake_script.specs.Told.{ArePutHere, is_bad, first_bad, Finishes, fell_short};
 
 use crate::inputs::{Input, InputError};
 use crate::outputs::{Output, OutputError};
-use crate::reading::{Reading, reading_of};
 use crate::reply::execute;
 use json::Scratch;
+use script_lines::{Reading, first_line, reading_of};
 use std::alloc::Global;
 use std::io::{Read, Write};
 use store_core::Store;
@@ -52,23 +52,6 @@ impl Outcome {
         ensures { result ≡ fell_short self.now }
     {
         self.is_short
-    }
-}
-
-fn newline_in(text: &[u8]) -> Option<usize>
-    ensures { result ≡ position is_newline text.now }
-{
-    text.iter().position(|byte| *byte == b'\n')
-}
-
-// The first line of a text, and the text behind its newline.
-fn first_line(text: &[u8]) -> (&[u8], Option<&[u8]>)
-    ensures lines { lines_of text.now ≡ result.0.now ∷ lines_left (option_map (λ after. after.now) result.1) }
-    ensures shorter { IfSome result.1 (λ after. length after.now < length text.now) }
-{
-    match newline_in(text) {
-        Some(at) => (&text[..at], Some(&text[at + 1..])),
-        None => (text, None),
     }
 }
 

@@ -1,23 +1,18 @@
-//! Scripts: their lines, what each line does over a store, and the replies. [`run`] answers a whole script, [`execute`] one
-//! line.
+//! What the lines of a script do over a store, and their replies. [`run`] answers a whole script, [`execute`] one line. How a
+//! line is spelled is `script_lines`' affair; words of a command line and folders are none of either.
 #![tactic(auto)]
 
 mod engine;
 mod faults;
-mod fields;
 mod foreign;
 mod inputs;
-mod kind;
-mod line;
 mod outputs;
-mod reading;
 mod reply;
 mod showing;
-mod verb;
 
 pub use engine::{End, Outcome, run, run_text};
 pub use faults::{Fault, Refusal};
 pub use inputs::{Input, InputError, MOST_BYTES, MOST_READS};
-pub use line::{Job, Line};
 pub use outputs::{Output, OutputError};
 pub use reply::{Reply, execute};
+pub use script_lines::{Job, Line};

@@ -1,4 +1,4 @@
-use Rattle.lake_script.specs.Lines.{statement_view}
+use Rattle.script_lines.specs.Lines.{statement_view}
 use Rattle.lake_words.specs.Asked.{work_view}
 use Rattle.lake_command.proofs.FolderLemmas.{fails_for_job, found_asked, may_leave, replies_to_job, sound_restores, stays_sound}
 use Rattle.lake_command.proofs.answering.answer.Goals as goal

@@ -2,7 +2,7 @@ use Rattle.std.proofs.Common.{ap, sym, refl, map, ◌∙◌}
 use Rattle.serde_json.specs.View.{items_of}
 use Rattle.json_text.specs.Rows.{text_data}
 use Rattle.json_lines.specs.Rows.{input_lines, object_of}
-use Rattle.lake_script.specs.Lines.{append, create, task}
+use Rattle.script_lines.specs.Lines.{append, create, task}
 use Rattle.lake_command.proofs.FolderLemmas.{rows_are}
 use Rattle.lake_command.proofs.answering.line_of.Goals as goal
 use Rattle.lake_command.proofs.answering.line_of.Goals.{in-Create+in_ok-moment-in-Create, in-Append+in_ok-at-in-Append+in_ok-text-in-Append+in_ok-rows-in-Append, in-Tail, in-Checkpoint, in-Snapshot, in-History}

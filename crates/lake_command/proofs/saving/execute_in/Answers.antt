@@ -5,7 +5,7 @@ use Rattle.store_core.specs.Objects.{Objects, names_of, object_at}
 use Rattle.table_log.specs.Restoring.{RestoresWell}
 use Rattle.table_folder.specs.Loads.{loaded}
 use Rattle.table_folder.specs.Copies.{HasSavedFront, to_save, with_copies}
-use Rattle.lake_script.specs.Lines.{statement_view}
+use Rattle.script_lines.specs.Lines.{statement_view}
 use Rattle.lake_script.specs.ReplyView.{reply_text}
 use Rattle.lake_script.specs.declared.reply.Reply.{Reply}
 use Rattle.lake_command.specs.Failures.{NamesPut}

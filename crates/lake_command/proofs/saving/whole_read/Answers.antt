@@ -1,6 +1,6 @@
 use Rattle.std.proofs.Common.{sym, subst}
 use Rattle.store_core.specs.Memory.{stored_objects}
-use Rattle.lake_script.specs.Lines.{Statement}
+use Rattle.script_lines.specs.Lines.{Statement}
 use Rattle.lake_script.specs.ReplyView.{reply_text}
 use Rattle.lake_script.specs.Runs.{Executes}
 use Rattle.lake_command.proofs.ReadingLemmas.{read_leaves, read_whole}

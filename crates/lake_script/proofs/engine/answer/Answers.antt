@@ -1,9 +1,9 @@
 use Rattle.std.proofs.Common.{rules, ◌≡◌, true, false, inr, ap, subst, sym, ◌∙◌}
 use Rattle.std.proofs.lemmas.Bool.{false≢true}
-use Rattle.lake_script.specs.Lines.{reading_view}
+use Rattle.script_lines.specs.Lines.{reading_view}
 use Rattle.lake_script.specs.ReplyView.{reply_text, is_short}
 use Rattle.lake_script.specs.Runs.{IsCutOff, Replies, TellsShort}
-use Rattle.lake_script.proofs.Moments.{reading_timely}
+use Rattle.script_lines.proofs.Callers.{reading_timely}
 use Rattle.lake_script.proofs.RunLemmas.{answered}
 use Rattle.lake_script.proofs.RunsLemmas.{on_err}
 use Rattle.lake_script.proofs.engine.answer.Goals.{then-is_short, else-is_short}

@@ -3,7 +3,8 @@ use Rattle.std.proofs.lemmas.Bool.{cases_Bool, not-true, not-false}
 use Rattle.lake_script.specs.Streams.{held}
 use Rattle.lake_script.specs.Runs.{Tells}
 use Rattle.delta_actions.specs.Commit.{lines_of}
-use Rattle.lake_script.specs.Told.{lines_left, first_bad_from}
+use Rattle.lake_script.specs.Told.{first_bad_from}
+use Rattle.script_lines.specs.Splitting.{lines_left}
 use Rattle.lake_script.proofs.RestoredLemmas.{still_well}
 use Rattle.lake_script.proofs.RunLemmas.{SoFar, at_first, cut_off, so_far_next, so_far_stops, so_far_done, lines_at_most-after, first_bad_next, first_bad_here, lines_left_none, first_bad_from-none}
 use Rattle.lake_script.proofs.RunsLemmas.{Onward, onward_next, onward_stops, onward_short, onward_done, onward_front, short_next, short_done, on_err, tells_on}

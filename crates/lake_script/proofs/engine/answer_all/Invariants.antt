@@ -5,7 +5,8 @@ use Rattle.lake_script.specs.Runs.{Tells}
 use Rattle.delta_actions.specs.Commit.{lines_of}
 use Rattle.table_log.specs.Known.{IsKnown}
 use Rattle.table_log.specs.Restoring.{AreCheckpointsSound, RestoresWell}
-use Rattle.lake_script.specs.Told.{lines_left, first_bad_from, first_bad}
+use Rattle.lake_script.specs.Told.{first_bad_from, first_bad}
+use Rattle.script_lines.specs.Splitting.{lines_left}
 use Rattle.lake_script.proofs.RunLemmas.{SoFar, lines_at_most}
 use Rattle.lake_script.proofs.RunsLemmas.{Onward, SaysShort}
 use Rattle.lake_script.proofs.engine.answer_all.Given as goal

@@ -1,7 +1,7 @@
 use Rattle.std.proofs.Common.{subst, sym}
 use Rattle.table_log.specs.Restoring.{AreCheckpointsSound}
 use Rattle.table_log.proofs.Callers.{well_sound}
-use Rattle.lake_script.specs.Lines.{create, foreign, task, task_view}
+use Rattle.script_lines.specs.Lines.{create, foreign, task, task_view}
 use Rattle.lake_script.proofs.SoundPuts.{puts_sound}
 use Rattle.lake_script.proofs.reply.execute.Goals as goal
 

@@ -1,6 +1,6 @@
 use Rattle.std.proofs.Common.{inl, inr, Err, ap, subst, sym}
 use Rattle.store_core.specs.Objects.{Objects}
-use Rattle.lake_script.specs.Lines.{checkpoint, task}
+use Rattle.script_lines.specs.Lines.{checkpoint, task}
 use Rattle.lake_script.specs.ReplyView.{reply_text}
 use Rattle.lake_script.specs.Runs.{Executes}
 use Rattle.lake_script.specs.Sound.{IsExecuted}

@@ -1,6 +1,6 @@
 use Rattle.std.proofs.Common.{Err, ap, subst, sym}
 use Rattle.store_core.specs.Objects.{Objects}
-use Rattle.lake_script.specs.Lines.{snapshot}
+use Rattle.script_lines.specs.Lines.{snapshot}
 use Rattle.lake_script.specs.ReplyView.{reply_text}
 use Rattle.lake_script.specs.Runs.{Executes}
 use Rattle.lake_script.specs.Sound.{IsExecuted}

@@ -1,6 +1,6 @@
 // The first word of a line of a script.
 ghost use Rattle.std.specs.Prelude.{◌≡◌};
-ghost use Rattle.lake_script.specs.Names.{verb_name, verb_of};
+ghost use Rattle.script_lines.specs.Names.{verb_name, verb_of};
 
 /// What a line of a script asks for, by its first word.
 #[derive(Clone, Copy, Debug, PartialEq, Eq)]

@@ -4,7 +4,7 @@ use Rattle.std.specs.Result.{MatchResult}
 use Rattle.std.specs.Str.Parse.{IsNumeral, ParsesUnsigned, digits_value}
 use Rattle.std.proofs.lemmas.Str.Parse.{numerals_by_value, tells_all_ascii_digits}
 use Rattle.std.proofs.lemmas.Bool.{and_from, and_parts, lt-ltb, ltb-true, cond-true, cond-false, false_from_ne_true}
-use Rattle.lake_script.specs.Fields.{is_number, number_of}
+use Rattle.script_lines.specs.Fields.{is_number, number_of}
 
 -- digits of a small number are one
 is_number_true : (ds : List ℕ) → IsNumeral 10 ds → digits_value 10 ds < 2 ^ 64 → is_number ds ≡ true

@@ -1,8 +1,8 @@
 use Rattle.std.proofs.Common.{◌∷◌, ◌∙◌, ap, sym, ◌+◌, take, drop, length-drop}
 use Rattle.std.proofs.Math.Seq.{take-length}
 use Rattle.delta_actions.specs.Commit.{lines_of}
-use Rattle.lake_script.proofs.LineLemmas.{lines_of_found, lines_of_none}
-use Rattle.lake_script.proofs.engine.first_line.Goals as goal
+use Rattle.script_lines.proofs.LineLemmas.{lines_of_found, lines_of_none}
+use Rattle.script_lines.proofs.splitting.first_line.Goals as goal
 
 pub returns-in-Some-clause-lines : goal.returns-in-Some-clause-lines
 returns-in-Some-clause-lines c =

@@ -1,6 +1,6 @@
 // How a store answers a call that a script has chosen.
 ghost use Rattle.std.specs.Prelude.{◌≡◌};
-ghost use Rattle.lake_script.specs.Names.{kind_name, kind_of};
+ghost use Rattle.script_lines.specs.Names.{kind_name, kind_of};
 
 /// What becomes of a store call that a script has chosen.
 #[derive(Clone, Copy, Debug, PartialEq, Eq)]

@@ -1,12 +1,12 @@
 -- A line's moment fits where a commit keeps one.
 use Rattle.std.proofs.Common.{◌≡◌, ℕ, ◌<◌, ◌≤◌, ◌^◌, ◌&&◌, ◌||◌, List, Option, Some, None, refl, subst, sym, ◌∙◌, arith, inl, inr, option_map, if◌then◌else◌, nat_le}
 use Rattle.std.proofs.lemmas.Bool.{cases_Bool, cond-true, cond-false, and_parts, leb-true}
-use Rattle.lake_script.specs.declared.verb.Verb.{Verb}
-use Rattle.lake_script.specs.declared.verb.Verb.TheVariants as verb
+use Rattle.script_lines.specs.declared.verb.Verb.{Verb}
+use Rattle.script_lines.specs.declared.verb.Verb.TheVariants as verb
 use Rattle.lake_bytes.specs.Options.{◌>>=◌}
-use Rattle.lake_script.specs.Fields.{word_and_rest, number_of, number_between, moment_of, max_of, array_of}
+use Rattle.script_lines.specs.Fields.{word_and_rest, number_of, number_between, moment_of, max_of, array_of}
 use Rattle.delta_actions.specs.Commit.{is_blank}
-use Rattle.lake_script.specs.Lines.{Statement, append_head, append_from, close_from, tail_from, Task, IsTimelyTask, IsTimely, append, close, tail, create, task, show, tries, fault, start, step, land, foreign, asks, asked, bare_statement, statement_from, statement_split, statement_of, create_from, start_from, step_from, foreign_from, text_of, is_comment, reading_of}
+use Rattle.script_lines.specs.Lines.{Statement, append_head, append_from, close_from, tail_from, Task, IsTimelyTask, IsTimely, append, close, tail, create, task, show, tries, fault, start, step, land, foreign, asks, asked, bare_statement, statement_from, statement_split, statement_of, create_from, start_from, step_from, foreign_from, text_of, is_comment, reading_of}
 
 kept_high : (low high : ℕ) (found : Option ℕ) (n : ℕ) → (found >>= λ m. if nat_le low m && nat_le m high then Some m else None) ≡ Some n → n ≤ high
 kept_high low high None n h = cc

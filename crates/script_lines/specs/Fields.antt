@@ -7,8 +7,8 @@ use Rattle.serde_json.specs.Data.{Items}
 use Rattle.serde_json.specs.Find.{as_array}
 use Rattle.serde_json.specs.Read.{read}
 use Rattle.lake_bytes.specs.Options.{◌>>=◌}
-use Rattle.lake_script.specs.declared.fields.FieldError.{FieldError}
-use Rattle.lake_script.specs.declared.fields.FieldError.TheVariants.{Malformed, Memory}
+use Rattle.script_lines.specs.declared.fields.FieldError.{FieldError}
+use Rattle.script_lines.specs.declared.fields.FieldError.TheVariants.{Malformed, Memory}
 
 -- What was read, seen by view, is what the text says, and nothing was read where it says nothing, unless memory ran out.
 abbrev pub Fails : {Y : Type 0} → FieldError → Option Y → Type 0

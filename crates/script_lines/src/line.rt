@@ -1,7 +1,7 @@
 // The lines of a script, and the reader of one line.
 ghost use Rattle.std.specs.Prelude.{◌≡◌, option_map};
-ghost use Rattle.lake_script.specs.Fields.{Gives};
-ghost use Rattle.lake_script.specs.Lines.{task_view, statement_view, append_head, append_from, close_from, tail_from, task_from, bare_task, task_of, create_from, start_from, step_from, foreign_from, bare_statement, counted_from, plain_from, statement_from, statement_of};
+ghost use Rattle.script_lines.specs.Fields.{Gives};
+ghost use Rattle.script_lines.specs.Lines.{task_view, statement_view, append_head, append_from, close_from, tail_from, task_from, bare_task, task_of, create_from, start_from, step_from, foreign_from, bare_statement, counted_from, plain_from, statement_from, statement_of};
 
 use crate::fields::{FieldError, array_of, max_of, moment_of, number_of, tries_of, word_and_rest};
 use crate::kind::Kind;

@@ -5,18 +5,18 @@ use Rattle.std.specs.Str.{is_utf8}
 use Rattle.serde_json.specs.Data.{Items}
 use Rattle.json_text.specs.Rows.{rows_data}
 use Rattle.delta_actions.specs.Commit.{is_blank}
-use Rattle.lake_script.specs.declared.kind.Kind.{Kind}
-use Rattle.lake_script.specs.declared.verb.Verb.{Verb}
-use Rattle.lake_script.specs.declared.verb.Verb.TheVariants as verb
-use Rattle.lake_script.specs.declared.line.Job.TheVariants as job
-use Rattle.lake_script.specs.declared.line.Line.TheVariants as line
-use Rattle.lake_script.specs.declared.line.Job.{Job}
-use Rattle.lake_script.specs.declared.line.Line.{Line}
-use Rattle.lake_script.specs.declared.reading.Reading as readings
-use Rattle.lake_script.specs.declared.reading.Reading.TheVariants as view
-use Rattle.lake_script.specs.Names.{verb_of, kind_of}
+use Rattle.script_lines.specs.declared.kind.Kind.{Kind}
+use Rattle.script_lines.specs.declared.verb.Verb.{Verb}
+use Rattle.script_lines.specs.declared.verb.Verb.TheVariants as verb
+use Rattle.script_lines.specs.declared.line.Job.TheVariants as job
+use Rattle.script_lines.specs.declared.line.Line.TheVariants as line
+use Rattle.script_lines.specs.declared.line.Job.{Job}
+use Rattle.script_lines.specs.declared.line.Line.{Line}
+use Rattle.script_lines.specs.declared.reading.Reading as readings
+use Rattle.script_lines.specs.declared.reading.Reading.TheVariants as view
+use Rattle.script_lines.specs.Names.{verb_of, kind_of}
 use Rattle.lake_bytes.specs.Options.{◌>>=◌}
-use Rattle.lake_script.specs.Fields.{word_and_rest, number_of, moment_of, max_of, tries_of, array_of}
+use Rattle.script_lines.specs.Fields.{word_and_rest, number_of, moment_of, max_of, tries_of, array_of}
 
 -- what an actor can be started with
 pub data Task : Type 0 where
@@ -221,12 +221,26 @@ statement_view (line.Foreign version action) = foreign version action.now
 -- a moment fits where a commit keeps one
 abbrev pub IsTimelyTask : Task → Type 0
 IsTimelyTask (append application number at rows) = at < 2 ^ 63
-IsTimelyTask _ = ⊤
+IsTimelyTask (close application at) = ⊤
+IsTimelyTask checkpoint = ⊤
+IsTimelyTask (tail max offset) = ⊤
 
 abbrev pub IsTimely : Statement → Type 0
 IsTimely (create id at schema) = at < 2 ^ 63
 IsTimely (task job) = IsTimelyTask job
-IsTimely _ = ⊤
+IsTimely snapshot = ⊤
+IsTimely history = ⊤
+IsTimely (show version) = ⊤
+IsTimely (hex name) = ⊤
+IsTimely (foreign version action) = ⊤
+IsTimely (tries count) = ⊤
+IsTimely (fault kind) = ⊤
+IsTimely (start actor job) = ⊤
+IsTimely (until actor) = ⊤
+IsTimely (step actor kind) = ⊤
+IsTimely (finish actor) = ⊤
+IsTimely (die actor) = ⊤
+IsTimely (land put) = ⊤
 
 -- what the code took a line for
 abbrev pub reading_view : readings.Reading → Reading

@@ -4,7 +4,7 @@ use Rattle.std.specs.List.{position_or_len, slice_split, onto_first}
 use Rattle.std.proofs.lemmas.Bool.{cases_Bool, cond-true, cond-false, ltb-true, ltb-false}
 use Rattle.std.proofs.lemmas.List.Splits.{slice_split_first, slice_split-cons_no}
 use Rattle.delta_actions.specs.Commit.{lines_of}
-use Rattle.lake_script.specs.Told.{is_newline}
+use Rattle.script_lines.specs.Splitting.{is_newline}
 
 -- up to the first newline, and what stands behind it
 pub lines_of_found : (text : List ℕ) (at : ℕ) → position is_newline text ≡ Some at → lines_of text ≡ take at text ∷ lines_of (drop (at + 1) text)

@@ -1,10 +1,10 @@
 -- The words for verbs and kinds.
 use Rattle.std.specs.Prelude.{ℕ, List, [], ◌∷◌, Option, codes, find}
 use Rattle.std.specs.Str.{bytes_eq}
-use Rattle.lake_script.specs.declared.verb.Verb.{Verb}
-use Rattle.lake_script.specs.declared.verb.Verb.TheVariants.{Create, Append, Close, Checkpoint, Snapshot, History, Tail, Show, Hex, Tries, Fault, Start, Until, Step, Finish, Die, Land, Foreign}
-use Rattle.lake_script.specs.declared.kind.Kind.{Kind}
-use Rattle.lake_script.specs.declared.kind.Kind.TheVariants.{Pass, Lost, Mute, Late, Twice}
+use Rattle.script_lines.specs.declared.verb.Verb.{Verb}
+use Rattle.script_lines.specs.declared.verb.Verb.TheVariants.{Create, Append, Close, Checkpoint, Snapshot, History, Tail, Show, Hex, Tries, Fault, Start, Until, Step, Finish, Die, Land, Foreign}
+use Rattle.script_lines.specs.declared.kind.Kind.{Kind}
+use Rattle.script_lines.specs.declared.kind.Kind.TheVariants.{Pass, Lost, Mute, Late, Twice}
 
 -- the first word of a line
 abbrev pub verb_name : Verb → List ℕ

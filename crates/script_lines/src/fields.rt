@@ -1,7 +1,7 @@
 // The fields of a line: words, numbers, and arrays.
 ghost use Rattle.std.specs.Prelude.{◌≡◌, option_map};
 ghost use Rattle.json_text.specs.View.{items_view};
-ghost use Rattle.lake_script.specs.Fields.{Gives, word_and_rest, number_of, number_between, moment_of, max_of, tries_of, array_of};
+ghost use Rattle.script_lines.specs.Fields.{Gives, word_and_rest, number_of, number_between, moment_of, max_of, tries_of, array_of};
 
 use json::Scratch;
 use json_text::{TextError, Value, value_in};

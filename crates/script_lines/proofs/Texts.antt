@@ -4,7 +4,7 @@ use Rattle.std.specs.Result.{MatchResult, result_ok}
 use Rattle.std.specs.Str.{IsUtf8}
 use Rattle.std.proofs.lemmas.Str.{IsUtf8-from_is_utf8, is_utf8-from_IsUtf8}
 use Rattle.std.proofs.lemmas.Bool.{cond-true, cond-false, false_from_ne_true}
-use Rattle.lake_script.specs.Lines.{text_of}
+use Rattle.script_lines.specs.Lines.{text_of}
 
 pub text_of_read : {E : Type 0} (rest : E → Type 0) (bytes : List ℕ) (r : Result (Bor (List ℕ)) E)
     → MatchResult r (λ s. (s.now ≡ bytes) × IsUtf8 bytes) (λ e. ¬ (IsUtf8 bytes) × rest e)
