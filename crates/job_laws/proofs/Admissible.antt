@@ -1,5 +1,5 @@
 -- The commit of a batch that an append puts over a sound store is admissible.
-use Rattle.std.proofs.Common.{◌≡◌, ℕ, ◌<◌, Bool, true, false, not, List, [], ◌∷◌, ◌++◌, length, Option, Some, None, Result, Ok, Err, eqb, ltb, refl, sym, ap, subst, ◌∙◌}
+use Rattle.std.proofs.Common.{◌≡◌, ℕ, ◌<◌, Bool, true, false, not, List, [], ◌∷◌, length, Option, Some, None, Result, Ok, Err, eqb, ltb, refl, sym, ap, subst, ◌∙◌}
 use Rattle.std.specs.Prelude.{cond, option_map}
 use Rattle.store_core.specs.Objects.{Objects, object_at}
 use Rattle.store_core.specs.ObjectLaws.{object_at-with_object_kept, object_at-with_object_same}
@@ -10,14 +10,12 @@ use Rattle.parquet_file.proofs.RowsFound.{rows_found}
 use Rattle.row_core.specs.Rows.{Row}
 use Rattle.row_core.proofs.Callers.{same_rows-is}
 use Rattle.table_log.specs.Counts.{commit_count}
-use Rattle.table_model.specs.Appends.{appended, with_batch}
+use Rattle.table_model.specs.Appends.{appended}
 use Rattle.table_model.specs.declared.table.Appended.TheVariants.{Committed}
-use Rattle.table_model.specs.Lawful.{IsLawful}
 use Rattle.table_model.specs.Table as model
-use Rattle.table_model.specs.Table.{Entry, creation, group, is_closed, last_batch}
-use Rattle.table_model.proofs.Callers.{append_keeps}
+use Rattle.table_model.specs.Table.{Entry, group, is_closed, last_batch}
 use Rattle.table_store.specs.Commits.{IsCommitOf}
-use Rattle.table_store.specs.Holds.{FileStands, HoldsFirst, HoldsFrom, Stands}
+use Rattle.table_store.specs.Holds.{FileStands, HoldsFrom, Stands}
 use Rattle.table_store.specs.Schema.{Schema, IsFileOf}
 use Rattle.table_store.specs.Sound.{IsAdmissible, IsSound, greatest_version}
 use Rattle.table_store.proofs.HoldingPuts.{HoldsFrom-data_file}
@@ -25,10 +23,7 @@ use Rattle.sink_core.specs.Appending.{Batch, IsWellMade, appending, is_repeat, i
 use Rattle.sink_core.specs.Refusals.{differs, stale}
 use Rattle.lake_bytes.specs.Varint.{IsBytes}
 use Rattle.table_store.proofs.LawfulLogLemmas.{AreMadeFor}
-use Rattle.lake_script.proofs.LogCloses.{log_open}
-use Rattle.job_laws.proofs.LogEntries.{IsLogOf, sound_count, sound_log}
-use Rattle.lake_script.proofs.LogNumbers.{log_last}
-use Rattle.lake_script.proofs.LogSchema.{one_writable}
+use Rattle.log_laws.proofs.Callers.{IsLogOf, held_first, lawful_with, log_last, log_open, one_writable, sound_count, sound_log}
 use Rattle.job_laws.proofs.Requests.{PutsBatch, passed}
 
 -- ---- the table with one more batch
@@ -43,18 +38,6 @@ new_is_taken b entries (Some before) is goes_on new = by_tests (ltb b.number bef
     by_tests true equal under same taken = absurd cc
     by_tests false true over same taken = absurd cc
     by_tests false false over other taken = rw (is, over, other, goes_on) refl
-
--- so the table with it is lawful
-lawful_with : (b : model.Batch) (entries rest : List Entry) → entries ≡ creation ∷ rest → IsLawful entries → appended b entries ≡ Committed (length entries) → IsLawful (entries ++ group (b ∷ []) ∷ [])
-lawful_with b entries rest begins lawful new =
-    let kept : IsLawful (with_batch (appended b entries) b entries) =
-    subst (λ (es : List Entry). IsLawful (with_batch (appended b es) b es)) (sym begins) (append_keeps b creation rest (subst IsLawful begins lawful)) in
-    rw new at kept
-
--- what is held is held first
-held_first : (objects : Objects) (schema : Schema) (version : ℕ) (entries : List Entry) → HoldsFrom objects schema version entries → HoldsFirst objects schema version entries
-held_first objects schema version [] holds = tt
-held_first objects schema version (entry ∷ entries) holds = (holds.0, holds.1, held_first objects schema _ entries holds.2)
 
 -- ---- the file and the commit
 

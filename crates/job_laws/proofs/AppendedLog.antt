@@ -21,13 +21,13 @@ use Rattle.table_log.specs.Counts.{commit_count}
 use Rattle.table_log.specs.Names.{commit_name}
 use Rattle.table_log.specs.Restoring.{seen}
 use Rattle.table_log.specs.Versions.{Version, missing, unreadable, commit, commits_in, commits_of, log_of, version_at, version_by, version_read, versions_from, versions_of}
-use Rattle.table_log.proofs.Callers.{count_is, of_commit as read_commit, or_regroup, stands_below}
+use Rattle.table_log.proofs.Callers.{count_is, of_commit as read_commit, or_none, or_regroup, stands_below}
 use Rattle.table_store.proofs.HoldingNames.{commit_name-data_file_name}
 use Rattle.table_store.proofs.NamesOnce.{commit_name-once}
 use Rattle.sink_core.specs.Appending.{Batch, IsWellMade, Request, appending, batch_of, checked, is_past, is_repeat, puts, request_behind, request_of, with_append, with_file}
 use Rattle.sink_core.specs.Refusals.{bad_log, read_only}
 use Rattle.sink_core.specs.RowsIn.{rows_from, takes_rows}
-use Rattle.lake_script.proofs.LogNewest.{newest-cons, of_commit, or_none}
+use Rattle.log_laws.proofs.Callers.{newest-cons, of_commit}
 use Rattle.job_laws.proofs.OwnSteps.{batch_own}
 use Rattle.job_laws.proofs.Requests.{IsTaken, batch_asked, behind_number, behind_rows, behind_schema, both_done, given, taken, told_done}
 

@@ -9,7 +9,6 @@ mod Left
 mod Loaded
 mod LoadedItems
 mod KeptLaws
-mod LogEntries
 mod NameKinds
 mod OwnSteps
 mod PutNames

@@ -4,13 +4,14 @@ use Rattle.store_core.specs.Objects.{Objects}
 use Rattle.delta_actions.specs.Names.{data_file_name}
 use Rattle.table_log.specs.Counts.{commit_count}
 use Rattle.table_store.specs.Sound.{IsSound, greatest_version}
-use Rattle.commit_core.specs.Sound.{IsSoundStore}
+use Rattle.log_laws.specs.Sound.{IsSoundStore}
 use Rattle.lake_script.specs.Growth.{MayPut}
 use Rattle.lake_script.specs.Lines.{Statement, append, asks, checkpoint, create, foreign, task}
 use Rattle.lake_script.specs.Told.{IsPutHere}
 use Rattle.lake_script.proofs.SoundPuts.{puts_sound}
 use Rattle.job_laws.specs.Bytes.{AreBytes, LooksAtBytes}
-use Rattle.job_laws.proofs.SoundGrowth.{append_sound, create_sound, no_checkpoint, sound_beside}
+use Rattle.log_laws.proofs.Callers.{no_checkpoint, sound_beside}
+use Rattle.job_laws.proofs.SoundGrowth.{append_sound, create_sound}
 
 -- the table that stands behind a line
 line_sound : (objects : Objects) (statement : Statement) (after : Objects) → LooksAtBytes objects statement → IsPutHere (asks statement) → commit_count objects < greatest_version → IsSound objects → MayPut objects statement after → IsSound after

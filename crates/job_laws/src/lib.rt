@@ -14,7 +14,7 @@ ghost use Rattle.table_log.specs.Counts.{commit_count};
 ghost use Rattle.table_log.specs.Restoring.{RestoresWell};
 ghost use Rattle.table_folder.specs.Copies.{HasSavedFront, to_save};
 ghost use Rattle.table_folder.specs.Loads.{loaded};
-ghost use Rattle.commit_core.specs.Sound.{IsSoundStore};
+ghost use Rattle.log_laws.specs.Sound.{IsSoundStore};
 ghost use Rattle.sink_core.specs.Appending.{PutsWell, appended_by, settled, stands, with_append, with_file_alone};
 ghost use Rattle.sink_core.specs.declared.appending.Appended.TheVariants.{Already, Committed};
 ghost use Rattle.lake_script.specs.Growth.{MayPut};

@@ -7,7 +7,7 @@ use Rattle.table_store.specs.Sound.{greatest_version}
 use Rattle.table_log.specs.Counts.{commit_count}
 use Rattle.table_log.specs.Restoring.{RestoresWell}
 use Rattle.table_log.proofs.Callers.{well_sound}
-use Rattle.commit_core.specs.Sound.{IsSoundStore}
+use Rattle.log_laws.specs.Sound.{IsSoundStore}
 use Rattle.table_folder.specs.Copies.{HasSavedFront, to_save, with_copies}
 use Rattle.table_folder.specs.Faults.{CountsSave, SaveFailsAmong}
 use Rattle.table_folder.specs.Loads.{loaded}

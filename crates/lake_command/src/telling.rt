@@ -2,7 +2,7 @@
 ghost use Rattle.std.specs.Prelude.{◌≡◌, ◌≢◌, ◌⊎◌, ◌||◌, ◌<◌, ℕ, List, true, false, Some, Result, Ok, Err, OnOk, OnErr};
 ghost use Rattle.std.specs.Io.KnownBytes.{Appends};
 ghost use Rattle.store_core.specs.Objects.{object_at};
-ghost use Rattle.commit_core.specs.Sound.{IsSoundStore};
+ghost use Rattle.log_laws.specs.Sound.{IsSoundStore};
 ghost use Rattle.job_laws.specs.Bytes.{AreBytes};
 ghost use Rattle.table_log.specs.Counts.{commit_count};
 ghost use Rattle.table_store.specs.Sound.{greatest_version};

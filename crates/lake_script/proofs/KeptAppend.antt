@@ -41,7 +41,8 @@ use Rattle.lake_script.proofs.KeptLog.{made_of, are_made, none_behind}
 use Rattle.lake_script.proofs.KeptNames.{same_name, same_file_name, batch_stands, no_file}
 use Rattle.lake_script.proofs.KeptPuts.{kept_more, no_other_more}
 use Rattle.lake_script.proofs.KeptRequest.{asked, goes_on, unless_invariant, request_is}
-use Rattle.lake_script.proofs.KeptVersions.{count_kept, log_kept, log_of_nothing}
+use Rattle.log_laws.proofs.Callers.{log_of_nothing}
+use Rattle.lake_script.proofs.KeptVersions.{count_kept, log_kept}
 
 -- what an append does agrees with the batch that is handed in at the plain table
 abbrev Agrees : (objects : Objects) (schema : Tree) (entries : List Entry) (number : ℕ) → Result Step Refusal → Result model.Batch Refusal → Type 0

@@ -20,9 +20,9 @@ use Rattle.lake_script.specs.Told as told
 use Rattle.lake_script.specs.Keeps.{HasNoOther, Keeps}
 use Rattle.table_store.proofs.LawfulLogLemmas.{AreMadeFor}
 use Rattle.lake_script.proofs.KeptLog.{made_of, are_made}
-use Rattle.lake_script.proofs.LogSchema.{log_checkpointable, log_meta_data}
+use Rattle.log_laws.proofs.Callers.{log_checkpointable, log_meta_data, log_of_nothing}
 use Rattle.lake_script.proofs.KeptPuts.{kept_checkpoint, same_files}
-use Rattle.lake_script.proofs.KeptVersions.{count_kept, log_kept, log_of_nothing}
+use Rattle.lake_script.proofs.KeptVersions.{count_kept, log_kept}
 
 -- a store of nothing has no checkpoint
 over_nothing : (bytes : List ℕ) → checkpoint_by [] bytes ≡ Err (by_log (bad_log 0))

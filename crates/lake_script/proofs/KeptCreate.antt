@@ -1,5 +1,5 @@
 -- A line that creates a table, over a store that keeps what a script made so far.
-use Rattle.std.proofs.Common.{◌≡◌, ◌≢◌, ℕ, Bool, true, false, List, [], ◌∷◌, ◌++◌, length, Option, Some, None, Contains, IsSome, Result, Ok, Err, refl, sym, ap, subst, ◌∙◌, arith, length-append}
+use Rattle.std.proofs.Common.{◌≡◌, ◌≢◌, ℕ, Bool, true, false, List, [], ◌∷◌, length, Option, Some, None, IsSome, Result, Ok, Err, refl, sym, ap, subst, ◌∙◌, arith}
 use Rattle.std.specs.Prelude.{bytes_eq, nat_le, is_some, cond}
 use Rattle.std.proofs.lemmas.Slice.Eq.{bytes_eq-Decides}
 use Rattle.schema_tree.specs.Fault.{Fault}
@@ -8,8 +8,8 @@ use Rattle.schema_tree.specs.Tree.{Tree}
 use Rattle.store_core.specs.Objects.{Objects, object_at, with_object}
 use Rattle.store_core.specs.ObjectLaws.{with_object_stands, with_object_absent}
 use Rattle.delta_actions.specs.Names as names
-use Rattle.table_model.specs.Table.{Entry, creation, closes_of}
-use Rattle.table_model.specs.Lawful.{IsLawful}
+use Rattle.table_model.specs.Table.{Entry, creation}
+use Rattle.table_model.proofs.Callers.{new_is_lawful}
 use Rattle.table_store.proofs.Callers.{commit_name-data_file_name, commit_name-once}
 use Rattle.commit_core.specs.Commits.{commit_text, creation as created}
 use Rattle.table_log.specs.Names.{commit_name}
@@ -23,7 +23,7 @@ use Rattle.lake_script.specs.Tables.{State, nothing, table, creating, with_table
 use Rattle.lake_script.specs.Told.{reply_to_statement, left_by_statement, created_reply}
 use Rattle.lake_script.specs.Keeps.{IsKept, Keeps, KeptFrom}
 use Rattle.lake_script.proofs.KeptHolds.{creation_stands}
-use Rattle.lake_script.proofs.KeptNames.{none_in_nothing, none_unless, same_name}
+use Rattle.lake_script.proofs.KeptNames.{none_unless, same_name}
 
 -- ---- what a line describes, and what is put for it
 
@@ -61,20 +61,6 @@ module _ (text printed : List ℕ) where
 
 -- ---- the table of one creation
 
--- no stream is closed by one creation
-no_close : (application : List ℕ) (before after : List Entry) (entry : Entry) → creation ∷ [] ≡ before ++ entry ∷ after → Contains (closes_of entry) application → ⊥
-no_close application [] after entry e closes =
-    let is : creation ≡ entry = cc in
-    none_in_nothing application (subst (λ (other : Entry). Contains (closes_of other) application) (sym is) closes)
-no_close application (first ∷ before) after entry e closes =
-    let none : [] ≡ before ++ entry ∷ after = cc in
-    let long = ap (λ (entries : List Entry). length entries) none in
-    omega (arith, long, length-append before (entry ∷ after))
-
--- a table of its creation alone is lawful
-lawful_creation : IsLawful (creation ∷ [])
-lawful_creation = record { begins = tt; groups = (tt, tt); rises = λ application. tt; closed = λ application before after entry e closes. absurd (no_close application before after entry e closes) }
-
 -- the one name that stands
 one_name : (name bytes other : List ℕ) (same : Bool) → bytes_eq other name ≡ same → is_some (cond same (Some bytes) None) ≡ true → other ≡ name
 one_name name bytes other true e some = (bytes_eq-Decides other name).0 e
@@ -94,7 +80,7 @@ kept_creation name at text schema bytes first is well =
       kept = ((bytes, stands, creation_stands schema well.id at well.text bytes (well.printed.readable ∙ same) well.commit), tt, tt);
       rest = [];
       begins = refl;
-      lawful = lawful_creation;
+      lawful = new_is_lawful;
       ends = λ version past small. none_unless (object_at ((name, bytes) ∷ []) (names.commit_name version)) (λ some.
           let only : names.commit_name version ≡ names.commit_name 0 = one_name name bytes (names.commit_name version) (bytes_eq (names.commit_name version) name) refl some ∙ first in
           omega (arith, past, commit_name-once version 0 (omega (arith, small)) only));

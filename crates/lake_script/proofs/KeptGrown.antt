@@ -24,12 +24,12 @@ use Rattle.sink_core.specs.Refusals.{Refusal}
 use Rattle.lake_script.specs.Runs.{Replies, RunsInPart, waits, begins, follows}
 use Rattle.lake_script.specs.Told.{IsPutHere, ArePutHere}
 use Rattle.commit_core.specs.Creating.{CreatesWell}
+use Rattle.log_laws.proofs.Callers.{log_of_nothing, nothing_sound}
 use Rattle.lake_script.proofs.KeptAppend.{step_of_nothing, nothing_is}
 use Rattle.lake_script.proofs.KeptCreate.{kept_creation, no_data_file, first_commit, left_table}
-use Rattle.lake_script.proofs.KeptHolds.{kept_sound, nothing_sound}
+use Rattle.lake_script.proofs.KeptHolds.{kept_sound}
 use Rattle.lake_script.proofs.KeptNames.{same_name}
 use Rattle.lake_script.proofs.KeptPuts.{kept_checkpoint, same_files}
-use Rattle.lake_script.proofs.KeptVersions.{log_of_nothing}
 use Rattle.lake_script.specs.Keeps.{KeepsBeside}
 use Rattle.lake_script.specs.Scripts.{StaysSound}
 use Rattle.lake_script.specs.Tables.{State, entries_of}

@@ -24,8 +24,8 @@ use Rattle.lake_script.specs.Tables as tables
 use Rattle.lake_script.specs.Tables.{entry_told}
 use Rattle.lake_script.specs.Keeps.{IsKept}
 use Rattle.lake_script.proofs.KeptLog.{made_of, are_made}
-use Rattle.lake_script.proofs.LogCloses.{says_so}
-use Rattle.lake_script.proofs.KeptVersions.{versions_kept, versions_of_nothing, has_commits}
+use Rattle.log_laws.proofs.Callers.{says_so, versions_of_nothing}
+use Rattle.lake_script.proofs.KeptVersions.{versions_kept, has_commits}
 
 -- what tells only of the commit isn't told
 silent : (action : actions.Action) (info : Data) → commit_info_in action ≡ Some info → action_told action ≡ []

@@ -1,16 +1,14 @@
 -- A store that keeps a table holds it, and is sound.
-use Rattle.std.proofs.Common.{◌≡◌, ℕ, suc, ◌+◌, ◌<◌, ◌^◌, List, [], ◌∷◌, ◌++◌, length, None, Ok, refl, ap, length-append, arith}
-use Rattle.std.specs.List.{Contains}
+use Rattle.std.proofs.Common.{◌≡◌, ℕ, suc, ◌+◌, ◌<◌, ◌^◌, List, [], ◌∷◌, length, None, Ok, refl, arith}
 use Rattle.schema_tree.specs.Reading.{schema_of}
-use Rattle.schema_tree.specs.Tree.{Tree, struct, no_fields}
+use Rattle.schema_tree.specs.Tree.{Tree}
 use Rattle.store_core.specs.Objects.{Objects, object_at}
 use Rattle.delta_actions.specs.Commit.{IsCommit}
 use Rattle.table_store.specs.Commits.{IsCommitOf}
 use Rattle.table_store.specs.Holds.{HoldsFrom, Holds}
 use Rattle.table_store.specs.Sound.{IsSound}
-use Rattle.table_model.specs.Lawful.{IsLawful}
 use Rattle.delta_actions.specs.Names.{commit_name, data_file_name}
-use Rattle.table_model.specs.Table.{Batch, Entry, creation, group, batches_of, closes_of, numbers_by}
+use Rattle.table_model.specs.Table.{Batch, Entry, creation, group, batches_of}
 use Rattle.sink_core.specs.Appending.{appending}
 use Rattle.commit_core.specs.Commits.{creation as created}
 use Rattle.lake_script.specs.Keeps.{KeptFrom, IsKept}
@@ -56,15 +54,3 @@ kept_holds objects schema entries kept few = holds_from objects schema 0 (length
 pub kept_sound : (objects : Objects) (schema : Tree) (entries : List Entry) → IsKept objects schema entries → length entries < 2 ^ 32 → IsSound objects
 kept_sound objects schema entries kept few =
     record { schema = schema; entries = entries; holds = kept_holds objects schema entries kept few; lawful = kept.lawful; ends = kept.ends }
-
--- where there is no entry no stream was closed
-no_close : (application : List ℕ) (before after : List Entry) (entry : Entry) → [] ≡ before ++ entry ∷ after → Contains (closes_of entry) application → numbers_by application (entry ∷ after) ≡ []
-no_close application before after entry is closes = absurd (omega (arith, ap (λ (all : List Entry). length all) is, length-append before (entry ∷ after)))
-
--- a table of no entries is lawful
-no_entries_lawful : IsLawful []
-no_entries_lawful = record { begins = tt; groups = tt; rises = λ application. tt; closed = no_close }
-
--- A store of nothing is sound: it holds no entry.
-pub nothing_sound : IsSound []
-nothing_sound = record { schema = struct no_fields; entries = []; holds = refl; lawful = no_entries_lawful; ends = λ version past small. refl }

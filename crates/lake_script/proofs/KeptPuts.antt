@@ -17,8 +17,8 @@ use Rattle.table_model.specs.Lawful.{IsLawful}
 use Rattle.table_model.specs.Table.{Batch, Entry, group, batches_of, batches}
 use Rattle.table_model.proofs.Callers.{batches-append}
 use Rattle.table_store.proofs.Callers.{commit_name-data_file_name, commit_name-once, data_file_name-once}
+use Rattle.log_laws.proofs.Callers.{no_checkpoint}
 use Rattle.lake_script.specs.Keeps.{IsReadableFile, FileKept, FilesKept, KeptFrom, IsKept, IsOwn, HasNoOther}
-use Rattle.lake_script.proofs.KeptLog.{no_checkpoint}
 use Rattle.lake_script.proofs.KeptNames.{first_in}
 
 -- ---- what stood still stands
@@ -110,7 +110,7 @@ module _ (objects : Objects) (version : ℕ) (name bytes : List ℕ) (checkpoint
     rest = kept.rest;
     begins = kept.begins;
     lawful = kept.lawful;
-    ends = ends_put objects name bytes (length entries) (λ other small. no_checkpoint other version name small checkpoint) kept.ends;
+    ends = ends_put objects name bytes (length entries) (λ other small. no_checkpoint version name checkpoint other) kept.ends;
   }
 
   -- the data files stay as they are

@@ -14,9 +14,7 @@ use Rattle.sink_core.specs.Refusals.{Refusal, read_only, stream_closed}
 use Rattle.sink_core.specs.RowsIn.{rows_from, takes_rows}
 use Rattle.lake_bytes.specs.Results.{◌>>=◌, refused_if, refused_as}
 use Rattle.table_store.proofs.LawfulLogLemmas.{AreMadeFor}
-use Rattle.lake_script.proofs.LogCloses.{log_closed}
-use Rattle.lake_script.proofs.LogNumbers.{log_last}
-use Rattle.lake_script.proofs.LogSchema.{log_writable}
+use Rattle.log_laws.proofs.Callers.{log_closed, log_last, log_writable}
 
 -- what is asked of a table
 abbrev pub asked : (version : ℕ) (schema : Tree) (rows : List Row) (repeats : Bool) → Request

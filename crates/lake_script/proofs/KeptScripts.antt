@@ -15,7 +15,8 @@ use Rattle.lake_script.proofs.KeptCreate.{create_told}
 use Rattle.lake_script.proofs.KeptHistory.{history_told, history_of_nothing}
 use Rattle.lake_script.proofs.KeptHolds.{kept_holds}
 use Rattle.lake_script.proofs.KeptLog.{made_of, are_made}
-use Rattle.lake_script.proofs.KeptVersions.{versions_kept, versions_of_nothing}
+use Rattle.log_laws.proofs.Callers.{versions_of_nothing}
+use Rattle.lake_script.proofs.KeptVersions.{versions_kept}
 use Rattle.lake_script.proofs.KeptRuns.{Given}
 use Rattle.lake_script.proofs.KeptTail.{IsTold, kept_plain, tail_told, tail_of_nothing, handed_told}
 use Rattle.lake_script.proofs.KeptTails.{GivenReads, IsRead, hand_out_the_log, hand_out_all, are_answered}

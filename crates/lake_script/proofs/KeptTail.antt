@@ -29,8 +29,8 @@ use Rattle.lake_script.specs.Told.{tailed_reply}
 use Rattle.lake_script.specs.Keeps.{FileKept, FilesKept, KeptFrom, IsKept}
 use Rattle.lake_script.proofs.KeptFile.{file_read}
 use Rattle.lake_script.proofs.KeptLog.{made_of, are_made}
-use Rattle.lake_script.proofs.LogSchema.{log_readable}
-use Rattle.lake_script.proofs.KeptVersions.{versions_kept, versions_of_nothing}
+use Rattle.log_laws.proofs.Callers.{log_readable, versions_of_nothing}
+use Rattle.lake_script.proofs.KeptVersions.{versions_kept}
 use Rattle.source_core.proofs.Callers.{file_of, rows_in, behind_all, behind_last, walked, row_missing}
 use Rattle.source_core.proofs.Callers.{AreFilesFound, IsEntryFound, AreEntriesFound, as_many_commits}
 use Rattle.source_core.proofs.Callers.{Ahead, Spot, stands, no_file, no_row, spotted}

@@ -1,5 +1,5 @@
 -- The versions of a store that keeps a table: a commit for each entry, and so its log.
-use Rattle.std.proofs.Common.{◌≡◌, ℕ, suc, ◌+◌, ◌<◌, ◌≤◌, ◌^◌, List, [], ◌∷◌, map, length, IsSome, Ok, Err, refl, ap, ◌∙◌, add-one, arith, false, true, inl, inr}
+use Rattle.std.proofs.Common.{◌≡◌, ℕ, suc, ◌+◌, ◌<◌, ◌≤◌, ◌^◌, List, [], ◌∷◌, map, length, IsSome, Ok, refl, ap, ◌∙◌, add-one, arith, false, true, inl, inr}
 use Rattle.std.proofs.lemmas.Bool.{cases_lt}
 use Rattle.schema_tree.specs.Tree.{Tree}
 use Rattle.store_core.specs.Objects.{Objects, object_at}
@@ -8,10 +8,11 @@ use Rattle.delta_actions.specs.Names as names
 use Rattle.table_model.specs.Table.{Entry}
 use Rattle.table_log.specs.Counts.{commit_count}
 use Rattle.table_log.specs.Names.{commit_name}
-use Rattle.table_log.specs.Versions.{commit, versions_from, versions_of, commits_in, commits_of, log_of}
-use Rattle.table_log.proofs.Callers.{count_is}
+use Rattle.table_log.specs.Versions.{commit, versions_from, versions_of, log_of}
+use Rattle.table_log.proofs.Callers.{count_is, of_commit}
+use Rattle.log_laws.proofs.Callers.{made_length, some_commits}
 use Rattle.lake_script.specs.Keeps.{KeptFrom, IsKept}
-use Rattle.lake_script.proofs.KeptLog.{commit_read, made_of, are_made, made_length}
+use Rattle.lake_script.proofs.KeptLog.{made_of, are_made}
 
 -- ---- how many versions there are
 
@@ -47,7 +48,7 @@ unfolding versions_from commit_name
 commits_stand objects schema version [] kept = refl
 commits_stand objects schema version (entry ∷ entries) kept =
     let more : versions_from (length entries) (suc version) objects ≡ map commit (made_of objects schema (suc version) entries kept.2) = commits_stand objects schema (suc version) entries kept.2 in
-    rw (kept.0.1, commit_read kept.0.0 kept.0.2.actions kept.0.2.commit, add-one, more) refl
+    rw (kept.0.1, of_commit kept.0.0 kept.0.2.actions kept.0.2.commit, add-one, more) refl
 
 -- Each version of a store that keeps a table is a commit that stands for the entry at its place.
 pub versions_kept : (objects : Objects) (schema : Tree) (entries : List Entry) (kept : IsKept objects schema entries) → length entries < 2 ^ 32
@@ -55,22 +56,7 @@ pub versions_kept : (objects : Objects) (schema : Tree) (entries : List Entry) (
 versions_kept objects schema entries kept few =
     ap (λ (count : ℕ). versions_from count 0 objects) (count_kept objects schema entries kept few) ∙ commits_stand objects schema 0 entries kept.kept
 
--- a store of nothing has no version
-pub versions_of_nothing : versions_of [] ≡ []
-unfolding commit_count versions_from
-versions_of_nothing = refl
-
 -- ---- the log
-
--- where each version has a commit, there are all of them
-all_commits : (version : ℕ) (commits : List (List actions.Action)) → commits_in version (map commit commits) ≡ Ok commits
-all_commits version [] = refl
-all_commits version (made ∷ commits) = rw (all_commits (suc version) commits) refl
-
--- and they are a log's, where there is one
-some_commits : (commits : List (List actions.Action)) → 0 < length commits → commits_of (map commit commits) ≡ Ok commits
-some_commits [] some = absurd (omega arith)
-some_commits (made ∷ commits) some = all_commits 0 (made ∷ commits)
 
 -- a table that is kept has a commit at least
 pub has_commits : (objects : Objects) (schema : Tree) (entries : List Entry) (kept : IsKept objects schema entries) → 0 < length (made_of objects schema 0 entries kept.kept)
@@ -84,8 +70,3 @@ pub log_kept : (objects : Objects) (schema : Tree) (entries : List Entry) (kept 
     → log_of objects ≡ Ok (made_of objects schema 0 entries kept.kept)
 unfolding log_of
 log_kept objects schema entries kept few = rw (versions_kept objects schema entries kept few) (some_commits (made_of objects schema 0 entries kept.kept) (has_commits objects schema entries kept))
-
--- a store of nothing has no log
-pub log_of_nothing : log_of [] ≡ Err 0
-unfolding log_of
-log_of_nothing = rw versions_of_nothing refl

@@ -18,10 +18,6 @@ pub mod KeptTail
 pub mod KeptTails
 pub mod KeptVersions
 pub mod LineLemmas
-pub mod LogCloses
-pub mod LogNewest
-pub mod LogNumbers
-pub mod LogSchema
 pub mod Moments
 pub mod Numbers
 pub mod RestoredLemmas

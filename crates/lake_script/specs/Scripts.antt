@@ -7,7 +7,7 @@ use Rattle.table_model.specs.Lawful.{IsLawful}
 use Rattle.source_core.specs.Tails.{HandOutTheLog, HandOutAll, AreAnswered}
 use Rattle.delta_actions.specs.Commit.{lines_of}
 use Rattle.table_store.specs.LawfulLogs.{HasLawfulLog}
-use Rattle.commit_core.specs.Sound.{IsSoundStore}
+use Rattle.log_laws.specs.Sound.{IsSoundStore}
 use Rattle.lake_script.specs.Keeps.{Keeps, KeepsBeside}
 use Rattle.lake_script.specs.Lines.{Statement, hex, show, snapshot, foreign, Reading, skipped, bad, asks, reading_of}
 use Rattle.lake_script.specs.Replies.{bad_line}

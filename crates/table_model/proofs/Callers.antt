@@ -2,7 +2,7 @@
 pub use Rattle.table_model.proofs.Batches.{IsAbove, Rises-tail, numbers_in, numbers_in-append, batches-append, below_later, last_batch-append, last_none, last_number, numbers_by-own}
 pub use Rattle.table_model.proofs.Facts.{last_stands}
 pub use Rattle.table_model.proofs.Grown.{beginning_is_offset, is_answered, stays}
-pub use Rattle.table_model.proofs.Kept.{append_keeps, later_is_greater}
+pub use Rattle.table_model.proofs.Kept.{append_keeps, later_is_greater, new_is_lawful}
 pub use Rattle.table_model.proofs.LawfulLemmas.{NoCreation-behind}
 pub use Rattle.table_model.proofs.Places.{none_before, past, rises_from, rises_lower}
 pub use Rattle.table_model.proofs.Resumed.{all_after_short, final_grows, log_from_beginning, onward_in_the_log}

@@ -79,7 +79,7 @@ module _ (objects : Objects) (schema : Schema) where
   AreMadeFor (entry ∷ entries) (made ∷ log) = StandFor schema entry (without_commit_info made) × FilesStand objects schema entry × AreMadeFor entries log
 
   -- a store's log stands for the entries that the store holds
-  made_for : (version : ℕ) (entries : List Entry) (log : List (List actions.Action)) → HoldsFrom objects schema version entries → LogFrom objects version log → AreMadeFor entries log
+  pub made_for : (version : ℕ) (entries : List Entry) (log : List (List actions.Action)) → HoldsFrom objects schema version entries → LogFrom objects version log → AreMadeFor entries log
   made_for version [] [] p q = tt
   made_for version [] (made ∷ log) p q = absurd (none_at_end objects version q.0.0 p (LogFrom-first objects version made log q) q.0.1)
   made_for version (entry ∷ entries) [] p q = absurd (none_at_end objects version p.0.0 q (HoldsFrom-first objects schema version entry entries p) p.0.1)

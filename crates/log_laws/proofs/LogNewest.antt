@@ -10,6 +10,7 @@ use Rattle.delta_actions.specs.Action.{commit_info}
 use Rattle.delta_actions.specs.In.{add_in, commit_info_in, txn_in}
 use Rattle.delta_replay.specs.Keys as keys
 use Rattle.delta_replay.specs.Keys.{Key, is_of, actions_of, newest}
+use Rattle.table_log.proofs.Callers.{or_none}
 use Rattle.table_model.specs.Table.{Entry}
 use Rattle.table_store.specs.Commits.{StandFor, without_commit_info}
 use Rattle.table_store.specs.Groups.{AreTxnsAndAdds}
@@ -22,11 +23,6 @@ use Rattle.table_store.proofs.LawfulLogLemmas.{AreMadeFor}
 or_regroup : {A : Type 0} (a b c : Option A) → option_or a (option_or b c) ≡ option_or (option_or a b) c
 or_regroup None b c = refl
 or_regroup (Some x) b c = refl
-
--- nothing behind it adds nothing
-pub or_none : {A : Type 0} (a : Option A) → option_or a None ≡ a
-or_none None = refl
-or_none (Some x) = refl
 
 -- one stands before the last of something
 last_behind : {A : Type 0} (x y : A) (ys : List A) → keys.last (y ∷ ys) ≡ option_or (keys.last (y ∷ ys)) (Some x)

@@ -14,7 +14,7 @@ use Rattle.table_model.specs.Table.{Entry, creation, group, close}
 use Rattle.table_store.specs.Commits.{StandFor, without_commit_info, table_protocol}
 use Rattle.table_store.specs.Schema.{Schema}
 use Rattle.table_store.proofs.LawfulLogLemmas.{AreMadeFor}
-use Rattle.lake_script.proofs.LogNewest.{IsNoGroups, newest-cons, newest_beside, none_in_group, of_commit, stays}
+use Rattle.log_laws.proofs.LogNewest.{IsNoGroups, newest-cons, newest_beside, none_in_group, of_commit, stays}
 
 -- the protocol that a creation has is found
 abbrev IsProtocol : Option actions.Action → Type 0

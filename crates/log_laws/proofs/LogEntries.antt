@@ -76,12 +76,24 @@ module _ (objects : Objects) (schema : Schema) where
       let more : versions_from (length entries) (suc version) objects ≡ map commit (made_of (suc version) entries holds.2) = commits_stand (suc version) entries holds.2 in
       rw (holds.0.1, of_commit holds.0.0 holds.0.2.actions holds.0.2.commit, add-one, more) refl
 
+-- there is a commit for each entry
+pub made_length : (objects : Objects) (schema : Schema) (entries : List Entry) (commits : List (List actions.Action)) → AreMadeFor objects schema entries commits → length commits ≡ length entries
+made_length objects schema [] [] made = refl
+made_length objects schema [] (commit ∷ commits) made = absurd made
+made_length objects schema (entry ∷ entries) [] made = absurd made
+made_length objects schema (entry ∷ entries) (commit ∷ commits) made = ap suc (made_length objects schema entries commits made.2)
+
 -- ---- the log
 
 -- where each version has a commit, there are all of them
 all_commits : (version : ℕ) (commits : List (List actions.Action)) → commits_in version (map commit commits) ≡ Ok commits
 all_commits version [] = refl
 all_commits version (made ∷ commits) = rw (all_commits (suc version) commits) refl
+
+-- and they are a log's, where there is one
+pub some_commits : (commits : List (List actions.Action)) → 0 < length commits → commits_of (map commit commits) ≡ Ok commits
+some_commits [] some = absurd (omega arith)
+some_commits (made ∷ commits) some = all_commits 0 (made ∷ commits)
 
 -- The commits of a log that can be read: they stand for the entries, of which the first is the creation.
 pub record IsLogOf (objects : Objects) (schema : Schema) (entries : List Entry) (commits : List (List actions.Action)) : Type 0 where

@@ -22,7 +22,7 @@ use Rattle.table_model.specs.Table.{Entry, creation, group, close, closes_of, is
 use Rattle.table_store.specs.Commits.{StandFor, without_commit_info, closed_domain}
 use Rattle.table_store.specs.Schema.{Schema}
 use Rattle.table_store.proofs.LawfulLogLemmas.{AreMadeFor}
-use Rattle.lake_script.proofs.LogNewest.{IsNoGroups, newest-cons, newest_beside, none_in_group, of_commit}
+use Rattle.log_laws.proofs.LogNewest.{IsNoGroups, newest-cons, newest_beside, none_in_group, of_commit}
 
 -- the action that is found closes its stream, and where the application's id is text a close was seen; where none is, none was
 abbrev Agrees : (application : List ℕ) → Option actions.Action → Bool → Type 0
