@@ -273,12 +273,12 @@ module _ (objects : Objects) (max : ℕ) (offset : List ℕ) where
   tail_of_none (Some place) is = rw (is, versions_of_nothing) refl
 
 -- Over a store that keeps a table a read is told what the table tells.
-pub tail_told : (objects : Objects) (schema : Tree) (entries : List Entry) → IsKept objects schema entries → length entries < 2 ^ 32 → (max : ℕ) (offset : List ℕ)
+pub tail_told : (objects : Objects) (schema : Tree) (entries : List Entry) → IsKept objects schema entries → (max : ℕ) (offset : List ℕ)
     → tailed_reply (tailed false objects max offset) ≡ tables.tail_reply (tables.table schema entries) max (offset_of offset)
-tail_told objects schema entries kept few max offset =
+tail_told objects schema entries kept max offset =
     let commits = made_of objects schema 0 entries kept.kept in
     let plain = kept_plain objects schema entries kept in
-    tail_from objects max offset schema entries commits plain (offset_of offset) refl (versions_kept objects schema entries kept few)
+    tail_from objects max offset schema entries commits plain (offset_of offset) refl (versions_kept objects schema entries kept)
     (λ place. handed_told objects schema entries commits kept.kept (are_made objects schema 0 entries kept.kept) plain max place)
 
 -- A read of nothing is told that there is no table.
