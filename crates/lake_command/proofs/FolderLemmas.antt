@@ -1,5 +1,5 @@
 -- What a job leaves in a folder, by what a line of a script leaves over the files that were loaded.
-use Rattle.std.proofs.Common.{◌≡◌, ◌<◌, inl, inr, ℕ, Bool, true, false, Contains, List, [], ◌∷◌, Bor, Option, Some, None, IfSome, Result, Ok, Err, IfOk, IfErr, sym, refl, ap, subst, ◌∙◌, map}
+use Rattle.std.proofs.Common.{◌≡◌, inl, inr, ℕ, Bool, true, false, Contains, List, [], ◌∷◌, Bor, Option, Some, None, IfSome, Result, Ok, Err, IfOk, IfErr, sym, refl, ap, subst, ◌∙◌, map}
 use Rattle.std.specs.Prelude.{IsErrAnd, is_some, string_bytes}
 use Rattle.json_text.specs.Rows.{text_data}
 use Rattle.store_core.specs.Objects.{Objects, IsInOrder, names_of}

@@ -1,5 +1,5 @@
 -- What a command writes, from what its script's run tells.
-use Rattle.std.proofs.Common.{◌≡◌, ◌≢◌, ◌<◌, ◌≤◌, ℕ, suc, length, inl, inr, arith, List, [], Option, Some, None, IfSome, refl, subst, ap}
+use Rattle.std.proofs.Common.{◌≡◌, ◌≢◌, ◌<◌, ◌≤◌, ◌+◌, ℕ, suc, length, inl, inr, arith, List, [], Option, Some, None, IfSome, refl, subst, ap}
 use Rattle.std.specs.Io.KnownBytes.{Appends}
 use Rattle.std.proofs.lemmas.Bool.{cases_lt}
 use Rattle.delta_actions.specs.Commit.{lines_of}
@@ -12,7 +12,7 @@ use Rattle.lake_script.proofs.Callers.{few_lines}
 use Rattle.lake_script.specs.Runs.{FallsShort, Tells}
 use Rattle.lake_script.specs.Sound.{IsRun}
 use Rattle.lake_script.specs.Scripts.{IsScript, IsExpectedOver}
-use Rattle.lake_script.specs.Tables.{nothing, AreOfTable, expected_output as expected_by_table}
+use Rattle.lake_script.specs.Tables.{nothing, entries_of, AreOfTable, expected_output as expected_by_table}
 use Rattle.lake_script.specs.Told.{ArePrinted, ArePutHere, IsTold, expected_output, Finishes}
 use Rattle.lake_words.specs.Asked.{Spells, replaying, restoring}
 use Rattle.lake_words.specs.declared.command.Command.{Command}
@@ -35,16 +35,16 @@ told_of_run (BadLine number) (Some text) old new before after fine run empty = t
 told_of_run NotRead input old new before after fine run empty = absurd (fine refl)
 told_of_run NotWritten input old new before after fine run empty = absurd (fine refl)
 
--- a run that isn't refused is told by the plain table, where its text is known
 -- a text that was read has no more lines than there can be versions
-few_by : (end : End) (text : List ℕ) → status_of end ≢ 1 → (MOST_BYTES < length text → end ≡ NotRead) → length (lines_of text) ≤ suc greatest_version
+few_by : (end : End) (text : List ℕ) → status_of end ≢ 1 → (MOST_BYTES < length text → end ≡ NotRead) → length (entries_of nothing) + length (lines_of text) ≤ suc greatest_version
 few_by end text fine limit =
     elim (cases_lt MOST_BYTES (length text)) [
       | inl long ↦ absurd (fine (ap status_of (limit long)))
       | inr short ↦ omega (arith, few_lines text, short)
     ]
 
-pub script_of_run : (end : End) (input old new : Option (List ℕ)) (before after : Objects) → status_of end ≢ 1 → Finishes end (λ _. IfSome input (λ text. length (lines_of text) ≤ suc greatest_version → IsScript nothing old new text before after))
+-- a run that isn't refused is told by the plain table, where its text is known
+pub script_of_run : (end : End) (input old new : Option (List ℕ)) (before after : Objects) → status_of end ≢ 1 → Finishes end (λ _. IfSome input (λ text. length (entries_of nothing) + length (lines_of text) ≤ suc greatest_version → IsScript nothing old new text before after))
     → IfSome input (λ text. MOST_BYTES < length text → end ≡ NotRead) → IfSome input (λ text. IsScript nothing old new text before after)
 script_of_run Done None old new before after fine run limit = tt
 script_of_run Done (Some text) old new before after fine run limit = run (few_by Done text fine limit)

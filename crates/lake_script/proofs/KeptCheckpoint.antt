@@ -1,5 +1,5 @@
 -- A checkpoint over a store that keeps a table: what it is told, and that the store goes on to keep the table.
-use Rattle.std.proofs.Common.{◌≡◌, ℕ, ◌-◌, ◌<◌, ◌^◌, Bool, true, false, List, [], ◌∷◌, length, Option, Some, None, Result, Ok, Err, refl, sym, ap, subst, ◌∙◌, if◌then◌else◌}
+use Rattle.std.proofs.Common.{◌≡◌, ℕ, ◌-◌, Bool, true, false, List, [], ◌∷◌, length, Option, Some, None, Result, Ok, Err, refl, sym, ap, subst, ◌∙◌, if◌then◌else◌}
 use Rattle.std.specs.Prelude.{codes, is_some, nat_lt}
 use Rattle.schema_tree.specs.Tree.{Tree}
 use Rattle.store_core.specs.Objects.{Objects, with_object}
@@ -15,7 +15,7 @@ use Rattle.lake_script.specs.Checkpoints.{Checkpoint, NotPut, by_log, too_large,
 use Rattle.lake_script.specs.Lines.{checkpoint, task}
 use Rattle.lake_script.specs.Sound.{IsSoundStatement}
 use Rattle.lake_script.specs.Tables as tables
-use Rattle.lake_script.specs.Tables.{State, nothing, table, entries_of}
+use Rattle.lake_script.specs.Tables.{State, nothing, table}
 use Rattle.lake_script.specs.Told as told
 use Rattle.lake_script.specs.Keeps.{HasNoOther, Keeps}
 use Rattle.table_store.proofs.LawfulLogLemmas.{AreMadeFor}

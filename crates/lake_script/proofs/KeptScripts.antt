@@ -1,5 +1,5 @@
 -- What is known of single lines, put together.
-use Rattle.std.proofs.Common.{◌≡◌, ◌<◌, ◌^◌, [], length, map, Err, Result, refl}
+use Rattle.std.proofs.Common.{◌≡◌, [], map, Err, Result, refl}
 use Rattle.store_core.specs.Objects.{Objects}
 use Rattle.table_model.specs.Reads.{Answer, handed, beyond, bad_place}
 use Rattle.source_core.specs.Tailing.{Handed, Refusal, bad_log, schema_for}
@@ -7,7 +7,7 @@ use Rattle.table_log.specs.FromCheckpoints.{no_start}
 use Rattle.table_log.specs.Versions.{commit, versions_of}
 use Rattle.table_model.specs.declared.reading.Offset.{Offset}
 use Rattle.lake_script.specs.Scripts.{HoldsState, AnswersReads, ReadsOut}
-use Rattle.lake_script.specs.Tables.{State, nothing, table, entries_of}
+use Rattle.lake_script.specs.Tables.{State, nothing, table}
 use Rattle.lake_script.specs.Keeps.{Keeps}
 use Rattle.lake_script.proofs.KeptAppend.{append_told}
 use Rattle.lake_script.proofs.KeptCheckpoint.{checkpoint_told}

@@ -1,5 +1,5 @@
 -- The log of a lawful store is lawful.
-use Rattle.std.proofs.Common.{◌≡◌, ◌≢◌, ℕ, zero, suc, ◌<◌, true, List, [], ◌∷◌, ◌++◌, length, map, filter, Contains, slice_index_or, Some, None, refl, sym, ap, ap₂, subst, ◌∙◌, arith, inl, inr, bytes_eq, flat_map}
+use Rattle.std.proofs.Common.{◌≡◌, ◌≢◌, ℕ, zero, suc, ◌<◌, true, List, [], ◌∷◌, ◌++◌, length, map, filter, Contains, slice_index_or, refl, sym, ap, ap₂, subst, ◌∙◌, arith, inl, inr, bytes_eq, flat_map}
 use Rattle.std.specs.List.{AllByRecursion}
 use Rattle.std.proofs.lemmas.Bool.{cases_Bool}
 use Rattle.std.proofs.lemmas.List.{map-append}

@@ -1,7 +1,7 @@
 //! Laws of stores and the tables that they hold, each a function with an empty body whose contract is the law.
 
-ghost use Rattle.std.specs.Prelude.{◌≡◌, ◌≢◌, ◌<◌, ◌^◌, ℕ, suc, List, [], ◌∷◌, ◌++◌, length, true, None, IsUtf8};
-ghost use Rattle.store_core.specs.Objects.{Objects, object_at, with_object};
+ghost use Rattle.std.specs.Prelude.{◌≡◌, ◌≢◌, ◌<◌, ◌^◌, ℕ, suc, List, [], ◌∷◌, ◌++◌, length, true, IsUtf8};
+ghost use Rattle.store_core.specs.Objects.{Objects, with_object};
 ghost use Rattle.delta_actions.specs.Action as actions;
 ghost use Rattle.delta_actions.specs.Names.{commit_name, data_file_name};
 ghost use Rattle.table_store.specs.Schema.{Schema};
