@@ -19,7 +19,7 @@ use Rattle.table_store.proofs.HoldingPuts.{HasObjectsOf-put}
 module _ (objects : Objects) (name bytes : List ℕ) (apart : (version : ℕ) → names.commit_name version ≢ name) where
   -- it leaves the table that stands
   holds_beside : (schema : Schema) (version : ℕ) (entries : List Entry) → HoldsFrom objects schema version entries → HoldsFrom (with_object objects name bytes) schema version entries
-  holds_beside schema version [] none = object_at-with_object_other objects name bytes (names.commit_name version) (apart version) ∙ none
+  holds_beside schema version [] ends = (ends.0, λ fits. object_at-with_object_other objects name bytes (names.commit_name version) (apart version) ∙ ends.1 fits)
   holds_beside schema version (entry ∷ entries) holds = (
     Stands-kept objects (with_object objects name bytes) (HasObjectsOf-put objects name bytes) (names.commit_name version) _ holds.0,
     FilesStand-kept objects (with_object objects name bytes) (HasObjectsOf-put objects name bytes) schema entry holds.1,
