@@ -5,16 +5,16 @@ use Rattle.delta_actions.specs.Names as names
 use Rattle.table_log.specs.Names.{commit_name}
 use Rattle.table_log.specs.Restoring.{IsSoundCheckpoint, checkpoint_version}
 use Rattle.table_log.proofs.Callers.{commit_is_none, data_file_is_none, sound_beside as checkpoints_beside, sound_with}
-use Rattle.table_store.specs.Sound.{IsAdmissible, greatest_version}
+use Rattle.table_store.specs.Sound.{IsAdmissible}
 use Rattle.table_store.proofs.SoundLemmas.{sound_commit, sound_data_file}
 use Rattle.log_laws.specs.Sound.{IsSoundStore}
 use Rattle.log_laws.proofs.Beside.{sound_beside}
 
 -- a commit
-pub commit_lands : (objects : Objects) (version : ℕ) (bytes : List ℕ) → version < greatest_version → IsSoundStore objects → IsAdmissible objects version bytes → IsSoundStore (with_object objects (names.commit_name version) bytes)
+pub commit_lands : (objects : Objects) (version : ℕ) (bytes : List ℕ) → IsSoundStore objects → IsAdmissible objects version bytes → IsSoundStore (with_object objects (names.commit_name version) bytes)
 unfolding commit_name
-commit_lands objects version bytes small sound new = record {
-  table = sound_commit objects version bytes small sound.table new;
+commit_lands objects version bytes sound new = record {
+  table = sound_commit objects version bytes sound.table new;
   checkpoints = checkpoints_beside objects (names.commit_name version) bytes true (commit_is_none version) sound.checkpoints;
 }
 
