@@ -1,5 +1,5 @@
 -- The test of whether a tree can be written passes for just the trees that can be.
-use Rattle.std.proofs.Common.{◌≡◌, ℕ, ◌+◌, ◌<◌, ◌≤◌, ◌^◌, ℤ, pos, negsuc, ◌<ℤ◌, ◌≤ℤ◌, Bool, true, false, ◌&&◌, nat_lt, Option, None, Some, List, [], ◌∷◌, length, drop, get_or, refl, sym, ap, ◌∙◌, arith, FitsSigned, w8, w16, w32, w64}
+use Rattle.std.proofs.Common.{◌≡◌, ℕ, ◌+◌, ◌<◌, ℤ, pos, negsuc, ◌<ℤ◌, ◌≤ℤ◌, Bool, true, false, ◌&&◌, nat_lt, Option, None, Some, List, ◌∷◌, length, drop, get_or, refl, sym, ap, ◌∙◌, arith, FitsSigned, w8, w16, w32, w64}
 use Rattle.std.specs.Int.Signed.{lt_z, le_z}
 use Rattle.std.proofs.lemmas.Bool.{and_parts, and_right, ltb-true, lt-ltb}
 use Rattle.std.proofs.lemmas.Int.{ints}
@@ -82,11 +82,32 @@ integer_tested int32_form z e = let b = between 2147483647 z e in fits_32 z b.0 
 integer_tested int64_form z e = let b = between 9223372036854775807 z e in fits_64 z b.0 b.1
 integer_tested other z e = absurd cc
 
+between_8 : (z : ℤ) → FitsSigned w8 z → (negsuc 127 ≤ℤ z) × (z ≤ℤ pos 127)
+between_8 (pos n) h = (omega (arith, ints), omega (arith, ints))
+between_8 (negsuc n) h = (omega (arith, ints), omega (arith, ints))
+
+pub between_16 : (z : ℤ) → FitsSigned w16 z → (negsuc 32767 ≤ℤ z) × (z ≤ℤ pos 32767)
+between_16 (pos n) h = (omega (arith, ints), omega (arith, ints))
+between_16 (negsuc n) h = (omega (arith, ints), omega (arith, ints))
+
+between_32 : (z : ℤ) → FitsSigned w32 z → (negsuc 2147483647 ≤ℤ z) × (z ≤ℤ pos 2147483647)
+between_32 (pos n) h = (omega (arith, ints), omega (arith, ints))
+between_32 (negsuc n) h = (omega (arith, ints), omega (arith, ints))
+
+between_64 : (z : ℤ) → FitsSigned w64 z → (negsuc 9223372036854775807 ≤ℤ z) × (z ≤ℤ pos 9223372036854775807)
+between_64 (pos n) h = (omega (arith, ints), omega (arith, ints))
+between_64 (negsuc n) h = (omega (arith, ints), omega (arith, ints))
+
+-- what fits 16 bits fits 32
+pub wider : (z : ℤ) → FitsSigned w16 z → FitsSigned w32 z
+wider (pos n) h = omega (arith, ints)
+wider (negsuc n) h = omega (arith, ints)
+
 integer_again : (f : Form) (z : ℤ) → IntegerHasForm f z → integer_fits f z ≡ true
-integer_again byte_form z h = between_again 127 z (omega (arith, ints)) (omega (arith, ints))
-integer_again int16_form z h = between_again 32767 z (omega (arith, ints)) (omega (arith, ints))
-integer_again int32_form z h = between_again 2147483647 z (omega (arith, ints)) (omega (arith, ints))
-integer_again int64_form z h = between_again 9223372036854775807 z (omega (arith, ints)) (omega (arith, ints))
+integer_again byte_form z h = let b = between_8 z h in between_again 127 z b.0 b.1
+integer_again int16_form z h = let b = between_16 z h in between_again 32767 z b.0 b.1
+integer_again int32_form z h = let b = between_32 z h in between_again 2147483647 z b.0 b.1
+integer_again int64_form z h = let b = between_64 z h in between_again 9223372036854775807 z b.0 b.1
 integer_again other z h = absurd h
 
 -- ---- what passes can be written
@@ -196,4 +217,4 @@ unfit rises small value never = sym (and_right rises (small && value) (and_right
 
 -- a field that can be written
 pub stands : (last id : ℤ) (value : Bool) → last <ℤ id → id ≤ℤ pos 32767 → true ≡ value → true ≡ (lt_z last id && (le_z id (pos 32767) && value))
-stands last id value lt le yes = rw (below_again last id lt, at_most_again id (pos 32767) le) yes
+stands last id value lt le passed = rw (below_again last id lt, at_most_again id (pos 32767) le) passed

@@ -2,7 +2,7 @@ use Rattle.std.proofs.Common.{◌≡◌, IfOk, subst}
 use Rattle.thrift_core.specs.Tree.{Tree}
 use Rattle.thrift_core.specs.Writing.{written}
 use Rattle.thrift_core.specs.declared.form.Form.{the_lemmas}
-use Rattle.thrift_core.proofs.Callers.{Conditions, conditions}
+use Rattle.thrift_core.proofs.Callers.{conditions}
 use Rattle.page_writing.specs.Writing.{header_form, header_tree}
 use Rattle.page_writing.proofs.WrittenHeader.{header_has_form}
 use Rattle.page_writing.proofs.header.header_bytes.Goals as goal
