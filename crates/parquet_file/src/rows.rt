@@ -22,7 +22,7 @@ use schema_tree::Schema;
 use std::alloc::{Allocator, Global};
 
 /// A part of the rows of a file.
-#[derive(Debug, Drop)]
+#[derive(Drop)]
 pub struct FilePart {
     /// The rows, in the file's order.
     pub rows: Vec<Value>,
