@@ -1,3 +1,4 @@
+pub mod Kept
 pub mod WrittenBits
 pub mod WrittenChunk
 pub mod WrittenHeader

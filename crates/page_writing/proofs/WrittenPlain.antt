@@ -1,5 +1,5 @@
 -- The sizes of values that are written in PLAIN.
-use Rattle.std.proofs.Common.{◌≡◌, ◌≢◌, ℕ, zero, suc, ◌+◌, ◌/◌, ◌<◌, ◌≤◌, List, [], ◌∷◌, length, get_or, refl, arith}
+use Rattle.std.proofs.Common.{◌≡◌, ◌≢◌, ℕ, zero, suc, ◌+◌, ◌/◌, ◌<◌, ◌≤◌, List, [], ◌∷◌, ◌++◌, length, drop, map, get_or, refl, sym, ap, ◌∙◌, append_assoc, arith}
 use Rattle.std.specs.List.{flat_map}
 use Rattle.std.proofs.lemmas.List.{length-append}
 use Rattle.lake_bytes.proofs.Callers.{length-low_bytes}
@@ -30,3 +30,29 @@ value_within Boolean values i v other lt = absurd (other refl)
 value_within Int32 values i v other lt = part_within (value_bytes Int32) values i v lt
 value_within Int64 values i v other lt = part_within (value_bytes Int64) values i v lt
 value_within ByteArray values i v other lt = part_within (value_bytes ByteArray) values i v lt
+
+-- ---- one value more
+
+next_value : {X : Type 0} (xs : List X) (i : ℕ) (x : X) → i < length xs → get_or xs i x ≡ x
+    → drop i xs ≡ x ∷ drop (i + 1) xs
+next_value [] i x lt same = absurd (omega arith)
+next_value (first ∷ xs) zero x lt same = ap (λ y. y ∷ xs) same
+next_value (first ∷ xs) (suc i) x lt same = next_value xs i x (omega arith) same
+
+plain_value : (type : PhysicalType) (v : Value) (values : List Value) → type ≢ Boolean
+    → plain_bytes type (v ∷ values) ≡ value_bytes type v ++ plain_bytes type values
+plain_value Boolean v values other = absurd (other refl)
+plain_value Int32 v values other = refl
+plain_value Int64 v values other = refl
+plain_value ByteArray v values other = refl
+
+-- what is written, and what is left to write, is what is to be written, behind one more value
+pub value_written : {X : Type 0} (type : PhysicalType) (f : X → Value) (xs : List X) (i : ℕ) (x : X)
+    (old new total : List ℕ) → type ≢ Boolean → i < length xs → get_or xs i x ≡ x → new ≡ old ++ value_bytes type (f x)
+    → old ++ plain_bytes type (map f (drop i xs)) ≡ total → new ++ plain_bytes type (map f (drop (i + 1) xs)) ≡ total
+value_written type f xs i x old new total other lt same new_is so_far =
+    let left = plain_bytes type (map f (drop (i + 1) xs)) in
+    ap (λ (t : List ℕ). t ++ left) new_is ∙ append_assoc old (value_bytes type (f x)) left
+    ∙ ap (λ (t : List ℕ). old ++ t) (sym (plain_value type (f x) (map f (drop (i + 1) xs)) other)
+    ∙ ap (λ ys. plain_bytes type (map f ys)) (sym (next_value xs i x lt same)))
+    ∙ so_far

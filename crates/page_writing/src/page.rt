@@ -1,8 +1,8 @@
 //! A page of a column, written.
 
-ghost use Rattle.std.specs.Prelude.{◌≤◌, length};
+ghost use Rattle.std.specs.Prelude.{◌≡◌, ◌≤◌, length, OnErr};
 ghost use Rattle.shred.specs.Views.{borrowed_column};
-ghost use Rattle.page_writing.specs.Internal.{part};
+ghost use Rattle.page_writing.specs.Internal.{part, BeginsWith};
 ghost use Rattle.page_writing.specs.Outcome.{Writes};
 ghost use Rattle.page_writing.specs.Writing.{page_written};
 
@@ -23,8 +23,8 @@ pub const MAX_PAGE_ROWS: usize = 4_096;
 /// on the way to the leaf that may be null, at most 16. Of a value that the leaf's physical type can't hold nothing is
 /// written; where that is BOOLEAN, a bit 0 is.
 ///
-/// P9 for a page whose body is over 64 MiB, before anything of it is written. The time is linear in the levels and the bytes that
-/// are written.
+/// P9 for a page whose body is over 64 MiB. Behind a refusal, and out of memory, `out` holds what it held. The time is
+/// linear in the levels and the bytes that are written.
 pub fn write_page(
     alloc: Global,
     out: &mut Vec<u8>,
@@ -35,19 +35,28 @@ pub fn write_page(
     requires { length column.now.levels.items ≤ 4096 }
     // Which bytes are written behind what was there, and when there are none.
     ensures exact { Writes (page_written leaf_type highest (borrowed_column column.now)) out.old.items result out.new.items }
+    // Where none are, what was there is left.
+    ensures err { OnErr result (out.new.items ≡ out.old.items) }
 {
-    put_page(
+    let start = out.len();
+    match put_page(
         alloc,
         out,
         leaf_type,
         highest,
         &column.levels,
         &column.values,
-    )
+    ) {
+        Ok(()) => Ok(()),
+        Err(error) => {
+            out.truncate(start);
+            Err(error)
+        }
+    }
 }
 
 /// Writes a page of these levels and values.
-#[tactic(auto, unfolding(crate::specs::Writing::page_written))]
+#[tactic(auto, using(crate::proofs::Kept::keeps_page), unfolding(crate::specs::Writing::page_written))]
 fn put_page(
     alloc: Global,
     out: &mut Vec<u8>,
@@ -57,7 +66,8 @@ fn put_page(
     values: &[&Value],
 ) -> Result<(), FileError>
     requires { length levels.now ≤ 4096 }
-    ensures { Writes (page_written leaf_type highest (part levels.now values.now)) out.old.items result out.new.items }
+    ensures exact { Writes (page_written leaf_type highest (part levels.now values.now)) out.old.items result out.new.items }
+    ensures keeps { OnErr result (BeginsWith out.old.items out.new.items) }
 {
     let level_bytes = level_bytes(alloc, highest, levels)?;
     let physical_type = leaf_type.physical_type();

@@ -1,10 +1,11 @@
 //! Values in PLAIN, written.
 
-ghost use Rattle.std.specs.Prelude.{◌≡◌, ◌<◌, ◌≤◌, ◌^◌, ◌++◌, length, map, OnOk};
+ghost use Rattle.std.specs.Prelude.{◌≡◌, ◌<◌, ◌≤◌, ◌^◌, ◌++◌, length, map, OnOk, OnErr};
 ghost use Rattle.row_core.specs.Conforms.{is_within};
 ghost use Rattle.row_core.specs.Views.{value_view};
 ghost use Rattle.shred.specs.Views.{borrowed_value};
 ghost use Rattle.parquet_pages.specs.Plain.{behind_length};
+ghost use Rattle.page_writing.specs.Internal.{BeginsWith};
 ghost use Rattle.page_writing.specs.Writing.{bit_of, packed_bits, plain_bytes, value_bytes};
 
 use lake_bytes::{write_i32_le, write_i64_le, write_u32_le};
@@ -47,13 +48,15 @@ fn value_size(physical_type: PhysicalType, value: &Value) -> u64
 
 /// Writes values, one behind the other. Of a value of another type nothing is written; among truth values, the bit 0. The
 /// time is linear in the bytes.
+#[tactic(auto, using(crate::proofs::Kept::keeps_each))]
 pub(crate) fn write_plain(
     out: &mut Vec<u8>,
     physical_type: PhysicalType,
     values: &[&Value],
 ) -> Result<(), AllocError>
     requires { length (plain_bytes physical_type (map borrowed_value values.now)) ≤ 67108864 }
-    ensures { OnOk result (out.new.items ≡ out.old.items ++ plain_bytes physical_type (map borrowed_value values.now)) }
+    ensures ok { OnOk result (out.new.items ≡ out.old.items ++ plain_bytes physical_type (map borrowed_value values.now)) }
+    ensures keeps { OnErr result (BeginsWith out.old.items out.new.items) }
 {
     if let PhysicalType::Boolean = physical_type {
         return write_bits(out, values);
@@ -78,7 +81,8 @@ fn write_value(
     value: &Value,
 ) -> Result<(), AllocError>
     requires { length (value_bytes physical_type (value_view value.now)) ≤ 67108864 }
-    ensures { OnOk result (out.new.items ≡ out.old.items ++ value_bytes physical_type (value_view value.now)) }
+    ensures ok { OnOk result (out.new.items ≡ out.old.items ++ value_bytes physical_type (value_view value.now)) }
+    ensures keeps { OnErr result (BeginsWith out.old.items out.new.items) }
 {
     match (physical_type, value) {
         (PhysicalType::Int32, Value::Int(number)) if is_int32(*number) => {
@@ -94,7 +98,8 @@ fn write_value(
 /// Writes bytes behind their length in four bytes.
 pub(crate) fn write_content(out: &mut Vec<u8>, content: &[u8]) -> Result<(), AllocError>
     requires { length content.now < 2 ^ 32 }
-    ensures { OnOk result (out.new.items ≡ out.old.items ++ behind_length content.now) }
+    ensures ok { OnOk result (out.new.items ≡ out.old.items ++ behind_length content.now) }
+    ensures keeps { OnErr result (BeginsWith out.old.items out.new.items) }
 {
     write_u32_le(out, content.len() as u32)?;
     out.extend_from_slice(content)
@@ -102,8 +107,9 @@ pub(crate) fn write_content(out: &mut Vec<u8>, content: &[u8]) -> Result<(), All
 
 /// Writes truth values, eight a byte, the first one in the low bit.
 fn write_bits(out: &mut Vec<u8>, values: &[&Value]) -> Result<(), AllocError>
-    ensures { OnOk result (out.new.items
+    ensures ok { OnOk result (out.new.items
         ≡ out.old.items ++ plain_bytes PhysicalType.Boolean (map borrowed_value values.now)) }
+    ensures keeps { OnErr result (BeginsWith out.old.items out.new.items) }
 {
     for index in 0..values.len().div_ceil(8) {
         let start = 8 * index;

@@ -21,7 +21,7 @@ use parquet_schema::FileLeaf;
 use std::alloc::{Allocator, Global};
 
 /// CompressionCodec UNCOMPRESSED.
-const UNCOMPRESSED: i64 = 0;
+pub(crate) const UNCOMPRESSED: i64 = 0;
 
 /// The readers of the leaves' chunks, in order. P8 where there is no chunk of a leaf, P3 for its codec, P6 for its place.
 pub(crate) fn open_columns<'a, A: Allocator>(

@@ -10,7 +10,8 @@ ghost use Rattle.parquet_schema.specs.FileTree.{repetition};
 ghost use Rattle.parquet_schema.specs.Views.{leaf_view};
 ghost use Rattle.parquet_file.specs.Writing.{chunk_tree, column_tree, converted_fields, field_elements, footer_tree, group_element, group_tree, leaf_element, members, node_elements, root_element, schema_elements};
 
-use parquet_pages::LeafType;
+use crate::columns::UNCOMPRESSED;
+use parquet_pages::{LeafType, PLAIN, RLE};
 use parquet_schema::FileLeaf;
 use schema_tree::{Field as SchemaField, Node, Schema};
 use std::alloc::{AllocError, Allocator, Global};
@@ -27,15 +28,6 @@ const REQUIRED: i64 = 0;
 
 /// FieldRepetitionType OPTIONAL.
 const OPTIONAL: i64 = 1;
-
-/// Encoding PLAIN.
-const PLAIN: i64 = 0;
-
-/// Encoding RLE.
-const RLE: i64 = 3;
-
-/// CompressionCodec UNCOMPRESSED.
-const UNCOMPRESSED: i64 = 0;
 
 /// A field that is a whole number.
 fn integer(id: i16, number: i64) -> Field<Global>

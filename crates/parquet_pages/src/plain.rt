@@ -1,10 +1,11 @@
 //! Values in PLAIN, read.
 
-ghost use Rattle.std.specs.Prelude.{◌≡◌, ℕ, List, ◌*◌, ◌≤◌, ◌++◌, replicate, Ok, Err, IfOk, OnOk};
+ghost use Rattle.std.specs.Prelude.{◌≡◌, ℕ, List, ◌*◌, ◌≤◌, ◌++◌, replicate, Ok, Err, IfOk, OnOk, true};
 ghost use Rattle.lake_bytes.specs.Reading.{bytes_at};
 ghost use Rattle.row_core.specs.Rows as rows;
-ghost use Rattle.row_core.specs.Views.{row_views};
+ghost use Rattle.row_core.specs.Views.{row_views, value_view};
 ghost use Rattle.parquet_pages.specs.Outcome.{PassesValues, AddsValues, Takes};
+ghost use Rattle.parquet_pages.specs.Pages.{is_proper};
 ghost use Rattle.parquet_pages.specs.Reading.{in_page};
 ghost use Rattle.parquet_pages.specs.Internal.{TakesValue};
 ghost use Rattle.parquet_pages.specs.Plain.{binary_at, bytes_for_bits, content_at, int32_at, int64_at, plain_at, text_at, truths_at, value_at, values_at};
@@ -157,31 +158,33 @@ fn value(alloc: Global, leaf_type: LeafType, cursor: &mut Cursor) -> Result<Valu
 {
     match leaf_type {
         LeafType::Boolean => Err(bad_bytes(ByteFault::Short)),
-        LeafType::Byte | LeafType::Short | LeafType::Integer | LeafType::Date => int32(cursor),
-        LeafType::Long => int64(cursor),
+        LeafType::Byte | LeafType::Short | LeafType::Integer | LeafType::Date => {
+            int32(cursor).map_err(bad_bytes)
+        }
+        LeafType::Long => int64(cursor).map_err(bad_bytes),
         LeafType::String => text(alloc, cursor),
         LeafType::Binary => binary(alloc, cursor),
     }
 }
 
+/// The whole number in front, in four bytes.
 #[tactic(auto, unfolding(crate::specs::Plain::int32_at))]
-fn int32(cursor: &mut Cursor) -> Result<Value, FileError>
-    ensures { TakesValue (int32_at cursor.old) result cursor.new }
+fn int32(cursor: &mut Cursor) -> Result<Value, ByteFault>
+    ensures taken { Takes value_view (int32_at cursor.old) result cursor.new }
+    ensures proper { IfOk result (λ number. is_proper (value_view number) ≡ true) }
 {
-    match cursor.i32_le() {
-        Ok(number) => Ok(Value::Int(i64::from(number))),
-        Err(fault) => Err(bad_bytes(fault)),
-    }
+    let number = cursor.i32_le()?;
+    Ok(Value::Int(i64::from(number)))
 }
 
+/// The whole number in front, in eight bytes.
 #[tactic(auto, unfolding(crate::specs::Plain::int64_at))]
-fn int64(cursor: &mut Cursor) -> Result<Value, FileError>
-    ensures { TakesValue (int64_at cursor.old) result cursor.new }
+fn int64(cursor: &mut Cursor) -> Result<Value, ByteFault>
+    ensures taken { Takes value_view (int64_at cursor.old) result cursor.new }
+    ensures proper { IfOk result (λ number. is_proper (value_view number) ≡ true) }
 {
-    match cursor.i64_le() {
-        Ok(number) => Ok(Value::Int(number)),
-        Err(fault) => Err(bad_bytes(fault)),
-    }
+    let number = cursor.i64_le()?;
+    Ok(Value::Int(number))
 }
 
 #[tactic(auto, unfolding(crate::specs::Plain::text_at))]

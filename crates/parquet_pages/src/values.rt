@@ -1,6 +1,6 @@
 //! The values of a page in PLAIN, taken from their front.
 
-ghost use Rattle.std.specs.Prelude.{◌≡◌, ◌≤◌, ◌++◌, List, [], length, take, drop, All, Ok, true, ◌<◌, ◌^◌};
+ghost use Rattle.std.specs.Prelude.{◌≡◌, ◌≤◌, ◌++◌, List, [], length, take, drop, All, Ok, IsOk, OnOk, true, ◌<◌, ◌^◌};
 ghost use Rattle.row_core.specs.Rows as rows;
 ghost use Rattle.row_core.specs.Views.{row_views};
 ghost use Rattle.parquet_pages.specs.Held.{HasValuesLeft};
@@ -8,11 +8,12 @@ ghost use Rattle.parquet_pages.specs.Outcome.{FindsWhere};
 ghost use Rattle.parquet_pages.specs.Pages.{is_proper};
 ghost use Rattle.parquet_pages.specs.Plain.{plain_at};
 
+use crate::header::bad_page;
 use crate::part::add_some_values;
-use crate::plain::{bad_bytes, pass_values};
+use crate::plain::pass_values;
 use crate::types::LeafType;
 use lake_bytes::Cursor;
-use parquet_footer::FileError;
+use parquet_footer::{FileError, FileFault};
 use row_core::Value;
 use std::alloc::Global;
 
@@ -47,9 +48,9 @@ impl<'a> PlainReader<'a> {
 
     /// Passes so many values, of which there are as many at least. The time is constant but for texts and bytes, where it
     /// is linear in their number.
-    pub(crate) fn pass(&mut self, count: u64) -> Result<(), FileError>
+    pub(crate) fn pass(&mut self, count: u64) -> Result<(), FileFault>
         ensures { (type : LeafType) (values : List rows.Value) → HasValuesLeft type self.old values → count ≤ length values
-            → FindsWhere (λ _. HasValuesLeft type self.new (drop count values)) result }
+            → IsOk result × OnOk result (HasValuesLeft type self.new (drop count values)) }
     {
         if let LeafType::Boolean = self.leaf_type {
             self.passed = self.passed.saturating_add(count);
@@ -58,7 +59,7 @@ impl<'a> PlainReader<'a> {
         let mut cursor = Cursor::new(self.bytes);
         match pass_values(&mut cursor, self.leaf_type, count) {
             Ok(_has_long) => {}
-            Err(fault) => return Err(bad_bytes(fault)),
+            Err(fault) => return Err(bad_page(fault.into())),
         }
         self.bytes = cursor.left();
         Ok(())

@@ -26,7 +26,7 @@ use shred::{Shape, ShapeField};
 use std::alloc::{Allocator, Global};
 
 /// What a table's rows are in a file.
-#[derive(Debug, Drop)]
+#[derive(Drop)]
 pub struct FileShape {
     /// The table's fields in the table's order, and which of them may be null in the file.
     pub shape: Shape,

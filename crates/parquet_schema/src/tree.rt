@@ -2,7 +2,7 @@
 
 /// A node of a file's columns.
 #[cycle(tree)]
-#[derive(Debug, Drop)]
+#[derive(Drop)]
 pub(crate) enum FileNode {
     /// A leaf, by the number of its physical type.
     Leaf(i64),
@@ -12,7 +12,7 @@ pub(crate) enum FileNode {
 
 /// A field of a group.
 #[cycle(tree)]
-#[derive(Debug, Drop)]
+#[derive(Drop)]
 pub(crate) struct FileField {
     /// The name, in the bytes of the file.
     pub(crate) name: Vec<u8>,

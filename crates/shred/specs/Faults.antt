@@ -1,8 +1,9 @@
 -- Why columns are not those of any rows.
-use Rattle.std.specs.Prelude.{◌≡◌, ℕ, List, ◌++◌, codes}
+use Rattle.std.specs.Prelude.{◌≡◌, ℕ, List, ◌++◌, None, codes}
 use Rattle.lake_bytes.specs.Outcome.{Said, refuses, says_nothing}
 use Rattle.schema_tree.specs.Fault.{Path, path_of, path_inside}
 use Rattle.schema_tree.specs.FaultTexts.{path_text}
+use Rattle.shred.specs.declared.fault.CellMismatch.{CellMismatch}
 use Rattle.shred.specs.declared.fault.ShredError.{ShredError}
 use Rattle.shred.specs.declared.fault.ShredError.TheVariants as errors
 
@@ -22,6 +23,10 @@ abbrev pub says : ShredError → Said Fault
 says errors.Memory = says_nothing
 says errors.UnevenColumns = refuses uneven_columns
 says (errors.LevelMismatch path) = refuses (level_mismatch (path_of path))
+
+-- what a cell that isn't its row's says, at the leaf itself
+abbrev pub says_mismatch : CellMismatch → Said Fault
+says_mismatch mismatch = refuses (level_mismatch None)
 
 -- What is said from outside the field of this name: the fault as it is told there, or nothing, as where memory ran out.
 abbrev pub SaysOutside : List ℕ → Said Fault → Said Fault → Type 0

@@ -1,8 +1,7 @@
 //! Why columns are not those of any rows.
 
-ghost use Rattle.std.specs.Prelude.{◌≡◌, Some, None};
-ghost use Rattle.lake_bytes.specs.Outcome.{refuses};
-ghost use Rattle.shred.specs.Faults.{error_text, says, level_mismatch, SaysOutside};
+ghost use Rattle.std.specs.Prelude.{◌≡◌, Some};
+ghost use Rattle.shred.specs.Faults.{error_text, says, says_mismatch, SaysOutside};
 ghost use Rattle.shred.specs.declared.fault.ShredError.TheVariants.{Memory};
 
 use schema_tree::ColumnPath;
@@ -38,15 +37,6 @@ impl Display for ShredError {
 }
 
 impl ShredError {
-    /// The cell of the leaf here disagrees with those before it.
-    pub(crate) fn level_mismatch() -> ShredError
-        ensures { says result ≡ refuses (level_mismatch None) }
-    {
-        ShredError::LevelMismatch {
-            path: ColumnPath::root(),
-        }
-    }
-
     /// The error of what stands inside the field of this name.
     pub(crate) fn inside(self, alloc: Global, name: &str) -> ShredError
         ensures { SaysOutside name.now (says self) (says result) }
@@ -57,6 +47,20 @@ impl ShredError {
                 Err(_) => ShredError::Memory,
             },
             error => error,
+        }
+    }
+}
+
+/// The cell of a leaf disagrees with those before it, or with the leaf.
+#[derive(Drop)]
+pub(crate) struct CellMismatch;
+
+impl From<CellMismatch> for ShredError {
+    ghost from_gives = { λ mismatch e. says e ≡ says_mismatch mismatch };
+
+    fn from(_mismatch: CellMismatch) -> ShredError {
+        ShredError::LevelMismatch {
+            path: ColumnPath::root(),
         }
     }
 }

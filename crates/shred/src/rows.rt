@@ -4,13 +4,13 @@ ghost use Rattle.std.specs.Prelude.{◌≡◌, option_map, map};
 ghost use Rattle.lake_bytes.specs.Outcome.{Gives};
 ghost use Rattle.row_core.specs.Views.{value_view, row_views};
 ghost use Rattle.shred.specs.Assembly.{begins_absent, is_absent, value_in, passed, passed_fields, passed_field, made, made_fields, made_field, made_inside};
-ghost use Rattle.shred.specs.Faults.{says};
+ghost use Rattle.shred.specs.Faults.{says, says_mismatch};
 ghost use Rattle.shred.specs.Fits.{is_plain};
 ghost use Rattle.shred.specs.Shape.{leaf, fields_of};
 ghost use Rattle.shred.specs.Views.{shape_view, field_view, field_views, cell_view, cells_view};
 
 use crate::columns::Cell;
-use crate::fault::ShredError;
+use crate::fault::{CellMismatch, ShredError};
 use crate::shapes::{Shape, ShapeField};
 use row_core::Value;
 use std::alloc::Global;
@@ -28,7 +28,7 @@ pub(crate) fn value(
         (made (shape_view shape.now) level (cells_view cells.old.items)) }
 {
     match shape {
-        Shape::Leaf => leaf_value(level, cells),
+        Shape::Leaf => Ok(leaf_value(level, cells)?),
         Shape::Struct(fields) => {
             let values = values(alloc, fields, level, cells)?;
             Ok(Value::Struct(values))
@@ -98,16 +98,16 @@ fn value_inside(
 }
 
 /// The value of a leaf.
-fn leaf_value(level: u64, cells: &mut VecDeque<Cell<Value>>) -> Result<Value, ShredError>
-    ensures { Gives says (λ v. (value_view v, cells_view cells.new.items)) result
+fn leaf_value(level: u64, cells: &mut VecDeque<Cell<Value>>) -> Result<Value, CellMismatch>
+    ensures { Gives says_mismatch (λ v. (value_view v, cells_view cells.new.items)) result
         (made leaf level (cells_view cells.old.items)) }
 {
     let Some(cell) = cells.pop_front() else {
-        return Err(ShredError::level_mismatch());
+        return Err(CellMismatch);
     };
     match value_in(level, cell) {
         Some(value) => Ok(value),
-        None => Err(ShredError::level_mismatch()),
+        None => Err(CellMismatch),
     }
 }
 
@@ -158,7 +158,7 @@ fn pass(
         (passed (shape_view shape.now) level (cells_view cells.old.items)) }
 {
     match shape {
-        Shape::Leaf => pass_leaf(level, cells),
+        Shape::Leaf => Ok(pass_leaf(level, cells)?),
         Shape::Struct(fields) => pass_fields(alloc, fields, level, cells),
     }
 }
@@ -198,12 +198,12 @@ fn pass_field(
 }
 
 /// Passes the cell of a leaf.
-fn pass_leaf(level: u64, cells: &mut VecDeque<Cell<Value>>) -> Result<(), ShredError>
-    ensures { Gives says (λ _. cells_view cells.new.items) result
+fn pass_leaf(level: u64, cells: &mut VecDeque<Cell<Value>>) -> Result<(), CellMismatch>
+    ensures { Gives says_mismatch (λ _. cells_view cells.new.items) result
         (passed leaf level (cells_view cells.old.items)) }
 {
     match cells.pop_front() {
         Some(cell) if is_absent(level, &cell) => Ok(()),
-        _ => Err(ShredError::level_mismatch()),
+        _ => Err(CellMismatch),
     }
 }

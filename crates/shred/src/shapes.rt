@@ -13,7 +13,7 @@ use std::alloc::{AllocError, Allocator, Global};
 /// The shape of a row or of a value in it: a tree. That of a table is made of its schema; a reader of files makes
 /// one of a file's own flags, which may mark a field optional or required whatever the table says.
 #[cycle(shape)]
-#[derive(Debug, Drop)]
+#[derive(Drop)]
 pub enum Shape {
     /// A value that is no struct.
     Leaf,
@@ -23,7 +23,7 @@ pub enum Shape {
 
 /// A field of a struct.
 #[cycle(shape)]
-#[derive(Debug, Drop)]
+#[derive(Drop)]
 pub struct ShapeField {
     /// The name, which stands in the path of a fault.
     pub name: String,

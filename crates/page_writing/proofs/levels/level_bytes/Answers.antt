@@ -14,7 +14,7 @@ write_content-requires c =
 pub returns-clause-short : goal.returns-clause-short
 returns-clause-short c =
     content_short c.new-bytes.result.items c.write_content.new.out.items c.deref.result.now c.new-bytes.ensures.items
-    c.in_ok-write_content.ensures
+    c.in_ok-write_content.ensures.ok
     (hybrid_content_short c.width_of.result c.args.levels.now c.new-hybrid.result.items c.hybrid_write.new.out.items
     c.deref.result.now c.new-hybrid.ensures.items c.in_ok-hybrid_write.ensures.ok c.deref.ensures.value c.requires
     c.width_of.ensures.few)

@@ -5,8 +5,8 @@ use Rattle.page_writing.specs.Writing.{plain_bytes}
 use Rattle.page_writing.proofs.WrittenSizes.{page_is_written, sizes}
 use Rattle.page_writing.proofs.page.put_page.Goals as goal
 
-pub returns : goal.returns
-returns c =
+pub returns-clause-exact : goal.returns-clause-exact
+returns-clause-exact c =
     let levels = c.in_ok-level_bytes.level_bytes.items in
     let values = map borrowed_value c.args.values.now in
     let physical = c.physical_type-physical_type.result in
@@ -21,4 +21,4 @@ returns c =
     c.extend_from_slice-2.new.self.items c.write_plain.new.out.items c.deref.result.now c.deref-2.result.now
     c.in_ok-level_bytes.ensures.bytes c.physical_type-physical_type.ensures (within, counted) c.in_ok-header.ensures
     c.deref.ensures.value c.deref-2.ensures.value c.in_ok-extend_from_slice.ensures.items
-    c.in_ok-extend_from_slice-2.ensures.items c.in_ok-write_plain.ensures
+    c.in_ok-extend_from_slice-2.ensures.items c.in_ok-write_plain.ensures.ok

@@ -2,7 +2,8 @@ use Rattle.std.proofs.Common.{◌≡◌, ◌<◌, length, get_or, map, arith, sy
 use Rattle.std.proofs.lemmas.List.{get_or-map, length-map}
 use Rattle.shred.specs.Views.{borrowed_value}
 use Rattle.page_writing.specs.Writing.{value_bytes}
-use Rattle.page_writing.proofs.WrittenPlain.{value_within}
+use Rattle.page_writing.proofs.Kept.{keeps_more}
+use Rattle.page_writing.proofs.WrittenPlain.{value_within, value_written}
 use Rattle.page_writing.proofs.plain.write_plain.Goals as goal
 
 pub write_value-requires : goal.write_value-requires
@@ -19,3 +20,12 @@ write_value-requires c =
       value_within c.args.physical_type (map borrowed_value values) i v c.in_default.not-Boolean within,
       ap (λ x. length (value_bytes c.args.physical_type x)) same,
     )
+
+pub loop-value-preserved : goal.loop-value-preserved
+loop-value-preserved c = record {
+  ok = value_written c.args.physical_type borrowed_value c.args.values.now c.loop-value.value-index c.value-item.result
+      c.loop-value.out.items c.write_value.new.out.items _ c.in_default.not-Boolean c.loop-value-test.true
+      (sym c.value-item.is) c.in_ok-write_value.ensures.ok c.loop-value.invariant.ok;
+  keeps = keeps_more c.args.out.now.items c.loop-value.out.items c.write_value.new.out.items _
+      c.loop-value.invariant.keeps c.in_ok-write_value.ensures.ok;
+}

@@ -15,7 +15,7 @@ use Rattle.parquet_pages.specs.Parts.{IsPartOf}
 use Rattle.parquet_pages.proofs.HeldCells.{are_there, behind_each, behind_plain, cut_behind, cut_front, front_each, front_plain, kept_is, no_fault, present_is, same_part}
 use Rattle.parquet_pages.proofs.reader.ColumnReader.take.Goals as goal
 
--- ---- memory ran out where values were passed over
+-- ---- the values that are passed over are there
 
 pub returns-in_err-pass : goal.returns-in_err-pass
 returns-in_err-pass c = record {
@@ -36,13 +36,12 @@ returns-in_err-pass c = record {
       let skipped = present_is c.highest-highest.result top c.present-skipped.result c.deref-3.result.now
       (take c.args.first front) told (ap (λ (rs : List Run). values_of rs) c.deref-3.ensures.value ∙ before) fewer
       c.present-skipped.ensures in
-      let memory = no_fault _
-      (c.in_err-pass.ensures l.leaf_type here.values held.values (omega (arith, skipped, there.passed))) in
-      let p = err_from_is_err_and c.from_residual-in_err-pass.result c.from_residual-in_err-pass.ensures.1 in
-      rw (p.1, p.2, memory) tt;
+      let found = (c.in_err-pass.ensures l.leaf_type here.values held.values (omega (arith, skipped, there.passed))) in
+      let never = found.0 in
+      absurd cc;
 }
 
--- ---- and where they were added
+-- ---- memory ran out where values were added
 
 pub returns-in_err-add : goal.returns-in_err-add
 returns-in_err-add c = record {
@@ -75,7 +74,7 @@ returns-in_err-add c = record {
       fewest c.present.ensures in
       let passed : HasValuesLeft l.leaf_type c.pass.new.self (drop (present top (take c.args.first front)) here.values) =
       subst (λ (n : ℕ). HasValuesLeft l.leaf_type c.pass.new.self (drop n here.values)) skipped
-      (c.in_ok-pass.ensures l.leaf_type here.values held.values (omega (arith, skipped, there.passed))) in
+      ((c.in_ok-pass.ensures l.leaf_type here.values held.values (omega (arith, skipped, there.passed))).1) in
       let memory = no_fault _
       (c.in_err-add.ensures l.leaf_type (drop (present top (take c.args.first front)) here.values) passed
       (omega (arith, wanted, there.kept))) in
@@ -83,7 +82,7 @@ returns-in_err-add c = record {
       rw (p.1, p.2, memory) tt;
 }
 
--- ---- and where those behind them were passed over
+-- ---- those behind them are there too
 
 pub returns-in_err-pass-2 : goal.returns-in_err-pass-2
 returns-in_err-pass-2 c = record {
@@ -108,12 +107,11 @@ returns-in_err-pass-2 c = record {
       (ap (λ (rs : List Run). values_of rs) c.deref-4.ensures.value ∙ levels) few c.present-taken.ensures in
       let passed : HasValuesLeft l.leaf_type c.pass.new.self (drop (present top (take c.args.first front)) here.values) =
       subst (λ (n : ℕ). HasValuesLeft l.leaf_type c.pass.new.self (drop n here.values)) skipped
-      (c.in_ok-pass.ensures l.leaf_type here.values held.values (omega (arith, skipped, there.passed))) in
-      let memory = no_fault _
-      (c.in_err-pass-2.ensures l.leaf_type (drop (present top (take c.args.first front)) here.values) passed
+      ((c.in_ok-pass.ensures l.leaf_type here.values held.values (omega (arith, skipped, there.passed))).1) in
+      let found = (c.in_err-pass-2.ensures l.leaf_type (drop (present top (take c.args.first front)) here.values) passed
       (omega (arith, skipped, taken, there.others, c.saturating_sub.ensures))) in
-      let p = err_from_is_err_and c.from_residual-in_err-pass-2.result c.from_residual-in_err-pass-2.ensures.1 in
-      rw (p.1, p.2, memory) tt;
+      let never = found.0 in
+      absurd cc;
 }
 
 -- ---- what is kept, and what is left
@@ -152,14 +150,14 @@ returns c = record {
       (ap (λ (rs : List Run). values_of rs) c.deref-4.ensures.value ∙ levels) few c.present-taken.ensures in
       let passed : HasValuesLeft l.leaf_type c.pass.new.self (drop (present top (take first front)) here.values) =
       subst (λ (n : ℕ). HasValuesLeft l.leaf_type c.pass.new.self (drop n here.values)) skipped
-      (c.in_ok-pass.ensures l.leaf_type here.values held.values (omega (arith, skipped, there.passed))) in
+      ((c.in_ok-pass.ensures l.leaf_type here.values held.values (omega (arith, skipped, there.passed))).1) in
       let others : c.saturating_sub.result ≡ present top front - present top (take first front) =
       omega (arith, skipped, taken, c.saturating_sub.ensures) in
       let behind : HasValuesLeft l.leaf_type c.pass-2.new.self (drop (present top front) here.values) =
       subst (λ (vs : List Value). HasValuesLeft l.leaf_type c.pass-2.new.self vs)
       (ap (λ (n : ℕ). drop n (drop (present top (take first front)) here.values)) others ∙ there.all)
       (c.in_ok-pass-2.ensures l.leaf_type (drop (present top (take first front)) here.values) passed
-      (omega (arith, others, there.others))) in
+      (omega (arith, others, there.others))).1 in
       let added : c.add_levels.new.levels.items ≡ part_of first most front =
       c.in_ok-add_levels.ensures ∙ ap (λ (ls : List ℕ). ls ++ values_of c.deref-5.result.now) c.new.ensures.items
       ∙ ap (λ (rs : List Run). values_of rs) c.deref-5.ensures.value ∙ kept in

@@ -21,5 +21,5 @@ returns c type values held less =
     let there = ap (λ t. plain_at t c.args.count r.bytes.now) held.of_type ∙ p.read in
     let read = rw c.new-cursor.ensures at c.in-Ok.ensures in
     let parts = done_parts read.0 p.front c.pass_values.new.cursor p.between (sym read.1 ∙ there) in
-    p.left (record { leaf_type = r.leaf_type; bytes = c.left-self.result; passed = r.passed }) held.of_type
-    (c.left-self.ensures ∙ parts.1) refl
+    let left = p.left (record { leaf_type = r.leaf_type; bytes = c.left-self.result; passed = r.passed }) held.of_type
+    (c.left-self.ensures ∙ parts.1) refl in (refl, left)
