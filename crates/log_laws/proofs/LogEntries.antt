@@ -32,7 +32,7 @@ stands_at objects schema version wanted (entry ∷ entries) holds low high =
 module _ (objects : Objects) (sound : IsSound objects) where
   -- each entry has a version that a commit can have
   entries_fit : length sound.entries ≤ suc greatest_version
-  entries_fit = HoldsFrom-fit objects sound.schema 0 sound.entries sound.holds
+  entries_fit = omega (arith, HoldsFrom-fit objects sound.schema 0 sound.entries sound.holds)
 
   -- there are as many entries as versions, or fewer
   few_entries : length sound.entries ≤ commit_count objects
