@@ -20,7 +20,7 @@ pub use fault::ActionFault;
 pub use file_path::FilePath;
 pub use json_fields::TextMap;
 pub use lent::ActionRef;
-pub use names::{commit_name, data_file_name};
+pub use names::{GREATEST_VERSION, commit_name, data_file_name};
 pub use printing::{print_commit, print_lent, print_lent_lines, print_line};
 pub use reading::{read_commit, read_line};
 pub use table_format::TableFormat;

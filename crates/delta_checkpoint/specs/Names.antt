@@ -1,7 +1,7 @@
 -- The names of checkpoints (Delta PROTOCOL.md, "UUID-named checkpoint").
 use Rattle.std.specs.Prelude.{◌≡◌, ◌≤◌, ℕ, List, ◌++◌, true, codes, is_some, length, take, unwrap_or}
 use Rattle.std.specs.Fmt.{decimal}
-use Rattle.delta_actions.specs.Names.{twenty_digits}
+use Rattle.delta_actions.specs.Names.{twenty_digits, greatest_version}
 use Rattle.sha1.specs.Sha1.{sha1}
 use Rattle.uuid.specs.Parts.{with_variant, with_version, zero_bytes}
 use Rattle.uuid.specs.Text.{hyphenated_text, lower, parsed}
@@ -32,6 +32,6 @@ checkpoint_name version table_id = name_with version (hyphenated_text lower (che
 pub record IsCheckpointName (version : ℕ) (name : List ℕ) : Type 0 where
   pub id : List ℕ
   pub is : name ≡ name_with version id
-  pub small : version ≤ 999_999_999_999
+  pub small : version ≤ greatest_version
   pub hyphenated : length id ≡ 36
   pub uuid : is_some (parsed id) ≡ true

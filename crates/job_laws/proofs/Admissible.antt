@@ -1,15 +1,14 @@
 -- The commit of a batch that an append puts over a sound store is admissible.
-use Rattle.std.proofs.Common.{◌≡◌, ℕ, ◌<◌, Bool, true, false, not, List, [], ◌∷◌, length, Option, Some, None, Result, Ok, Err, eqb, ltb, refl, sym, ap, subst, ◌∙◌}
+use Rattle.std.proofs.Common.{◌≡◌, ℕ, ◌≤◌, Bool, true, false, not, List, [], ◌∷◌, length, Option, Some, None, Result, Ok, Err, eqb, ltb, refl, sym, ap, subst, ◌∙◌}
 use Rattle.std.specs.Prelude.{cond, option_map}
 use Rattle.store_core.specs.Objects.{Objects, object_at}
 use Rattle.store_core.specs.ObjectLaws.{object_at-with_object_kept, object_at-with_object_same}
-use Rattle.delta_actions.specs.Names.{data_file_name}
+use Rattle.delta_actions.specs.Names.{data_file_name, greatest_version}
 use Rattle.parquet_footer.specs.declared.fault.FileFault.{FileFault}
 use Rattle.parquet_file.specs.Reading.{rows_at}
 use Rattle.parquet_file.proofs.RowsFound.{rows_found}
 use Rattle.row_core.specs.Rows.{Row}
 use Rattle.row_core.proofs.Callers.{same_rows-is}
-use Rattle.table_log.specs.Counts.{commit_count}
 use Rattle.table_model.specs.Appends.{appended}
 use Rattle.table_model.specs.declared.table.Appended.TheVariants.{Committed}
 use Rattle.table_model.specs.Table as model
@@ -17,7 +16,7 @@ use Rattle.table_model.specs.Table.{Entry, group, is_closed, last_batch}
 use Rattle.table_store.specs.Commits.{IsCommitOf}
 use Rattle.table_store.specs.Holds.{FileStands, HoldsFrom, Stands}
 use Rattle.table_store.specs.Schema.{Schema, IsFileOf}
-use Rattle.table_store.specs.Sound.{IsAdmissible, IsSound, greatest_version}
+use Rattle.table_store.specs.Sound.{IsAdmissible, IsSound}
 use Rattle.table_store.proofs.HoldingPuts.{HoldsFrom-data_file}
 use Rattle.sink_core.specs.Appending.{Batch, IsWellMade, appending, is_repeat, is_same, unless_other, with_file}
 use Rattle.sink_core.specs.Refusals.{differs, stale}
@@ -75,11 +74,11 @@ module _ (objects : Objects) (application : List ℕ) (number at : ℕ) (batch :
     stand = record { only = refl; numbered = refl; files = (named, refl, tt) };
   }
 
-  -- The commit of a batch that is put is admissible once its file was put, where what stood under the file's name is of
-  -- bytes.
-  pub admissible : ((bytes : List ℕ) → object_at objects (data_file_name application number) ≡ Some bytes → IsBytes bytes) → IsSound objects → commit_count objects < greatest_version → PutsBatch objects application number batch → IsAdmissible (with_file objects batch) batch.version batch.commit
-  admissible are sound small puts =
-      let log : IsLogOf objects sound.schema sound.entries puts.commits = sound_log objects sound small puts.commits puts.log in
+  -- The commit of a batch that is put is admissible once its file was put, where a commit can have its version and what
+  -- stood under the file's name is of bytes.
+  pub admissible : ((bytes : List ℕ) → object_at objects (data_file_name application number) ≡ Some bytes → IsBytes bytes) → IsSound objects → batch.version ≤ greatest_version → PutsBatch objects application number batch → IsAdmissible (with_file objects batch) batch.version batch.commit
+  admissible are sound fits puts =
+      let log : IsLogOf objects sound.schema sound.entries puts.commits = sound_log objects sound puts.commits puts.log in
       let schema : batch.schema ≡ sound.schema = one_schema log in
       let file : Stands (with_file objects batch) batch.name (λ bytes. IsFileOf batch.schema bytes batch.rows) = file_stands (object_at objects batch.name) refl (λ bytes there. are bytes (ap (object_at objects) (sym puts.name) ∙ there)) puts.fits.0 puts.fits.1 in
       let stands : FileStands (with_file objects batch) sound.schema handed_in = rw (← schema, ← puts.name) file in
@@ -88,7 +87,8 @@ module _ (objects : Objects) (application : List ℕ) (number at : ℕ) (batch :
         entries = sound.entries;
         entry = group (handed_in ∷ []);
         stand = held_first (with_file objects batch) sound.schema 0 sound.entries holds;
-        at = sym (sound_count objects sound small) ∙ sym puts.version;
+        at = sym (sound_count objects sound) ∙ sym puts.version;
+        fits = fits;
         commit = commit_made sound.schema puts.name;
         files = (stands, tt);
         lawful = lawful_with handed_in sound.entries log.rest log.begins sound.lawful (taken log);

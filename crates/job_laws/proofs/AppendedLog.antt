@@ -14,7 +14,7 @@ use Rattle.store_core.specs.ObjectLaws.{object_at-with_object_other, object_at-w
 use Rattle.delta_actions.specs.Commit.{IsCommit}
 use Rattle.delta_actions.specs.Action as actions
 use Rattle.delta_actions.specs.In.{meta_data_in, protocol_in, txn_in}
-use Rattle.delta_actions.specs.Names.{data_file_name}
+use Rattle.delta_actions.specs.Names.{data_file_name, greatest_version}
 use Rattle.delta_replay.specs.Keys.{Key, the_meta_data, the_protocol, number_of, kept, newest, last_number}
 use Rattle.delta_replay.specs.Support.{Unsupported, feature, has_key_inside, no_protocol, readable_by, writable, writable_protocol}
 use Rattle.table_log.specs.Counts.{commit_count}
@@ -137,7 +137,7 @@ all_with : (made : List actions.Action) (versions : List Version) (commits : Lis
 all_with made [] commits is = absurd cc
 all_with made (first ∷ versions) commits is = commits_with made 0 (first ∷ versions) commits is
 
-module _ (objects : Objects) (name file bytes : List ℕ) (apart : (version : ℕ) → commit_name version ≢ name) (small : commit_count objects ≤ 999_999_999_999) where
+module _ (objects : Objects) (name file bytes : List ℕ) (apart : (version : ℕ) → commit_name version ≢ name) (small : commit_count objects ≤ greatest_version) where
   -- the next version
   abbrev next : ℕ
   next = commit_count objects
@@ -174,7 +174,7 @@ module _ (objects : Objects) (name file bytes : List ℕ) (apart : (version : �
   one_more : commit_count with_both ≡ suc next
   one_more = count_is with_both (suc next) (omega (arith, small)) below newest_one
     where
-      below : (version : ℕ) → version ≤ 999_999_999_999 → IsSome (object_at with_both (commit_name version)) → version < suc next
+      below : (version : ℕ) → version ≤ greatest_version → IsSome (object_at with_both (commit_name version)) → version < suc next
       below version fits there =
           elim (cases_eq version next) [
             | inl same ↦ omega (arith, same)
@@ -233,7 +233,7 @@ module _ (objects : Objects) (application : List ℕ) (number at : ℕ) (batch :
   log_behind version small named commits is =
       ap log_of (whole_behind small)
       ∙ subst (λ (v : ℕ). log_of (with_object (with_object objects batch.name batch.file) (commit_name v) batch.commit) ≡ Ok (commits ++ appending application number at batch.name (length batch.file) (length batch.rows) ∷ [])) (sym version)
-      (log_with objects batch.name batch.file batch.commit (file_apart application number batch.name named) (omega (arith, version, ltb-false 999_999_999_999 batch.version small)) (appending application number at batch.name (length batch.file) (length batch.rows)) well.commit commits is)
+      (log_with objects batch.name batch.file batch.commit (file_apart application number batch.name named) (omega (arith, version, ltb-false greatest_version batch.version small)) (appending application number at batch.name (length batch.file) (length batch.rows)) well.commit commits is)
 
 -- Behind an append, the same request is one that repeats.
 pub appended_request : (objects : Objects) (application : List ℕ) (number at : ℕ) (items : Items) (request : Request) (batch : Batch)

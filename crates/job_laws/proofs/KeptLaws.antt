@@ -1,5 +1,5 @@
 -- What is told over a store that keeps a table, and which stores keep one.
-use Rattle.std.proofs.Common.{◌≡◌, ◌≢◌, ℕ, suc, ◌<◌, ◌^◌, false, List, [], ◌∷◌, length, take, Contains, Some, Result, Ok, refl, sym, subst, ◌∙◌}
+use Rattle.std.proofs.Common.{◌≡◌, ◌≢◌, ℕ, suc, false, List, [], ◌∷◌, take, Contains, Some, Result, Ok, refl, sym, subst, ◌∙◌}
 use Rattle.std.specs.List.{AllByRecursion}
 use Rattle.std.proofs.lemmas.List.Elements.{Contains-append_left, Contains-append_right}
 use Rattle.schema_tree.specs.Tree.{Tree}
@@ -15,6 +15,7 @@ use Rattle.table_model.specs.declared.reading.Offset.{Offset}
 use Rattle.table_model.proofs.PartLemmas.{read_is_part, read_ends}
 use Rattle.table_store.specs.Holds.{FileStands, HoldsFrom}
 use Rattle.table_store.specs.Sound.{IsSound}
+use Rattle.table_store.proofs.HoldingEnds.{HoldsFrom-fit}
 use Rattle.source_core.specs.Offsets.{offset_of}
 use Rattle.source_core.specs.Tailing.{Handed, Refusal, read_by}
 use Rattle.source_core.specs.Tails.{tails}
@@ -40,18 +41,18 @@ part_by (beyond next) said max offset entries out told is says = let wrong = sym
 part_by (bad_place version) said max offset entries out told is says = let wrong = sym is ∙ says in absurd cc
 
 -- A read over a store that keeps a table hands out a part of the table.
-pub kept_part : (objects : Objects) (schema : Tree) (entries : List Entry) (max : ℕ) (offset : Offset) (out : Handed) → IsKept objects schema entries → length entries < 2 ^ 32 → read_by false objects max offset ≡ Ok out
+pub kept_part : (objects : Objects) (schema : Tree) (entries : List Entry) (max : ℕ) (offset : Offset) (out : Handed) → IsKept objects schema entries → read_by false objects max offset ≡ Ok out
     → IsPart max offset out.rows out.next entries × MayEnd false max out.rows out.next entries
-kept_part objects schema entries max offset out kept few says =
-    part_by (read max offset entries) (read_by false objects max offset) max offset entries out refl (kept_reads reads_told objects schema entries kept few max offset) says
+kept_part objects schema entries max offset out kept says =
+    part_by (read max offset entries) (read_by false objects max offset) max offset entries out refl (kept_reads reads_told objects schema entries kept max offset) says
 
 -- Reads by texts that begin before all rows hand out the table's rows up to where the next one begins.
-pub log_by_texts : (objects : Objects) (schema : Tree) (entries : List Entry) (limits : List ℕ) (text last : List ℕ) (out : List Row) → IsKept objects schema entries → length entries < 2 ^ 32
+pub log_by_texts : (objects : Objects) (schema : Tree) (entries : List Entry) (limits : List ℕ) (text last : List ℕ) (out : List Row) → IsKept objects schema entries
     → offset_of text ≡ Some beginning → ReadsByTexts objects limits text out last
     → (next : Offset) × (offset_of last ≡ Some next) × (out ≡ take (position next entries) (rows entries))
-log_by_texts objects schema entries limits text last out kept few begins by_texts =
+log_by_texts objects schema entries limits text last out kept begins by_texts =
     let same = as_by_offsets objects limits text last out beginning by_texts begins in
-    ((tails objects limits beginning).next, same.1, same.0 ∙ reads_log objects entries (kept_reads reads_told objects schema entries kept few) limits)
+    ((tails objects limits beginning).next, same.1, same.0 ∙ reads_log objects entries (kept_reads reads_told objects schema entries kept) limits)
 
 -- ---- sound stores whose files can be read
 
@@ -80,4 +81,4 @@ begins_by (close application ∷ rest) some begins = absurd begins
 pub sound_kept : (objects : Objects) (sound : IsSound objects) → sound.entries ≢ [] → HasReadableFiles objects sound.entries → IsKept objects sound.schema sound.entries
 sound_kept objects sound some limits =
     let first = begins_by sound.entries some sound.lawful.begins in
-    record { kept = kept_from objects sound.schema 0 sound.entries sound.holds limits; rest = first.0; begins = first.1; lawful = sound.lawful; ends = sound.ends }
+    record { kept = kept_from objects sound.schema 0 sound.entries sound.holds limits; rest = first.0; begins = first.1; lawful = sound.lawful; fits = HoldsFrom-fit objects sound.schema 0 sound.entries sound.holds; ends = sound.ends }

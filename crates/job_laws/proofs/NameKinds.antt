@@ -10,7 +10,7 @@ use Rattle.std.proofs.lemmas.Bool.{and_from, le-leb}
 use Rattle.std.proofs.lemmas.Fmt.{decimal_is_IsNumeral}
 use Rattle.std.proofs.lemmas.Slice.Eq.{bytes_eq-Decides}
 use Rattle.std.proofs.lemmas.Str.Parse.{digit_from_value}
-use Rattle.delta_actions.specs.Names.{commit_name, data_file_name, twenty_digits}
+use Rattle.delta_actions.specs.Names.{commit_name, data_file_name, twenty_digits, greatest_version}
 use Rattle.delta_checkpoint.proofs.TwentyDigits.{twenty_digits_long}
 use Rattle.table_folder.specs.Kinds.{has_version, is_checkpoint, is_commit, is_data}
 
@@ -28,7 +28,7 @@ all_with_zeros : (k : ℕ) (ds : List ℕ) → list_all is_ascii_digit ds ≡ tr
 all_with_zeros zero ds digits = digits
 all_with_zeros (suc k) ds digits = all_with_zeros k ds digits
 
-module _ (version : ℕ) (small : version ≤ 999_999_999_999) where
+module _ (version : ℕ) (small : version ≤ greatest_version) where
   digits_stand : list_all is_ascii_digit (take 20 (drop 11 (commit_name version))) ≡ true
   digits_stand =
       ap (list_all is_ascii_digit) (ap (λ (n : ℕ). take n (twenty_digits version ++ codes ".json")) (sym (twenty_digits_long version small)) ∙ take-append_seam (twenty_digits version) (codes ".json"))

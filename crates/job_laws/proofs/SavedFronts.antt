@@ -3,7 +3,7 @@ use Rattle.std.proofs.Common.{◌≡◌, ◌⊎◌, inl, inr, ◌∙◌, ℕ, Li
 use Rattle.std.proofs.lemmas.Bool.{ltb-false}
 use Rattle.store_core.specs.Objects.{Objects, IsInOrder, names_of, with_object}
 use Rattle.delta_actions.specs.Names as names
-use Rattle.delta_actions.specs.Names.{data_file_name}
+use Rattle.delta_actions.specs.Names.{data_file_name, greatest_version}
 use Rattle.table_folder.specs.Copies.{HasSavedFront, to_save}
 use Rattle.table_folder.specs.Kinds.{is_commit, is_data}
 use Rattle.table_folder.specs.Loads.{is_loaded, loaded}
@@ -69,7 +69,7 @@ module _ (files : List (List ℕ)) (objects after new : Objects) (application : 
       → after ≡ with_object (with_file (loaded files objects) batch) (commit_name batch.version) batch.commit → MayAppend application number at (Ok (puts batch)) objects new
   both_saved batch own well small whole =
       by_case (two_saved files objects after batch.name batch.file (commit_name batch.version) batch.commit order (ap (is_loaded files) own.name ∙ own_file) (commit_loaded files batch.version)
-      (ap is_data own.name ∙ file_is_data application number) (own_commit batch.version (commit_is_commit batch.version (ltb-false 999_999_999_999 batch.version small))) whole new front)
+      (ap is_data own.name ∙ file_is_data application number) (own_commit batch.version (commit_is_commit batch.version (ltb-false greatest_version batch.version small))) whole new front)
     where
       whole_is : with_append objects (Ok (puts batch)) ≡ with_object (with_file objects batch) (commit_name batch.version) batch.commit
       whole_is = rw small refl

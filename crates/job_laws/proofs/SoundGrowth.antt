@@ -1,19 +1,19 @@
 -- What creations, appends and checkpoints put leaves the table of a sound store sound.
-use Rattle.std.proofs.Common.{◌≡◌, inl, inr, ℕ, ◌<◌, false, List, [], Some, Result, Ok, Err, refl, sym, subst, arith}
-use Rattle.std.proofs.lemmas.Bool.{le-ltb}
+use Rattle.std.proofs.Common.{◌≡◌, inl, inr, ℕ, Bool, true, false, List, [], Some, Result, Ok, Err, refl, sym, subst, arith}
+use Rattle.std.proofs.lemmas.Bool.{ltb-false}
 use Rattle.store_core.specs.Objects.{Objects, object_at}
 use Rattle.serde_json.specs.Data.{Items}
 use Rattle.lake_bytes.specs.Varint.{IsBytes}
 use Rattle.delta_actions.specs.Names as names
-use Rattle.table_log.specs.Counts.{commit_count}
+use Rattle.delta_actions.specs.Names.{greatest_version}
 use Rattle.table_log.specs.Names.{commit_name}
 use Rattle.table_model.specs.Table.{creation}
 use Rattle.table_store.specs.Commits.{IsCommitOf}
-use Rattle.table_store.specs.Sound.{IsAdmissible, IsSound, greatest_version}
+use Rattle.table_store.specs.Sound.{IsAdmissible, IsSound}
 use Rattle.table_store.proofs.SoundLemmas.{sound_commit, sound_data_file}
 use Rattle.commit_core.specs.Commits.{creation as created}
 use Rattle.commit_core.specs.Creating.{CreatesWell, IsWellCreated, MayCreate, Refusal, commit_from, with_creation}
-use Rattle.sink_core.specs.Appending.{Batch, MayAppend, PutsWell, Step, is_past, puts, settled, stands, with_append, with_file, with_file_alone}
+use Rattle.sink_core.specs.Appending.{Batch, IsWellMade, MayAppend, PutsWell, Step, is_past, puts, settled, stands, with_append, with_file, with_file_alone}
 use Rattle.sink_core.specs.Refusals as sink
 use Rattle.table_model.proofs.Callers.{new_is_lawful}
 use Rattle.job_laws.proofs.Admissible.{admissible}
@@ -33,12 +33,12 @@ commit_created at schema bytes well = record {
 -- so it is admissible as the first
 admissible_creation : (objects : Objects) (at : ℕ) (schema bytes : List ℕ) → IsWellCreated at schema bytes → IsAdmissible objects 0 bytes
 admissible_creation objects at schema bytes well =
-    record { schema = well.read; entries = []; entry = creation; stand = tt; at = refl; commit = commit_created at schema bytes well; files = tt; lawful = new_is_lawful }
+    record { schema = well.read; entries = []; entry = creation; stand = tt; at = refl; fits = omega arith; commit = commit_created at schema bytes well; files = tt; lawful = new_is_lawful }
 
 -- what a creation puts leaves a sound store sound
 creation_sound : (objects : Objects) (at : ℕ) (schema : List ℕ) (commit : Result (List ℕ) Refusal) → CreatesWell at schema commit → IsSound objects → IsSound (with_creation objects commit)
 unfolding commit_name
-creation_sound objects at schema (Ok bytes) well sound = sound_commit objects 0 bytes (omega arith) sound (admissible_creation objects at schema bytes well)
+creation_sound objects at schema (Ok bytes) well sound = sound_commit objects 0 bytes sound (admissible_creation objects at schema bytes well)
 creation_sound objects at schema (Err why) well sound = sound
 
 -- whatever a creation puts
@@ -48,7 +48,7 @@ create_sound objects new id at schema (inr (printed, put)) sound = subst IsSound
 
 -- ---- an append
 
-module _ (objects : Objects) (sound : IsSound objects) (small : commit_count objects < greatest_version) (application : List ℕ) (number at : ℕ) (items : Items)
+module _ (objects : Objects) (sound : IsSound objects) (application : List ℕ) (number at : ℕ) (items : Items)
     (are : (bytes : List ℕ) → object_at objects (names.data_file_name application number) ≡ Some bytes → IsBytes bytes) where
   -- the file of a batch leaves a sound store sound
   file_sound : (batch : Batch) → PutsBatch objects application number batch → IsSound (with_file objects batch)
@@ -60,13 +60,16 @@ module _ (objects : Objects) (sound : IsSound objects) (small : commit_count obj
   alone_sound (Ok stands) is = sound
   alone_sound (Err why) is = sound
 
-  -- the file with the commit
-  whole_sound : (step : Result Step sink.Refusal) → settled false objects application number at items ≡ step → PutsWell application number at step → IsSound (with_append objects step)
+  -- the file with the commit, where a commit can have its version; otherwise the file alone
+  batch_sound : (batch : Batch) → IsWellMade application number at batch → PutsBatch objects application number batch → (past : Bool) → is_past batch.version ≡ past → IsSound (with_append objects (Ok (puts batch)))
   unfolding commit_name
-  whole_sound (Ok (puts batch)) is well =
-      let found = puts_batch objects application number at batch items is in
-      let put : is_past batch.version ≡ false = le-ltb 999_999_999_999 batch.version (omega (arith, found.version, small)) in
-      rw put (sound_commit (with_file objects batch) batch.version batch.commit (omega (arith, found.version, small)) (file_sound batch found) (admissible objects application number at batch well are sound small found))
+  batch_sound batch well found true is = rw is (file_sound batch found)
+  batch_sound batch well found false is =
+      rw is (sound_commit (with_file objects batch) batch.version batch.commit (file_sound batch found) (admissible objects application number at batch well are sound (ltb-false greatest_version batch.version is) found))
+
+  -- whatever the step puts
+  whole_sound : (step : Result Step sink.Refusal) → settled false objects application number at items ≡ step → PutsWell application number at step → IsSound (with_append objects step)
+  whole_sound (Ok (puts batch)) is well = batch_sound batch well (puts_batch objects application number at batch items is) (is_past batch.version) refl
   whole_sound (Ok stands) is well = sound
   whole_sound (Err why) is well = sound
 

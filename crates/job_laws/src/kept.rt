@@ -1,8 +1,9 @@
 //! Laws on stores that keep a table, whoever put their commits: what a line is told over one, what reads over one hand
 //! out, and which stores keep one.
 
-ghost use Rattle.std.specs.Prelude.{◌≡◌, ◌≢◌, ◌<◌, ◌^◌, ℕ, false, List, [], length, take, Ok, Some};
+ghost use Rattle.std.specs.Prelude.{◌≡◌, ◌≢◌, ◌≤◌, ℕ, false, List, [], length, take, Ok, Some};
 ghost use Rattle.store_core.specs.Objects.{Objects};
+ghost use Rattle.delta_actions.specs.Names.{greatest_version};
 ghost use Rattle.row_core.specs.Rows.{Row};
 ghost use Rattle.table_model.specs.Reads.{position, IsPart, MayEnd};
 ghost use Rattle.table_model.specs.Resumed.{beginning};
@@ -23,21 +24,21 @@ ghost use Rattle.lake_script.specs.Told.{IsPutHere, left_by_statement, reply_to_
 ghost use Rattle.job_laws.specs.Readable.{HasReadableFiles};
 ghost use Rattle.job_laws.specs.TextReads.{ReadsByTexts};
 
-/// Over a store that keeps a table, or nothing, a creation, an append, a read, a checkpoint and a history are told what
+/// Over a store that keeps a table that takes a version more, or nothing, a creation, an append, a read, a checkpoint and a history are told what
 /// the plain table tells, and an object that is shown is told as it stands; where the line puts no other tool's commit,
 /// the store goes on to keep the table that is left. It is asked that what the line puts is well made, as its contract
 /// says.
 pub fn a_kept_table_is_told()
-    ensures told { (objects : Objects) (state : State) (statement : Statement) (printed : List ℕ) → Keeps objects state → length (entries_of state) < 2 ^ 32
+    ensures told { (objects : Objects) (state : State) (statement : Statement) (printed : List ℕ) → Keeps objects state → length (entries_of state) ≤ greatest_version
         → IsSoundStatement objects statement printed → reply_to_statement objects statement printed ≡ reply_over state objects statement printed }
-    ensures kept { (objects : Objects) (state : State) (statement : Statement) (printed : List ℕ) → Keeps objects state → length (entries_of state) < 2 ^ 32
+    ensures kept { (objects : Objects) (state : State) (statement : Statement) (printed : List ℕ) → Keeps objects state → length (entries_of state) ≤ greatest_version
         → IsSoundStatement objects statement printed → IsPutHere (asks statement) → Keeps (left_by_statement objects statement printed) (tables.left_by_statement state statement) }
 {}
 
 /// A read over a store that keeps a table hands out the part of the table from its offset on, up to its limit or the
 /// end of the log.
 pub fn a_read_hands_out_a_part()
-    ensures { (objects : Objects) (schema : Schema) (entries : List Entry) (max : ℕ) (offset : Offset) (out : Handed) → IsKept objects schema entries → length entries < 2 ^ 32
+    ensures { (objects : Objects) (schema : Schema) (entries : List Entry) (max : ℕ) (offset : Offset) (out : Handed) → IsKept objects schema entries
         → read_by false objects max offset ≡ Ok out → IsPart max offset out.rows out.next entries × MayEnd false max out.rows out.next entries }
 {}
 
@@ -47,7 +48,7 @@ pub fn a_read_hands_out_a_part()
 pub fn reads_by_texts_hand_out_the_log()
     ensures same { (objects : Objects) (limits : List ℕ) (text last : List ℕ) (out : List Row) (start : Offset) → ReadsByTexts objects limits text out last → offset_of text ≡ Some start
         → (out ≡ (tails objects limits start).rows) × (offset_of last ≡ Some (tails objects limits start).next) }
-    ensures log { (objects : Objects) (schema : Schema) (entries : List Entry) (limits : List ℕ) (text last : List ℕ) (out : List Row) → IsKept objects schema entries → length entries < 2 ^ 32
+    ensures log { (objects : Objects) (schema : Schema) (entries : List Entry) (limits : List ℕ) (text last : List ℕ) (out : List Row) → IsKept objects schema entries
         → offset_of text ≡ Some beginning → ReadsByTexts objects limits text out last
         → (next : Offset) × (offset_of last ≡ Some next) × (out ≡ take (position next entries) (rows entries)) }
 {}

@@ -5,12 +5,10 @@
 
 mod kept;
 
-ghost use Rattle.std.specs.Prelude.{◌≡◌, ◌<◌, ℕ, Bool, false, List, Ok};
+ghost use Rattle.std.specs.Prelude.{◌≡◌, ℕ, Bool, false, List, Ok};
 ghost use Rattle.serde_json.specs.Data.{Items};
 ghost use Rattle.job_laws.specs.Enough.{HasRows};
 ghost use Rattle.store_core.specs.Objects.{Objects, IsInOrder, names_of};
-ghost use Rattle.table_store.specs.Sound.{greatest_version};
-ghost use Rattle.table_log.specs.Counts.{commit_count};
 ghost use Rattle.table_log.specs.Restoring.{RestoresWell};
 ghost use Rattle.table_folder.specs.Copies.{HasSavedFront, to_save};
 ghost use Rattle.table_folder.specs.Loads.{loaded};
@@ -68,9 +66,9 @@ pub fn an_append_again_stands()
 {}
 
 /// Whatever this program puts for a line leaves a sound store sound, however far it comes with it, where the line puts
-/// no other tool's commit. Of logs of fewer versions than there can be, where the data file that it looks at is of
-/// bytes: that its numbers are below 256 isn't known of objects in general.
+/// no other tool's commit. Behind a log of all versions that there can be an append puts its file alone. The data file
+/// that it looks at is of bytes: that its numbers are below 256 isn't known of objects in general.
 pub fn a_line_keeps_a_store_sound()
-    ensures { (objects after : Objects) (statement : Statement) → LooksAtBytes objects statement → IsPutHere (asks statement) → commit_count objects < greatest_version → IsSoundStore objects
+    ensures { (objects after : Objects) (statement : Statement) → LooksAtBytes objects statement → IsPutHere (asks statement) → IsSoundStore objects
         → MayPut objects statement after → IsSoundStore after }
 {}

@@ -1,10 +1,8 @@
 -- What a job leaves in a folder, by what a line of a script leaves over the files that were loaded.
-use Rattle.std.proofs.Common.{◌≡◌, ◌<◌, inl, inr, ℕ, Bool, true, false, Contains, List, [], ◌∷◌, Bor, Option, Some, None, IfSome, Result, Ok, Err, IfOk, IfErr, sym, refl, ap, subst, ◌∙◌, map}
+use Rattle.std.proofs.Common.{◌≡◌, inl, inr, ℕ, Bool, true, false, Contains, List, [], ◌∷◌, Bor, Option, Some, None, IfSome, Result, Ok, Err, IfOk, IfErr, sym, refl, ap, subst, ◌∙◌, map}
 use Rattle.std.specs.Prelude.{IsErrAnd, is_some, string_bytes}
 use Rattle.json_text.specs.Rows.{text_data}
 use Rattle.store_core.specs.Objects.{Objects, IsInOrder, names_of}
-use Rattle.table_store.specs.Sound.{greatest_version}
-use Rattle.table_log.specs.Counts.{commit_count}
 use Rattle.table_log.specs.Restoring.{RestoresWell}
 use Rattle.table_log.proofs.Callers.{well_sound}
 use Rattle.log_laws.specs.Sound.{IsSoundStore}
@@ -141,9 +139,9 @@ put_here words.checkpoint text statement is = rw is tt
 put_here words.history text statement is = rw is tt
 
 -- so a sound table stays sound
-pub stays_sound : (work : Work) (text : Option (List ℕ)) (statement : Statement) (old new : Objects) → AreBytes old → IsAskedBy work text statement → commit_count old < greatest_version → IsSoundStore old → MayHavePut old statement new → IsSoundStore new
-stays_sound work text statement old new are asked few sound (inl same) = subst IsSoundStore (sym same) sound
-stays_sound work text statement old new are asked few sound (inr put) = line_keeps_sound_bytes old new statement are (put_here work text statement asked) few sound put
+pub stays_sound : (work : Work) (text : Option (List ℕ)) (statement : Statement) (old new : Objects) → AreBytes old → IsAskedBy work text statement → IsSoundStore old → MayHavePut old statement new → IsSoundStore new
+stays_sound work text statement old new are asked sound (inl same) = subst IsSoundStore (sym same) sound
+stays_sound work text statement old new are asked sound (inr put) = line_keeps_sound_bytes old new statement are (put_here work text statement asked) sound put
 
 -- the checkpoints of a sound table are
 pub sound_restores : (restore : Bool) (objects : Objects) → IsSoundStore objects → RestoresWell restore objects

@@ -1,14 +1,18 @@
 -- What a command writes, from what its script's run tells.
-use Rattle.std.proofs.Common.{◌≡◌, ◌≢◌, ℕ, List, [], Option, Some, None, IfSome, refl, subst, ap}
+use Rattle.std.proofs.Common.{◌≡◌, ◌≢◌, ◌<◌, ◌≤◌, ◌+◌, ℕ, suc, length, inl, inr, arith, List, [], Option, Some, None, IfSome, refl, subst, ap}
 use Rattle.std.specs.Io.KnownBytes.{Appends}
+use Rattle.std.proofs.lemmas.Bool.{cases_lt}
 use Rattle.delta_actions.specs.Commit.{lines_of}
+use Rattle.delta_actions.specs.Names.{greatest_version}
 use Rattle.store_core.specs.Objects.{Objects}
+use Rattle.lake_script.specs.declared.inputs.TheConstants.{MOST_BYTES}
 use Rattle.lake_script.specs.declared.engine.End.{End}
 use Rattle.lake_script.specs.declared.engine.End.TheVariants.{Done, BadLine, NotRead, NotWritten}
+use Rattle.lake_script.proofs.Callers.{few_lines}
 use Rattle.lake_script.specs.Runs.{FallsShort, Tells}
 use Rattle.lake_script.specs.Sound.{IsRun}
 use Rattle.lake_script.specs.Scripts.{IsScript, IsExpectedOver}
-use Rattle.lake_script.specs.Tables.{nothing, AreOfTable, expected_output as expected_by_table}
+use Rattle.lake_script.specs.Tables.{nothing, entries_of, AreOfTable, expected_output as expected_by_table}
 use Rattle.lake_script.specs.Told.{ArePrinted, ArePutHere, IsTold, expected_output, Finishes}
 use Rattle.lake_words.specs.Asked.{Spells, replaying, restoring}
 use Rattle.lake_words.specs.declared.command.Command.{Command}
@@ -31,13 +35,23 @@ told_of_run (BadLine number) (Some text) old new before after fine run empty = t
 told_of_run NotRead input old new before after fine run empty = absurd (fine refl)
 told_of_run NotWritten input old new before after fine run empty = absurd (fine refl)
 
+-- a text that was read has no more lines than there can be versions
+few_by : (end : End) (text : List ℕ) → status_of end ≢ 1 → (MOST_BYTES < length text → end ≡ NotRead) → length (entries_of nothing) + length (lines_of text) ≤ suc greatest_version
+few_by end text fine limit =
+    elim (cases_lt MOST_BYTES (length text)) [
+      | inl long ↦ absurd (fine (ap status_of (limit long)))
+      | inr short ↦ omega (arith, few_lines text, short)
+    ]
+
 -- a run that isn't refused is told by the plain table, where its text is known
-pub script_of_run : (end : End) (input old new : Option (List ℕ)) (before after : Objects) → status_of end ≢ 1 → Finishes end (λ _. IfSome input (λ text. IsScript nothing old new text before after))
-    → IfSome input (λ text. IsScript nothing old new text before after)
-script_of_run Done input old new before after fine run = run
-script_of_run (BadLine number) input old new before after fine run = run
-script_of_run NotRead input old new before after fine run = absurd (fine refl)
-script_of_run NotWritten input old new before after fine run = absurd (fine refl)
+pub script_of_run : (end : End) (input old new : Option (List ℕ)) (before after : Objects) → status_of end ≢ 1 → Finishes end (λ _. IfSome input (λ text. length (entries_of nothing) + length (lines_of text) ≤ suc greatest_version → IsScript nothing old new text before after))
+    → IfSome input (λ text. MOST_BYTES < length text → end ≡ NotRead) → IfSome input (λ text. IsScript nothing old new text before after)
+script_of_run Done None old new before after fine run limit = tt
+script_of_run Done (Some text) old new before after fine run limit = run (few_by Done text fine limit)
+script_of_run (BadLine number) None old new before after fine run limit = tt
+script_of_run (BadLine number) (Some text) old new before after fine run limit = run (few_by (BadLine number) text fine limit)
+script_of_run NotRead input old new before after fine run limit = absurd (fine refl)
+script_of_run NotWritten input old new before after fine run limit = absurd (fine refl)
 
 -- by what asks the table alone
 pub by_table_of : (input old new : Option (List ℕ)) (before after : Objects) → IfSome input (λ text. IsScript nothing old new text before after)

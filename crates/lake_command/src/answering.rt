@@ -3,8 +3,6 @@ ghost use Rattle.std.specs.Prelude.{◌≡◌, ◌⊎◌, ◌<◌, ◌≤◌, �
 ghost use Rattle.store_core.specs.Objects.{object_at};
 ghost use Rattle.log_laws.specs.Sound.{IsSoundStore};
 ghost use Rattle.job_laws.specs.Bytes.{AreBytes};
-ghost use Rattle.table_log.specs.Counts.{commit_count};
-ghost use Rattle.table_store.specs.Sound.{greatest_version};
 ghost use Rattle.table_log.specs.Restoring.{RestoresWell};
 ghost use Rattle.lake_words.specs.Asked.{work_view};
 ghost use Rattle.lake_script.specs.Lines.{statement_view, IsTimely};
@@ -63,7 +61,7 @@ pub fn answer<F: Folder, R: Read>(
     ensures later { IsNotYet (work_view command.entry.job)
         → IsOkAnd result (λ reply. reply_text reply ≡ not_yet) × (folder.new ≡ folder.old) }
     // However it ends, a sound table stays sound: it has all that the job put, or its data file alone, or nothing of it.
-    ensures sound { F.is_steady folder.old → AreBytes (F.objects folder.old) → commit_count (F.objects folder.old) < greatest_version → IsSoundStore (F.objects folder.old)
+    ensures sound { F.is_steady folder.old → AreBytes (F.objects folder.old) → IsSoundStore (F.objects folder.old)
         → IsSoundStore (F.objects folder.new) }
     // Whatever happens, what stood stands.
     ensures kept { F.is_steady folder.old → (name bytes : List ℕ) → object_at (F.objects folder.old) name ≡ Some bytes

@@ -4,8 +4,6 @@ ghost use Rattle.std.specs.Io.KnownBytes.{Appends};
 ghost use Rattle.store_core.specs.Objects.{object_at};
 ghost use Rattle.log_laws.specs.Sound.{IsSoundStore};
 ghost use Rattle.job_laws.specs.Bytes.{AreBytes};
-ghost use Rattle.table_log.specs.Counts.{commit_count};
-ghost use Rattle.table_store.specs.Sound.{greatest_version};
 ghost use Rattle.table_log.specs.Restoring.{RestoresWell};
 ghost use Rattle.commit_core.specs.Texts.{line_of};
 ghost use Rattle.lake_words.specs.Asked.{Work, work_view};
@@ -52,7 +50,7 @@ pub fn table_command<F: Folder, R: Read, W: Write, E: Write>(
     // A job but `append` leaves the input alone.
     ensures input_untouched { reads_input (work_view command.entry.job) ≡ false → input.new ≡ input.old }
     // However it ends, a sound table stays sound: it has all that the job put, or its data file alone, or nothing of it.
-    ensures sound { F.is_steady folder.old → AreBytes (F.objects folder.old) → commit_count (F.objects folder.old) < greatest_version → IsSoundStore (F.objects folder.old)
+    ensures sound { F.is_steady folder.old → AreBytes (F.objects folder.old) → IsSoundStore (F.objects folder.old)
         → IsSoundStore (F.objects folder.new) }
     // Whatever happens, what stood stands.
     ensures kept { F.is_steady folder.old → (name bytes : List ℕ) → object_at (F.objects folder.old) name ≡ Some bytes

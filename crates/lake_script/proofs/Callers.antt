@@ -1,2 +1,3 @@
 -- The lemmas that proofs of other crates may cite.
 pub use Rattle.lake_script.proofs.RestoredLemmas.{well_of_empty}
+pub use Rattle.lake_script.proofs.ScriptLemmas.{few_lines}

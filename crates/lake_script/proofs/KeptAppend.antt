@@ -1,5 +1,5 @@
 -- A line that appends a batch, over a store that keeps what a script made so far.
-use Rattle.std.proofs.Common.{◌≡◌, ◌≢◌, ℕ, ◌<◌, ◌≤◌, ◌^◌, ◌==◌, ◌||◌, Bool, true, false, not, List, [], ◌∷◌, ◌++◌, length, Option, Some, None, Result, Ok, Err, eqb, ltb, eqb-true, refl, sym, ap, subst, ◌∙◌, arith}
+use Rattle.std.proofs.Common.{◌≡◌, ◌≢◌, ℕ, ◌≤◌, ◌==◌, ◌||◌, Bool, true, false, not, List, [], ◌∷◌, ◌++◌, length, Option, Some, None, Result, Ok, Err, eqb, ltb, eqb-true, refl, sym, ap, subst, ◌∙◌, arith}
 use Rattle.std.specs.Prelude.{codes, cond, nat_lt, option_map}
 use Rattle.std.specs.Str.{IsUtf8}
 use Rattle.std.proofs.lemmas.Bool.{eqb-false, le-ltb, ltb-false}
@@ -14,7 +14,7 @@ use Rattle.parquet_file.specs.Writing.{written_file}
 use Rattle.table_model.specs.Appends.{appended, with_batch}
 use Rattle.table_model.specs.declared.table.Appended.TheVariants.{Committed, Already, Differs, StreamClosed}
 use Rattle.table_model.specs.Lawful.{IsLawful}
-use Rattle.delta_actions.specs.Names.{data_file_name}
+use Rattle.delta_actions.specs.Names.{data_file_name, greatest_version}
 use Rattle.delta_actions.specs.Names as names
 use Rattle.row_core.specs.Rows.{Row, same_rows}
 use Rattle.delta_replay.specs.Support.{has_key_inside}
@@ -23,7 +23,7 @@ use Rattle.table_model.specs.Table.{Entry, creation, group, last_batch, is_close
 use Rattle.table_store.specs.Commits.{IsCommitOf}
 use Rattle.table_store.proofs.Callers.{commit_name-data_file_name}
 use Rattle.table_model.proofs.Callers.{append_keeps}
-use Rattle.sink_core.specs.Appending.{Batch, Request, Step, puts, stands, checked, appending, file_name, is_repeat, request_of, file_or_refusal, batch_of, fitting, new_step, repeated_step, step_of, settled, answered, with_append, IsWellMade, PutsWell}
+use Rattle.sink_core.specs.Appending.{Batch, Request, Step, puts, stands, checked, appending, file_name, greatest_number, is_repeat, request_of, file_or_refusal, batch_of, fitting, new_step, repeated_step, step_of, settled, answered, with_append, IsWellMade, PutsWell}
 use Rattle.commit_core.specs.Commits.{commit_text}
 use Rattle.lake_script.specs.Lines.{append, task}
 use Rattle.sink_core.specs.Refusals.{Refusal, bad_app, too_large, file_too_large, stale, differs, bad_log}
@@ -56,14 +56,14 @@ IsSoundStep application number at step = PutsWell application number at step × 
 -- ---- the tests in front
 
 -- a number that was let through isn't too large
-pub small_number : (application : List ℕ) (number rows : ℕ) → checked application number rows ≡ Ok tt → number ≤ 999_999_999_999
+pub small_number : (application : List ℕ) (number rows : ℕ) → checked application number rows ≡ Ok tt → number ≤ greatest_number
 unfolding checked
-small_number application number rows fine = by_tests (length application == 0 || nat_lt 64 (length application)) (nat_lt 999_999_999_999 number) (nat_lt 65_536 rows) refl fine
+small_number application number rows fine = by_tests (length application == 0 || nat_lt 64 (length application)) (nat_lt greatest_number number) (nat_lt 65_536 rows) refl fine
   where
-    by_tests : (bad big many : Bool) → nat_lt 999_999_999_999 number ≡ big → (refused_if bad bad_app >>= λ named. refused_if (big || many) too_large) ≡ Ok tt → number ≤ 999_999_999_999
+    by_tests : (bad big many : Bool) → nat_lt greatest_number number ≡ big → (refused_if bad bad_app >>= λ named. refused_if (big || many) too_large) ≡ Ok tt → number ≤ greatest_number
     by_tests true big many is fine = absurd cc
     by_tests false true many is fine = absurd cc
-    by_tests false false many is fine = ltb-false 999_999_999_999 number is
+    by_tests false false many is fine = ltb-false greatest_number number is
 
 -- the table behind an append is lawful
 pub lawful_after : (objects : Objects) (schema : Tree) (entries : List Entry) (b : model.Batch) → IsKept objects schema entries → IsLawful (with_batch (appended b entries) b entries)
@@ -71,8 +71,8 @@ lawful_after objects schema entries b kept =
     subst (λ (es : List Entry). IsLawful (with_batch (appended b es) b es)) (sym kept.begins) (append_keeps b creation kept.rest (subst IsLawful kept.begins kept.lawful))
 
 -- the next version of a table of few entries is one that a commit may have
-pub version_fits : (entries : List Entry) → length entries < 2 ^ 32 → nat_lt 999_999_999_999 (length entries) ≡ false
-version_fits entries few = le-ltb 999_999_999_999 (length entries) (omega arith)
+pub version_fits : (entries : List Entry) → length entries ≤ greatest_version → nat_lt greatest_version (length entries) ≡ false
+version_fits entries few = le-ltb greatest_version (length entries) few
 
 -- the batch that is put with this file
 abbrev pub made_with : (version : ℕ) (schema : Tree) (rows : List Row) (application : List ℕ) (number at : ℕ) (file : List ℕ) → Batch
@@ -98,8 +98,8 @@ module _ (schema : Tree) (version : ℕ) (rows : List Row) (application : List �
   pub commit_made : IsWellMade application number at (made_with version schema rows application number at file) → IsCommitOf schema (group (handed_in application number rows ∷ [])) (made_with version schema rows application number at file).commit
   commit_made well = append_stands schema (handed_in application number rows) at (length file) (length rows) (file_name application number) _ (same_file_name application number) well.commit
 
-module _ (objects : Objects) (schema : Tree) (entries : List Entry) (kept : IsKept objects schema entries) (own : HasNoOther objects entries) (few : length entries < 2 ^ 32) (application : List ℕ) (number at : ℕ) (utf8 : IsUtf8 application)
-    (fits : number ≤ 999_999_999_999) (rows : List Row) where
+module _ (objects : Objects) (schema : Tree) (entries : List Entry) (kept : IsKept objects schema entries) (own : HasNoOther objects entries) (few : length entries ≤ greatest_version) (application : List ℕ) (number at : ℕ) (utf8 : IsUtf8 application)
+    (fits : number ≤ greatest_number) (rows : List Row) where
   -- ---- a new number
 
   -- the file and the commit that are put are one entry more
@@ -112,7 +112,7 @@ module _ (objects : Objects) (schema : Tree) (entries : List Entry) (kept : IsKe
       let is_file = file_made schema (length entries) rows application number at file well in
       let is_commit = commit_made schema (length entries) rows application number at file well in
       let lawful : IsLawful (entries ++ group (b ∷ []) ∷ []) = rw new at (lawful_after objects schema entries b kept) in
-      let more = kept_more objects schema entries b file made.commit kept lawful free none is_file is_commit in
+      let more = kept_more objects schema entries b file made.commit kept few lawful free none is_file is_commit in
       let apart = object_at-with_object_other objects (data_file_name application number) file (names.commit_name (length entries)) (commit_name-data_file_name (length entries) application number) ∙ none in
       let alone = no_other_more objects entries b file made.commit utf8 own in
       rw (version_fits entries few, same_file_name application number, same_name (length entries), new) (rw apart refl, (rw (same_file_name application number) at more, rw (same_file_name application number) at alone))
@@ -201,17 +201,17 @@ step_behind objects schema entries application number at items fine barred takes
     goes_on (is_closed application entries) repeats >>= λ open_. Ok (asked (length entries) schema rows repeats)) >>= step_of objects application number at
 
 -- that is what an append does over the objects
-pub step_is : (objects : Objects) (schema : Tree) (entries : List Entry) (application : List ℕ) (number at : ℕ) (items : Items) → IsUtf8 application → IsKept objects schema entries → length entries < 2 ^ 32
+pub step_is : (objects : Objects) (schema : Tree) (entries : List Entry) (application : List ℕ) (number at : ℕ) (items : Items) → IsUtf8 application → IsKept objects schema entries
     → settled false objects application number at items
     ≡ step_behind objects schema entries application number at items (checked application number (items_len items)) (has_key_inside (codes "delta.invariants") schema) (takes_rows schema)
 unfolding request_of
-step_is objects schema entries application number at items utf8 kept few =
+step_is objects schema entries application number at items utf8 kept =
     let commits = made_of objects schema 0 entries kept.kept in
-    rw (log_kept objects schema entries kept few, count_kept objects schema entries kept few, request_is objects (length entries) schema entries kept.rest commits application number items utf8 kept.begins (are_made objects schema 0 entries kept.kept)) refl
+    rw (log_kept objects schema entries kept, count_kept objects schema entries kept, request_is objects (length entries) schema entries kept.rest commits application number items utf8 kept.begins (are_made objects schema 0 entries kept.kept)) refl
 
 -- where a table is kept, the answer is the plain table's
 table_agrees : (objects : Objects) (schema : Tree) (entries : List Entry) (application : List ℕ) (number at : ℕ) (items : Items) (fine : Result (Unit {0}) Refusal) (barred : Bool) (takes : Result (Unit {0}) Refusal)
-    → Keeps objects (table schema entries) → length entries < 2 ^ 32 → IsUtf8 application → checked application number (items_len items) ≡ fine
+    → Keeps objects (table schema entries) → length entries ≤ greatest_version → IsUtf8 application → checked application number (items_len items) ≡ fine
     → IsSoundStep application number at (step_behind objects schema entries application number at items fine barred takes)
     → Agrees objects schema entries number (step_behind objects schema entries application number at items fine barred takes)
     (fine >>= λ passed. unless_invariant barred >>= λ plain. takes >>= λ supported. rows_from 0 schema items >>= λ rows. Ok (handed_in application number rows))
@@ -242,14 +242,14 @@ nothing_agrees application number at (Err why) = (refl, refl)
 nothing_agrees application number at (Ok passed) = (refl, refl)
 
 -- the reply to a line that appends a batch is the plain table's, and the store goes on to keep it
-pub append_told : (objects : Objects) (state : State) (application : List ℕ) (number at : ℕ) (items : Items) (printed : List ℕ) → Keeps objects state → length (tables.entries_of state) < 2 ^ 32
+pub append_told : (objects : Objects) (state : State) (application : List ℕ) (number at : ℕ) (items : Items) (printed : List ℕ) → Keeps objects state → length (tables.entries_of state) ≤ greatest_version
     → IsSoundStatement objects (task (append application number at items)) printed
     → (reply_to_statement objects (task (append application number at items)) printed ≡ tables.reply_to_statement state (task (append application number at items)))
     × Keeps (left_by_statement objects (task (append application number at items)) printed) (tables.left_by_statement state (task (append application number at items)))
 append_told objects nothing application number at items printed keeps few sound =
     rw (keeps, nothing_is application number at items) (nothing_agrees application number at (checked application number (items_len items)))
 append_told objects (table schema entries) application number at items printed keeps few sound =
-    let is = step_is objects schema entries application number at items sound.0 keeps.0 few in
+    let is = step_is objects schema entries application number at items sound.0 keeps.0 in
     let step_sound : IsSoundStep application number at (settled false objects application number at items) = (sound.1, sound.2) in
     let barred = has_key_inside (codes "delta.invariants") schema in
     let told = table_agrees objects schema entries application number at items (checked application number (items_len items)) barred (takes_rows schema) keeps few sound.0 refl (rw is at step_sound) in

@@ -1,5 +1,5 @@
 -- A checkpoint over a store that keeps a table: what it is told, and that the store goes on to keep the table.
-use Rattle.std.proofs.Common.{◌≡◌, ℕ, ◌-◌, ◌<◌, ◌^◌, Bool, true, false, List, [], ◌∷◌, length, Option, Some, None, Result, Ok, Err, refl, sym, ap, subst, ◌∙◌, if◌then◌else◌}
+use Rattle.std.proofs.Common.{◌≡◌, ℕ, ◌-◌, Bool, true, false, List, [], ◌∷◌, length, Option, Some, None, Result, Ok, Err, refl, sym, ap, subst, ◌∙◌, if◌then◌else◌}
 use Rattle.std.specs.Prelude.{codes, is_some, nat_lt}
 use Rattle.schema_tree.specs.Tree.{Tree}
 use Rattle.store_core.specs.Objects.{Objects, with_object}
@@ -15,7 +15,7 @@ use Rattle.lake_script.specs.Checkpoints.{Checkpoint, NotPut, by_log, too_large,
 use Rattle.lake_script.specs.Lines.{checkpoint, task}
 use Rattle.lake_script.specs.Sound.{IsSoundStatement}
 use Rattle.lake_script.specs.Tables as tables
-use Rattle.lake_script.specs.Tables.{State, nothing, table, entries_of}
+use Rattle.lake_script.specs.Tables.{State, nothing, table}
 use Rattle.lake_script.specs.Told as told
 use Rattle.lake_script.specs.Keeps.{HasNoOther, Keeps}
 use Rattle.table_store.proofs.LawfulLogLemmas.{AreMadeFor}
@@ -33,7 +33,7 @@ no_other : (objects : Objects) (entries : List Entry) (version : ℕ) (name byte
 no_other objects entries version name bytes named own = λ application number utf8 small some.
     own application number utf8 small (ap is_some (sym (same_files objects version name bytes named application number)) ∙ some)
 
-module _ (objects : Objects) (schema : Tree) (entries : List Entry) (keeps : Keeps objects (table schema entries)) (few : length entries < 2 ^ 32) (bytes : List ℕ) where
+module _ (objects : Objects) (schema : Tree) (entries : List Entry) (keeps : Keeps objects (table schema entries)) (bytes : List ℕ) where
   -- the commits that were made for the entries
   abbrev commits : List (List actions.Action)
   commits = made_of objects schema 0 entries keeps.0.kept
@@ -48,7 +48,7 @@ module _ (objects : Objects) (schema : Tree) (entries : List Entry) (keeps : Kee
       refused_if over too_large >>= λ fits. checkpoint_of (length entries - 1) (meta_data_of found)
 
   put_is : checkpoint_by objects bytes ≡ put_by (has_key_inside (codes "delta.invariants") schema) (nat_lt most_bytes (length bytes))
-  put_is = rw (log_kept objects schema entries keeps.0 few, log_checkpointable objects schema keeps.0.rest commits made, count_kept objects schema entries keeps.0 few) refl
+  put_is = rw (log_kept objects schema entries keeps.0, log_checkpointable objects schema keeps.0.rest commits made, count_kept objects schema entries keeps.0) refl
 
   -- what it is told, and what is kept behind it
   abbrev IsAsTold : (barred : Bool) → Result Checkpoint NotPut → Type 0
@@ -76,8 +76,8 @@ module _ (objects : Objects) (schema : Tree) (entries : List Entry) (keeps : Kee
   over_table well = rw put_is (by_tests (has_key_inside (codes "delta.invariants") schema) (nat_lt most_bytes (length bytes)) (rw put_is at well))
 
 -- A checkpoint is told as by the table, and the store goes on to keep it.
-pub checkpoint_told : (objects : Objects) (state : State) (printed : List ℕ) → Keeps objects state → length (entries_of state) < 2 ^ 32 → IsSoundStatement objects (task checkpoint) printed
+pub checkpoint_told : (objects : Objects) (state : State) (printed : List ℕ) → Keeps objects state → IsSoundStatement objects (task checkpoint) printed
     → (told.reply_to_statement objects (task checkpoint) printed ≡ tables.reply_to_statement state (task checkpoint))
     × Keeps (told.left_by_statement objects (task checkpoint) printed) (tables.left_by_statement state (task checkpoint))
-checkpoint_told objects nothing printed keeps few sound = rw keeps (rw (over_nothing printed) (refl, refl))
-checkpoint_told objects (table schema entries) printed keeps few sound = over_table objects schema entries keeps few printed sound
+checkpoint_told objects nothing printed keeps sound = rw keeps (rw (over_nothing printed) (refl, refl))
+checkpoint_told objects (table schema entries) printed keeps sound = over_table objects schema entries keeps printed sound

@@ -81,6 +81,7 @@ kept_creation name at text schema bytes first is well =
       rest = [];
       begins = refl;
       lawful = new_is_lawful;
+      fits = omega arith;
       ends = λ version past small. none_unless (object_at ((name, bytes) ∷ []) (names.commit_name version)) (λ some.
           let only : names.commit_name version ≡ names.commit_name 0 = one_name name bytes (names.commit_name version) (bytes_eq (names.commit_name version) name) refl some ∙ first in
           omega (arith, past, commit_name-once version 0 (omega (arith, small)) only));

@@ -1,5 +1,5 @@
 -- However the lines of a script end, they leave a sound store sound, where none puts another tool's commit.
-use Rattle.std.proofs.Common.{◌≡◌, ◌⊎◌, inl, inr, ℕ, suc, ◌+◌, ◌<◌, ◌≤◌, ◌^◌, List, [], ◌∷◌, length, Option, None, Some, IfSome, Result, Ok, Err, Bool, true, false, refl, sym, ap, subst, ◌∙◌, arith}
+use Rattle.std.proofs.Common.{◌≡◌, ◌⊎◌, inl, inr, ℕ, suc, ◌+◌, ◌≤◌, List, [], ◌∷◌, length, Option, None, Some, IfSome, Result, Ok, Err, Bool, true, false, refl, sym, ap, subst, ◌∙◌, arith}
 use Rattle.std.specs.Prelude.{is_some}
 use Rattle.std.specs.Str.{IsUtf8}
 use Rattle.serde_json.specs.Events.{items_len}
@@ -66,14 +66,14 @@ append_over_nothing most application number at (Ok passed) = (bare refl, bare re
 append_over_nothing most application number at (Err why) = (bare refl, bare refl)
 
 -- an append
-append_stays : (most : ℕ) (objects : Objects) (application : List ℕ) (number at : ℕ) (items : Items) (new : Objects) → most < 2 ^ 32 → IsUtf8 application
+append_stays : (most : ℕ) (objects : Objects) (application : List ℕ) (number at : ℕ) (items : Items) (new : Objects) → IsUtf8 application
     → MayAppend application number at (settled false objects application number at items) objects new → Stays most objects → Stays (suc most) new
-append_stays most objects application number at items new small utf8 (inl same) stays = rw same (still most objects stays)
-append_stays most objects application number at items new small utf8 (inr (well, put)) stays = by_put put (goes stays)
+append_stays most objects application number at items new utf8 (inl same) stays = rw same (still most objects stays)
+append_stays most objects application number at items new utf8 (inr (well, put)) stays = by_put put (goes stays)
   where
     goes : Stays most objects → GoesOn (suc most) objects (settled false objects application number at items)
     goes (bare none) = rw (none, nothing_is application number at items) (append_over_nothing most application number at (checked application number (items_len items)))
-    goes (keeps schema entries kept files up) = append_goes_on objects schema entries kept files (omega (arith, up, small)) most up application number at items utf8 well
+    goes (keeps schema entries kept files up) = append_goes_on objects schema entries kept files most up application number at items utf8 well
 
     by_put : (new ≡ with_file_alone objects (settled false objects application number at items)) ⊎ (new ≡ with_append objects (settled false objects application number at items))
         → GoesOn (suc most) objects (settled false objects application number at items) → Stays (suc most) new
@@ -98,46 +98,46 @@ checkpoint_stays most objects new version put (keeps schema entries kept files f
     (λ application number found utf8 small stands. files application number found utf8 small (sym (same_files objects version put.name put.bytes named application number) ∙ stands)) (omega (arith, few)))
 
 -- what a line asks for
-put_stays : (most : ℕ) (old : Objects) (statement : Statement) (new : Objects) → most < 2 ^ 32 → IsPutHere (asks statement) → MayPut old statement new → Stays most old → Stays (suc most) new
-put_stays most old (create id at schema) new small here (inl same) stays = rw same (still most old stays)
-put_stays most old (create id at schema) new small here (inr (printed, put)) stays = rw put.1 (created_stays most old at schema (commit_from id at schema printed) put.0 stays)
-put_stays most old (task (append application number at items)) new small here put stays = append_stays most old application number at items new small put.0 put.1 stays
-put_stays most old (task checkpoint) new small here (inl same) stays = rw same (still most old stays)
-put_stays most old (task checkpoint) new small here (inr (version, put)) stays = checkpoint_stays most old new version put stays
-put_stays most old (foreign version action) new small here put stays = absurd here
-put_stays most old _ new small here put stays = rw put (still most old stays)
+put_stays : (most : ℕ) (old : Objects) (statement : Statement) (new : Objects) → IsPutHere (asks statement) → MayPut old statement new → Stays most old → Stays (suc most) new
+put_stays most old (create id at schema) new here (inl same) stays = rw same (still most old stays)
+put_stays most old (create id at schema) new here (inr (printed, put)) stays = rw put.1 (created_stays most old at schema (commit_from id at schema printed) put.0 stays)
+put_stays most old (task (append application number at items)) new here put stays = append_stays most old application number at items new put.0 put.1 stays
+put_stays most old (task checkpoint) new here (inl same) stays = rw same (still most old stays)
+put_stays most old (task checkpoint) new here (inr (version, put)) stays = checkpoint_stays most old new version put stays
+put_stays most old (foreign version action) new here put stays = absurd here
+put_stays most old _ new here put stays = rw put (still most old stays)
 
 -- any line
-line_stays : (most number : ℕ) (old : Objects) (r : Reading) (reply : List ℕ) (new : Objects) → most < 2 ^ 32 → IsPutHere r → Replies number old r reply new → Stays most old → Stays (suc most) new
-line_stays most number old skipped reply new small here is stays = rw is.1 (still most old stays)
-line_stays most number old bad reply new small here is stays = rw is.1 (still most old stays)
-line_stays most number old (asks statement) reply new small here is stays = put_stays most old statement new small here is.1 stays
+line_stays : (most number : ℕ) (old : Objects) (r : Reading) (reply : List ℕ) (new : Objects) → IsPutHere r → Replies number old r reply new → Stays most old → Stays (suc most) new
+line_stays most number old skipped reply new here is stays = rw is.1 (still most old stays)
+line_stays most number old bad reply new here is stays = rw is.1 (still most old stays)
+line_stays most number old (asks statement) reply new here is stays = put_stays most old statement new here is.1 stays
 
 -- ---- lines
 
 -- behind lines there are as many entries more as lines, at most
-lines_stay : (most number : ℕ) (old : Objects) (lines : List (List ℕ)) (written : List ℕ) (new : Objects) → most + length lines < 2 ^ 32 → ArePutHere lines → Stays most old → RunsInPart number old lines written new
+lines_stay : (most number : ℕ) (old : Objects) (lines : List (List ℕ)) (written : List ℕ) (new : Objects) → ArePutHere lines → Stays most old → RunsInPart number old lines written new
     → Stays (most + length lines) new
-lines_stay most number old lines written new small here stays waits = more_room most (most + length lines) old (omega arith) stays
-lines_stay most number old (line ∷ lines) written new small here stays (begins is) =
-    more_room (suc most) (most + length (line ∷ lines)) new (omega arith) (line_stays most number old (reading_of line) written new (omega (arith, small)) here.0 is stays)
-lines_stay most number old (line ∷ lines) written new small here stays (follows reply rest after goes_on is others) =
-    let first = line_stays most number old (reading_of line) reply after (omega (arith, small)) here.0 is stays in
-    more_room (suc most + length lines) (most + length (line ∷ lines)) new (omega arith) (lines_stay (suc most) (number + 1) after lines rest new (omega (arith, small)) here.1 first others)
+lines_stay most number old lines written new here stays waits = more_room most (most + length lines) old (omega arith) stays
+lines_stay most number old (line ∷ lines) written new here stays (begins is) =
+    more_room (suc most) (most + length (line ∷ lines)) new (omega arith) (line_stays most number old (reading_of line) written new here.0 is stays)
+lines_stay most number old (line ∷ lines) written new here stays (follows reply rest after goes_on is others) =
+    let first = line_stays most number old (reading_of line) reply after here.0 is stays in
+    more_room (suc most + length lines) (most + length (line ∷ lines)) new (omega arith) (lines_stay (suc most) (number + 1) after lines rest new here.1 first others)
 
 -- what stays is sound
-stays_sound : (most : ℕ) (objects : Objects) → most < 2 ^ 32 → Stays most objects → IsSound objects
-stays_sound most objects small (bare none) = subst IsSound (sym none) nothing_sound
-stays_sound most objects small (keeps schema entries kept files up) = kept_sound objects schema entries kept (omega (arith, up, small))
+stays_sound : (most : ℕ) (objects : Objects) → Stays most objects → IsSound objects
+stays_sound most objects (bare none) = subst IsSound (sym none) nothing_sound
+stays_sound most objects (keeps schema entries kept files up) = kept_sound objects schema entries kept
 
 -- Over a store that keeps a table and whose checkpoints are sound, lines that put no other tool's commit leave such a store,
 -- however many of them are answered.
-pub part_is_sound : (state : State) (old : Objects) (lines : List (List ℕ)) (written : List ℕ) (new : Objects) → length (entries_of state) + length lines < 2 ^ 32 → KeepsBeside old state → HasOnlySoundCheckpoints old
+pub part_is_sound : (state : State) (old : Objects) (lines : List (List ℕ)) (written : List ℕ) (new : Objects) → KeepsBeside old state → HasOnlySoundCheckpoints old
     → ArePutHere lines → RunsInPart 1 old lines written new → ((every : Bool) → AreCheckpointsSound every old → AreCheckpointsSound every new) → StaysSound state (length lines) new
-part_is_sound state old lines written new few kept sound here runs keeps_sound =
+part_is_sound state old lines written new kept sound here runs keeps_sound =
     let most = length (entries_of state) + length lines in
-    let stays = lines_stay (length (entries_of state)) 1 old lines written new few here (starts old state kept) runs in
-    let table = stays_sound most new few stays in
+    let stays = lines_stay (length (entries_of state)) 1 old lines written new here (starts old state kept) runs in
+    let table = stays_sound most new stays in
     record {
       sound = record { table = table; checkpoints = keeps_sound true sound };
       lawful = lawful_log new (record { schema = table.schema; entries = table.entries; holds = table.holds; lawful = table.lawful });
@@ -145,9 +145,9 @@ part_is_sound state old lines written new few kept sound here runs keeps_sound =
     }
 
 -- Where a text isn't read, such a store stays as it is.
-pub unread_is_sound : (known : Option (List ℕ)) (state : State) (objects : Objects) → length (entries_of state) ≤ 2 ^ 31 → KeepsBeside objects state → HasOnlySoundCheckpoints objects
+pub unread_is_sound : (known : Option (List ℕ)) (state : State) (objects : Objects) → KeepsBeside objects state → HasOnlySoundCheckpoints objects
     → IfSome known (λ text. ArePutHere (lines_of text) → StaysSound state (length (lines_of text)) objects)
-unread_is_sound None state objects few kept sound = tt
-unread_is_sound (Some text) state objects few kept sound = λ here.
-    let still = part_is_sound state objects [] [] objects (omega arith) kept sound tt waits (λ every same. same) in
+unread_is_sound None state objects kept sound = tt
+unread_is_sound (Some text) state objects kept sound = λ here.
+    let still = part_is_sound state objects [] [] objects kept sound tt waits (λ every same. same) in
     record { sound = still.sound; lawful = still.lawful; keeps = (still.keeps.0, still.keeps.1, omega (arith, still.keeps.2)) }

@@ -1,5 +1,5 @@
 -- What is told of the versions of a store that keeps a table: a line for each entry.
-use Rattle.std.proofs.Common.{◌≡◌, ℕ, suc, ◌<◌, ◌^◌, List, [], ◌∷◌, ◌++◌, map, length, Option, Some, None, cond, refl, sym, ap, ap₂, ◌∙◌, append-nil, arith}
+use Rattle.std.proofs.Common.{◌≡◌, ℕ, suc, ◌<◌, List, [], ◌∷◌, ◌++◌, map, length, Option, Some, None, cond, refl, sym, ap, ap₂, ◌∙◌, append-nil, arith}
 use Rattle.std.specs.Fmt.{decimal}
 use Rattle.std.specs.List.{flat_map}
 use Rattle.std.specs.Option.{is_none}
@@ -85,10 +85,10 @@ told_from_first [] some = absurd (omega arith)
 told_from_first (first ∷ commits) some = refl
 
 -- What is told of the versions of a store that keeps a table is what is told of its entries.
-pub history_told : (objects : Objects) (schema : Tree) (entries : List Entry) → IsKept objects schema entries → length entries < 2 ^ 32 → history_of objects ≡ tables.history_from 0 entries
-history_told objects schema entries kept few =
+pub history_told : (objects : Objects) (schema : Tree) (entries : List Entry) → IsKept objects schema entries → history_of objects ≡ tables.history_from 0 entries
+history_told objects schema entries kept =
     let commits = made_of objects schema 0 entries kept.kept in
-    rw (versions_kept objects schema entries kept few)
+    rw (versions_kept objects schema entries kept)
     (told_from_first commits (has_commits objects schema entries kept) ∙ lines_told objects schema 0 entries commits (are_made objects schema 0 entries kept.kept))
 
 -- a store of nothing has no log

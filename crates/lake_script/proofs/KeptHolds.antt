@@ -1,13 +1,13 @@
 -- A store that keeps a table holds it, and is sound.
-use Rattle.std.proofs.Common.{◌≡◌, ℕ, suc, ◌+◌, ◌<◌, ◌^◌, List, [], ◌∷◌, length, None, Ok, refl, arith}
+use Rattle.std.proofs.Common.{◌≡◌, ℕ, suc, ◌+◌, List, [], ◌∷◌, length, Ok, refl, arith}
 use Rattle.schema_tree.specs.Reading.{schema_of}
 use Rattle.schema_tree.specs.Tree.{Tree}
-use Rattle.store_core.specs.Objects.{Objects, object_at}
+use Rattle.store_core.specs.Objects.{Objects}
 use Rattle.delta_actions.specs.Commit.{IsCommit}
 use Rattle.table_store.specs.Commits.{IsCommitOf}
-use Rattle.table_store.specs.Holds.{HoldsFrom, Holds}
+use Rattle.table_store.specs.Holds.{EndsAt, HoldsFrom, Holds}
 use Rattle.table_store.specs.Sound.{IsSound}
-use Rattle.delta_actions.specs.Names.{commit_name, data_file_name}
+use Rattle.delta_actions.specs.Names.{data_file_name}
 use Rattle.table_model.specs.Table.{Batch, Entry, creation, group, batches_of}
 use Rattle.sink_core.specs.Appending.{appending}
 use Rattle.commit_core.specs.Commits.{creation as created}
@@ -37,20 +37,20 @@ append_stands schema b at size rows name bytes named commit = record {
 
 -- ---- the table that is held
 
--- what is kept from a version on is held from it on, where no commit stands behind it
+-- what is kept from a version on is held from it on, where the log ends behind it
 holds_from : (objects : Objects) (schema : Tree) (version end : ℕ) (entries : List Entry) → KeptFrom objects schema version entries → version + length entries ≡ end
-    → object_at objects (commit_name end) ≡ None → HoldsFrom objects schema version entries
-holds_from objects schema version end [] kept is none =
+    → EndsAt objects end → HoldsFrom objects schema version entries
+holds_from objects schema version end [] kept is ends =
     let here : version ≡ end = omega arith in
-    rw here none
-holds_from objects schema version end (entry ∷ entries) kept is none =
-    ((kept.0.0, kept.0.1, kept.0.2), files_stand objects schema (batches_of entry) kept.1, holds_from objects schema (suc version) end entries kept.2 (omega arith) none)
+    rw here ends
+holds_from objects schema version end (entry ∷ entries) kept is ends =
+    ((kept.0.0, kept.0.1, kept.0.2), files_stand objects schema (batches_of entry) kept.1, holds_from objects schema (suc version) end entries kept.2 (omega arith) ends)
 
 -- A store that keeps a table holds it.
-pub kept_holds : (objects : Objects) (schema : Tree) (entries : List Entry) → IsKept objects schema entries → length entries < 2 ^ 32 → Holds objects schema entries
-kept_holds objects schema entries kept few = holds_from objects schema 0 (length entries) entries kept.kept (omega arith) (none_behind objects schema entries kept few)
+pub kept_holds : (objects : Objects) (schema : Tree) (entries : List Entry) → IsKept objects schema entries → Holds objects schema entries
+kept_holds objects schema entries kept = holds_from objects schema 0 (length entries) entries kept.kept (omega arith) (kept.fits, λ few. none_behind objects schema entries kept few)
 
 -- A store that keeps a table is sound.
-pub kept_sound : (objects : Objects) (schema : Tree) (entries : List Entry) → IsKept objects schema entries → length entries < 2 ^ 32 → IsSound objects
-kept_sound objects schema entries kept few =
-    record { schema = schema; entries = entries; holds = kept_holds objects schema entries kept few; lawful = kept.lawful; ends = kept.ends }
+pub kept_sound : (objects : Objects) (schema : Tree) (entries : List Entry) → IsKept objects schema entries → IsSound objects
+kept_sound objects schema entries kept =
+    record { schema = schema; entries = entries; holds = kept_holds objects schema entries kept; lawful = kept.lawful; ends = kept.ends }

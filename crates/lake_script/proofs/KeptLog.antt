@@ -1,18 +1,19 @@
 -- The log of a store that keeps a table: commits that stand for its entries, and none behind them.
-use Rattle.std.proofs.Common.{◌≡◌, ℕ, suc, ◌<◌, ◌^◌, List, [], ◌∷◌, length, None, arith}
+use Rattle.std.proofs.Common.{◌≡◌, ℕ, suc, ◌≤◌, List, [], ◌∷◌, length, None, arith}
 use Rattle.std.specs.List.{AllByRecursion}
 use Rattle.schema_tree.specs.Tree.{Tree}
 use Rattle.store_core.specs.Objects.{Objects, object_at}
 use Rattle.delta_actions.specs.Action as actions
 use Rattle.delta_actions.specs.Names as names
+use Rattle.delta_actions.specs.Names.{greatest_version}
 use Rattle.table_model.specs.Table.{Batch, Entry, batches_of}
 use Rattle.table_store.specs.Holds.{FileStands}
 use Rattle.table_store.proofs.LawfulLogLemmas.{AreMadeFor}
 use Rattle.lake_script.specs.Keeps.{FileKept, KeptFrom, IsKept}
 
 -- No commit of the version that comes next stands.
-pub none_behind : (objects : Objects) (schema : Tree) (entries : List Entry) → IsKept objects schema entries → length entries < 2 ^ 32 → object_at objects (names.commit_name (length entries)) ≡ None
-none_behind objects schema entries kept few = kept.ends (length entries) (omega arith) (omega (arith, few))
+pub none_behind : (objects : Objects) (schema : Tree) (entries : List Entry) → IsKept objects schema entries → length entries ≤ greatest_version → object_at objects (names.commit_name (length entries)) ≡ None
+none_behind objects schema entries kept few = kept.ends (length entries) (omega arith) few
 
 -- the actions of the commits that stand
 abbrev pub made_of : (objects : Objects) (schema : Tree) (version : ℕ) (entries : List Entry) → KeptFrom objects schema version entries → List (List actions.Action)

@@ -11,7 +11,7 @@ use Rattle.delta_actions.specs.Names as names
 use Rattle.table_model.specs.Lawful.{Rises}
 use Rattle.table_model.specs.Table.{Batch, Entry, batches_of, batches, numbers_by, last, last_batch}
 use Rattle.table_model.proofs.Callers.{IsAbove, last_none, last_number, numbers_in}
-use Rattle.sink_core.specs.Appending.{file_name}
+use Rattle.sink_core.specs.Appending.{file_name, greatest_number}
 use Rattle.table_log.specs.Names.{commit_name}
 use Rattle.lake_script.specs.Keeps.{IsKept, IsOwn, HasNoOther, KeptFrom, FileKept}
 
@@ -122,7 +122,7 @@ none_unless None never = refl
 none_unless (Some x) never = absurd (never refl)
 
 -- no file stands under a number above the application's last one
-pub no_file : (objects : Objects) (schema : Tree) (entries : List Entry) (application : List ℕ) (number : ℕ) → IsKept objects schema entries → HasNoOther objects entries → IsUtf8 application → number ≤ 999_999_999_999
+pub no_file : (objects : Objects) (schema : Tree) (entries : List Entry) (application : List ℕ) (number : ℕ) → IsKept objects schema entries → HasNoOther objects entries → IsUtf8 application → number ≤ greatest_number
     → IsAbove number (option_map (λ (b : Batch). b.number) (last_batch application entries)) → object_at objects (data_file_name application number) ≡ None
 no_file objects schema entries application number kept own utf8 small above =
     none_unless (object_at objects (data_file_name application number)) (λ some. never (own application number utf8 small some))

@@ -8,11 +8,10 @@ use Rattle.std.proofs.lemmas.Slice.Eq.{bytes_eq-Decides}
 use Rattle.schema_tree.specs.Tree.{Tree}
 use Rattle.store_core.specs.Objects.{Objects, object_at, with_object}
 use Rattle.store_core.specs.ObjectLaws.{object_at-with_object_same, object_at-with_object_other, object_at-with_object_kept}
-use Rattle.delta_actions.specs.Names.{commit_name, data_file_name}
+use Rattle.delta_actions.specs.Names.{commit_name, data_file_name, greatest_version}
 use Rattle.delta_checkpoint.specs.Names.{IsCheckpointName}
 use Rattle.table_store.specs.Commits.{IsCommitOf}
 use Rattle.table_store.specs.Holds.{Stands}
-use Rattle.table_store.specs.Sound.{greatest_version}
 use Rattle.table_model.specs.Lawful.{IsLawful}
 use Rattle.table_model.specs.Table.{Batch, Entry, group, batches_of, batches}
 use Rattle.table_model.proofs.Callers.{batches-append}
@@ -91,6 +90,7 @@ kept_file objects schema entries application number file kept =
       rest = kept.rest;
       begins = kept.begins;
       lawful = kept.lawful;
+      fits = kept.fits;
       ends = ends_put objects name file (length entries) (λ version small. commit_name-data_file_name version application number) kept.ends;
     }
 
@@ -110,6 +110,7 @@ module _ (objects : Objects) (version : ℕ) (name bytes : List ℕ) (checkpoint
     rest = kept.rest;
     begins = kept.begins;
     lawful = kept.lawful;
+    fits = kept.fits;
     ends = ends_put objects name bytes (length entries) (λ other small. no_checkpoint version name checkpoint other) kept.ends;
   }
 
@@ -120,10 +121,10 @@ module _ (objects : Objects) (version : ℕ) (name bytes : List ℕ) (checkpoint
 -- ---- one batch more
 
 -- Where a batch's file stands, the next version's commit, put under a free name, is one entry more.
-pub kept_commit : (objects : Objects) (schema : Tree) (entries : List Entry) (b : Batch) (commit : List ℕ) → IsKept objects schema entries → IsLawful (entries ++ group (b ∷ []) ∷ [])
+pub kept_commit : (objects : Objects) (schema : Tree) (entries : List Entry) (b : Batch) (commit : List ℕ) → IsKept objects schema entries → length entries ≤ greatest_version → IsLawful (entries ++ group (b ∷ []) ∷ [])
     → FileKept objects schema b → object_at objects (commit_name (length entries)) ≡ None → IsCommitOf schema (group (b ∷ [])) commit
     → IsKept (with_object objects (commit_name (length entries)) commit) schema (entries ++ group (b ∷ []) ∷ [])
-kept_commit objects schema entries b commit kept lawful file free is_commit =
+kept_commit objects schema entries b commit kept few lawful file free is_commit =
     let next = commit_name (length entries) in
     let more : length (entries ++ group (b ∷ []) ∷ []) ≡ length entries + 1 = length-append entries (group (b ∷ []) ∷ []) in
     record {
@@ -132,19 +133,20 @@ kept_commit objects schema entries b commit kept lawful file free is_commit =
       rest = kept.rest ++ group (b ∷ []) ∷ [];
       begins = ap (λ (es : List Entry). es ++ group (b ∷ []) ∷ []) kept.begins;
       lawful = lawful;
+      fits = omega (arith, more, few);
       ends = λ version past small. ends_behind objects commit (length entries) kept.ends version (omega (arith, more, past)) small;
     }
 
 -- A batch's file and then the next version's commit, put under free names, are one entry more.
-pub kept_more : (objects : Objects) (schema : Tree) (entries : List Entry) (b : Batch) (file commit : List ℕ) → IsKept objects schema entries → IsLawful (entries ++ group (b ∷ []) ∷ [])
+pub kept_more : (objects : Objects) (schema : Tree) (entries : List Entry) (b : Batch) (file commit : List ℕ) → IsKept objects schema entries → length entries ≤ greatest_version → IsLawful (entries ++ group (b ∷ []) ∷ [])
     → object_at objects (data_file_name b.application b.number) ≡ None → object_at objects (commit_name (length entries)) ≡ None → IsReadableFile schema b file → IsCommitOf schema (group (b ∷ [])) commit
     → IsKept (with_object (with_object objects (data_file_name b.application b.number) file) (commit_name (length entries)) commit) schema (entries ++ group (b ∷ []) ∷ [])
-kept_more objects schema entries b file commit kept lawful no_file no_commit is_file is_commit =
+kept_more objects schema entries b file commit kept few lawful no_file no_commit is_file is_commit =
     let name = data_file_name b.application b.number in
     let next = commit_name (length entries) in
     let filed : Objects = with_object objects name file in
     let free : object_at filed next ≡ None = object_at-with_object_other objects name file next (commit_name-data_file_name (length entries) b.application b.number) ∙ no_commit in
-    kept_commit filed schema entries b commit (kept_file objects schema entries b.application b.number file kept) lawful (file, put_stands objects name file no_file, is_file) free is_commit
+    kept_commit filed schema entries b commit (kept_file objects schema entries b.application b.number file kept) few lawful (file, put_stands objects name file no_file, is_file) free is_commit
 
 -- And no data file stands then that is no batch's, where none stood before.
 pub no_other_more : (objects : Objects) (entries : List Entry) (b : Batch) (file commit : List ℕ) → IsUtf8 b.application → HasNoOther objects entries

@@ -1,10 +1,11 @@
 -- From one line to whole scripts: where a store keeps what a script made so far, each line is told what the plain table
 -- tells, and the store goes on to keep it.
-use Rattle.std.proofs.Common.{◌≡◌, ℕ, suc, ◌+◌, ◌<◌, ◌≤◌, ◌^◌, Bool, true, false, List, [], ◌∷◌, ◌++◌, length, Result, Ok, Err, refl, sym, ap, ◌∙◌, append-nil, append_assoc, arith, inl, inr, length-append}
+use Rattle.std.proofs.Common.{◌≡◌, ℕ, suc, ◌+◌, ◌≤◌, Bool, true, false, List, [], ◌∷◌, ◌++◌, length, Result, Ok, Err, refl, sym, ap, ◌∙◌, append-nil, append_assoc, arith, inl, inr, length-append}
 use Rattle.std.proofs.lemmas.Bool.{cases_Bool}
 use Rattle.serde_json.specs.Data.{Items}
 use Rattle.schema_tree.specs.Tree.{Tree}
 use Rattle.store_core.specs.Objects.{Objects}
+use Rattle.delta_actions.specs.Names.{greatest_version}
 use Rattle.table_model.specs.Table.{Batch, Entry, group}
 use Rattle.table_model.specs.Appends.{appended, with_batch}
 use Rattle.table_model.specs.declared.table.Appended.{Appended}
@@ -25,21 +26,21 @@ use Rattle.lake_script.specs.Keeps.{IsKept, Keeps}
 
 -- what is known of single lines
 pub record Given : Type 0 where
-  pub create_told : (objects : Objects) (state : State) (id : List ℕ) (at : ℕ) (schema printed : List ℕ) → Keeps objects state → length (entries_of state) < 2 ^ 32
+  pub create_told : (objects : Objects) (state : State) (id : List ℕ) (at : ℕ) (schema printed : List ℕ) → Keeps objects state
       → IsSoundStatement objects (create id at schema) printed
       → (told.reply_to_statement objects (create id at schema) printed ≡ tables.reply_to_statement state (create id at schema))
       × Keeps (told.left_by_statement objects (create id at schema) printed) (tables.left_by_statement state (create id at schema))
-  pub append_told : (objects : Objects) (state : State) (application : List ℕ) (number at : ℕ) (items : Items) (printed : List ℕ) → Keeps objects state → length (entries_of state) < 2 ^ 32
+  pub append_told : (objects : Objects) (state : State) (application : List ℕ) (number at : ℕ) (items : Items) (printed : List ℕ) → Keeps objects state → length (entries_of state) ≤ greatest_version
       → IsSoundStatement objects (task (append application number at items)) printed
       → (told.reply_to_statement objects (task (append application number at items)) printed ≡ tables.reply_to_statement state (task (append application number at items)))
       × Keeps (told.left_by_statement objects (task (append application number at items)) printed) (tables.left_by_statement state (task (append application number at items)))
-  pub checkpoint_told : (objects : Objects) (state : State) (printed : List ℕ) → Keeps objects state → length (entries_of state) < 2 ^ 32 → IsSoundStatement objects (task checkpoint) printed
+  pub checkpoint_told : (objects : Objects) (state : State) (printed : List ℕ) → Keeps objects state → IsSoundStatement objects (task checkpoint) printed
       → (told.reply_to_statement objects (task checkpoint) printed ≡ tables.reply_to_statement state (task checkpoint))
       × Keeps (told.left_by_statement objects (task checkpoint) printed) (tables.left_by_statement state (task checkpoint))
-  pub tail_told : (objects : Objects) (schema : Tree) (entries : List Entry) → IsKept objects schema entries → length entries < 2 ^ 32 → (max : ℕ) (offset : List ℕ)
+  pub tail_told : (objects : Objects) (schema : Tree) (entries : List Entry) → IsKept objects schema entries → (max : ℕ) (offset : List ℕ)
       → tailed_reply (tailed false objects max offset) ≡ tables.tail_reply (table schema entries) max (offset_of offset)
   pub tail_of_nothing : (max : ℕ) (offset : List ℕ) → tailed_reply (tailed false [] max offset) ≡ tables.tail_reply nothing max (offset_of offset)
-  pub history_told : (objects : Objects) (schema : Tree) (entries : List Entry) → IsKept objects schema entries → length entries < 2 ^ 32 → history_of objects ≡ tables.history_from 0 entries
+  pub history_told : (objects : Objects) (schema : Tree) (entries : List Entry) → IsKept objects schema entries → history_of objects ≡ tables.history_from 0 entries
   pub history_of_nothing : history_of [] ≡ bad_log 0
 
 -- ---- a line adds one entry at most
@@ -85,10 +86,6 @@ left_from_short state (line ∷ lines) =
       | inr on ↦ rw on (omega (arith, left_from_short (tables.left_by state (reading_of line)) lines, left_by_one state (reading_of line)))
     ]
 
--- few lines leave a table of few entries
-pub left_is_short : (state : State) (lines : List (List ℕ)) → length (entries_of state) + length lines < 2 ^ 32 → length (entries_of (tables.left_from state lines)) < 2 ^ 32
-left_is_short state lines few = omega (arith, few, left_from_short state lines)
-
 -- ---- sound lines
 
 -- what holds unless a line is bad holds where it isn't
@@ -133,24 +130,24 @@ put_here (asks statement) only = statement_put_here statement only
 
 module _ (given : Given) where
   -- a read is told what the table tells, also where there is none
-  tail_state : (objects : Objects) (state : State) → Keeps objects state → length (entries_of state) < 2 ^ 32 → (max : ℕ) (offset : List ℕ)
+  tail_state : (objects : Objects) (state : State) → Keeps objects state → (max : ℕ) (offset : List ℕ)
       → tailed_reply (tailed false objects max offset) ≡ tables.tail_reply state max (offset_of offset)
-  tail_state objects nothing keeps small max offset = ap (λ (o : Objects). tailed_reply (tailed false o max offset)) keeps ∙ given.tail_of_nothing max offset
-  tail_state objects (table schema entries) keeps small max offset = given.tail_told objects schema entries keeps.0 small max offset
+  tail_state objects nothing keeps max offset = ap (λ (o : Objects). tailed_reply (tailed false o max offset)) keeps ∙ given.tail_of_nothing max offset
+  tail_state objects (table schema entries) keeps max offset = given.tail_told objects schema entries keeps.0 max offset
 
   -- so is the history
-  history_state : (objects : Objects) (state : State) → Keeps objects state → length (entries_of state) < 2 ^ 32 → history_of objects ≡ tables.history_reply state
-  history_state objects nothing keeps small = ap history_of keeps ∙ given.history_of_nothing
-  history_state objects (table schema entries) keeps small = given.history_told objects schema entries keeps.0 small
+  history_state : (objects : Objects) (state : State) → Keeps objects state → history_of objects ≡ tables.history_reply state
+  history_state objects nothing keeps = ap history_of keeps ∙ given.history_of_nothing
+  history_state objects (table schema entries) keeps = given.history_told objects schema entries keeps.0
 
   -- what a line asks for is told as by the table
-  statement_told : (objects : Objects) (state : State) (statement : Statement) (printed : List ℕ) → Keeps objects state → length (entries_of state) < 2 ^ 32 → IsSoundStatement objects statement printed → AsksTable statement
+  statement_told : (objects : Objects) (state : State) (statement : Statement) (printed : List ℕ) → Keeps objects state → length (entries_of state) ≤ greatest_version → IsSoundStatement objects statement printed → AsksTable statement
       → told.reply_to_statement objects statement printed ≡ tables.reply_to_statement state statement
-  statement_told objects state (create id at schema) printed keeps small sound only = (given.create_told objects state id at schema printed keeps small sound).0
+  statement_told objects state (create id at schema) printed keeps small sound only = (given.create_told objects state id at schema printed keeps sound).0
   statement_told objects state (task (append application number at items)) printed keeps small sound only = (given.append_told objects state application number at items printed keeps small sound).0
-  statement_told objects state (task checkpoint) printed keeps small sound only = (given.checkpoint_told objects state printed keeps small sound).0
-  statement_told objects state (task (tail max offset)) printed keeps small sound only = tail_state objects state keeps small max offset
-  statement_told objects state history printed keeps small sound only = history_state objects state keeps small
+  statement_told objects state (task checkpoint) printed keeps small sound only = (given.checkpoint_told objects state printed keeps sound).0
+  statement_told objects state (task (tail max offset)) printed keeps small sound only = tail_state objects state keeps max offset
+  statement_told objects state history printed keeps small sound only = history_state objects state keeps
   statement_told objects state snapshot printed keeps small sound only = absurd only
   statement_told objects state (show version) printed keeps small sound only = absurd only
   statement_told objects state (hex name) printed keeps small sound only = absurd only
@@ -158,23 +155,23 @@ module _ (given : Given) where
   statement_told objects state _ printed keeps small sound only = refl
 
   -- behind it the store keeps the table behind it
-  pub statement_kept : (objects : Objects) (state : State) (statement : Statement) (printed : List ℕ) → Keeps objects state → length (entries_of state) < 2 ^ 32 → IsSoundStatement objects statement printed → IsPutHere (asks statement)
+  pub statement_kept : (objects : Objects) (state : State) (statement : Statement) (printed : List ℕ) → Keeps objects state → length (entries_of state) ≤ greatest_version → IsSoundStatement objects statement printed → IsPutHere (asks statement)
       → Keeps (told.left_by_statement objects statement printed) (tables.left_by_statement state statement)
-  statement_kept objects state (create id at schema) printed keeps small sound here = (given.create_told objects state id at schema printed keeps small sound).1
+  statement_kept objects state (create id at schema) printed keeps small sound here = (given.create_told objects state id at schema printed keeps sound).1
   statement_kept objects state (task (append application number at items)) printed keeps small sound here = (given.append_told objects state application number at items printed keeps small sound).1
-  statement_kept objects state (task checkpoint) printed keeps small sound here = (given.checkpoint_told objects state printed keeps small sound).1
+  statement_kept objects state (task checkpoint) printed keeps small sound here = (given.checkpoint_told objects state printed keeps sound).1
   statement_kept objects state (foreign version action) printed keeps small sound here = absurd here
   statement_kept objects state _ printed keeps small sound here = keeps
 
   -- a line that asks the table alone is told what the table tells
-  pub line_told : (number : ℕ) (objects : Objects) (state : State) (r : Reading) (printed : List ℕ) → Keeps objects state → length (entries_of state) < 2 ^ 32 → IsSound objects r printed → IsOfTable r
+  pub line_told : (number : ℕ) (objects : Objects) (state : State) (r : Reading) (printed : List ℕ) → Keeps objects state → length (entries_of state) ≤ greatest_version → IsSound objects r printed → IsOfTable r
       → told.reply_to number objects r printed ≡ tables.reply_to number state r
   line_told number objects state skipped printed keeps small sound only = refl
   line_told number objects state bad printed keeps small sound only = refl
   line_told number objects state (asks statement) printed keeps small sound only = statement_told objects state statement printed keeps small sound only
 
   -- behind a line that puts no other tool's commit the store keeps the table behind it
-  pub line_kept : (objects : Objects) (state : State) (r : Reading) (printed : List ℕ) → Keeps objects state → length (entries_of state) < 2 ^ 32 → IsSound objects r printed → IsPutHere r
+  pub line_kept : (objects : Objects) (state : State) (r : Reading) (printed : List ℕ) → Keeps objects state → length (entries_of state) ≤ greatest_version → IsSound objects r printed → IsPutHere r
       → Keeps (told.left_by objects r printed) (tables.left_by state r)
   line_kept objects state skipped printed keeps small sound here = keeps
   line_kept objects state bad printed keeps small sound here = keeps
@@ -183,18 +180,18 @@ module _ (given : Given) where
   -- ---- several lines
 
   -- what lines are told where the store keeps a table
-  pub told_on : (number : ℕ) (objects : Objects) (state : State) (lines texts : List (List ℕ)) → Keeps objects state → length (entries_of state) + length lines ≤ 2 ^ 32
+  pub told_on : (number : ℕ) (objects : Objects) (state : State) (lines texts : List (List ℕ)) → Keeps objects state → length (entries_of state) + length lines ≤ suc greatest_version
       → ArePrinted objects lines texts → AreSound objects lines texts → AreOfTable lines → told.expected_from number objects lines texts ≡ tables.expected_from number state lines
   unfolding told.expected_from tables.expected_from
   told_on number objects state [] texts keeps few printed sound only = refl
   told_on number objects state (line ∷ lines) [] keeps few printed sound only = absurd (no_text objects line lines printed)
   told_on number objects state (line ∷ lines) (text ∷ texts) keeps few printed sound only =
       let r = reading_of line in
-      let small : length (entries_of state) < 2 ^ 32 = omega arith in
+      let small : length (entries_of state) ≤ greatest_version = omega arith in
       let here = first_sound line text lines texts objects sound in
       let same = line_told number objects state r text keeps small here only.0 in
       let kept = line_kept objects state r text keeps small here (put_here r only.0) in
-      let fewer : length (entries_of (tables.left_by state r)) + length lines ≤ 2 ^ 32 = omega (arith, left_by_one state r) in
+      let fewer : length (entries_of (tables.left_by state r)) + length lines ≤ suc greatest_version = omega (arith, left_by_one state r) in
       elim (cases_Bool (is_bad r)) [
         | inl ends ↦ rw (ends, same) refl
         | inr on ↦
@@ -203,7 +200,7 @@ module _ (given : Given) where
       ]
 
   -- lines begin as the plain table tells those in front of the first that doesn't ask it alone
-  pub told_in_front : (number : ℕ) (objects : Objects) (state : State) (front rest texts : List (List ℕ)) → Keeps objects state → length (entries_of state) + length front ≤ 2 ^ 32
+  pub told_in_front : (number : ℕ) (objects : Objects) (state : State) (front rest texts : List (List ℕ)) → Keeps objects state → length (entries_of state) + length front ≤ suc greatest_version
       → ArePrinted objects (front ++ rest) texts → AreSound objects (front ++ rest) texts → AreOfTable front → (more : List ℕ) × (told.expected_from number objects (front ++ rest) texts ≡ tables.expected_from number state front ++ more)
   unfolding told.expected_from tables.expected_from
   told_in_front number objects state [] rest texts keeps few printed sound only = (told.expected_from number objects rest texts, refl)
@@ -211,11 +208,11 @@ module _ (given : Given) where
   told_in_front number objects state (line ∷ front) rest (text ∷ texts) keeps few printed sound only =
       let r = reading_of line in
       let lines = front ++ rest in
-      let small : length (entries_of state) < 2 ^ 32 = omega arith in
+      let small : length (entries_of state) ≤ greatest_version = omega arith in
       let here = first_sound line text lines texts objects sound in
       let same = line_told number objects state r text keeps small here only.0 in
       let kept = line_kept objects state r text keeps small here (put_here r only.0) in
-      let fewer : length (entries_of (tables.left_by state r)) + length front ≤ 2 ^ 32 = omega (arith, left_by_one state r) in
+      let fewer : length (entries_of (tables.left_by state r)) + length front ≤ suc greatest_version = omega (arith, left_by_one state r) in
       elim (cases_Bool (is_bad r)) [
         | inl ends ↦ ([], rw (ends, same) (sym (append-nil (tables.reply_to number state r ++ []))))
         | inr on ↦
@@ -224,23 +221,23 @@ module _ (given : Given) where
       ]
 
   -- the store keeps the table that lines leave where it keeps one before them
-  pub left_on : (objects : Objects) (state : State) (lines texts : List (List ℕ)) → Keeps objects state → length (entries_of state) + length lines ≤ 2 ^ 32
+  pub left_on : (objects : Objects) (state : State) (lines texts : List (List ℕ)) → Keeps objects state → length (entries_of state) + length lines ≤ suc greatest_version
       → ArePrinted objects lines texts → AreSound objects lines texts → ArePutHere lines → Keeps (told.left_from objects lines texts) (tables.left_from state lines)
   unfolding told.left_from tables.left_from
   left_on objects state [] texts keeps few printed sound here = keeps
   left_on objects state (line ∷ lines) [] keeps few printed sound here = absurd (no_text objects line lines printed)
   left_on objects state (line ∷ lines) (text ∷ texts) keeps few printed sound here =
       let r = reading_of line in
-      let small : length (entries_of state) < 2 ^ 32 = omega arith in
+      let small : length (entries_of state) ≤ greatest_version = omega arith in
       let kept = line_kept objects state r text keeps small (first_sound line text lines texts objects sound) here.0 in
-      let fewer : length (entries_of (tables.left_by state r)) + length lines ≤ 2 ^ 32 = omega (arith, left_by_one state r) in
+      let fewer : length (entries_of (tables.left_by state r)) + length lines ≤ suc greatest_version = omega (arith, left_by_one state r) in
       elim (cases_Bool (is_bad r)) [
         | inl ends ↦ rw ends keeps
         | inr on ↦ rw on (left_on (told.left_by objects r text) (tables.left_by state r) lines texts kept fewer (rest_printed line text lines texts objects printed on) (rest_sound line text lines texts objects sound on) here.1)
       ]
 
   -- what a line asks for is told by the table, or by the objects that it shows
-  pub statement_over : (objects : Objects) (state : State) (statement : Statement) (printed : List ℕ) → Keeps objects state → length (entries_of state) < 2 ^ 32 → IsSoundStatement objects statement printed
+  pub statement_over : (objects : Objects) (state : State) (statement : Statement) (printed : List ℕ) → Keeps objects state → length (entries_of state) ≤ greatest_version → IsSoundStatement objects statement printed
       → told.reply_to_statement objects statement printed ≡ reply_over state objects statement printed
   statement_over objects state (create id at schema) printed keeps small sound = statement_told objects state (create id at schema) printed keeps small sound tt
   statement_over objects state (task (append application number at items)) printed keeps small sound = statement_told objects state (task (append application number at items)) printed keeps small sound tt
@@ -253,25 +250,25 @@ module _ (given : Given) where
   statement_over objects state (foreign version action) printed keeps small sound = refl
   statement_over objects state _ printed keeps small sound = refl
 
-  line_told_over : (number : ℕ) (objects : Objects) (state : State) (r : Reading) (printed : List ℕ) → Keeps objects state → length (entries_of state) < 2 ^ 32 → IsSound objects r printed
+  line_told_over : (number : ℕ) (objects : Objects) (state : State) (r : Reading) (printed : List ℕ) → Keeps objects state → length (entries_of state) ≤ greatest_version → IsSound objects r printed
       → told.reply_to number objects r printed ≡ line_over number state objects r printed
   line_told_over number objects state skipped printed keeps small sound = refl
   line_told_over number objects state bad printed keeps small sound = refl
   line_told_over number objects state (asks statement) printed keeps small sound = statement_over objects state statement printed keeps small sound
 
   -- lines that put no other tool's commit are told by the table, or by the objects that they show
-  pub told_with_objects : (number : ℕ) (objects : Objects) (state : State) (lines texts : List (List ℕ)) → Keeps objects state → length (entries_of state) + length lines ≤ 2 ^ 32
+  pub told_with_objects : (number : ℕ) (objects : Objects) (state : State) (lines texts : List (List ℕ)) → Keeps objects state → length (entries_of state) + length lines ≤ suc greatest_version
       → ArePrinted objects lines texts → AreSound objects lines texts → ArePutHere lines → told.expected_from number objects lines texts ≡ expected_over number state objects lines texts
   unfolding told.expected_from expected_over
   told_with_objects number objects state [] texts keeps few printed sound here = refl
   told_with_objects number objects state (line ∷ lines) [] keeps few printed sound here = absurd (no_text objects line lines printed)
   told_with_objects number objects state (line ∷ lines) (text ∷ texts) keeps few printed sound here =
       let r = reading_of line in
-      let small : length (entries_of state) < 2 ^ 32 = omega arith in
+      let small : length (entries_of state) ≤ greatest_version = omega arith in
       let first = first_sound line text lines texts objects sound in
       let same = line_told_over number objects state r text keeps small first in
       let kept = line_kept objects state r text keeps small first here.0 in
-      let fewer : length (entries_of (tables.left_by state r)) + length lines ≤ 2 ^ 32 = omega (arith, left_by_one state r) in
+      let fewer : length (entries_of (tables.left_by state r)) + length lines ≤ suc greatest_version = omega (arith, left_by_one state r) in
       elim (cases_Bool (is_bad r)) [
         | inl ends ↦ rw (ends, same) refl
         | inr on ↦

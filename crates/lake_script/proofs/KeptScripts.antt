@@ -1,5 +1,5 @@
 -- What is known of single lines, put together.
-use Rattle.std.proofs.Common.{◌≡◌, ◌<◌, ◌^◌, [], length, map, Err, Result, refl}
+use Rattle.std.proofs.Common.{◌≡◌, [], map, Err, Result, refl}
 use Rattle.store_core.specs.Objects.{Objects}
 use Rattle.table_model.specs.Reads.{Answer, handed, beyond, bad_place}
 use Rattle.source_core.specs.Tailing.{Handed, Refusal, bad_log, schema_for}
@@ -7,7 +7,7 @@ use Rattle.table_log.specs.FromCheckpoints.{no_start}
 use Rattle.table_log.specs.Versions.{commit, versions_of}
 use Rattle.table_model.specs.declared.reading.Offset.{Offset}
 use Rattle.lake_script.specs.Scripts.{HoldsState, AnswersReads, ReadsOut}
-use Rattle.lake_script.specs.Tables.{State, nothing, table, entries_of}
+use Rattle.lake_script.specs.Tables.{State, nothing, table}
 use Rattle.lake_script.specs.Keeps.{Keeps}
 use Rattle.lake_script.proofs.KeptAppend.{append_told}
 use Rattle.lake_script.proofs.KeptCheckpoint.{checkpoint_told}
@@ -23,7 +23,7 @@ use Rattle.lake_script.proofs.KeptTails.{GivenReads, IsRead, hand_out_the_log, h
 
 pub lines_told : Given
 lines_told = record {
-  create_told = λ objects state id at schema printed keeps small sound. create_told objects state id at schema printed keeps sound;
+  create_told = create_told;
   append_told = append_told;
   checkpoint_told = checkpoint_told;
   tail_told = tail_told;
@@ -45,13 +45,13 @@ nothing_told place = rw versions_of_nothing refl
 
 pub reads_told : GivenReads
 reads_told = record {
-  handed_told = λ objects schema entries kept small.
+  handed_told = λ objects schema entries kept.
       let commits = made_of objects schema 0 entries kept.kept in
       let plain = kept_plain objects schema entries kept in
       record {
         told = plain.told;
         versions = map commit commits;
-        log = versions_kept objects schema entries kept small;
+        log = versions_kept objects schema entries kept;
         goes_by = plain.goes_by;
         answers = λ max place. read_told _ _ (handed_told objects schema entries commits kept.kept (are_made objects schema 0 entries kept.kept) plain max place);
       };
@@ -59,18 +59,18 @@ reads_told = record {
 }
 
 -- the store that keeps a table holds it
-pub kept_held : (objects : Objects) (state : State) → Keeps objects state → length (entries_of state) < 2 ^ 32 → HoldsState objects state
-kept_held objects nothing keeps small = keeps
-kept_held objects (table schema entries) keeps small = (kept_holds objects schema entries keeps.0 small, keeps.0.lawful)
+pub kept_held : (objects : Objects) (state : State) → Keeps objects state → HoldsState objects state
+kept_held objects nothing keeps = keeps
+kept_held objects (table schema entries) keeps = (kept_holds objects schema entries keeps.0, keeps.0.lawful)
 
-kept_answers : (objects : Objects) (state : State) → Keeps objects state → length (entries_of state) < 2 ^ 32 → AnswersReads objects state
-kept_answers objects nothing keeps small = tt
-kept_answers objects (table schema entries) keeps small = are_answered reads_told objects schema entries keeps.0 small
+kept_answers : (objects : Objects) (state : State) → Keeps objects state → AnswersReads objects state
+kept_answers objects nothing keeps = tt
+kept_answers objects (table schema entries) keeps = are_answered reads_told objects schema entries keeps.0
 
 -- and reads over it hand out its rows
-pub kept_reads_out : (objects : Objects) (state : State) → Keeps objects state → length (entries_of state) < 2 ^ 32 → ReadsOut objects state
-kept_reads_out objects state keeps small = record {
-  answered = kept_answers objects state keeps small;
-  up_to = hand_out_the_log reads_told objects state keeps small;
-  all = hand_out_all reads_told objects state keeps small;
+pub kept_reads_out : (objects : Objects) (state : State) → Keeps objects state → ReadsOut objects state
+kept_reads_out objects state keeps = record {
+  answered = kept_answers objects state keeps;
+  up_to = hand_out_the_log reads_told objects state keeps;
+  all = hand_out_all reads_told objects state keeps;
 }

@@ -1,7 +1,8 @@
 -- What an append leaves, however far it comes, of a store that keeps a table.
-use Rattle.std.proofs.Common.{◌≡◌, ℕ, suc, ◌<◌, ◌≤◌, ◌^◌, ◌⊎◌, inl, inr, Bool, true, false, not, List, [], ◌∷◌, ◌++◌, length, Option, Some, None, Result, Ok, Err, eqb, ltb, refl, sym, ap, subst, ◌∙◌, arith, length-append}
+use Rattle.std.proofs.Common.{◌≡◌, ℕ, suc, ◌≤◌, ◌⊎◌, inl, inr, Bool, true, false, not, List, [], ◌∷◌, ◌++◌, length, Option, Some, None, Result, Ok, Err, eqb, ltb, refl, sym, ap, subst, ◌∙◌, arith, length-append}
 use Rattle.std.specs.Prelude.{bytes_eq, codes, cond, is_some, option_map, unwrap_or}
 use Rattle.std.specs.Str.{IsUtf8}
+use Rattle.std.proofs.lemmas.Bool.{cases_lt, lt-ltb}
 use Rattle.std.proofs.lemmas.Slice.Eq.{bytes_eq-Decides}
 use Rattle.serde_json.specs.Events.{items_len}
 use Rattle.serde_json.specs.Data.{Items}
@@ -14,7 +15,7 @@ use Rattle.parquet_file.specs.Writing.{written_file}
 use Rattle.table_model.specs.Appends.{appended}
 use Rattle.table_model.specs.declared.table.Appended.TheVariants.{Committed, StreamClosed}
 use Rattle.table_model.specs.Lawful.{IsLawful}
-use Rattle.delta_actions.specs.Names.{data_file_name}
+use Rattle.delta_actions.specs.Names.{data_file_name, greatest_version}
 use Rattle.delta_actions.specs.Names as names
 use Rattle.delta_replay.specs.Support.{has_key_inside}
 use Rattle.row_core.specs.Rows.{Row}
@@ -22,7 +23,7 @@ use Rattle.row_core.proofs.Callers.{same_rows-is}
 use Rattle.table_model.specs.Table as model
 use Rattle.table_model.specs.Table.{Entry, group, is_closed, last_batch}
 use Rattle.table_store.proofs.Callers.{commit_name-data_file_name}
-use Rattle.sink_core.specs.Appending.{Batch, Step, puts, stands, checked, file_name, is_repeat, is_same, unless_other, where_same, file_or_refusal, batch_of, fitting, new_step, step_of, settled, with_append, with_file_alone, IsWellMade, PutsWell}
+use Rattle.sink_core.specs.Appending.{Batch, Step, puts, stands, checked, file_name, greatest_number, is_repeat, is_same, unless_other, where_same, file_or_refusal, batch_of, fitting, new_step, step_of, settled, with_append, with_file_alone, IsWellMade, PutsWell}
 use Rattle.sink_core.specs.Refusals.{Refusal, stale, differs}
 use Rattle.lake_bytes.specs.Results.{◌>>=◌, refused_if}
 use Rattle.sink_core.specs.RowsIn.{rows_from, takes_rows}
@@ -104,8 +105,8 @@ files_commit objects schema version bytes files application number found utf8 sm
 abbrev pub GoesOn : (most : ℕ) → Objects → Result Step Refusal → Type 0
 GoesOn most objects step = Stays most (with_file_alone objects step) × Stays most (with_append objects step)
 
-module _ (objects : Objects) (schema : Tree) (entries : List Entry) (kept : IsKept objects schema entries) (files : AreFiles objects schema) (few : length entries < 2 ^ 32) (most : ℕ) (up : length entries ≤ most)
-    (application : List ℕ) (number at : ℕ) (utf8 : IsUtf8 application) (fits : number ≤ 999_999_999_999) (rows : List Row) where
+module _ (objects : Objects) (schema : Tree) (entries : List Entry) (kept : IsKept objects schema entries) (files : AreFiles objects schema) (most : ℕ) (up : length entries ≤ most)
+    (application : List ℕ) (number at : ℕ) (utf8 : IsUtf8 application) (fits : number ≤ greatest_number) (rows : List Row) where
   -- the batch that is put with this file
   abbrev made : (file : List ℕ) → Batch
   made file = made_with (length entries) schema rows application number at file
@@ -137,7 +138,7 @@ module _ (objects : Objects) (schema : Tree) (entries : List Entry) (kept : IsKe
       passes true free = refl
       passes false free = absurd cc
 
-  -- the file is put, and then the commit is one entry more
+  -- the file is put, and then the commit is one entry more, where a commit can have its version
   put_goes_on : (file : List ℕ) → appended (handed_in application number rows) entries ≡ Committed (length entries)
       → unless_other schema rows (file_name application number) (object_at objects (file_name application number)) ≡ Ok tt
       → IsWellMade application number at (made file)
@@ -153,12 +154,15 @@ module _ (objects : Objects) (schema : Tree) (entries : List Entry) (kept : IsKe
       let filed_kept : IsKept filed schema entries = kept_file objects schema entries application number file kept in
       let filed_files : AreFiles filed schema = files_put objects schema name b file files is_file in
       let there : FileKept filed schema b = file_behind file (object_at objects name) refl (rw (same_file_name application number) at free) is_file in
-      let more : IsKept (with_object filed next (made file).commit) schema (entries ++ group (b ∷ []) ∷ []) =
-      kept_commit filed schema entries b (made file).commit filed_kept lawful there (none_behind filed schema entries filed_kept few) is_commit in
+      let more : length entries ≤ greatest_version → IsKept (with_object filed next (made file).commit) schema (entries ++ group (b ∷ []) ∷ []) =
+      λ few. kept_commit filed schema entries b (made file).commit filed_kept few lawful there (none_behind filed schema entries filed_kept few) is_commit in
       let alone : Stays (suc most) filed = keeps schema entries filed_kept filed_files (omega (arith, up)) in
-      let whole : Stays (suc most) (with_object filed next (made file).commit) =
-      keeps schema (entries ++ group (b ∷ []) ∷ []) more (files_commit filed schema (length entries) (made file).commit filed_files) (omega (arith, up, length-append entries (group (b ∷ []) ∷ []))) in
-      rw (version_fits entries few, same_file_name application number, same_name (length entries)) (alone, rw (same_file_name application number) at whole)
+      let whole : length entries ≤ greatest_version → Stays (suc most) (with_object filed next (made file).commit) =
+      λ few. keeps schema (entries ++ group (b ∷ []) ∷ []) (more few) (files_commit filed schema (length entries) (made file).commit filed_files) (omega (arith, up, length-append entries (group (b ∷ []) ∷ []))) in
+      elim (cases_lt greatest_version (length entries)) [
+        | inl past ↦ rw (lt-ltb greatest_version (length entries) past, same_file_name application number) (alone, alone)
+        | inr few ↦ rw (version_fits entries few, same_file_name application number, same_name (length entries)) (alone, rw (same_file_name application number) at (whole few))
+      ]
 
   -- what is done for a new number
   new_goes_on : appended (handed_in application number rows) entries ≡ Committed (length entries) → PutsWell application number at (new_step objects (asked (length entries) schema rows false) application number at)
@@ -204,20 +208,20 @@ module _ (objects : Objects) (schema : Tree) (entries : List Entry) (kept : IsKe
       by_tests false false over other well = open_goes_on (is_closed application entries) (rw (is, over, other) refl) well
 
 -- An append over a table that is kept leaves one that is kept, however far it comes.
-pub append_goes_on : (objects : Objects) (schema : Tree) (entries : List Entry) → IsKept objects schema entries → AreFiles objects schema → length entries < 2 ^ 32 → (most : ℕ) → length entries ≤ most
+pub append_goes_on : (objects : Objects) (schema : Tree) (entries : List Entry) → IsKept objects schema entries → AreFiles objects schema → (most : ℕ) → length entries ≤ most
     → (application : List ℕ) (number at : ℕ) (items : Items) → IsUtf8 application → PutsWell application number at (settled false objects application number at items) → GoesOn (suc most) objects (settled false objects application number at items)
-append_goes_on objects schema entries kept files few most up application number at items utf8 well =
-    let is = step_is objects schema entries application number at items utf8 kept few in
+append_goes_on objects schema entries kept files most up application number at items utf8 well =
+    let is = step_is objects schema entries application number at items utf8 kept in
     rw is (by_tests (checked application number (items_len items)) (has_key_inside (codes "delta.invariants") schema) (takes_rows schema) refl (rw is at well))
   where
     same : GoesOn (suc most) objects (Ok stands)
     same = let still = keeps schema entries kept files (omega (arith, up)) in (still, still)
 
-    by_read : (read : Result (List Row) Refusal) → number ≤ 999_999_999_999 → PutsWell application number at (step_with objects entries application number at schema read)
+    by_read : (read : Result (List Row) Refusal) → number ≤ greatest_number → PutsWell application number at (step_with objects entries application number at schema read)
         → GoesOn (suc most) objects (step_with objects entries application number at schema read)
     by_read (Err why) small well = same
     by_read (Ok rows) small well =
-        behind_goes_on objects schema entries kept files few most up application number at utf8 small rows (last_batch application entries) refl well
+        behind_goes_on objects schema entries kept files most up application number at utf8 small rows (last_batch application entries) refl well
 
     by_tests : (fine : Result (Unit {0}) Refusal) (barred : Bool) (takes : Result (Unit {0}) Refusal) → checked application number (items_len items) ≡ fine
         → PutsWell application number at (step_behind objects schema entries application number at items fine barred takes) → GoesOn (suc most) objects (step_behind objects schema entries application number at items fine barred takes)

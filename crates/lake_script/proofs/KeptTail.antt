@@ -1,5 +1,5 @@
 -- A read over a store that keeps a table is told what the plain table answers.
-use Rattle.std.proofs.Common.{◌≡◌, ℕ, suc, ◌+◌, ◌<◌, ◌^◌, true, false, ◌||◌, List, [], ◌∷◌, length, map, take, drop, Option, Some, None, Ok, Err, refl, sym, ap, subst, ◌∙◌, arith, inl, inr, ◌⊎◌}
+use Rattle.std.proofs.Common.{◌≡◌, ℕ, suc, ◌+◌, ◌<◌, true, false, ◌||◌, List, [], ◌∷◌, length, map, take, drop, Option, Some, None, Ok, Err, refl, sym, ap, subst, ◌∙◌, arith, inl, inr, ◌⊎◌}
 use Rattle.std.specs.List.{AllByRecursion, filter_map, list_any}
 use Rattle.std.specs.Option.{is_some}
 use Rattle.std.specs.Prelude.{Result, ◌==◌, if◌then◌else◌}
@@ -273,12 +273,12 @@ module _ (objects : Objects) (max : ℕ) (offset : List ℕ) where
   tail_of_none (Some place) is = rw (is, versions_of_nothing) refl
 
 -- Over a store that keeps a table a read is told what the table tells.
-pub tail_told : (objects : Objects) (schema : Tree) (entries : List Entry) → IsKept objects schema entries → length entries < 2 ^ 32 → (max : ℕ) (offset : List ℕ)
+pub tail_told : (objects : Objects) (schema : Tree) (entries : List Entry) → IsKept objects schema entries → (max : ℕ) (offset : List ℕ)
     → tailed_reply (tailed false objects max offset) ≡ tables.tail_reply (tables.table schema entries) max (offset_of offset)
-tail_told objects schema entries kept few max offset =
+tail_told objects schema entries kept max offset =
     let commits = made_of objects schema 0 entries kept.kept in
     let plain = kept_plain objects schema entries kept in
-    tail_from objects max offset schema entries commits plain (offset_of offset) refl (versions_kept objects schema entries kept few)
+    tail_from objects max offset schema entries commits plain (offset_of offset) refl (versions_kept objects schema entries kept)
     (λ place. handed_told objects schema entries commits kept.kept (are_made objects schema 0 entries kept.kept) plain max place)
 
 -- A read of nothing is told that there is no table.

@@ -1,5 +1,5 @@
 -- Where a store keeps a table, reads one after another hand out the table's rows.
-use Rattle.std.proofs.Common.{◌≡◌, ℕ, ◌<◌, ◌^◌, true, false, List, [], ◌∷◌, ◌++◌, length, map, take, Result, Ok, Err, IsOk, refl, sym, ap, subst, ◌∙◌, arith}
+use Rattle.std.proofs.Common.{◌≡◌, ℕ, ◌<◌, true, false, List, [], ◌∷◌, ◌++◌, length, map, take, Result, Ok, Err, IsOk, refl, sym, ap, subst, ◌∙◌, arith}
 use Rattle.std.proofs.lemmas.List.{append-nil, map-append, take_all}
 use Rattle.schema_tree.specs.Tree.{Tree}
 use Rattle.store_core.specs.Objects.{Objects}
@@ -160,13 +160,13 @@ reads_as objects entries is max place = rw (is.log, is.goes_by place) (is.answer
 
 -- what is known of single reads
 pub record GivenReads : Type 0 where
-  pub handed_told : (objects : Objects) (schema : Tree) (entries : List Entry) → IsKept objects schema entries → length entries < 2 ^ 32 → IsReadAs objects entries
+  pub handed_told : (objects : Objects) (schema : Tree) (entries : List Entry) → IsKept objects schema entries → IsReadAs objects entries
   pub nothing_told : (place : Offset) → schema_for no_start (versions_of []) place ≡ Err (bad_log 0)
 
 module _ (given : GivenReads) where
   -- a store that keeps a table reads as it
-  pub kept_reads : (objects : Objects) (schema : Tree) (entries : List Entry) → IsKept objects schema entries → length entries < 2 ^ 32 → ReadsAs objects entries
-  kept_reads objects schema entries kept small = reads_as objects entries (given.handed_told objects schema entries kept small)
+  pub kept_reads : (objects : Objects) (schema : Tree) (entries : List Entry) → IsKept objects schema entries → ReadsAs objects entries
+  kept_reads objects schema entries kept = reads_as objects entries (given.handed_told objects schema entries kept)
 
   -- where nothing stands, a read is refused
   nothing_read : (max : ℕ) (place : Offset) → read_by false [] max place ≡ Err (bad_log 0)
@@ -179,19 +179,19 @@ module _ (given : GivenReads) where
   nothing_handed (max ∷ limits) place = rw (nothing_read max place) (nothing_handed limits place)
 
   -- reads hand out the rows of the table in order
-  pub hand_out_the_log : (objects : Objects) (state : State) → Keeps objects state → length (entries_of state) < 2 ^ 32 → HandOutTheLog objects (entries_of state)
-  hand_out_the_log objects nothing keeps small =
+  pub hand_out_the_log : (objects : Objects) (state : State) → Keeps objects state → HandOutTheLog objects (entries_of state)
+  hand_out_the_log objects nothing keeps =
       let none : HandOutTheLog [] [] = λ limits. nothing_handed limits beginning ∙ sym (take_all (position (tails [] limits beginning).next []) [] (omega arith)) in
       subst (λ (o : Objects). HandOutTheLog o []) (sym keeps) none
-  hand_out_the_log objects (table schema entries) keeps small = reads_log objects entries (kept_reads objects schema entries keeps.0 small)
+  hand_out_the_log objects (table schema entries) keeps = reads_log objects entries (kept_reads objects schema entries keeps.0)
 
   -- and all of them, where the last read handed out fewer than its limit
-  pub hand_out_all : (objects : Objects) (state : State) → Keeps objects state → length (entries_of state) < 2 ^ 32 → HandOutAll objects (entries_of state)
-  hand_out_all objects nothing keeps small =
+  pub hand_out_all : (objects : Objects) (state : State) → Keeps objects state → HandOutAll objects (entries_of state)
+  hand_out_all objects nothing keeps =
       let none : HandOutAll [] [] = λ earlier max short. nothing_handed (earlier ++ max ∷ []) beginning in
       subst (λ (o : Objects). HandOutAll o []) (sym keeps) none
-  hand_out_all objects (table schema entries) keeps small = reads_all objects entries (kept_reads objects schema entries keeps.0 small)
+  hand_out_all objects (table schema entries) keeps = reads_all objects entries (kept_reads objects schema entries keeps.0)
 
   -- and none is refused
-  pub are_answered : (objects : Objects) (schema : Tree) (entries : List Entry) → IsKept objects schema entries → length entries < 2 ^ 32 → AreAnswered objects
-  are_answered objects schema entries kept small = reads_answered objects entries (kept_reads objects schema entries kept small)
+  pub are_answered : (objects : Objects) (schema : Tree) (entries : List Entry) → IsKept objects schema entries → AreAnswered objects
+  are_answered objects schema entries kept = reads_answered objects entries (kept_reads objects schema entries kept)

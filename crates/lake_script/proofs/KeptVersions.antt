@@ -1,10 +1,11 @@
 -- The versions of a store that keeps a table: a commit for each entry, and so its log.
-use Rattle.std.proofs.Common.{◌≡◌, ℕ, suc, ◌+◌, ◌<◌, ◌≤◌, ◌^◌, List, [], ◌∷◌, map, length, IsSome, Ok, refl, ap, ◌∙◌, add-one, arith, false, true, inl, inr}
+use Rattle.std.proofs.Common.{◌≡◌, ℕ, suc, ◌+◌, ◌<◌, ◌≤◌, List, [], ◌∷◌, map, length, IsSome, Ok, refl, ap, ◌∙◌, add-one, arith, false, true, inl, inr}
 use Rattle.std.proofs.lemmas.Bool.{cases_lt}
 use Rattle.schema_tree.specs.Tree.{Tree}
 use Rattle.store_core.specs.Objects.{Objects, object_at}
 use Rattle.delta_actions.specs.Action as actions
 use Rattle.delta_actions.specs.Names as names
+use Rattle.delta_actions.specs.Names.{greatest_version}
 use Rattle.table_model.specs.Table.{Entry}
 use Rattle.table_log.specs.Counts.{commit_count}
 use Rattle.table_log.specs.Names.{commit_name}
@@ -25,11 +26,11 @@ last_stands objects schema version end (entry ∷ []) kept low is =
 last_stands objects schema version end (entry ∷ other ∷ entries) kept low is = last_stands objects schema (suc version) end (other ∷ entries) kept.2 (omega arith) (omega arith)
 
 -- A store that keeps a table has as many versions as the table has entries.
-pub count_kept : (objects : Objects) (schema : Tree) (entries : List Entry) → IsKept objects schema entries → length entries < 2 ^ 32 → commit_count objects ≡ length entries
+pub count_kept : (objects : Objects) (schema : Tree) (entries : List Entry) → IsKept objects schema entries → commit_count objects ≡ length entries
 unfolding commit_name
-count_kept objects schema entries kept few = count_is objects (length entries) (omega arith) below stands
+count_kept objects schema entries kept = count_is objects (length entries) kept.fits below stands
   where
-    below : (version : ℕ) → version ≤ 999_999_999_999 → IsSome (object_at objects (names.commit_name version)) → version < length entries
+    below : (version : ℕ) → version ≤ greatest_version → IsSome (object_at objects (names.commit_name version)) → version < length entries
     below version small there =
         elim (cases_lt version (length entries)) [
           | inl low ↦ low
@@ -51,10 +52,10 @@ commits_stand objects schema version (entry ∷ entries) kept =
     rw (kept.0.1, of_commit kept.0.0 kept.0.2.actions kept.0.2.commit, add-one, more) refl
 
 -- Each version of a store that keeps a table is a commit that stands for the entry at its place.
-pub versions_kept : (objects : Objects) (schema : Tree) (entries : List Entry) (kept : IsKept objects schema entries) → length entries < 2 ^ 32
+pub versions_kept : (objects : Objects) (schema : Tree) (entries : List Entry) (kept : IsKept objects schema entries)
     → versions_of objects ≡ map commit (made_of objects schema 0 entries kept.kept)
-versions_kept objects schema entries kept few =
-    ap (λ (count : ℕ). versions_from count 0 objects) (count_kept objects schema entries kept few) ∙ commits_stand objects schema 0 entries kept.kept
+versions_kept objects schema entries kept =
+    ap (λ (count : ℕ). versions_from count 0 objects) (count_kept objects schema entries kept) ∙ commits_stand objects schema 0 entries kept.kept
 
 -- ---- the log
 
@@ -66,7 +67,7 @@ has_commits objects schema entries kept =
     omega arith
 
 -- The log of a store that keeps a table has a commit for each entry.
-pub log_kept : (objects : Objects) (schema : Tree) (entries : List Entry) (kept : IsKept objects schema entries) → length entries < 2 ^ 32
+pub log_kept : (objects : Objects) (schema : Tree) (entries : List Entry) (kept : IsKept objects schema entries)
     → log_of objects ≡ Ok (made_of objects schema 0 entries kept.kept)
 unfolding log_of
-log_kept objects schema entries kept few = rw (versions_kept objects schema entries kept few) (some_commits (made_of objects schema 0 entries kept.kept) (has_commits objects schema entries kept))
+log_kept objects schema entries kept = rw (versions_kept objects schema entries kept) (some_commits (made_of objects schema 0 entries kept.kept) (has_commits objects schema entries kept))

@@ -4,15 +4,15 @@ use Rattle.std.specs.Prelude.{◌≡◌, ◌≤◌, ℕ, suc, List, [], ◌∷�
 use Rattle.std.specs.List.{AllByRecursion, Contains}
 use Rattle.std.specs.Str.{IsUtf8}
 use Rattle.store_core.specs.Objects.{Objects, object_at}
-use Rattle.delta_actions.specs.Names.{commit_name, data_file_name}
+use Rattle.delta_actions.specs.Names.{commit_name, data_file_name, greatest_version}
 use Rattle.parquet_file.specs.File.{KeepsLimits}
 use Rattle.table_model.specs.Lawful.{IsLawful}
 use Rattle.table_model.specs.Table.{Batch, Entry, creation, batches_of, batches}
+use Rattle.sink_core.specs.Appending.{greatest_number}
 use Rattle.table_store.specs.Commits.{IsCommitOf}
 use Rattle.table_store.specs.Holds.{Stands}
 use Rattle.table_store.specs.Schema.{Schema}
 use Rattle.table_store.specs.Schema as data_files
-use Rattle.table_store.specs.Sound.{greatest_version}
 use Rattle.lake_script.specs.Tables.{State, nothing, table}
 
 -- bytes are a file of the rows of a batch, within the limits of reading
@@ -35,12 +35,14 @@ KeptFrom objects schema version (entry ∷ entries) = Stands objects (commit_nam
     × FilesKept objects schema entry × KeptFrom objects schema (suc version) entries
 
 -- The store keeps the table of this schema with these entries, of which the first is its creation: the table is lawful,
--- and no commit stands past its end. Checkpoints may stand, and any data file.
+-- it has no more entries than there can be versions, and no commit stands past its end. Checkpoints may stand, and any
+-- data file.
 pub record IsKept (objects : Objects) (schema : Schema) (entries : List Entry) : Type 0 where
   pub kept : KeptFrom objects schema 0 entries
   pub rest : List Entry
   pub begins : entries ≡ creation ∷ rest
   pub lawful : IsLawful entries
+  pub fits : length entries ≤ suc greatest_version
   pub ends : (version : ℕ) → length entries ≤ version → version ≤ greatest_version → object_at objects (commit_name version) ≡ None
 
 -- the table has a batch of this application and number
@@ -50,7 +52,7 @@ IsOwn entries application number = (b : Batch) × Contains (batches entries) b �
 -- whatever stands under the name of the data file of an application, whose id is text, and a number of at most twelve
 -- digits is the file of one of the table's batches
 abbrev pub HasNoOther : Objects → List Entry → Type 0
-HasNoOther objects entries = (application : List ℕ) (number : ℕ) → IsUtf8 application → number ≤ 999_999_999_999
+HasNoOther objects entries = (application : List ℕ) (number : ℕ) → IsUtf8 application → number ≤ greatest_number
     → IsSome (object_at objects (data_file_name application number)) → IsOwn entries application number
 
 -- The store keeps this table, or nothing stands, and it has no data file of a batch that the table hasn't.
@@ -60,7 +62,7 @@ Keeps objects (table schema entries) = IsKept objects schema entries × HasNoOth
 
 -- whatever stands under such a name is a file of some rows
 abbrev pub AreFiles : Objects → Schema → Type 0
-AreFiles objects schema = (application : List ℕ) (number : ℕ) (bytes : List ℕ) → IsUtf8 application → number ≤ 999_999_999_999
+AreFiles objects schema = (application : List ℕ) (number : ℕ) (bytes : List ℕ) → IsUtf8 application → number ≤ greatest_number
     → object_at objects (data_file_name application number) ≡ Some bytes → (b : Batch) × IsReadableFile schema b bytes
 
 -- The same where data files of other batches may stand, as they do where an append was cut off.

@@ -1,5 +1,5 @@
 // The engine of `script`: it reads its input to the end, then answers line by line.
-ghost use Rattle.std.specs.Prelude.{◌≡◌, ◌≢◌, ◌+◌, ◌<◌, ◌≤◌, ◌^◌, [], ◌∷◌, ◌⊎◌, Bool, true, false, not, length, position, option_map, ⊤, OnOk, OnErr, IfOk, IfErr, IfSome};
+ghost use Rattle.std.specs.Prelude.{◌≡◌, ◌≢◌, ◌+◌, ◌<◌, ◌≤◌, ◌^◌, suc, [], ◌∷◌, ◌⊎◌, Bool, true, false, not, length, position, option_map, ⊤, OnOk, OnErr, IfOk, IfErr, IfSome};
 ghost use Rattle.std.specs.Io.KnownBytes.{Appends};
 ghost use Rattle.lake_script.specs.declared.inputs.TheConstants.{MOST_BYTES, MOST_READS};
 ghost use Rattle.lake_script.specs.Lines.{reading_of};
@@ -10,6 +10,7 @@ ghost use Rattle.lake_script.specs.Sound.{IsAnswered, IsRun, IsRunInPart};
 ghost use Rattle.lake_script.specs.Streams.{held, waiting, write_failed, unread, read_failed, StandsIn};
 ghost use Rattle.lake_script.specs.Tables.{State, entries_of};
 ghost use Rattle.delta_actions.specs.Commit.{lines_of};
+ghost use Rattle.delta_actions.specs.Names.{greatest_version};
 ghost use Rattle.table_log.specs.Known.{IsKnown};
 ghost use Rattle.table_log.specs.Restoring.{AreCheckpointsSound, HasOnlySoundCheckpoints, RestoresWell};
 ghost use Rattle.lake_script.specs.Told.{ArePutHere, lines_left, is_newline, is_bad, first_bad, Finishes, fell_short};
@@ -242,17 +243,18 @@ pub fn run_text<S: Store, W: Write>(
     // A run that finishes is short only where a reply that is written tells so.
     ensures short { S.is_reliable store.old → RestoresWell restore (S.objects store.old) → fell_short result ≡ true → Finishes result.end
         (λ _. Tells (held W.contents output.old) (W.contents output.new.writer) (FallsShort 1 (S.objects store.old) (lines_of text.now))) }
-    // Over a store that keeps a table of at most 2^31 entries, or nothing, this is what the plain table tells, where no line shows an object,
-    // tells the snapshot or puts another tool's commit; where none puts such a commit, what is shown is told by the
-    // objects and all else by the table, the store then keeps the table that was told, and reads over it hand out its
-    // rows.
-    ensures script { (state : State) → S.is_reliable store.old → RestoresWell restore (S.objects store.old) → Keeps (S.objects store.old) state → length (entries_of state) ≤ 2 ^ 31
+    // Over a store that keeps a table, or nothing, where there can be as many versions as it has entries and the text lines,
+    // this is what the plain table tells, where no line shows an object, tells the snapshot or puts another tool's commit;
+    // where none puts such a commit, what is shown is told by the objects and all else by the table, the store then keeps
+    // the table that was told, and reads over it hand out its rows.
+    ensures script { (state : State) → S.is_reliable store.old → RestoresWell restore (S.objects store.old) → Keeps (S.objects store.old) state
         → fell_short result ≡ false → Finishes result.end
-        (λ _. IsScript state (held W.contents output.old) (W.contents output.new.writer) text.now (S.objects store.old) (S.objects store.new)) }
+        (λ _. length (entries_of state) + length (lines_of text.now) ≤ suc greatest_version
+        → IsScript state (held W.contents output.old) (W.contents output.new.writer) text.now (S.objects store.old) (S.objects store.new)) }
     // Over such a store, in which data files of other batches may stand too, that loses no call and whose checkpoints are
     // the log's, and where no line puts another tool's commit, the store that is left is sound, its log is lawful, and it
     // is such a store again, however the run ends and whatever growth is refused on the way.
-    ensures lawful { (state : State) → S.is_reliable store.old → HasOnlySoundCheckpoints (S.objects store.old) → KeepsBeside (S.objects store.old) state → length (entries_of state) ≤ 2 ^ 31
+    ensures lawful { (state : State) → S.is_reliable store.old → HasOnlySoundCheckpoints (S.objects store.old) → KeepsBeside (S.objects store.old) state
         → ArePutHere (lines_of text.now) → StaysSound state (length (lines_of text.now)) (S.objects store.new) }
     ensures reliable { S.is_reliable store.old → S.is_reliable store.new }
     ensures restores { S.is_reliable store.old → (every : Bool) → AreCheckpointsSound every (S.objects store.old) → AreCheckpointsSound every (S.objects store.new) }
@@ -317,19 +319,20 @@ pub fn run<R: Read, W: Write, S: Store>(
         → Finishes result.end (λ _. IfSome (unread R.remaining input.old) (λ text.
         IsRun (S.objects store.old) text (held W.contents output.old) (W.contents output.new.writer) (S.objects store.new))) }
 
-    // Over a store that keeps a table of at most 2^31 entries, or nothing, this is what the plain table tells, where no line shows an object,
-    // tells the snapshot or puts another tool's commit, and begins with that in any case; where none puts such a commit,
-    // what is shown is told by the objects and all else by the table, the store then keeps the table that was told, and
-    // reads over it, each from the offset where the one before ended, are answered and hand out its rows, whatever
-    // their limits.
-    ensures script { (state : State) → S.is_reliable store.old → RestoresWell restore (S.objects store.old) → Keeps (S.objects store.old) state → length (entries_of state) ≤ 2 ^ 31
+    // Over a store that keeps a table, or nothing, where there can be as many versions as it has entries and the text lines,
+    // this is what the plain table tells, where no line shows an object, tells the snapshot or puts another tool's commit,
+    // and begins with that in any case; where none puts such a commit, what is shown is told by the objects and all else
+    // by the table, the store then keeps the table that was told, and reads over it, each from the offset where the one
+    // before ended, are answered and hand out its rows, whatever their limits.
+    ensures script { (state : State) → S.is_reliable store.old → RestoresWell restore (S.objects store.old) → Keeps (S.objects store.old) state
         → fell_short result ≡ false → Finishes result.end (λ _. IfSome (unread R.remaining input.old)
-        (λ text. IsScript state (held W.contents output.old) (W.contents output.new.writer) text (S.objects store.old) (S.objects store.new))) }
+        (λ text. length (entries_of state) + length (lines_of text) ≤ suc greatest_version
+        → IsScript state (held W.contents output.old) (W.contents output.new.writer) text (S.objects store.old) (S.objects store.new))) }
 
     // Over such a store, in which data files of other batches may stand too, that loses no call and whose checkpoints are
     // the log's, and where no line of the text that is read puts another tool's commit, the store that is left is sound,
     // its log is lawful, and it is such a store again, however the run ends and whatever growth is refused on the way.
-    ensures lawful { (state : State) → S.is_reliable store.old → HasOnlySoundCheckpoints (S.objects store.old) → KeepsBeside (S.objects store.old) state → length (entries_of state) ≤ 2 ^ 31
+    ensures lawful { (state : State) → S.is_reliable store.old → HasOnlySoundCheckpoints (S.objects store.old) → KeepsBeside (S.objects store.old) state
         → IfSome (unread R.remaining input.old) (λ text. ArePutHere (lines_of text) → StaysSound state (length (lines_of text)) (S.objects store.new)) }
 
     // Where a growth was refused, each line has its reply and effect, or is told of want of memory

@@ -10,7 +10,7 @@ use crate::failure::Failure;
 use crate::reads::tell_read;
 use crate::spoiled::tell_spoiled;
 use crate::stored::{put_object, tell_loaded};
-use delta_actions::{Action, ActionFault, read_commit};
+use delta_actions::{Action, ActionFault, GREATEST_VERSION, read_commit};
 use delta_checkpoint::{
     CheckpointError, checkpoint_name, checkpoint_version, print_checkpoint, read_checkpoint,
 };
@@ -176,7 +176,7 @@ impl Log {
     fn checkpoint(&self, version: u64) -> Result<Vec<u8>, Failure>
         requires { IsOfLog self.now.snapshot }
     {
-        if version > MOST_VERSION {
+        if version > GREATEST_VERSION {
             return Err(Failure::Misspelled);
         }
         Ok(print_checkpoint(self.alloc, &self.snapshot, version)?)
@@ -382,9 +382,6 @@ impl Log {
         Ok(())
     }
 }
-
-/// The greatest version that a commit or a checkpoint has.
-const MOST_VERSION: u64 = 999_999_999_999;
 
 /// The number that a question names.
 fn number_of(text: &str) -> Result<u64, Failure> {

@@ -28,4 +28,4 @@ no_entries_lawful = record { begins = tt; groups = tt; rises = λ application. t
 
 -- A store of nothing is sound: it holds no entry.
 pub nothing_sound : IsSound []
-nothing_sound = record { schema = struct no_fields; entries = []; holds = refl; lawful = no_entries_lawful; ends = λ version past small. refl }
+nothing_sound = record { schema = struct no_fields; entries = []; holds = (omega arith, λ fits. refl); lawful = no_entries_lawful; ends = λ version past small. refl }

@@ -1,5 +1,5 @@
 -- What the log of a sound store leaves, read whole or from a checkpoint on.
-use Rattle.std.proofs.Common.{◌≡◌, ◌∙◌, ℕ, suc, ◌<◌, Bool, true, false, List, [], ◌∷◌, map, length, Result, Ok, Err, refl, sym, ap, subst, add-one, arith}
+use Rattle.std.proofs.Common.{◌≡◌, ◌∙◌, ℕ, suc, Bool, true, false, List, [], ◌∷◌, map, length, Result, Ok, Err, refl, sym, ap, subst, add-one, arith}
 use Rattle.std.specs.Str.{IsUtf8}
 use Rattle.std.specs.Prelude.{option_map}
 use Rattle.store_core.specs.Objects.{Objects}
@@ -17,7 +17,7 @@ use Rattle.table_model.specs.Table.{Entry, creation, group, close, is_closed, la
 use Rattle.table_store.specs.Holds.{Holds, HoldsFrom}
 use Rattle.table_store.specs.Logs.{IsLog, LogFrom}
 use Rattle.table_store.specs.Schema.{Schema}
-use Rattle.table_store.specs.Sound.{IsSound, greatest_version}
+use Rattle.table_store.specs.Sound.{IsSound}
 use Rattle.table_store.proofs.LawfulLogLemmas.{AreMadeFor, made_for}
 use Rattle.log_laws.specs.Sound.{IsSoundStore}
 use Rattle.log_laws.proofs.Growth.{lawful_table, sound_table}
@@ -42,16 +42,16 @@ stand_as_log : (objects : Objects) (schema : Schema) (version : ℕ) (entries : 
 stand_as_log objects schema version [] holds = holds
 stand_as_log objects schema version (entry ∷ entries) holds = ((holds.0.0, holds.0.1, holds.0.2.commit), stand_as_log objects schema (suc version) entries holds.2)
 
-module _ (objects : Objects) (sound : IsSound objects) (small : commit_count objects < greatest_version) where
+module _ (objects : Objects) (sound : IsSound objects) where
   -- A sound store has as many versions as the table that it holds has entries.
   pub count_held : (schema : Schema) (entries : List Entry) → Holds objects schema entries → commit_count objects ≡ length entries
-  count_held schema entries holds = sound_count objects sound small ∙ ap (λ (es : List Entry). length es) (sound_table objects sound schema entries holds)
+  count_held schema entries holds = sound_count objects sound ∙ ap (λ (es : List Entry). length es) (sound_table objects sound schema entries holds)
 
   -- its versions are those of its log
   versions_are : (commits : List (List actions.Action)) → IsLog objects commits → versions_of objects ≡ map commit commits
   versions_are commits log =
       let made : AreMadeFor objects sound.schema sound.entries commits = made_for objects sound.schema 0 sound.entries commits sound.holds log in
-      let count : commit_count objects ≡ length commits = sound_count objects sound small ∙ sym (made_length objects sound.schema sound.entries commits made) in
+      let count : commit_count objects ≡ length commits = sound_count objects sound ∙ sym (made_length objects sound.schema sound.entries commits made) in
       ap (λ (n : ℕ). versions_from n 0 objects) count ∙ log_stands objects 0 commits log
 
   -- A log that stands is read.
@@ -151,10 +151,10 @@ module _ (restore : Bool) (objects : Objects) (sound : IsSoundStore objects) whe
   pub seen_refused : (version : ℕ) → seen restore objects ≡ Err version → log_of objects ≡ Err version
   seen_refused version is = alike_refused objects version (log_of objects) refl (alike is)
 
-  module _ (small : commit_count objects < greatest_version) (schema : Schema) (entries : List Entry) (holds : Holds objects schema entries) (commits : List (List actions.Action)) (is : seen restore objects ≡ Ok commits) where
+  module _ (schema : Schema) (entries : List Entry) (holds : Holds objects schema entries) (commits : List (List actions.Action)) (is : seen restore objects ≡ Ok commits) where
     -- the log that stands
     whole : (log : List (List actions.Action)) × IsLog objects log × ((key : Key) → at key commits ≡ at key log)
-    whole = let found = seen_leaves commits is in (found.0, log_stood objects sound.table small found.0 found.1, found.2)
+    whole = let found = seen_leaves commits is in (found.0, log_stood objects sound.table found.0 found.1, found.2)
 
     pub seen_number : (application : List ℕ) → last_number application commits ≡ option_map (λ b. b.number) (last_batch application entries)
     seen_number application = (same_values commits whole.0 whole.2).numbers application ∙ number_left objects schema entries holds whole.0 application whole.1
@@ -166,7 +166,7 @@ module _ (restore : Bool) (objects : Objects) (sound : IsSoundStore objects) whe
     seen_read = (same_values commits whole.0 whole.2).read ∙ by_log whole.0 (seen_leaves commits is).1 whole.1
       where
         by_log : (log : List (List actions.Action)) → log_of objects ≡ Ok log → IsLog objects log → readable log ≡ Ok schema
-        by_log [] read log = let wrong = sym (log_empty objects sound.table small log) ∙ read in absurd cc
+        by_log [] read log = let wrong = sym (log_empty objects sound.table log) ∙ read in absurd cc
         by_log (first ∷ later) read log = read_left objects schema entries first later sound.table holds log
 
     pub seen_written : (found : Schema) → writable commits ≡ Ok found → found ≡ schema

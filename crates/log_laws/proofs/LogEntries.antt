@@ -4,6 +4,7 @@ use Rattle.std.proofs.lemmas.Bool.{cases_eq, cases_lt}
 use Rattle.store_core.specs.Objects.{Objects, object_at}
 use Rattle.delta_actions.specs.Action as actions
 use Rattle.delta_actions.specs.Names as names
+use Rattle.delta_actions.specs.Names.{greatest_version}
 use Rattle.table_log.specs.Counts.{commit_count}
 use Rattle.table_log.specs.Names.{commit_name}
 use Rattle.table_log.specs.Versions.{commit, versions_from, versions_of, commits_in, commits_of, log_of}
@@ -12,7 +13,8 @@ use Rattle.table_model.specs.Lawful.{BeginsWithCreation}
 use Rattle.table_model.specs.Table.{Entry, creation, group, close}
 use Rattle.table_store.specs.Holds.{HoldsFirst, HoldsFrom}
 use Rattle.table_store.specs.Schema.{Schema}
-use Rattle.table_store.specs.Sound.{IsSound, greatest_version}
+use Rattle.table_store.specs.Sound.{IsSound}
+use Rattle.table_store.proofs.HoldingEnds.{HoldsFrom-fit}
 use Rattle.table_store.proofs.LawfulLogLemmas.{AreMadeFor}
 
 -- ---- how many versions there are
@@ -27,7 +29,11 @@ stands_at objects schema version wanted (entry ∷ entries) holds low high =
       | inr later ↦ stands_at objects schema (suc version) wanted entries holds.2 (omega (arith, later)) (omega arith)
     ]
 
-module _ (objects : Objects) (sound : IsSound objects) (small : commit_count objects < greatest_version) where
+module _ (objects : Objects) (sound : IsSound objects) where
+  -- each entry has a version that a commit can have
+  entries_fit : length sound.entries ≤ suc greatest_version
+  entries_fit = HoldsFrom-fit objects sound.schema 0 sound.entries sound.holds
+
   -- there are as many entries as versions, or fewer
   few_entries : length sound.entries ≤ commit_count objects
   unfolding commit_name
@@ -36,16 +42,16 @@ module _ (objects : Objects) (sound : IsSound objects) (small : commit_count obj
         | inr few ↦ few
         | inl many ↦
             let there : IsSome (object_at objects (names.commit_name (commit_count objects))) = stands_at objects sound.schema 0 (commit_count objects) sound.entries sound.holds (omega arith) (omega (arith, many)) in
-            let below : commit_count objects < commit_count objects = stands_below objects (commit_count objects) (omega (arith, small)) there in
+            let below : commit_count objects < commit_count objects = stands_below objects (commit_count objects) (omega (arith, many, entries_fit)) there in
             absurd (omega (arith, below))
       ]
 
   -- A sound store has as many versions as its table has entries.
   pub sound_count : commit_count objects ≡ length sound.entries
   unfolding commit_name
-  sound_count = count_is objects (length sound.entries) (omega (arith, few_entries, small)) below stands
+  sound_count = count_is objects (length sound.entries) entries_fit below stands
     where
-      below : (version : ℕ) → version ≤ 999_999_999_999 → IsSome (object_at objects (names.commit_name version)) → version < length sound.entries
+      below : (version : ℕ) → version ≤ greatest_version → IsSome (object_at objects (names.commit_name version)) → version < length sound.entries
       below version fits there =
           elim (cases_lt version (length sound.entries)) [
             | inl low ↦ low
@@ -120,11 +126,11 @@ log_by objects schema (group bs ∷ rest) made commits begins are told = absurd 
 log_by objects schema (close application ∷ rest) made commits begins are told = absurd begins
 
 -- The log of a sound store, where it can be read, has a commit for each entry.
-pub sound_log : (objects : Objects) (sound : IsSound objects) → commit_count objects < greatest_version → (commits : List (List actions.Action)) → log_of objects ≡ Ok commits → IsLogOf objects sound.schema sound.entries commits
+pub sound_log : (objects : Objects) (sound : IsSound objects) → (commits : List (List actions.Action)) → log_of objects ≡ Ok commits → IsLogOf objects sound.schema sound.entries commits
 unfolding log_of
-sound_log objects sound small commits told =
+sound_log objects sound commits told =
     let stand = held_first objects sound.schema 0 sound.entries sound.holds in
     let made = made_of objects sound.schema 0 sound.entries stand in
     let versions : versions_of objects ≡ map commit made =
-    ap (λ (count : ℕ). versions_from count 0 objects) (sound_count objects sound small) ∙ commits_stand objects sound.schema 0 sound.entries stand in
+    ap (λ (count : ℕ). versions_from count 0 objects) (sound_count objects sound) ∙ commits_stand objects sound.schema 0 sound.entries stand in
     log_by objects sound.schema sound.entries made commits sound.lawful.begins (are_made objects sound.schema 0 sound.entries stand) (rw versions at told)

@@ -1,6 +1,6 @@
 //! Laws of what the log of a sound store leaves: what its table tells, whether it is read whole or from a checkpoint on.
 
-ghost use Rattle.std.specs.Prelude.{◌≡◌, ◌<◌, ℕ, List, [], ◌∷◌, ◌++◌, length, Bool, false, option_map, Ok, Err, IsUtf8};
+ghost use Rattle.std.specs.Prelude.{◌≡◌, ℕ, List, [], ◌∷◌, ◌++◌, length, Bool, false, option_map, Ok, Err, IsUtf8};
 ghost use Rattle.store_core.specs.Objects.{Objects};
 ghost use Rattle.delta_actions.specs.Action.{Action};
 ghost use Rattle.delta_replay.specs.Closes as logs;
@@ -14,17 +14,16 @@ ghost use Rattle.table_model.specs.Table.{Entry, is_closed, last_batch};
 ghost use Rattle.table_store.specs.Holds.{Holds, HoldsFirst};
 ghost use Rattle.table_store.specs.Logs.{IsLog};
 ghost use Rattle.table_store.specs.Schema.{Schema};
-ghost use Rattle.table_store.specs.Sound.{greatest_version};
 ghost use Rattle.log_laws.specs.Sound.{IsSoundStore};
 
 /// The log of a sound store is read: it has as many versions as the table has entries, the commits that are read are
-/// those that stand, and none is refused, unless the log has none. Of logs of fewer versions than there can be.
+/// those that stand, and none is refused, unless the log has none.
 pub fn a_sound_log_is_read()
-    ensures count { (objects : Objects) (schema : Schema) (entries : List Entry) → commit_count objects < greatest_version → IsSoundStore objects → Holds objects schema entries → commit_count objects ≡ length entries }
-    ensures read { (objects : Objects) (commits : List (List Action)) → commit_count objects < greatest_version → IsSoundStore objects → log_of objects ≡ Ok commits → IsLog objects commits }
-    ensures whole { (objects : Objects) (first : List Action) (commits : List (List Action)) → commit_count objects < greatest_version → IsSoundStore objects → IsLog objects (first ∷ commits)
+    ensures count { (objects : Objects) (schema : Schema) (entries : List Entry) → IsSoundStore objects → Holds objects schema entries → commit_count objects ≡ length entries }
+    ensures read { (objects : Objects) (commits : List (List Action)) → IsSoundStore objects → log_of objects ≡ Ok commits → IsLog objects commits }
+    ensures whole { (objects : Objects) (first : List Action) (commits : List (List Action)) → IsSoundStore objects → IsLog objects (first ∷ commits)
         → log_of objects ≡ Ok (first ∷ commits) }
-    ensures empty { (objects : Objects) → commit_count objects < greatest_version → IsSoundStore objects → IsLog objects [] → log_of objects ≡ Err 0 }
+    ensures empty { (objects : Objects) → IsSoundStore objects → IsLog objects [] → log_of objects ≡ Err 0 }
 {}
 
 /// What a log leaves is what the table tells that the store holds: the number that an application has come to is that of
@@ -62,17 +61,17 @@ pub fn the_first_commits_leave_the_first_entries()
 {}
 
 /// From its newest checkpoint on, the log of a sound store leaves for each key what all its commits leave, and is refused
-/// where they are. So it leaves what the table tells. Of logs of fewer versions than there can be.
+/// where they are. So it leaves what the table tells.
 pub fn a_checkpoint_leaves_what_its_log_leaves()
     ensures leaves { (restore : Bool) (objects : Objects) (commits : List (List Action)) → IsSoundStore objects → seen restore objects ≡ Ok commits
         → (log : List (List Action)) × (log_of objects ≡ Ok log) × ((key : Key) → at key commits ≡ at key log) }
     ensures refused { (restore : Bool) (objects : Objects) (version : ℕ) → IsSoundStore objects → seen restore objects ≡ Err version → log_of objects ≡ Err version }
-    ensures number { (restore : Bool) (objects : Objects) (schema : Schema) (entries : List Entry) (commits : List (List Action)) (application : List ℕ) → commit_count objects < greatest_version → IsSoundStore objects
+    ensures number { (restore : Bool) (objects : Objects) (schema : Schema) (entries : List Entry) (commits : List (List Action)) (application : List ℕ) → IsSoundStore objects
         → Holds objects schema entries → seen restore objects ≡ Ok commits → last_number application commits ≡ option_map (λ b. b.number) (last_batch application entries) }
     ensures closed { (restore : Bool) (objects : Objects) (schema : Schema) (entries : List Entry) (commits : List (List Action)) (application : List ℕ) → IsUtf8 application → commit_count objects < greatest_version
         → IsSoundStore objects → Holds objects schema entries → seen restore objects ≡ Ok commits → logs.is_closed application commits ≡ is_closed application entries }
-    ensures read { (restore : Bool) (objects : Objects) (schema : Schema) (entries : List Entry) (commits : List (List Action)) → commit_count objects < greatest_version → IsSoundStore objects
+    ensures read { (restore : Bool) (objects : Objects) (schema : Schema) (entries : List Entry) (commits : List (List Action)) → IsSoundStore objects
         → Holds objects schema entries → seen restore objects ≡ Ok commits → readable commits ≡ Ok schema }
-    ensures written { (restore : Bool) (objects : Objects) (schema found : Schema) (entries : List Entry) (commits : List (List Action)) → commit_count objects < greatest_version → IsSoundStore objects
+    ensures written { (restore : Bool) (objects : Objects) (schema found : Schema) (entries : List Entry) (commits : List (List Action)) → IsSoundStore objects
         → Holds objects schema entries → seen restore objects ≡ Ok commits → writable commits ≡ Ok found → found ≡ schema }
 {}

@@ -7,5 +7,5 @@ mod putting;
 mod refusal;
 mod rows_in;
 
-pub use appending::{Appended, MOST_ID_BYTES, MOST_NUMBER, MOST_ROWS, append};
+pub use appending::{Appended, GREATEST_NUMBER, MOST_ID_BYTES, MOST_ROWS, append};
 pub use refusal::AppendFault;

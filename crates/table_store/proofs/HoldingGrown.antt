@@ -1,5 +1,5 @@
 -- The table of a store with more objects begins with the table of the store before.
-use Rattle.std.proofs.Common.{◌≡◌, ℕ, suc, true, List, [], ◌∷◌, ◌++◌, None, Some, refl, sym, ap₂, subst, ◌∙◌}
+use Rattle.std.proofs.Common.{◌≡◌, ℕ, suc, true, List, [], ◌∷◌, ◌++◌, refl, sym, ap₂, subst, arith}
 use Rattle.store_core.specs.Objects.{Objects}
 use Rattle.delta_actions.specs.Action as actions
 use Rattle.delta_actions.specs.Names.{commit_name}
@@ -12,6 +12,7 @@ use Rattle.table_model.specs.Reads.{is_offset, position}
 use Rattle.table_model.specs.Table.{Entry, creation, group, close}
 use Rattle.table_model.specs.declared.reading.Offset.{Offset}
 use Rattle.table_model.proofs.Callers.{stays}
+use Rattle.table_store.proofs.HoldingEnds.{none_at_end, HoldsFrom-first}
 use Rattle.table_store.proofs.HoldingKept.{Stands-kept, FilesStand-kept}
 use Rattle.table_store.proofs.HoldingOne.{one_entry, one_list, one_object}
 use Rattle.table_store.proofs.HoldingSchema.{one_creation_of}
@@ -20,7 +21,8 @@ module _ (objects more : Objects) (schema : Schema) (grown : HasObjectsOf object
   -- from a version on, the entries of one table come first
   front_from : (version : ℕ) (entries others : List Entry) → HoldsFrom objects schema version entries → HoldsFrom more schema version others → (later : List Entry) × (others ≡ entries ++ later)
   front_from version [] others p q = (others, refl)
-  front_from version (entry ∷ entries) [] p q = let none : None ≡ Some p.0.0 = sym q ∙ grown (commit_name version) p.0.0 p.0.1 in absurd cc
+  front_from version (entry ∷ entries) [] p q =
+      absurd (none_at_end more version p.0.0 q (HoldsFrom-first objects schema version entry entries p) (grown (commit_name version) p.0.0 p.0.1))
   front_from version (entry ∷ entries) (found ∷ others) p q =
       let bytes : p.0.0 ≡ q.0.0 = one_object more (commit_name version) (commit_name version) _ _ (Stands-kept objects more grown (commit_name version) _ p.0) q.0 refl in
       let lists = one_list p.0.0 q.0.0 schema schema entry found bytes p.0.2 q.0.2 in
@@ -31,7 +33,7 @@ module _ (objects more : Objects) (schema : Schema) (grown : HasObjectsOf object
 
   -- the schema is the one that the creation tells
   by_creation : (other : Schema) (entries others : List Entry) → Holds objects schema (creation ∷ entries) → Holds more other others → schema ≡ other
-  by_creation other entries [] p q = let none : None ≡ Some p.0.0 = sym q ∙ grown (commit_name 0) p.0.0 p.0.1 in absurd cc
+  by_creation other entries [] p q = absurd (none_at_end more 0 p.0.0 q (omega arith) (grown (commit_name 0) p.0.0 p.0.1))
   by_creation other entries (found ∷ others) p q =
       let bytes : p.0.0 ≡ q.0.0 = one_object more (commit_name 0) (commit_name 0) _ _ (Stands-kept objects more grown (commit_name 0) _ p.0) q.0 refl in
       one_creation_of p.0.0 q.0.0 schema other found bytes p.0.2 q.0.2

@@ -18,6 +18,7 @@ use Rattle.table_store.specs.Holds.{Stands, FileStands, FilesStand, HoldsFrom, H
 use Rattle.table_store.specs.Groups.{numbers, added, new_file, new_files, AreFilesOf}
 use Rattle.table_store.specs.Logs.{LogFrom, IsLog, AreBatchesOf, AreBatches, AreRowsOf, AreRows}
 use Rattle.table_model.specs.Table.{Batch, Entry, creation, group, close, batches_of, rows_of, batches, rows}
+use Rattle.table_store.proofs.HoldingEnds.{none_at_end, LogFrom-first}
 use Rattle.table_store.proofs.HoldingOne.{named, one_object, one_file, one_commit}
 
 -- ---- what tells only of the commit names no number and no file
@@ -132,8 +133,8 @@ HoldsFrom-log objects schema version (entry ∷ entries) holds =
 -- a store has one log at most
 LogFrom-one : (objects : Objects) (version : ℕ) (log second : List (List actions.Action)) → LogFrom objects version log → LogFrom objects version second → log ≡ second
 LogFrom-one objects version [] [] p q = refl
-LogFrom-one objects version [] (found ∷ others) p q = let none : None ≡ Some q.0.0 = sym p ∙ q.0.1 in absurd cc
-LogFrom-one objects version (made ∷ log) [] p q = let none : None ≡ Some p.0.0 = sym q ∙ p.0.1 in absurd cc
+LogFrom-one objects version [] (found ∷ others) p q = absurd (none_at_end objects version q.0.0 p (LogFrom-first objects version found others q) q.0.1)
+LogFrom-one objects version (made ∷ log) [] p q = absurd (none_at_end objects version p.0.0 q (LogFrom-first objects version made log p) p.0.1)
 LogFrom-one objects version (made ∷ log) (found ∷ others) p q =
     let bytes : p.0.0 ≡ q.0.0 = one_object objects (commit_name version) (commit_name version) _ _ p.0 q.0 refl in
     let first : made ≡ found = one_commit q.0.0 made found (subst (λ (t : List ℕ). IsCommit t made) bytes p.0.2) q.0.2 in

@@ -6,7 +6,7 @@ use Rattle.delta_actions.specs.Names.{commit_name, data_file_name}
 use Rattle.table_store.specs.Schema.{Schema}
 use Rattle.table_store.specs.Commits.{IsCommitOf}
 use Rattle.table_store.specs.Growth.{HasObjectsOf}
-use Rattle.table_store.specs.Holds.{Stands, FilesStand, HoldsFrom}
+use Rattle.table_store.specs.Holds.{EndsAt, Stands, FilesStand, HoldsFrom}
 use Rattle.table_model.specs.Table.{Entry}
 use Rattle.table_store.proofs.HoldingKept.{Stands-kept, FilesStand-kept}
 use Rattle.table_store.proofs.HoldingNames.{commit_name-suc, commit_name-data_file_name}
@@ -21,11 +21,14 @@ Stands-put objects name bytes = Stands-kept objects (with_object objects name by
 FilesStand-put : (objects : Objects) (name bytes : List ℕ) (schema : Schema) (entry : Entry) → FilesStand objects schema entry → FilesStand (with_object objects name bytes) schema entry
 FilesStand-put objects name bytes = FilesStand-kept objects (with_object objects name bytes) (HasObjectsOf-put objects name bytes)
 
--- a put of another name than the next commit's leaves the table
+-- a put of another name than the next commit's leaves where the log ends
+EndsAt-put : (objects : Objects) (name bytes : List ℕ) (version : ℕ) → commit_name version ≢ name → EndsAt objects version → EndsAt (with_object objects name bytes) version
+EndsAt-put objects name bytes version apart ends = (ends.0, λ fits. object_at-with_object_other objects name bytes (commit_name version) apart ∙ ends.1 fits)
+
+-- and it leaves the table
 HoldsFrom-put : (objects : Objects) (name bytes : List ℕ) (schema : Schema) (version : ℕ) (entries : List Entry) → commit_name (version + length entries) ≢ name
     → HoldsFrom objects schema version entries → HoldsFrom (with_object objects name bytes) schema version entries
-HoldsFrom-put objects name bytes schema version [] apart holds =
-    object_at-with_object_other objects name bytes (commit_name version) (subst (λ (n : ℕ). commit_name n ≢ name) (omega arith) apart) ∙ holds
+HoldsFrom-put objects name bytes schema version [] apart holds = EndsAt-put objects name bytes version (subst (λ (n : ℕ). commit_name n ≢ name) (omega arith) apart) holds
 HoldsFrom-put objects name bytes schema version (entry ∷ entries) apart holds = (
   Stands-put objects name bytes (commit_name version) _ holds.0,
   FilesStand-put objects name bytes schema entry holds.1,
@@ -39,13 +42,13 @@ HoldsFrom-data_file objects schema version entries application bytes number hold
 
 -- a commit that is put at the next version is one entry more
 pub HoldsFrom-commit : (objects : Objects) (schema : Schema) (version next : ℕ) (entries : List Entry) (entry : Entry) (bytes : List ℕ) → next ≡ version + length entries
-    → HoldsFrom objects schema version entries → IsCommitOf schema entry bytes → FilesStand objects schema entry → object_at objects (commit_name (suc next)) ≡ None
+    → HoldsFrom objects schema version entries → IsCommitOf schema entry bytes → FilesStand objects schema entry → EndsAt objects (suc next)
     → HoldsFrom (with_object objects (commit_name next) bytes) schema version (entries ++ entry ∷ [])
 HoldsFrom-commit objects schema version next [] entry bytes at holds commit file last =
     let same : version ≡ next = omega (arith, at) in
-    let free : object_at objects (commit_name next) ≡ None = subst (λ (n : ℕ). object_at objects (commit_name n) ≡ None) same holds in
+    let free : object_at objects (commit_name next) ≡ None = subst (λ (n : ℕ). object_at objects (commit_name n) ≡ None) same (holds.1 (omega (arith, at, last.0))) in
     let put : object_at (with_object objects (commit_name next) bytes) (commit_name next) ≡ Some bytes = object_at-with_object_same objects (commit_name next) bytes ∙ rw free refl in
-    let behind : object_at (with_object objects (commit_name next) bytes) (commit_name (suc next)) ≡ None = object_at-with_object_other objects (commit_name next) bytes (commit_name (suc next)) (commit_name-suc next) ∙ last in
+    let behind : EndsAt (with_object objects (commit_name next) bytes) (suc next) = EndsAt-put objects (commit_name next) bytes (suc next) (commit_name-suc next) last in
     subst (λ (n : ℕ). HoldsFrom (with_object objects (commit_name next) bytes) schema n (entry ∷ [])) (sym same) (
       (bytes, put, commit),
       FilesStand-put objects (commit_name next) bytes schema entry file,

@@ -1,5 +1,5 @@
 -- A table that begins with its creation is the only one that its store holds.
-use Rattle.std.proofs.Common.{◌≡◌, ℕ, List, [], ◌∷◌, None, Some, refl, sym, ap, subst, ◌∙◌}
+use Rattle.std.proofs.Common.{◌≡◌, ℕ, List, [], ◌∷◌, refl, sym, ap, subst, ◌∙◌, arith}
 use Rattle.store_core.specs.Objects.{Objects}
 use Rattle.delta_actions.specs.Action as actions
 use Rattle.delta_actions.specs.Action.{protocol, meta_data, MetaDataAction}
@@ -10,6 +10,7 @@ use Rattle.table_store.specs.Commits.{table_protocol, without_commit_info, IsCom
 use Rattle.table_store.specs.Holds.{Holds}
 use Rattle.table_model.specs.Lawful.{BeginsWithCreation}
 use Rattle.table_model.specs.Table.{Entry, creation, group, close}
+use Rattle.table_store.proofs.HoldingEnds.{none_at_end}
 use Rattle.table_store.proofs.HoldingOne.{group_no_creation, close_no_creation, one_object, one_list, one_log}
 use Rattle.table_store.proofs.NamesOnce.{ok_is}
 
@@ -34,7 +35,7 @@ one_creation_of bytes found schema second entry same p q =
 
 -- what a creation's table of a store is, another table of that store is too
 by_creation : (objects : Objects) (schema second : Schema) (entries others : List Entry) → Holds objects schema (creation ∷ entries) → Holds objects second others → schema ≡ second
-by_creation objects schema second entries [] p q = let none : None ≡ Some p.0.0 = sym q ∙ p.0.1 in absurd cc
+by_creation objects schema second entries [] p q = absurd (none_at_end objects 0 p.0.0 q (omega arith) p.0.1)
 by_creation objects schema second entries (found ∷ others) p q =
     let bytes : p.0.0 ≡ q.0.0 = one_object objects (commit_name 0) (commit_name 0) _ _ p.0 q.0 refl in
     one_creation_of p.0.0 q.0.0 schema second found bytes p.0.2 q.0.2
@@ -48,7 +49,7 @@ one_schema objects schema second (close application) entries others begins p q =
 -- a table that begins with its creation is the only one that the store holds
 pub only_table : (objects : Objects) (schema second : Schema) (entries others : List Entry) → BeginsWithCreation entries → Holds objects schema entries → Holds objects second others → entries ≡ others
 only_table objects schema second [] [] begins p q = refl
-only_table objects schema second [] (found ∷ others) begins p q = let none : None ≡ Some q.0.0 = sym p ∙ q.0.1 in absurd cc
+only_table objects schema second [] (found ∷ others) begins p q = absurd (none_at_end objects 0 q.0.0 p (omega arith) q.0.1)
 only_table objects schema second (entry ∷ entries) others begins p q =
     let same : schema ≡ second = one_schema objects schema second entry entries others begins p q in
     one_log objects schema 0 (entry ∷ entries) others p (subst (λ (t : Schema). Holds objects t others) (sym same) q)

@@ -1,5 +1,5 @@
 -- The log of a lawful store is lawful.
-use Rattle.std.proofs.Common.{◌≡◌, ◌≢◌, ℕ, zero, suc, ◌<◌, true, List, [], ◌∷◌, ◌++◌, length, map, filter, Contains, slice_index_or, Some, None, refl, sym, ap, ap₂, subst, ◌∙◌, arith, inl, inr, bytes_eq, flat_map}
+use Rattle.std.proofs.Common.{◌≡◌, ◌≢◌, ℕ, zero, suc, ◌<◌, true, List, [], ◌∷◌, ◌++◌, length, map, filter, Contains, slice_index_or, refl, sym, ap, ap₂, subst, ◌∙◌, arith, inl, inr, bytes_eq, flat_map}
 use Rattle.std.specs.List.{AllByRecursion}
 use Rattle.std.proofs.lemmas.Bool.{cases_Bool}
 use Rattle.std.proofs.lemmas.List.{map-append}
@@ -18,6 +18,7 @@ use Rattle.table_store.specs.Logs.{LogFrom}
 use Rattle.table_store.specs.LawfulLogs.{IsLater, BeginsLog, numbers_of, HasLawfulLog}
 use Rattle.table_model.specs.Table.{Batch, Entry, creation, group, close, batches_of, batches, numbers_by}
 use Rattle.table_model.proofs.Callers.{Rises-tail, below_later}
+use Rattle.table_store.proofs.HoldingEnds.{none_at_end, HoldsFrom-first, LogFrom-first}
 use Rattle.table_store.proofs.HoldingLogs.{HoldsFrom-log, numbers-without_commit_info, numbers_of_entry}
 use Rattle.table_store.proofs.HoldingOne.{named, one_object, one_commit, one_entry}
 use Rattle.table_model.proofs.Callers.{NoCreation-behind}
@@ -80,8 +81,8 @@ module _ (objects : Objects) (schema : Schema) where
   -- a store's log stands for the entries that the store holds
   pub made_for : (version : ℕ) (entries : List Entry) (log : List (List actions.Action)) → HoldsFrom objects schema version entries → LogFrom objects version log → AreMadeFor entries log
   made_for version [] [] p q = tt
-  made_for version [] (made ∷ log) p q = let none : None ≡ Some q.0.0 = sym p ∙ q.0.1 in absurd cc
-  made_for version (entry ∷ entries) [] p q = let none : None ≡ Some p.0.0 = sym q ∙ p.0.1 in absurd cc
+  made_for version [] (made ∷ log) p q = absurd (none_at_end objects version q.0.0 p (LogFrom-first objects version made log q) q.0.1)
+  made_for version (entry ∷ entries) [] p q = absurd (none_at_end objects version p.0.0 q (HoldsFrom-first objects schema version entry entries p) p.0.1)
   made_for version (entry ∷ entries) (made ∷ log) p q =
       let bytes : p.0.0 ≡ q.0.0 = one_object objects (commit_name version) (commit_name version) _ _ p.0 q.0 refl in
       let same : p.0.2.actions ≡ made = one_commit q.0.0 p.0.2.actions made (subst (λ (t : List ℕ). IsCommit t p.0.2.actions) bytes p.0.2.commit) q.0.2 in

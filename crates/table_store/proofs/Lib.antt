@@ -1,6 +1,7 @@
 pub mod ActionLemmas
 pub mod GroupLemmas
 pub mod HeldLemmas
+pub mod HoldingEnds
 pub mod HoldingGrown
 pub mod HoldingKept
 pub mod HoldingLogs

@@ -1,8 +1,8 @@
 -- The log of a store as its commits' actions, and the batches and the rows that this log tells of (Delta PROTOCOL.md,
 -- "Delta Log Entries").
-use Rattle.std.specs.Prelude.{◌≡◌, ℕ, suc, List, [], ◌∷◌, ◌++◌, None}
+use Rattle.std.specs.Prelude.{◌≡◌, ℕ, suc, List, [], ◌∷◌, ◌++◌}
 use Rattle.std.specs.List.{flat_map}
-use Rattle.store_core.specs.Objects.{Objects, object_at}
+use Rattle.store_core.specs.Objects.{Objects}
 use Rattle.delta_actions.specs.Action as actions
 use Rattle.delta_actions.specs.Kinds.{Path}
 use Rattle.delta_actions.specs.Commit.{IsCommit}
@@ -10,15 +10,16 @@ use Rattle.delta_actions.specs.Names.{commit_name, data_file_name}
 use Rattle.row_core.specs.Rows.{Row}
 use Rattle.table_store.specs.Schema.{Schema, IsFileOf}
 use Rattle.table_store.specs.Groups.{numbers, new_files}
-use Rattle.table_store.specs.Holds.{Stands}
+use Rattle.table_store.specs.Holds.{EndsAt, Stands}
 use Rattle.table_model.specs.Table.{Batch}
 
--- From this version on the commits of these actions stand, and none stands at the version behind the last.
+-- From this version on the commits of these actions stand, and the log ends behind them.
 abbrev pub LogFrom : Objects → ℕ → List (List actions.Action) → Type 0
-LogFrom objects version [] = object_at objects (commit_name version) ≡ None
+LogFrom objects version [] = EndsAt objects version
 LogFrom objects version (made ∷ log) = Stands objects (commit_name version) (λ bytes. IsCommit bytes made) × LogFrom objects (suc version) log
 
--- The store's log: the actions of the commits of versions 0, 1, 2 and so on, up to the first name that isn't there.
+-- The store's log: the actions of the commits of versions 0, 1, 2 and so on, up to the first name that isn't there
+-- or to the greatest version that a commit can have.
 abbrev pub IsLog : Objects → List (List actions.Action) → Type 0
 IsLog objects log = LogFrom objects 0 log
 

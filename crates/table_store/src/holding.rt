@@ -1,17 +1,17 @@
 //! Laws of stores and the tables that they hold, each a function with an empty body whose contract is the law.
 
-ghost use Rattle.std.specs.Prelude.{◌≡◌, ◌≢◌, ◌<◌, ◌^◌, ℕ, suc, List, [], ◌∷◌, ◌++◌, length, true, None, IsUtf8};
-ghost use Rattle.store_core.specs.Objects.{Objects, object_at, with_object};
+ghost use Rattle.std.specs.Prelude.{◌≡◌, ◌≢◌, ◌<◌, ◌^◌, ℕ, suc, List, [], ◌∷◌, ◌++◌, length, true, IsUtf8};
+ghost use Rattle.store_core.specs.Objects.{Objects, with_object};
 ghost use Rattle.delta_actions.specs.Action as actions;
 ghost use Rattle.delta_actions.specs.Names.{commit_name, data_file_name};
 ghost use Rattle.table_store.specs.Schema.{Schema};
 ghost use Rattle.table_store.specs.Commits.{IsCommitOf};
 ghost use Rattle.table_store.specs.Growth.{HasObjectsOf};
-ghost use Rattle.table_store.specs.Holds.{Holds, FilesStand, IsLawfulStore};
+ghost use Rattle.table_store.specs.Holds.{EndsAt, Holds, FilesStand, IsLawfulStore};
 ghost use Rattle.table_model.specs.Lawful.{BeginsWithCreation, IsLawful};
 ghost use Rattle.table_store.specs.Logs.{IsLog, AreBatches, AreRows};
 ghost use Rattle.table_store.specs.LawfulLogs.{HasLawfulLog};
-ghost use Rattle.table_store.specs.Sound.{IsAdmissible, IsSound, greatest_version};
+ghost use Rattle.table_store.specs.Sound.{IsAdmissible, IsSound};
 ghost use Rattle.row_core.specs.Rows.{Row};
 ghost use Rattle.table_model.specs.Reads.{is_offset, position};
 ghost use Rattle.table_model.specs.Table.{Batch, Entry, batches, rows};
@@ -42,11 +42,11 @@ pub fn a_grown_store_holds_a_grown_table()
         → is_offset offset entries ≡ true → (is_offset offset others ≡ true) × (position offset others ≡ position offset entries) }
 {}
 
-/// Where the commit of an entry is put at the next version, its files stand, and no commit stands at the version
-/// behind it, the store holds the table with one entry more.
+/// Where the commit of an entry is put at the next version, which is one that a commit can have, its files stand, and no
+/// commit stands at the version behind it, if there is one, the store holds the table with one entry more.
 pub fn a_commit_is_one_entry_more()
     ensures { (objects : Objects) (schema : Schema) (entries : List Entry) (entry : Entry) (bytes : List ℕ) → Holds objects schema entries → IsCommitOf schema entry bytes → FilesStand objects schema entry
-        → object_at objects (commit_name (suc (length entries))) ≡ None
+        → EndsAt objects (suc (length entries))
         → Holds (with_object objects (commit_name (length entries)) bytes) schema (entries ++ entry ∷ []) }
 {}
 
@@ -95,9 +95,9 @@ pub fn a_store_is_lawful_where_its_log_is()
 {}
 
 /// A commit that is admissible at a version leaves a sound store sound, whether its name was taken before or not: a name
-/// that is taken keeps its bytes. Of versions below the greatest one.
+/// that is taken keeps its bytes.
 pub fn an_admissible_commit_keeps_a_store_sound()
-    ensures { (objects : Objects) (version : ℕ) (bytes : List ℕ) → version < greatest_version → IsSound objects → IsAdmissible objects version bytes → IsSound (with_object objects (commit_name version) bytes) }
+    ensures { (objects : Objects) (version : ℕ) (bytes : List ℕ) → IsSound objects → IsAdmissible objects version bytes → IsSound (with_object objects (commit_name version) bytes) }
 {}
 
 /// So does a data file, whatever its bytes: a name that is taken keeps those that it has.

@@ -6,4 +6,4 @@ pub returns-clause-same : goal.returns-clause-same
 returns-clause-same c = λ objects limits text last out start by_texts begins. as_by_offsets objects limits text last out start by_texts begins
 
 pub returns-clause-log : goal.returns-clause-log
-returns-clause-log c = λ objects schema entries limits text last out kept few begins by_texts. log_by_texts objects schema entries limits text last out kept few begins by_texts
+returns-clause-log c = λ objects schema entries limits text last out kept begins by_texts. log_by_texts objects schema entries limits text last out kept begins by_texts

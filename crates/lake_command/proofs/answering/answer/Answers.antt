@@ -12,8 +12,8 @@ returns-in-Some-clause-failed g c = λ steady restores.
     fails_for_job c.execute_in.result (work_view c.args.command.job) _ (statement_view c.in-Some.line) _ _ (found_asked c.in_ok-line.field-0 c.in-Some.line _ _ c.in-Some.is c.in_ok-line.ensures.asked) (c.execute_in.ensures.failed steady) (c.execute_in.ensures.puts steady restores) (c.execute_in.ensures.named steady restores)
 
 pub returns-in-Some-clause-sound : goal.returns-in-Some-clause-sound
-returns-in-Some-clause-sound g c = λ steady bytes few sound.
-    stays_sound (work_view c.args.command.job) _ (statement_view c.in-Some.line) _ _ bytes (found_asked c.in_ok-line.field-0 c.in-Some.line _ _ c.in-Some.is c.in_ok-line.ensures.asked) few sound
+returns-in-Some-clause-sound g c = λ steady bytes sound.
+    stays_sound (work_view c.args.command.job) _ (statement_view c.in-Some.line) _ _ bytes (found_asked c.in_ok-line.field-0 c.in-Some.line _ _ c.in-Some.is c.in_ok-line.ensures.asked) sound
     (c.execute_in.ensures.puts steady (sound_restores c.args.command.restore _ sound))
 
 pub returns-in-Some-clause-puts : goal.returns-in-Some-clause-puts

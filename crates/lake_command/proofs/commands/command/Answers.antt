@@ -1,4 +1,4 @@
-use Rattle.std.proofs.Common.{rules, arith, sym, ◌∙◌}
+use Rattle.std.proofs.Common.{rules, sym, ◌∙◌}
 use Rattle.lake_script.specs.Tables.{nothing}
 use Rattle.lake_script.proofs.Callers.{well_of_empty}
 use Rattle.lake_command.proofs.ScriptLemmas.{by_table_of, no_job, over_of, script_of_run, short_of_run, told_of_run}
@@ -11,12 +11,12 @@ returns-in-Ok-Script-clause-told g c = λ command spells fine whole.
 pub returns-in-Ok-Script-clause-tables : goal.returns-in-Ok-Script-clause-tables
 returns-in-Ok-Script-clause-tables g c = λ command spells fine whole.
     by_table_of _ _ _ _ _ (script_of_run c.run-outcome.result.end _ _ _ _ _ (λ refused. fine (c.ended.ensures ∙ refused))
-    (c.run-outcome.ensures.script nothing (search rules) (well_of_empty _ _ (search rules)) (search rules) (omega arith) (sym c.short.ensures ∙ whole)))
+    (c.run-outcome.ensures.script nothing (search rules) (well_of_empty _ _ (search rules)) (search rules) (sym c.short.ensures ∙ whole)) c.run-outcome.ensures.too_long)
 
 pub returns-in-Ok-Script-clause-shown : goal.returns-in-Ok-Script-clause-shown
 returns-in-Ok-Script-clause-shown g c = λ command spells fine whole.
     over_of _ _ _ _ _ (search rules) (script_of_run c.run-outcome.result.end _ _ _ _ _ (λ refused. fine (c.ended.ensures ∙ refused))
-    (c.run-outcome.ensures.script nothing (search rules) (well_of_empty _ _ (search rules)) (search rules) (omega arith) (sym c.short.ensures ∙ whole)))
+    (c.run-outcome.ensures.script nothing (search rules) (well_of_empty _ _ (search rules)) (search rules) (sym c.short.ensures ∙ whole)) c.run-outcome.ensures.too_long)
 
 pub returns-in-Ok-Script-clause-short : goal.returns-in-Ok-Script-clause-short
 returns-in-Ok-Script-clause-short g c = λ command spells fine short.

@@ -8,13 +8,13 @@ pub returns-clause-refused : goal.returns-clause-refused
 returns-clause-refused c = λ restore objects version sound is. seen_refused restore objects sound version is
 
 pub returns-clause-number : goal.returns-clause-number
-returns-clause-number c = λ restore objects schema entries commits application small sound holds is. seen_number restore objects sound small schema entries holds commits is application
+returns-clause-number c = λ restore objects schema entries commits application sound holds is. seen_number restore objects sound schema entries holds commits is application
 
 pub returns-clause-closed : goal.returns-clause-closed
-returns-clause-closed c = λ restore objects schema entries commits application text small sound holds is. seen_closed restore objects sound small schema entries holds commits is application text
+returns-clause-closed c = λ restore objects schema entries commits application text sound holds is. seen_closed restore objects sound schema entries holds commits is application text
 
 pub returns-clause-read : goal.returns-clause-read
-returns-clause-read c = λ restore objects schema entries commits small sound holds is. seen_read restore objects sound small schema entries holds commits is
+returns-clause-read c = λ restore objects schema entries commits sound holds is. seen_read restore objects sound schema entries holds commits is
 
 pub returns-clause-written : goal.returns-clause-written
-returns-clause-written c = λ restore objects schema found entries commits small sound holds is written. seen_written restore objects sound small schema entries holds commits is found written
+returns-clause-written c = λ restore objects schema found entries commits sound holds is written. seen_written restore objects sound schema entries holds commits is found written
