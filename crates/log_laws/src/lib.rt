@@ -7,8 +7,8 @@ mod leaving;
 mod standing;
 
 pub use landing::{
-    a_data_file_lands, a_sound_checkpoint_lands, a_sound_checkpoint_stays_sound, an_admissible_commit_lands,
-    an_admissible_commit_stays_admissible,
+    a_data_file_lands, a_sound_checkpoint_lands, a_sound_checkpoint_stays_sound,
+    an_admissible_commit_lands, an_admissible_commit_stays_admissible,
 };
 pub use leaving::{
     a_checkpoint_leaves_what_its_log_leaves, a_sound_log_is_read, a_sound_log_leaves_its_table,
