@@ -1,6 +1,10 @@
 mod Beside
 pub mod Callers
 mod EmptyStores
+mod Fronts
+mod Growth
+mod Lands
+mod Leaves
 mod LogCloses
 mod LogEntries
 mod LogNewest

@@ -11,7 +11,7 @@ use Rattle.table_log.specs.Versions.{commit, versions_from, versions_of, commits
 use Rattle.table_log.proofs.Callers.{count_is, of_commit, stands_below}
 use Rattle.table_model.specs.Lawful.{BeginsWithCreation}
 use Rattle.table_model.specs.Table.{Entry, creation, group, close}
-use Rattle.table_store.specs.Holds.{HoldsFrom}
+use Rattle.table_store.specs.Holds.{HoldsFirst, HoldsFrom}
 use Rattle.table_store.specs.Schema.{Schema}
 use Rattle.table_store.specs.Sound.{IsSound}
 use Rattle.table_store.proofs.HoldingEnds.{HoldsFrom-fit}
@@ -63,24 +63,29 @@ module _ (objects : Objects) (sound : IsSound objects) where
 
 -- ---- what stands at each
 
+-- what is held is held first
+abbrev pub held_first : (objects : Objects) (schema : Schema) (version : ℕ) (entries : List Entry) → HoldsFrom objects schema version entries → HoldsFirst objects schema version entries
+held_first objects schema version [] holds = tt
+held_first objects schema version (entry ∷ entries) holds = (holds.0, holds.1, held_first objects schema _ entries holds.2)
+
 module _ (objects : Objects) (schema : Schema) where
   -- the actions of the commits that stand
-  abbrev made_of : (version : ℕ) (entries : List Entry) → HoldsFrom objects schema version entries → List (List actions.Action)
-  made_of version [] holds = []
-  made_of version (entry ∷ entries) holds = holds.0.2.actions ∷ made_of (suc version) entries holds.2
+  abbrev pub made_of : (version : ℕ) (entries : List Entry) → HoldsFirst objects schema version entries → List (List actions.Action)
+  made_of version [] stand = []
+  made_of version (entry ∷ entries) stand = stand.0.2.actions ∷ made_of (suc version) entries stand.2
 
   -- they stand for the entries
-  are_made : (version : ℕ) (entries : List Entry) (holds : HoldsFrom objects schema version entries) → AreMadeFor objects schema entries (made_of version entries holds)
-  are_made version [] holds = tt
-  are_made version (entry ∷ entries) holds = (holds.0.2.stand, holds.1, are_made (suc version) entries holds.2)
+  pub are_made : (version : ℕ) (entries : List Entry) (stand : HoldsFirst objects schema version entries) → AreMadeFor objects schema entries (made_of version entries stand)
+  are_made version [] stand = tt
+  are_made version (entry ∷ entries) stand = (stand.0.2.stand, stand.1, are_made (suc version) entries stand.2)
 
   -- they are what the versions have
-  commits_stand : (version : ℕ) (entries : List Entry) (holds : HoldsFrom objects schema version entries) → versions_from (length entries) version objects ≡ map commit (made_of version entries holds)
+  pub commits_stand : (version : ℕ) (entries : List Entry) (stand : HoldsFirst objects schema version entries) → versions_from (length entries) version objects ≡ map commit (made_of version entries stand)
   unfolding versions_from commit_name
-  commits_stand version [] holds = refl
-  commits_stand version (entry ∷ entries) holds =
-      let more : versions_from (length entries) (suc version) objects ≡ map commit (made_of (suc version) entries holds.2) = commits_stand (suc version) entries holds.2 in
-      rw (holds.0.1, of_commit holds.0.0 holds.0.2.actions holds.0.2.commit, add-one, more) refl
+  commits_stand version [] stand = refl
+  commits_stand version (entry ∷ entries) stand =
+      let more : versions_from (length entries) (suc version) objects ≡ map commit (made_of (suc version) entries stand.2) = commits_stand (suc version) entries stand.2 in
+      rw (stand.0.1, of_commit stand.0.0 stand.0.2.actions stand.0.2.commit, add-one, more) refl
 
 -- there is a commit for each entry
 pub made_length : (objects : Objects) (schema : Schema) (entries : List Entry) (commits : List (List actions.Action)) → AreMadeFor objects schema entries commits → length commits ≡ length entries
@@ -92,7 +97,7 @@ made_length objects schema (entry ∷ entries) (commit ∷ commits) made = ap su
 -- ---- the log
 
 -- where each version has a commit, there are all of them
-all_commits : (version : ℕ) (commits : List (List actions.Action)) → commits_in version (map commit commits) ≡ Ok commits
+pub all_commits : (version : ℕ) (commits : List (List actions.Action)) → commits_in version (map commit commits) ≡ Ok commits
 all_commits version [] = refl
 all_commits version (made ∷ commits) = rw (all_commits (suc version) commits) refl
 
@@ -124,7 +129,8 @@ log_by objects schema (close application ∷ rest) made commits begins are told 
 pub sound_log : (objects : Objects) (sound : IsSound objects) → (commits : List (List actions.Action)) → log_of objects ≡ Ok commits → IsLogOf objects sound.schema sound.entries commits
 unfolding log_of
 sound_log objects sound commits told =
-    let made = made_of objects sound.schema 0 sound.entries sound.holds in
+    let stand = held_first objects sound.schema 0 sound.entries sound.holds in
+    let made = made_of objects sound.schema 0 sound.entries stand in
     let versions : versions_of objects ≡ map commit made =
-    ap (λ (count : ℕ). versions_from count 0 objects) (sound_count objects sound) ∙ commits_stand objects sound.schema 0 sound.entries sound.holds in
-    log_by objects sound.schema sound.entries made commits sound.lawful.begins (are_made objects sound.schema 0 sound.entries sound.holds) (rw versions at told)
+    ap (λ (count : ℕ). versions_from count 0 objects) (sound_count objects sound) ∙ commits_stand objects sound.schema 0 sound.entries stand in
+    log_by objects sound.schema sound.entries made commits sound.lawful.begins (are_made objects sound.schema 0 sound.entries stand) (rw versions at told)

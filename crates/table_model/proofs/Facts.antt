@@ -24,7 +24,7 @@ pub at_the_end : {A : Type 0} (xs : List A) (x : A) → slice_get (xs ++ x ∷ [
 at_the_end [] x = refl
 at_the_end (y ∷ xs) x = at_the_end xs x
 
-at_the_front : {A : Type 0} (xs ys : List A) (k : ℕ) (x : A) → slice_get xs k ≡ Some x → slice_get (xs ++ ys) k ≡ Some x
+pub at_the_front : {A : Type 0} (xs ys : List A) (k : ℕ) (x : A) → slice_get xs k ≡ Some x → slice_get (xs ++ ys) k ≡ Some x
 at_the_front [] ys k x e = absurd cc
 at_the_front (y ∷ xs) ys zero x e = e
 at_the_front (y ∷ xs) ys (suc k) x e = at_the_front xs ys k x e

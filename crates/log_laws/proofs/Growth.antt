@@ -1,0 +1,100 @@
+-- What stays while a store grows: which commits are admissible, and the table that stands.
+use Rattle.std.proofs.Common.{◌≡◌, ◌∙◌, ℕ, suc, ◌<◌, ◌≤◌, Bool, true, false, ◌||◌, List, [], ◌∷◌, ◌++◌, Option, Some, None, append_assoc, arith, refl, sym, ap, subst, flat_map, bytes_eq}
+use Rattle.std.specs.List.{list_any}
+use Rattle.std.specs.Prelude.{option_map}
+use Rattle.std.proofs.lemmas.List.Concat.{flat_map-append}
+use Rattle.std.proofs.lemmas.List.Folds.{list_any-append}
+use Rattle.store_core.specs.Objects.{Objects}
+use Rattle.delta_actions.specs.Names.{commit_name}
+use Rattle.table_model.specs.Lawful.{IsLawful, Rises}
+use Rattle.table_model.specs.Table.{Batch, Entry, closes_of, is_closed, last, last_batch, numbers_by}
+use Rattle.table_model.proofs.Callers.{Rises-back, below_later, last_batch-append, last_number, last_some, numbers_by-append}
+use Rattle.table_store.specs.Growth.{HasObjectsOf}
+use Rattle.table_store.specs.Holds.{Holds, HoldsFirst}
+use Rattle.table_store.specs.Schema.{Schema}
+use Rattle.table_store.specs.Sound.{IsAdmissible, IsSound}
+use Rattle.table_store.proofs.HoldingGrown.{front}
+use Rattle.table_store.proofs.HoldingKept.{FilesStand-kept, Stands-kept}
+use Rattle.table_store.proofs.HoldingSchema.{only_table}
+
+-- ---- commits that are admissible
+
+module _ (objects more : Objects) (grown : HasObjectsOf objects more) where
+  -- the first commits stand
+  first_kept : (schema : Schema) (version : ℕ) (entries : List Entry) → HoldsFirst objects schema version entries → HoldsFirst more schema version entries
+  first_kept schema version [] stand = tt
+  first_kept schema version (entry ∷ entries) stand =
+      (Stands-kept objects more grown (commit_name version) _ stand.0, FilesStand-kept objects more grown schema entry stand.1, first_kept schema (suc version) entries stand.2)
+
+  -- An admissible commit stays one.
+  pub admissible_kept : (version : ℕ) (bytes : List ℕ) → IsAdmissible objects version bytes → IsAdmissible more version bytes
+  admissible_kept version bytes new = record {
+    schema = new.schema;
+    entries = new.entries;
+    entry = new.entry;
+    stand = first_kept new.schema 0 new.entries new.stand;
+    at = new.at;
+    fits = new.fits;
+    commit = new.commit;
+    files = FilesStand-kept objects more grown new.schema new.entry new.files;
+    lawful = new.lawful;
+  }
+
+-- ---- the table that a sound store holds
+
+-- it is the sound one, whose first entry is its creation
+pub sound_table : (objects : Objects) (sound : IsSound objects) (schema : Schema) (entries : List Entry) → Holds objects schema entries → sound.entries ≡ entries
+sound_table objects sound schema entries holds = only_table objects sound.schema schema sound.entries entries sound.lawful.begins sound.holds holds
+
+-- so it is lawful
+pub lawful_table : (objects : Objects) (sound : IsSound objects) (schema : Schema) (entries : List Entry) → Holds objects schema entries → IsLawful entries
+lawful_table objects sound schema entries holds = subst IsLawful (sound_table objects sound schema entries holds) sound.lawful
+
+-- The table of a store with all its objects begins with it.
+pub table_front : (objects more : Objects) (schema other : Schema) (entries others : List Entry) → IsSound objects → HasObjectsOf objects more → Holds objects schema entries → Holds more other others
+    → (later : List Entry) × (others ≡ entries ++ later)
+table_front objects more schema other entries others sound grown holds held = front objects more schema grown other entries others (lawful_table objects sound schema entries holds).begins holds held
+
+-- what each longer table has, the table of a store with all its objects has
+pub table_has : (objects more : Objects) (schema other : Schema) (entries others : List Entry) (P : List Entry → Type 0) → IsSound objects → HasObjectsOf objects more → Holds objects schema entries → Holds more other others
+    → ((later : List Entry) → P (entries ++ later)) → P others
+table_has objects more schema other entries others P sound grown holds held has =
+    let later = table_front objects more schema other entries others sound grown holds held in
+    subst P (sym later.1) (has later.0)
+
+-- ---- a table that grows
+
+-- what is true of one of two
+first_true : (one other : Bool) → one ≡ true → (one || other) ≡ true
+first_true true other is = refl
+first_true false other is = absurd cc
+
+-- a stream that is closed stays closed
+pub closed_kept : (application : List ℕ) (entries later : List Entry) → is_closed application entries ≡ true → is_closed application (entries ++ later) ≡ true
+closed_kept application entries later closed =
+    ap (list_any (λ (c : List ℕ). bytes_eq c application)) (flat_map-append closes_of entries later)
+    ∙ list_any-append (λ (c : List ℕ). bytes_eq c application) (flat_map closes_of entries) (flat_map closes_of later)
+    ∙ first_true (is_closed application entries) (is_closed application later) closed
+
+-- an application's last number doesn't fall
+abbrev pub NotBelow : List ℕ → Batch → List Entry → Type 0
+NotBelow application b entries = (c : Batch) × (last_batch application entries ≡ Some c) × (b.number ≤ c.number)
+
+pub number_kept : (application : List ℕ) (b : Batch) (entries later : List Entry) → IsLawful (entries ++ later) → last_batch application entries ≡ Some b → NotBelow application b (entries ++ later)
+number_kept application b entries later lawful is = by_last (last_batch application later) refl
+  where
+    -- the last number of some entries
+    ends_with : (c : Batch) (some : List Entry) → last_batch application some ≡ Some c → (before : List ℕ) × (numbers_by application some ≡ before ++ c.number ∷ [])
+    ends_with c some last_is = last_some (numbers_by application some) c.number (last_number application some ∙ ap (option_map (λ (b : Batch). b.number)) last_is)
+
+    rises : (c : Batch) → last_batch application later ≡ Some c → b.number < c.number
+    rises c last_is =
+        let one = ends_with b entries is in
+        let two = ends_with c later last_is in
+        let all : numbers_by application (entries ++ later) ≡ (one.0 ++ b.number ∷ []) ++ (two.0 ++ c.number ∷ []) = numbers_by-append application entries later ∙ (λ i. one.1 i ++ two.1 i) in
+        let from : (one.0 ++ b.number ∷ []) ++ (two.0 ++ c.number ∷ []) ≡ one.0 ++ (b.number ∷ (two.0 ++ c.number ∷ [])) = append_assoc one.0 (b.number ∷ []) (two.0 ++ c.number ∷ []) in
+        below_later b.number two.0 c.number [] (Rises-back one.0 (b.number ∷ (two.0 ++ c.number ∷ [])) (subst Rises (all ∙ from) (lawful.rises application)))
+
+    by_last : (found : Option Batch) → last_batch application later ≡ found → NotBelow application b (entries ++ later)
+    by_last None none = (b, last_batch-append application entries later ∙ rw (none, is) refl, omega arith)
+    by_last (Some c) last_is = (c, last_batch-append application entries later ∙ rw last_is refl, let above = rises c last_is in omega (arith, above))

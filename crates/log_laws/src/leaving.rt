@@ -1,0 +1,77 @@
+//! Laws of what the log of a sound store leaves: what its table tells, whether it is read whole or from a checkpoint on.
+
+ghost use Rattle.std.specs.Prelude.{◌≡◌, ℕ, List, [], ◌∷◌, ◌++◌, length, Bool, false, option_map, Ok, Err, IsUtf8};
+ghost use Rattle.store_core.specs.Objects.{Objects};
+ghost use Rattle.delta_actions.specs.Action.{Action};
+ghost use Rattle.delta_replay.specs.Closes as logs;
+ghost use Rattle.delta_replay.specs.Keys.{Key, at, last_number};
+ghost use Rattle.delta_replay.specs.Support.{readable, writable};
+ghost use Rattle.table_log.specs.Counts.{commit_count};
+ghost use Rattle.table_log.specs.Restoring.{seen};
+ghost use Rattle.table_log.specs.Versions.{commits_in, log_of, versions_from};
+ghost use Rattle.table_model.specs.Lawful.{IsLawful};
+ghost use Rattle.table_model.specs.Table.{Entry, is_closed, last_batch};
+ghost use Rattle.table_store.specs.Holds.{Holds, HoldsFirst};
+ghost use Rattle.table_store.specs.Logs.{IsLog};
+ghost use Rattle.table_store.specs.Schema.{Schema};
+ghost use Rattle.log_laws.specs.Sound.{IsSoundStore};
+
+/// The log of a sound store is read: it has as many versions as the table has entries, the commits that are read are
+/// those that stand, and none is refused, unless the log has none.
+pub fn a_sound_log_is_read()
+    ensures count { (objects : Objects) (schema : Schema) (entries : List Entry) → IsSoundStore objects → Holds objects schema entries → commit_count objects ≡ length entries }
+    ensures read { (objects : Objects) (commits : List (List Action)) → IsSoundStore objects → log_of objects ≡ Ok commits → IsLog objects commits }
+    ensures whole { (objects : Objects) (first : List Action) (commits : List (List Action)) → IsSoundStore objects → IsLog objects (first ∷ commits)
+        → log_of objects ≡ Ok (first ∷ commits) }
+    ensures empty { (objects : Objects) → IsSoundStore objects → IsLog objects [] → log_of objects ≡ Err 0 }
+{}
+
+/// What a log leaves is what the table tells that the store holds: the number that an application has come to is that of
+/// its last batch, and its stream is closed where the table has it closed (of applications whose ids are text; for any
+/// other, a stream that the log leaves open is open). In a sound store the schema by which the table is read is the
+/// table's, and so is the one by which it is written, where it is.
+pub fn a_sound_log_leaves_its_table()
+    ensures number { (objects : Objects) (schema : Schema) (entries : List Entry) (commits : List (List Action)) (application : List ℕ) → Holds objects schema entries → IsLog objects commits
+        → last_number application commits ≡ option_map (λ b. b.number) (last_batch application entries) }
+    ensures closed { (objects : Objects) (schema : Schema) (entries : List Entry) (commits : List (List Action)) (application : List ℕ) → IsUtf8 application → Holds objects schema entries → IsLog objects commits
+        → logs.is_closed application commits ≡ is_closed application entries }
+    ensures still_open { (objects : Objects) (schema : Schema) (entries : List Entry) (commits : List (List Action)) (application : List ℕ) → Holds objects schema entries → IsLog objects commits
+        → logs.is_closed application commits ≡ false → is_closed application entries ≡ false }
+    ensures read { (objects : Objects) (schema : Schema) (entries : List Entry) (first : List Action) (commits : List (List Action)) → IsSoundStore objects → Holds objects schema entries → IsLog objects (first ∷ commits)
+        → readable (first ∷ commits) ≡ Ok schema }
+    ensures written { (objects : Objects) (schema found : Schema) (entries : List Entry) (commits : List (List Action)) → IsSoundStore objects → Holds objects schema entries → IsLog objects commits
+        → writable commits ≡ Ok found → found ≡ schema }
+{}
+
+/// The first commits of a log leave what the table tells that has the first entries alone: numbers, closed streams and
+/// its schema. So it is of what was read of a log that others go on to write. In a sound store the first entries of its
+/// table stand, and are a lawful table.
+pub fn the_first_commits_leave_the_first_entries()
+    ensures stand { (objects : Objects) (schema : Schema) (entries later : List Entry) → IsSoundStore objects → Holds objects schema (entries ++ later) → HoldsFirst objects schema 0 entries × IsLawful entries }
+    ensures number { (objects : Objects) (schema : Schema) (entries : List Entry) (commits : List (List Action)) (application : List ℕ) → HoldsFirst objects schema 0 entries
+        → commits_in 0 (versions_from (length entries) 0 objects) ≡ Ok commits → last_number application commits ≡ option_map (λ b. b.number) (last_batch application entries) }
+    ensures closed { (objects : Objects) (schema : Schema) (entries : List Entry) (commits : List (List Action)) (application : List ℕ) → IsUtf8 application → HoldsFirst objects schema 0 entries
+        → commits_in 0 (versions_from (length entries) 0 objects) ≡ Ok commits → logs.is_closed application commits ≡ is_closed application entries }
+    ensures still_open { (objects : Objects) (schema : Schema) (entries : List Entry) (commits : List (List Action)) (application : List ℕ) → HoldsFirst objects schema 0 entries
+        → commits_in 0 (versions_from (length entries) 0 objects) ≡ Ok commits → logs.is_closed application commits ≡ false → is_closed application entries ≡ false }
+    ensures read { (objects : Objects) (schema : Schema) (entries : List Entry) (first : List Action) (commits : List (List Action)) → IsLawful entries → HoldsFirst objects schema 0 entries
+        → commits_in 0 (versions_from (length entries) 0 objects) ≡ Ok (first ∷ commits) → readable (first ∷ commits) ≡ Ok schema }
+    ensures written { (objects : Objects) (schema found : Schema) (entries : List Entry) (commits : List (List Action)) → IsLawful entries → HoldsFirst objects schema 0 entries
+        → commits_in 0 (versions_from (length entries) 0 objects) ≡ Ok commits → writable commits ≡ Ok found → found ≡ schema }
+{}
+
+/// From its newest checkpoint on, the log of a sound store leaves for each key what all its commits leave, and is refused
+/// where they are. So it leaves what the table tells.
+pub fn a_checkpoint_leaves_what_its_log_leaves()
+    ensures leaves { (restore : Bool) (objects : Objects) (commits : List (List Action)) → IsSoundStore objects → seen restore objects ≡ Ok commits
+        → (log : List (List Action)) × (log_of objects ≡ Ok log) × ((key : Key) → at key commits ≡ at key log) }
+    ensures refused { (restore : Bool) (objects : Objects) (version : ℕ) → IsSoundStore objects → seen restore objects ≡ Err version → log_of objects ≡ Err version }
+    ensures number { (restore : Bool) (objects : Objects) (schema : Schema) (entries : List Entry) (commits : List (List Action)) (application : List ℕ) → IsSoundStore objects
+        → Holds objects schema entries → seen restore objects ≡ Ok commits → last_number application commits ≡ option_map (λ b. b.number) (last_batch application entries) }
+    ensures closed { (restore : Bool) (objects : Objects) (schema : Schema) (entries : List Entry) (commits : List (List Action)) (application : List ℕ) → IsUtf8 application → IsSoundStore objects
+        → Holds objects schema entries → seen restore objects ≡ Ok commits → logs.is_closed application commits ≡ is_closed application entries }
+    ensures read { (restore : Bool) (objects : Objects) (schema : Schema) (entries : List Entry) (commits : List (List Action)) → IsSoundStore objects
+        → Holds objects schema entries → seen restore objects ≡ Ok commits → readable commits ≡ Ok schema }
+    ensures written { (restore : Bool) (objects : Objects) (schema found : Schema) (entries : List Entry) (commits : List (List Action)) → IsSoundStore objects
+        → Holds objects schema entries → seen restore objects ≡ Ok commits → writable commits ≡ Ok found → found ≡ schema }
+{}
