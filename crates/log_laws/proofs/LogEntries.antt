@@ -90,9 +90,9 @@ module _ (objects : Objects) (schema : Schema) where
 -- there is a commit for each entry
 pub made_length : (objects : Objects) (schema : Schema) (entries : List Entry) (commits : List (List actions.Action)) → AreMadeFor objects schema entries commits → length commits ≡ length entries
 made_length objects schema [] [] made = refl
-made_length objects schema [] (commit ∷ commits) made = absurd made
+made_length objects schema [] (first ∷ commits) made = absurd made
 made_length objects schema (entry ∷ entries) [] made = absurd made
-made_length objects schema (entry ∷ entries) (commit ∷ commits) made = ap suc (made_length objects schema entries commits made.2)
+made_length objects schema (entry ∷ entries) (first ∷ commits) made = ap suc (made_length objects schema entries commits made.2)
 
 -- ---- the log
 
