@@ -18,7 +18,7 @@ line_sound objects (create id at schema) after are here sound put = create_sound
 line_sound objects (task (append application number at items)) after are here sound put = append_sound objects sound application number at items (λ bytes there. are (data_file_name application number) bytes refl there) after put.1
 line_sound objects (task checkpoint) after are here sound (inl same) = subst IsSound (sym same) sound
 line_sound objects (task checkpoint) after are here sound (inr (version, put)) =
-    subst IsSound (sym put.put) (sound_beside objects put.name put.bytes (no_checkpoint version put.name put.puts.found) sound)
+    subst IsSound (sym put.put) (sound_beside objects put.name put.bytes (λ other fits. no_checkpoint version put.name put.puts.found other) sound)
 line_sound objects (foreign version action) after are here sound put = absurd here
 line_sound objects _ after are here sound same = subst IsSound (sym same) sound
 

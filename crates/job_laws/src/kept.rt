@@ -24,10 +24,10 @@ ghost use Rattle.lake_script.specs.Told.{IsPutHere, left_by_statement, reply_to_
 ghost use Rattle.job_laws.specs.Readable.{HasReadableFiles};
 ghost use Rattle.job_laws.specs.TextReads.{ReadsByTexts};
 
-/// Over a store that keeps a table that takes a version more, or nothing, a creation, an append, a read, a checkpoint and a history are told what
-/// the plain table tells, and an object that is shown is told as it stands; where the line puts no other tool's commit,
-/// the store goes on to keep the table that is left. It is asked that what the line puts is well made, as its contract
-/// says.
+/// Over a store that keeps a table, where a commit can have the version behind it, or nothing, a creation, an append, a
+/// read, a checkpoint and a history are told what the plain table tells, and an object that is shown is told as it
+/// stands; where the line puts no other tool's commit, the store goes on to keep the table that is left. It is asked that
+/// what the line puts is well made, as its contract says.
 pub fn a_kept_table_is_told()
     ensures told { (objects : Objects) (state : State) (statement : Statement) (printed : List ℕ) → Keeps objects state → length (entries_of state) ≤ greatest_version
         → IsSoundStatement objects statement printed → reply_to_statement objects statement printed ≡ reply_over state objects statement printed }

@@ -1,8 +1,9 @@
 -- What is put beside a sound store's commits leaves its table sound.
-use Rattle.std.proofs.Common.{◌≡◌, ◌≢◌, ℕ, suc, List, [], ◌∷◌, Some, None, sym, ap, ◌∙◌}
+use Rattle.std.proofs.Common.{◌≡◌, ◌≢◌, ◌≤◌, ℕ, suc, List, [], ◌∷◌, Some, None, sym, ap, ◌∙◌}
 use Rattle.store_core.specs.Objects.{Objects, with_object}
 use Rattle.store_core.specs.ObjectLaws.{object_at-with_object_other}
 use Rattle.delta_actions.specs.Names as names
+use Rattle.delta_actions.specs.Names.{greatest_version}
 use Rattle.delta_checkpoint.specs.Names.{IsCheckpointName}
 use Rattle.table_log.specs.Names.{commit_name}
 use Rattle.table_log.specs.Restoring.{checkpoint_version}
@@ -16,10 +17,10 @@ use Rattle.table_store.proofs.HoldingPuts.{HasObjectsOf-put}
 
 -- ---- an object that is neither a commit nor a data file
 
-module _ (objects : Objects) (name bytes : List ℕ) (apart : (version : ℕ) → names.commit_name version ≢ name) where
+module _ (objects : Objects) (name bytes : List ℕ) (apart : (version : ℕ) → version ≤ greatest_version → names.commit_name version ≢ name) where
   -- it leaves the table that stands
   holds_beside : (schema : Schema) (version : ℕ) (entries : List Entry) → HoldsFrom objects schema version entries → HoldsFrom (with_object objects name bytes) schema version entries
-  holds_beside schema version [] ends = (ends.0, λ fits. object_at-with_object_other objects name bytes (names.commit_name version) (apart version) ∙ ends.1 fits)
+  holds_beside schema version [] ends = (ends.0, λ fits. object_at-with_object_other objects name bytes (names.commit_name version) (apart version fits) ∙ ends.1 fits)
   holds_beside schema version (entry ∷ entries) holds = (
     Stands-kept objects (with_object objects name bytes) (HasObjectsOf-put objects name bytes) (names.commit_name version) _ holds.0,
     FilesStand-kept objects (with_object objects name bytes) (HasObjectsOf-put objects name bytes) schema entry holds.1,
@@ -33,7 +34,7 @@ module _ (objects : Objects) (name bytes : List ℕ) (apart : (version : ℕ) �
     entries = sound.entries;
     holds = holds_beside sound.schema 0 sound.entries sound.holds;
     lawful = sound.lawful;
-    ends = λ version past few. object_at-with_object_other objects name bytes (names.commit_name version) (apart version) ∙ sound.ends version past few;
+    ends = λ version past few. object_at-with_object_other objects name bytes (names.commit_name version) (apart version few) ∙ sound.ends version past few;
   }
 
 -- a commit's name isn't a checkpoint's

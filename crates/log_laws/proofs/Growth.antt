@@ -34,6 +34,7 @@ module _ (objects more : Objects) (grown : HasObjectsOf objects more) where
     entry = new.entry;
     stand = first_kept new.schema 0 new.entries new.stand;
     at = new.at;
+    fits = new.fits;
     commit = new.commit;
     files = FilesStand-kept objects more grown new.schema new.entry new.files;
     lawful = new.lawful;

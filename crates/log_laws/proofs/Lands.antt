@@ -1,10 +1,11 @@
 -- What may be put leaves a sound store sound, its checkpoints too.
-use Rattle.std.proofs.Common.{◌≡◌, ◌≢◌, ◌<◌, ◌∙◌, ℕ, true, List, None, Some, sym, ap}
+use Rattle.std.proofs.Common.{◌≡◌, ◌≢◌, ◌≤◌, ◌∙◌, ℕ, true, List, None, Some, sym, ap}
 use Rattle.store_core.specs.Objects.{Objects, with_object}
 use Rattle.delta_actions.specs.Names as names
-use Rattle.table_log.specs.Names.{commit_name}
+use Rattle.delta_actions.specs.Names.{greatest_version}
+use Rattle.table_log.specs.Names.{commit_name, commit_version}
 use Rattle.table_log.specs.Restoring.{IsSoundCheckpoint, checkpoint_version}
-use Rattle.table_log.proofs.Callers.{commit_is_none, data_file_is_none, sound_beside as checkpoints_beside, sound_with}
+use Rattle.table_log.proofs.Callers.{commit_is_none, data_file_is_none, own_version, sound_beside as checkpoints_beside, sound_with}
 use Rattle.table_store.specs.Sound.{IsAdmissible}
 use Rattle.table_store.proofs.SoundLemmas.{sound_commit, sound_data_file}
 use Rattle.log_laws.specs.Sound.{IsSoundStore}
@@ -26,11 +27,15 @@ data_file_lands objects application bytes number sound = record {
 }
 
 -- an object that is neither a commit nor a checkpoint
-pub other_lands : (objects : Objects) (name bytes : List ℕ) → ((version : ℕ) → names.commit_name version ≢ name) → checkpoint_version name ≡ None → IsSoundStore objects → IsSoundStore (with_object objects name bytes)
-other_lands objects name bytes apart none sound = record {
+pub other_lands : (objects : Objects) (name bytes : List ℕ) → commit_version name ≡ None → checkpoint_version name ≡ None → IsSoundStore objects → IsSoundStore (with_object objects name bytes)
+unfolding commit_name
+other_lands objects name bytes none_of none sound = record {
   table = sound_beside objects name bytes apart sound.table;
   checkpoints = checkpoints_beside objects name bytes true none sound.checkpoints;
 }
+  where
+    apart : (version : ℕ) → version ≤ greatest_version → names.commit_name version ≢ name
+    apart version fits same = let wrong : None ≡ Some version = sym none_of ∙ (ap commit_version (sym same) ∙ own_version version fits) in absurd cc
 
 -- a commit's name is no checkpoint's
 no_commit : (name : List ℕ) (own : ℕ) → checkpoint_version name ≡ Some own → (version : ℕ) → names.commit_name version ≢ name
@@ -40,6 +45,6 @@ no_commit name own is version same = let wrong : None ≡ Some own = sym (commit
 -- a checkpoint
 pub checkpoint_lands : (objects : Objects) (name bytes : List ℕ) (version : ℕ) → checkpoint_version name ≡ Some version → IsSoundStore objects → IsSoundCheckpoint objects version bytes → IsSoundStore (with_object objects name bytes)
 checkpoint_lands objects name bytes version is sound good = record {
-  table = sound_beside objects name bytes (no_commit name version is) sound.table;
+  table = sound_beside objects name bytes (λ other fits. no_commit name version is other) sound.table;
   checkpoints = sound_with objects name bytes true version is good sound.checkpoints;
 }

@@ -1,5 +1,5 @@
 -- What the log of a sound store leaves, read whole or from a checkpoint on.
-use Rattle.std.proofs.Common.{◌≡◌, ◌∙◌, ℕ, suc, ◌<◌, Bool, true, false, List, [], ◌∷◌, map, length, Result, Ok, Err, refl, sym, ap, subst, add-one, arith}
+use Rattle.std.proofs.Common.{◌≡◌, ◌∙◌, ℕ, suc, Bool, true, false, List, [], ◌∷◌, map, length, Result, Ok, Err, refl, sym, ap, subst, add-one, arith}
 use Rattle.std.specs.Str.{IsUtf8}
 use Rattle.std.specs.Prelude.{option_map}
 use Rattle.store_core.specs.Objects.{Objects}

@@ -1,8 +1,9 @@
 //! Laws of what may be put: it leaves a sound store sound, and it stays what may be put while the store grows.
 
-ghost use Rattle.std.specs.Prelude.{◌≡◌, ◌≢◌, ℕ, List, None, Some};
+ghost use Rattle.std.specs.Prelude.{◌≡◌, ℕ, List, None, Some};
 ghost use Rattle.store_core.specs.Objects.{Objects, with_object};
 ghost use Rattle.delta_actions.specs.Names.{commit_name, data_file_name};
+ghost use Rattle.table_log.specs.Names.{commit_version};
 ghost use Rattle.table_log.specs.Restoring.{IsSoundCheckpoint, checkpoint_version};
 ghost use Rattle.table_store.specs.Growth.{HasObjectsOf};
 ghost use Rattle.table_store.specs.Sound.{IsAdmissible};
@@ -28,7 +29,7 @@ pub fn an_admissible_commit_stays_admissible()
 /// whatever else has a name that is neither a commit's nor a checkpoint's.
 pub fn a_data_file_lands()
     ensures file { (objects : Objects) (application bytes : List ℕ) (number : ℕ) → IsSoundStore objects → IsSoundStore (with_object objects (data_file_name application number) bytes) }
-    ensures other { (objects : Objects) (name bytes : List ℕ) → ((version : ℕ) → commit_name version ≢ name) → checkpoint_version name ≡ None → IsSoundStore objects
+    ensures other { (objects : Objects) (name bytes : List ℕ) → commit_version name ≡ None → checkpoint_version name ≡ None → IsSoundStore objects
         → IsSoundStore (with_object objects name bytes) }
 {}
 

@@ -68,8 +68,8 @@ pub fn a_checkpoint_leaves_what_its_log_leaves()
     ensures refused { (restore : Bool) (objects : Objects) (version : ℕ) → IsSoundStore objects → seen restore objects ≡ Err version → log_of objects ≡ Err version }
     ensures number { (restore : Bool) (objects : Objects) (schema : Schema) (entries : List Entry) (commits : List (List Action)) (application : List ℕ) → IsSoundStore objects
         → Holds objects schema entries → seen restore objects ≡ Ok commits → last_number application commits ≡ option_map (λ b. b.number) (last_batch application entries) }
-    ensures closed { (restore : Bool) (objects : Objects) (schema : Schema) (entries : List Entry) (commits : List (List Action)) (application : List ℕ) → IsUtf8 application
-        → IsSoundStore objects → Holds objects schema entries → seen restore objects ≡ Ok commits → logs.is_closed application commits ≡ is_closed application entries }
+    ensures closed { (restore : Bool) (objects : Objects) (schema : Schema) (entries : List Entry) (commits : List (List Action)) (application : List ℕ) → IsUtf8 application → IsSoundStore objects
+        → Holds objects schema entries → seen restore objects ≡ Ok commits → logs.is_closed application commits ≡ is_closed application entries }
     ensures read { (restore : Bool) (objects : Objects) (schema : Schema) (entries : List Entry) (commits : List (List Action)) → IsSoundStore objects
         → Holds objects schema entries → seen restore objects ≡ Ok commits → readable commits ≡ Ok schema }
     ensures written { (restore : Bool) (objects : Objects) (schema found : Schema) (entries : List Entry) (commits : List (List Action)) → IsSoundStore objects
