@@ -12,7 +12,7 @@ use Rattle.table_model.specs.declared.table.Appended.{Appended}
 use Rattle.table_model.specs.declared.table.Appended.TheVariants.{Committed, Already, Stale, Differs, StreamClosed}
 use Rattle.commit_core.specs.Creating as creations
 use Rattle.commit_core.specs.Histories.{history_of, bad_log}
-use Rattle.script_lines.specs.Lines.{Statement, create, task, history, show, hex, snapshot, foreign, append, checkpoint, tail, Reading, skipped, bad, asks, reading_of}
+use Rattle.script_lines.specs.Lines.{Statement, create, task, history, show, hex, snapshot, foreign, append, close, checkpoint, tail, Reading, skipped, bad, asks, reading_of}
 use Rattle.source_core.specs.Offsets.{offset_of}
 use Rattle.sink_core.specs.Refusals.{Refusal}
 use Rattle.lake_script.specs.Sound.{IsSoundStatement, IsSound, AreSound}
@@ -119,6 +119,10 @@ no_text objects line lines none = none
 -- a line that asks the table alone puts no other tool's commit
 statement_put_here : (statement : Statement) → AsksTable statement → IsPutHere (asks statement)
 statement_put_here (foreign version action) only = only
+statement_put_here (task (append application number at items)) only = tt
+statement_put_here (task (close application at)) only = tt
+statement_put_here (task checkpoint) only = tt
+statement_put_here (task (tail max offset)) only = tt
 statement_put_here _ only = tt
 
 put_here : (r : Reading) → IsOfTable r → IsPutHere r
