@@ -25,7 +25,8 @@ inspect:
 bench:
 	@scripts/bench.sh
 
-# Compares the stored answers of cases with those of an independent model, in Python 3.11 without a package.
+# Compares the stored answers of cases with those of an independent model, in Python 3.11 without a package, and looks
+# that none of them says that memory was refused.
 model:
 	@python3 scripts/model/check_cases.py
 

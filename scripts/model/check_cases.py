@@ -4,7 +4,8 @@ The model was written from the public standards (Apache Parquet, the Thrift comp
 Delta's PROTOCOL.md) and from what `docs/FORMATS.md` and `docs/REFUSALS.md` lay down beside them. It
 shares no code with the crates. Cases with anything that it doesn't know are skipped.
 
-`python3 scripts/model/check_cases.py` ends with status 1 where an answer differs.
+`python3 scripts/model/check_cases.py` ends with status 1 where an answer differs, or where a stored one
+says that memory was refused.
 """
 
 from collections.abc import Callable, Iterator
@@ -488,8 +489,36 @@ def check_tool() -> Tally:
     return tally
 
 
+# What is told where a growth of memory was refused.
+NO_MEMORY = re.compile(
+    r"out of memory|refused (E4|S6|O9|K6|St2) Memory|refused F[12] Not(Loaded|Saved) -$"
+)
+
+
+def refusals_of_memory() -> list[str]:
+    """The stored answers that say that memory was refused: none may, but of a heap of a fixed size.
+
+    Those are the answers to the lines of `crates/byte_cases` whose first word begins with `heap`.
+    """
+    found: list[str] = []
+    for stored in sorted(CRATES.glob("*/stdout")):
+        crate = stored.parent.name
+        asked = lines_of(crate, "stdin") if crate == "byte_cases" else []
+        answers = [[line] for line in lines_of(crate, "stdout")]
+        if asked:
+            answers = list(stored_answers(lines_of(crate, "stdout")))
+        for number, answer in enumerate(answers):
+            line = asked[number] if asked else ""
+            if not line.startswith(("#", "heap")) and any(map(NO_MEMORY.search, answer)):
+                found.append(f"{crate}: answer {number + 1}, {shortened(answer[0])}")
+    return found
+
+
 def main() -> int:
     """Compares all cases, and prints how many agree."""
+    refusals = refusals_of_memory()
+    for refusal in refusals:
+        print("memory was refused,", refusal)
     total = Tally()
     checks = {"lake_cases": check_scripts, "byte_cases": check_lines, "lake_inspect": check_tool}
     for crate, check in checks.items():
@@ -497,7 +526,7 @@ def main() -> int:
         print(f"{crate}: {tally}")
         total.add(tally)
     print(total)
-    return 1 if total.differ else 0
+    return 1 if total.differ or refusals else 0
 
 
 if __name__ == "__main__":

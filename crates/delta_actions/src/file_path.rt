@@ -1,9 +1,9 @@
 //! The path of a file action: a percent-encoded URI, and the key that it stands for.
 
-ghost use Rattle.std.specs.Prelude.{◌≡◌, IfOk, option_map};
+ghost use Rattle.std.specs.Prelude.{◌≡◌, ◌↔◌, true, IfOk, option_map, string_bytes};
 ghost use Rattle.std.specs.Cow.{cow_str_bytes};
-ghost use Rattle.delta_actions.specs.Kinds.{path_of};
-ghost use Rattle.delta_actions.specs.Action.{path_view};
+ghost use Rattle.std.specs.Str.{is_utf8};
+ghost use Rattle.percent_encoding.specs.Percent.{percent_decode};
 
 use percent_encoding::{DecodeError, percent_decode};
 use std::alloc::{AllocError, Global};
@@ -14,9 +14,13 @@ use std::borrow::CowStr;
 #[derive(Drop)]
 pub struct FilePath {
     text: String,
+    ghost decodes: { is_utf8 (percent_decode (string_bytes text)) ≡ true },
 }
 
 impl FilePath {
+    ghost use Rattle.delta_actions.specs.Action.{path_view};
+    ghost use Rattle.delta_actions.specs.Kinds.{path_of};
+
     /// The path of that text; `None` where it doesn't decode to UTF-8.
     pub fn new(alloc: Global, text: &str) -> Result<Option<FilePath>, AllocError>
         ensures { IfOk result (λ path. option_map path_view path ≡ path_of text.now) }
@@ -48,4 +52,24 @@ impl FilePath {
             Err(DecodeError::OutOfMemory) => Err(AllocError),
         }
     }
+
+    /// Whether the two paths have one key, and so are one file. It takes no memory, and time linear in the texts.
+    pub fn has_key(&self, other: &FilePath) -> bool
+        ensures { result ≡ true ↔ (path_view self.now).key ≡ (path_view other.now).key }
+    {
+        decodes_as(self.text.as_bytes(), other.text.as_bytes())
+    }
+}
+
+/// Whether the two texts decode to the same bytes.
+fn decodes_as(text: &[u8], other: &[u8]) -> bool
+    ensures { result ≡ true ↔ percent_decode text.now ≡ percent_decode other.now }
+{
+    let mut others = percent_decode(other);
+    for byte in percent_decode(text) {
+        if others.next() != Some(byte) {
+            return false;
+        }
+    }
+    others.next().is_none()
 }

@@ -5,3 +5,4 @@ pub mod FaultTexts
 pub mod Internal
 pub mod Writing
 pub mod Views
+pub mod DataFile

@@ -4,6 +4,7 @@
 
 mod assembling;
 mod columns;
+mod data_file;
 mod error;
 mod forms;
 mod groups;
@@ -13,6 +14,7 @@ mod trees;
 mod writing;
 
 pub use columns::chunk_named;
+pub use data_file::{FooterHeap, read_file, read_file_part};
 pub use error::RowsError;
 pub use laws::one_list_of_rows;
 pub use parquet_footer::Footer;
