@@ -32,7 +32,7 @@ stands_at objects schema version wanted (entry ∷ entries) holds low high =
 module _ (objects : Objects) (sound : IsSound objects) where
   -- each entry has a version that a commit can have
   entries_fit : length sound.entries ≤ suc greatest_version
-  entries_fit = HoldsFrom-fit objects sound.schema 0 sound.entries sound.holds
+  entries_fit = omega (arith, HoldsFrom-fit objects sound.schema 0 sound.entries sound.holds)
 
   -- there are as many entries as versions, or fewer
   few_entries : length sound.entries ≤ commit_count objects
@@ -90,9 +90,9 @@ module _ (objects : Objects) (schema : Schema) where
 -- there is a commit for each entry
 pub made_length : (objects : Objects) (schema : Schema) (entries : List Entry) (commits : List (List actions.Action)) → AreMadeFor objects schema entries commits → length commits ≡ length entries
 made_length objects schema [] [] made = refl
-made_length objects schema [] (commit ∷ commits) made = absurd made
+made_length objects schema [] (first ∷ commits) made = absurd made
 made_length objects schema (entry ∷ entries) [] made = absurd made
-made_length objects schema (entry ∷ entries) (commit ∷ commits) made = ap suc (made_length objects schema entries commits made.2)
+made_length objects schema (entry ∷ entries) (first ∷ commits) made = ap suc (made_length objects schema entries commits made.2)
 
 -- ---- the log
 
