@@ -1,5 +1,5 @@
 -- What is told over a store that keeps a table, and which stores keep one.
-use Rattle.std.proofs.Common.{◌≡◌, ◌≢◌, ℕ, suc, false, List, [], ◌∷◌, take, Contains, Some, Result, Ok, refl, sym, subst, ◌∙◌}
+use Rattle.std.proofs.Common.{◌≡◌, ◌≢◌, ℕ, suc, false, List, [], ◌∷◌, take, Contains, Some, Result, Ok, refl, sym, subst, arith, ◌∙◌}
 use Rattle.std.specs.List.{AllByRecursion}
 use Rattle.std.proofs.lemmas.List.Elements.{Contains-append_left, Contains-append_right}
 use Rattle.schema_tree.specs.Tree.{Tree}
@@ -81,4 +81,4 @@ begins_by (close application ∷ rest) some begins = absurd begins
 pub sound_kept : (objects : Objects) (sound : IsSound objects) → sound.entries ≢ [] → HasReadableFiles objects sound.entries → IsKept objects sound.schema sound.entries
 sound_kept objects sound some limits =
     let first = begins_by sound.entries some sound.lawful.begins in
-    record { kept = kept_from objects sound.schema 0 sound.entries sound.holds limits; rest = first.0; begins = first.1; lawful = sound.lawful; fits = HoldsFrom-fit objects sound.schema 0 sound.entries sound.holds; ends = sound.ends }
+    record { kept = kept_from objects sound.schema 0 sound.entries sound.holds limits; rest = first.0; begins = first.1; lawful = sound.lawful; fits = omega (arith, HoldsFrom-fit objects sound.schema 0 sound.entries sound.holds); ends = sound.ends }
