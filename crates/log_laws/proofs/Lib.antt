@@ -1,5 +1,6 @@
 mod Beside
 pub mod Callers
+mod Checkpoints
 mod EmptyStores
 mod Fronts
 mod Growth

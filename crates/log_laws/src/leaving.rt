@@ -1,13 +1,14 @@
 //! Laws of what the log of a sound store leaves: what its table tells, whether it is read whole or from a checkpoint on.
 
-ghost use Rattle.std.specs.Prelude.{◌≡◌, ℕ, List, [], ◌∷◌, ◌++◌, length, Bool, false, option_map, Ok, Err, IsUtf8};
+ghost use Rattle.std.specs.Prelude.{◌≡◌, ℕ, suc, ◌+◌, List, [], ◌∷◌, ◌++◌, length, Bool, false, option_map, Ok, Err, IsUtf8};
 ghost use Rattle.store_core.specs.Objects.{Objects};
 ghost use Rattle.delta_actions.specs.Action.{Action};
+ghost use Rattle.delta_actions.specs.Commit.{IsCommit};
 ghost use Rattle.delta_replay.specs.Closes as logs;
 ghost use Rattle.delta_replay.specs.Keys.{Key, at, last_number};
 ghost use Rattle.delta_replay.specs.Support.{readable, writable};
 ghost use Rattle.table_log.specs.Counts.{commit_count};
-ghost use Rattle.table_log.specs.Restoring.{seen};
+ghost use Rattle.table_log.specs.Restoring.{IsSoundCheckpoint, seen};
 ghost use Rattle.table_log.specs.Versions.{commits_in, log_of, versions_from};
 ghost use Rattle.table_model.specs.Lawful.{IsLawful};
 ghost use Rattle.table_model.specs.Table.{Entry, is_closed, last_batch};
@@ -74,4 +75,12 @@ pub fn a_checkpoint_leaves_what_its_log_leaves()
         → Holds objects schema entries → seen restore objects ≡ Ok commits → readable commits ≡ Ok schema }
     ensures written { (restore : Bool) (objects : Objects) (schema found : Schema) (entries : List Entry) (commits : List (List Action)) → IsSoundStore objects
         → Holds objects schema entries → seen restore objects ≡ Ok commits → writable commits ≡ Ok found → found ≡ schema }
+{}
+
+/// A checkpoint of a log's commits up to a version stands for these commits: with the commits of some later versions
+/// behind it, or alone, it leaves for each key what all commits up to the last of them leave.
+pub fn a_checkpoint_stands_for_the_first_commits()
+    ensures { (objects : Objects) (version count : ℕ) (bytes : List ℕ) (actions : List Action) (later : List (List Action)) → IsSoundCheckpoint objects version bytes → IsCommit bytes actions
+        → commits_in (suc version) (versions_from count (suc version) objects) ≡ Ok later
+        → (commits : List (List Action)) × (commits_in 0 (versions_from (suc version + count) 0 objects) ≡ Ok commits) × ((key : Key) → at key (actions ∷ later) ≡ at key commits) }
 {}

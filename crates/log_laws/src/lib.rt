@@ -11,7 +11,7 @@ pub use landing::{
     an_admissible_commit_lands, an_admissible_commit_stays_admissible,
 };
 pub use leaving::{
-    a_checkpoint_leaves_what_its_log_leaves, a_sound_log_is_read, a_sound_log_leaves_its_table,
-    the_first_commits_leave_the_first_entries,
+    a_checkpoint_leaves_what_its_log_leaves, a_checkpoint_stands_for_the_first_commits,
+    a_sound_log_is_read, a_sound_log_leaves_its_table, the_first_commits_leave_the_first_entries,
 };
 pub use standing::{a_sound_table_grows_at_its_end, what_a_sound_table_has_stays};
