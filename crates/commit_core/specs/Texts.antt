@@ -2,12 +2,12 @@
 use Rattle.std.specs.Prelude.{ℕ, List, [], ◌∷◌, ◌++◌, codes}
 use Rattle.schema_tree.specs.Fault.{fault_of}
 use Rattle.schema_tree.specs.FaultTexts.{text_of}
-use Rattle.commit_core.specs.Creating.{Refusal, table_exists, bad_schema, bad_id, lost, too_large}
+use Rattle.commit_core.specs.Creating.{CreateRefusal, table_exists, bad_schema, bad_id, lost, too_large}
 use Rattle.commit_core.specs.declared.fault.CreateFault.{CreateFault}
 use Rattle.commit_core.specs.declared.fault.CreateFault.TheVariants as creating
 
 -- why a table isn't created
-abbrev pub refusal_text : Refusal → List ℕ
+abbrev pub refusal_text : CreateRefusal → List ℕ
 refusal_text table_exists = codes "E1 TableExists"
 refusal_text (bad_schema fault) = codes "E2 BadSchema " ++ text_of fault
 refusal_text bad_id = codes "E3 BadId"
@@ -26,7 +26,3 @@ create_fault_text creating.TooLarge = refusal_text too_large
 -- a fault's text, as it is told
 abbrev pub refused : List ℕ → List ℕ
 refused text = codes "refused " ++ text
-
--- a reply ends its line
-abbrev pub line_of : List ℕ → List ℕ
-line_of text = text ++ 10 ∷ []

@@ -12,7 +12,7 @@ use Rattle.json_fields.specs.KindLaws.{is_count, is_map}
 use Rattle.json_fields.specs.Printing.{IsCount}
 use Rattle.json_fields.proofs.Callers.{bind_ok, ok_is, optional_holds, needed_holds, defaulted_holds}
 use Rattle.delta_actions.specs.declared.fault.ActionFault.{ActionFault}
-use Rattle.delta_actions.specs.Wrong.{bad_field, Gives}
+use Rattle.delta_actions.specs.Wrong.{bad_field, ActionGives}
 use Rattle.delta_actions.specs.Kinds.{file_path, format, parquet}
 use Rattle.delta_actions.specs.KindLaws.{is_path, is_format}
 use Rattle.delta_actions.specs.Action.{Action, commit_info, protocol, meta_data, add, txn, remove, domain_metadata, checkpoint_metadata, sidecar, other}
@@ -148,7 +148,7 @@ stands_holds (string s) e shallow is = absurd cc
 stands_holds (array ds) e shallow is = absurd cc
 stands_holds (object ms) e shallow is = one_key_holds ms e shallow is
 
-pub printable : {X : Type 0} (view : X → Action) (line : ℕ) (d : Data) (r : Result X ActionFault) → depth d ≤ 127 → Gives view line r (stands_for d) → IfOk r (λ x. IsPrintable (view x))
+pub printable : {X : Type 0} (view : X → Action) (line : ℕ) (d : Data) (r : Result X ActionFault) → depth d ≤ 127 → ActionGives view line r (stands_for d) → IfOk r (λ x. IsPrintable (view x))
 printable view line d (Ok x) shallow is = stands_holds d (view x) shallow is
 printable view line d (Err e) shallow is = tt
 

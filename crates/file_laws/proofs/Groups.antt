@@ -28,7 +28,7 @@ use Rattle.parquet_schema.specs.Fitting.{fitted, fitted_list}
 use Rattle.parquet_schema.specs.Leaves.{LeafIn, leaves_in}
 use Rattle.parquet_schema.specs.Reading.{file_fields}
 use Rattle.parquet_file.specs.File.{leaf_of}
-use Rattle.parquet_file.specs.Reading.{chunk_named, column_at, columns_at, has_rows, rows_at, rows_of, rows_of_group, rows_of_groups}
+use Rattle.parquet_file.specs.Reading.{chunk_named, column_at, columns_at, has_rows, rows_at, footer_rows, rows_of_group, rows_of_groups}
 use Rattle.parquet_file.proofs.CellsSuit.{some_ways}
 use Rattle.parquet_file.proofs.CodeGroups.{groups_many}
 use Rattle.parquet_file.proofs.FittedShapes.{leaves_for_ways, shape_has}
@@ -136,8 +136,8 @@ shape_fits t metadata shape limits e =
     (fields, omega (arith, leaves_for_ways t node shape a.2, some_ways shape fields))
 
 rows_fault : (bytes : List ℕ) (t : Tree) (given : List ℕ) (metadata : FileMetaData) (fault : FileFault) → IsWithinLimits t → IsBytes given
-    → Opens bytes given metadata → rows_of given t metadata ≡ Err fault → FaultStands bytes t fault
-unfolding rows_of
+    → Opens bytes given metadata → footer_rows given t metadata ≡ Err fault → FaultStands bytes t fault
+unfolding footer_rows
 rows_fault bytes t given metadata fault limits fits opens e =
     let counts = λ (rows : List Row). cond (eqb (length rows) metadata.num_rows) (Ok rows) (Err CountMismatch) in
     by_step (FaultStands bytes t) (or_refusal (fitted_list t metadata.schema) SchemaMismatch) (λ shape. rows_of_groups given t shape metadata.row_groups >>= counts) fault e
@@ -157,12 +157,12 @@ rows_fault bytes t given metadata fault limits fits opens e =
 pub fault_stands : (bytes : List ℕ) (t : Tree) (fault : FileFault) → IsWithinLimits t → IsBytes bytes → rows_at bytes t ≡ Err fault → FaultStands bytes t fault
 unfolding rows_at
 fault_stands bytes t fault limits fits e =
-    by_step (FaultStands bytes t) (frame_of bytes) (λ parts. metadata_at parts.1 >>= rows_of parts.0 t) fault e
+    by_step (FaultStands bytes t) (frame_of bytes) (λ parts. metadata_at parts.1 >>= footer_rows parts.0 t) fault e
     (λ e1. frame_fault bytes t fault e1)
     (λ parts is e1.
     let f = frame_found bytes parts.0 parts.1 fits is in
     let framed : FramedAs bytes parts.0 parts.1 = record { pages = f.pages; begins = f.begins; frame = f.frame; length_fits = f.length_fits } in
-    by_step (FaultStands bytes t) (metadata_at parts.1) (rows_of parts.0 t) fault e1
+    by_step (FaultStands bytes t) (metadata_at parts.1) (footer_rows parts.0 t) fault e1
     (λ e2. footer_fault bytes t parts.0 parts.1 fault framed f.footer_fits e2)
     (λ metadata says e2. rows_fault bytes t parts.0 metadata fault limits f.front_fits
     (record { footer = parts.1; framed = framed; says = (metadata_found parts.1 metadata f.footer_fits says).0 }) e2))

@@ -23,7 +23,7 @@ use Rattle.parquet_pages.specs.Reading.{chunk_at}
 use Rattle.parquet_schema.specs.Fitting.{fitted_list}
 use Rattle.parquet_schema.specs.Leaves.{LeafIn, leaves_in}
 use Rattle.parquet_file.specs.File.{leaf_of}
-use Rattle.parquet_file.specs.Reading.{chunk_named, column_at, columns_at, has_rows, rows_at, rows_of, rows_of_group, rows_of_groups}
+use Rattle.parquet_file.specs.Reading.{chunk_named, column_at, columns_at, has_rows, rows_at, footer_rows, rows_of_group, rows_of_groups}
 use Rattle.parquet_file.proofs.GroupRows.{chunk_again}
 use Rattle.file_laws.specs.Places.{HasChunk, HasGroup, HasLeaf, Opens}
 use Rattle.file_laws.proofs.Steps.{let_through, there, told_ok}
@@ -44,24 +44,24 @@ limits_same read metadata e =
 pub record IsOpened (bytes : List ℕ) (t : Tree) (given footer : List ℕ) (metadata : FileMetaData) (rows : List Row) : Type 0 where
   pub frame : frame_of bytes ≡ Ok (given, footer)
   pub limits : within_limits metadata ≡ Ok metadata
-  pub reads : rows_of given t metadata ≡ Ok rows
+  pub reads : footer_rows given t metadata ≡ Ok rows
 
 pub opened : (bytes : List ℕ) (t : Tree) (given : List ℕ) (metadata : FileMetaData) (rows : List Row) → rows_at bytes t ≡ Ok rows
     → (o : Opens bytes given metadata) → IsOpened bytes t given o.footer metadata rows
 unfolding rows_at metadata_at
 opened bytes t given metadata rows e o =
-    let a = bind_ok (frame_of bytes) (λ parts. metadata_at parts.1 >>= rows_of parts.0 t) rows e in
+    let a = bind_ok (frame_of bytes) (λ parts. metadata_at parts.1 >>= footer_rows parts.0 t) rows e in
     let parts : Parts bytes o.framed.pages o.footer =
     subst (λ (b : List ℕ). Parts b o.framed.pages o.footer) (sym o.framed.frame) (parts_again o.framed.pages o.footer o.framed.length_fits) in
     let frame : frame_of bytes ≡ Ok (given, o.footer) =
     frame_again bytes o.framed.pages o.footer parts (size_kept bytes a.0 a.1) ∙ ap (λ (g : List ℕ). Ok (g, o.footer)) (sym o.framed.begins) in
     let says : metadata_at o.footer ≡ within_limits metadata =
     rw (o.says.parts, struct_at_again o.says.front o.says.tree o.says.rest o.says.spelled, o.says.stands) refl in
-    let both : (within_limits metadata >>= rows_of given t) ≡ Ok rows =
-    ap (λ r. r >>= rows_of given t) (sym says) ∙ (ap (λ r. r >>= λ parts. metadata_at parts.1 >>= rows_of parts.0 t) (sym frame) ∙ e) in
-    let k = bind_ok (within_limits metadata) (rows_of given t) rows both in
+    let both : (within_limits metadata >>= footer_rows given t) ≡ Ok rows =
+    ap (λ r. r >>= footer_rows given t) (sym says) ∙ (ap (λ r. r >>= λ parts. metadata_at parts.1 >>= footer_rows parts.0 t) (sym frame) ∙ e) in
+    let k = bind_ok (within_limits metadata) (footer_rows given t) rows both in
     let same = limits_same metadata k.0 k.1 in
-    record { frame = frame; limits = k.1 ∙ ap (λ (m : FileMetaData). Ok m) (sym same); reads = ap (rows_of given t) same ∙ k.2 }
+    record { frame = frame; limits = k.1 ∙ ap (λ (m : FileMetaData). Ok m) (sym same); reads = ap (footer_rows given t) same ∙ k.2 }
 
 -- ---- row groups
 
@@ -79,9 +79,9 @@ pub record IsFitted (given : List ℕ) (t : Tree) (metadata : FileMetaData) (sha
   pub reads : rows_of_groups given t shape metadata.row_groups ≡ Ok rows
   pub counted : length rows ≡ metadata.num_rows
 
-pub fitted_read : (given : List ℕ) (t : Tree) (metadata : FileMetaData) (rows : List Row) → rows_of given t metadata ≡ Ok rows
+pub fitted_read : (given : List ℕ) (t : Tree) (metadata : FileMetaData) (rows : List Row) → footer_rows given t metadata ≡ Ok rows
     → (shape : Shape) × (fitted_list t metadata.schema ≡ Some shape) × IsFitted given t metadata shape
-unfolding rows_of
+unfolding footer_rows
 fitted_read given t metadata rows e =
     let counts = λ (rs : List Row). cond (eqb (length rs) metadata.num_rows) (Ok rs) (Err CountMismatch) in
     let a = bind_ok (or_refusal (fitted_list t metadata.schema) SchemaMismatch) (λ shape. rows_of_groups given t shape metadata.row_groups >>= counts) rows e in

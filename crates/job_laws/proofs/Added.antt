@@ -1,9 +1,9 @@
 -- What stands once a line's puts over the files that are loaded are added to all objects.
 use Rattle.std.proofs.Common.{◌≡◌, ℕ, Bool, true, false, cond, List, Option, None, Some, refl, sym, ◌∙◌, ap}
 use Rattle.std.specs.Prelude.{◌&&◌, not, is_some, bytes_eq}
-use Rattle.store_core.specs.Objects.{Objects, IsInOrder, object_at, names_of, with_object}
+use Rattle.store_core.specs.Objects.{Objects, IsInOrder, object_at, names_of, with_object, HasObjectsOf}
 use Rattle.store_core.specs.ObjectLaws.{object_at-with_object_kept, object_at-with_object_other, IsInOrder-with_object, same_objects}
-use Rattle.table_folder.specs.Copies.{HasAll, to_save}
+use Rattle.table_folder.specs.Copies.{to_save}
 use Rattle.table_folder.specs.Loads.{is_loaded, loaded}
 use Rattle.table_folder.proofs.Callers.{IsInOrder-with_copies, first_of, found_after_put, list_any-names, list_any-to_save, object_at-with_copies}
 use Rattle.job_laws.specs.Saved.{with_added}
@@ -40,7 +40,7 @@ loaded_put files objects name bytes order is =
 pub record IsAlike (files : List (List ℕ)) (objects small whole : Objects) : Type 0 where
   pub is : small ≡ loaded files whole
   pub order : IsInOrder whole
-  pub all : HasAll whole objects
+  pub all : HasObjectsOf objects whole
   pub no_other : (name : List ℕ) → is_loaded files name ≡ false → object_at objects name ≡ None → object_at whole name ≡ None
 
 -- before any put
@@ -63,7 +63,7 @@ lacking None (Some bytes) whole none same = same
 lacking (Some bytes) small whole none same = cc
 
 -- what stands under a name once what was put is added
-added_at : (files : List (List ℕ)) (objects whole : Objects) (name : List ℕ) (found : Option (List ℕ)) (b : Bool) → HasAll whole objects
+added_at : (files : List (List ℕ)) (objects whole : Objects) (name : List ℕ) (found : Option (List ℕ)) (b : Bool) → HasObjectsOf objects whole
     → ((other : List ℕ) → is_loaded files other ≡ false → object_at objects other ≡ None → object_at whole other ≡ None) → object_at objects name ≡ found → is_loaded files name ≡ b
     → first_of found (cond (not (is_some (object_at (loaded files objects) name)) && is_some (object_at (loaded files whole) name)) (object_at (loaded files whole) name) None) ≡ object_at whole name
 added_at files objects whole name (Some bytes) b all no_other e is = sym (all name bytes e)
@@ -72,7 +72,7 @@ added_at files objects whole name None false all no_other e is =
     lacking _ _ _ (loaded_not files objects name is) (loaded_not files whole name is ∙ sym (no_other name is e))
 
 -- once what was put over the files that are loaded is added to all objects, what it leaves over all objects stands
-pub added : (files : List (List ℕ)) (objects whole : Objects) → IsInOrder objects → IsInOrder whole → HasAll whole objects
+pub added : (files : List (List ℕ)) (objects whole : Objects) → IsInOrder objects → IsInOrder whole → HasObjectsOf objects whole
     → ((other : List ℕ) → is_loaded files other ≡ false → object_at objects other ≡ None → object_at whole other ≡ None) → with_added (loaded files objects) (loaded files whole) objects ≡ whole
 added files objects whole order whole_order all no_other =
     same_objects (with_added (loaded files objects) (loaded files whole) objects) whole

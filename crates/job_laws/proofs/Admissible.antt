@@ -10,7 +10,7 @@ use Rattle.parquet_file.proofs.RowsFound.{rows_found}
 use Rattle.row_core.specs.Rows.{Row}
 use Rattle.row_core.proofs.Callers.{same_rows-is}
 use Rattle.table_model.specs.Appends.{appended}
-use Rattle.table_model.specs.declared.table.Appended.TheVariants.{Committed}
+use Rattle.table_model.specs.declared.table.AppendAnswer.TheVariants.{Committed}
 use Rattle.table_model.specs.Table as model
 use Rattle.table_model.specs.Table.{Entry, group, is_closed, last_batch}
 use Rattle.table_store.specs.Commits.{IsCommitOf}
@@ -18,11 +18,11 @@ use Rattle.table_store.specs.Holds.{FileStands, HoldsFrom, Stands}
 use Rattle.table_store.specs.Schema.{Schema, IsFileOf}
 use Rattle.table_store.specs.Sound.{IsAdmissible, IsSound}
 use Rattle.table_store.proofs.HoldingPuts.{HoldsFrom-data_file}
-use Rattle.sink_core.specs.Appending.{Batch, IsWellMade, appending, is_repeat, is_same, unless_other, with_file}
+use Rattle.sink_core.specs.Appending.{EncodedBatch, IsWellMade, appending, is_repeat, is_same, unless_other, with_file}
 use Rattle.sink_core.specs.Refusals.{differs, stale}
 use Rattle.lake_bytes.specs.Varint.{IsBytes}
 use Rattle.table_store.proofs.LawfulLogLemmas.{AreMadeFor}
-use Rattle.log_laws.proofs.Callers.{IsLogOf, held_first, lawful_with, log_last, log_open, one_writable, sound_count, sound_log}
+use Rattle.log_laws.proofs.Callers.{IsLogOfEntries, held_first, lawful_with, log_last, log_open, one_writable, sound_count, sound_log}
 use Rattle.job_laws.proofs.Requests.{PutsBatch, passed}
 
 -- ---- the table with one more batch
@@ -40,7 +40,7 @@ new_is_taken b entries (Some before) is goes_on new = by_tests (ltb b.number bef
 
 -- ---- the file and the commit
 
-module _ (objects : Objects) (application : List ℕ) (number at : ℕ) (batch : Batch) (well : IsWellMade application number at batch) where
+module _ (objects : Objects) (application : List ℕ) (number at : ℕ) (batch : EncodedBatch) (well : IsWellMade application number at batch) where
   -- a file that reads as the batch's rows is a file of them
   file_read : (old : List ℕ) (read : Result (List Row) FileFault) → IsBytes old → rows_at old batch.schema ≡ read → is_same batch.rows read ≡ true
       → IsFileOf batch.schema old batch.rows
@@ -78,7 +78,7 @@ module _ (objects : Objects) (application : List ℕ) (number at : ℕ) (batch :
   -- stood under the file's name is of bytes.
   pub admissible : ((bytes : List ℕ) → object_at objects (data_file_name application number) ≡ Some bytes → IsBytes bytes) → IsSound objects → batch.version ≤ greatest_version → PutsBatch objects application number batch → IsAdmissible (with_file objects batch) batch.version batch.commit
   admissible are sound fits puts =
-      let log : IsLogOf objects sound.schema sound.entries puts.commits = sound_log objects sound puts.commits puts.log in
+      let log : IsLogOfEntries objects sound.schema sound.entries puts.commits = sound_log objects sound puts.commits puts.log in
       let schema : batch.schema ≡ sound.schema = one_schema log in
       let file : Stands (with_file objects batch) batch.name (λ bytes. IsFileOf batch.schema bytes batch.rows) = file_stands (object_at objects batch.name) refl (λ bytes there. are bytes (ap (object_at objects) (sym puts.name) ∙ there)) puts.fits.0 puts.fits.1 in
       let stands : FileStands (with_file objects batch) sound.schema handed_in = rw (← schema, ← puts.name) file in
@@ -95,12 +95,12 @@ module _ (objects : Objects) (application : List ℕ) (number at : ℕ) (batch :
       }
     where
       -- the batch's schema is the table's
-      one_schema : IsLogOf objects sound.schema sound.entries puts.commits → batch.schema ≡ sound.schema
+      one_schema : IsLogOfEntries objects sound.schema sound.entries puts.commits → batch.schema ≡ sound.schema
       one_schema log =
           one_writable objects sound.schema log.rest puts.commits (subst (λ (es : List Entry). AreMadeFor objects sound.schema es puts.commits) log.begins log.made) batch.schema puts.schema
 
       -- its number is new, and its stream open
-      taken : IsLogOf objects sound.schema sound.entries puts.commits → appended handed_in sound.entries ≡ Committed (length sound.entries)
+      taken : IsLogOfEntries objects sound.schema sound.entries puts.commits → appended handed_in sound.entries ≡ Committed (length sound.entries)
       taken log =
           let last = log_last objects sound.schema application sound.entries puts.commits log.made in
           new_is_taken handed_in sound.entries (last_batch application sound.entries) refl (log_open objects sound.schema application sound.entries puts.commits log.made puts.goes_on) (rw last at puts.new)

@@ -8,8 +8,8 @@ use Rattle.store_core.specs.ObjectLaws.{IsInOrder-with_object, object_at-with_ob
 use Rattle.delta_actions.specs.Names.{data_file_name}
 use Rattle.table_log.specs.Names.{commit_name}
 use Rattle.table_folder.specs.Loads.{is_loaded, is_of_log, loaded}
-use Rattle.sink_core.specs.Appending.{Batch, IsWellMade, PutsWell, Request, Step, answered, appended_by, fitting, is_past, new_step, puts, repeated_step, request_of, settled, step_of, unless_there, with_file, with_file_alone}
-use Rattle.sink_core.specs.Refusals.{Refusal, too_large}
+use Rattle.sink_core.specs.Appending.{EncodedBatch, IsWellMade, PutsWell, AppendRequest, AppendPlan, plan_answer, appended_by, put_plan, is_past, new_plan, puts, repeated_plan, request_of, append_plan, plan_of, unless_there, with_file, with_file_alone}
+use Rattle.sink_core.specs.Refusals.{AppendRefusal, too_large}
 use Rattle.sink_core.specs.declared.appending.Appended.TheVariants.{Committed}
 use Rattle.job_laws.proofs.Added.{two_names}
 use Rattle.job_laws.proofs.AppendedAgain.{IsNew, committed_put}
@@ -48,33 +48,33 @@ request_beside objects name bytes application number items order not =
 
 module _ (objects : Objects) (application : List ℕ) (number at version : ℕ) (items : Items) (order : IsInOrder objects) where
   -- the batch is put again
-  again : (batch : Batch) → IsNew objects application number at items batch → IsWellMade application number at batch → batch.name ≡ data_file_name application number
-      → settled false (with_file objects batch) application number at items ≡ Ok (puts batch)
+  again : (batch : EncodedBatch) → IsNew objects application number at items batch → IsWellMade application number at batch → batch.name ≡ data_file_name application number
+      → append_plan false (with_file objects batch) application number at items ≡ Ok (puts batch)
   again batch is well named =
       let beside = with_file objects batch in
       let outside : is_loaded [] batch.name ≡ false = ap (is_loaded []) named ∙ data_file_outside application number in
-      ap (λ (r : Result Request Refusal). r >>= step_of beside application number at) (request_beside objects batch.name batch.file application number items order outside ∙ is.asked)
-      ∙ ap (λ (repeats : Bool). if repeats then repeated_step beside is.request application number else new_step beside is.request application number at) is.new
-      ∙ ap (λ (b : Result Batch Refusal). b >>= fitting beside) is.made
+      ap (λ (r : Result AppendRequest AppendRefusal). r >>= plan_of beside application number at) (request_beside objects batch.name batch.file application number items order outside ∙ is.asked)
+      ∙ ap (λ (repeats : Bool). if repeats then repeated_plan beside is.request application number else new_plan beside is.request application number at) is.new
+      ∙ ap (λ (b : Result EncodedBatch AppendRefusal). b >>= put_plan beside) is.made
       ∙ file_fits objects batch application number at well is.fits
 
   -- and it is answered as before
-  answered_again : (batch : Batch) → batch.name ≡ data_file_name application number → answered objects number (puts batch) ≡ Ok (Committed version) → answered (with_file objects batch) number (puts batch) ≡ Ok (Committed version)
+  answered_again : (batch : EncodedBatch) → batch.name ≡ data_file_name application number → plan_answer objects number (puts batch) ≡ Ok (Committed version) → plan_answer (with_file objects batch) number (puts batch) ≡ Ok (Committed version)
   answered_again batch named is =
       ap (λ (found : Option (List ℕ)). refused_if (is_past batch.version) too_large >>= λ small. unless_there batch.version found)
       (object_at-with_object_other (with_file objects batch) batch.name batch.file (commit_name batch.version) (file_apart application number batch.name named batch.version))
       ∙ is
 
-  pub told_alone : PutsWell application number at (settled false objects application number at items) → appended_by false objects application number at items ≡ Ok (Committed version)
-      → appended_by false (with_file_alone objects (settled false objects application number at items)) application number at items ≡ Ok (Committed version)
+  pub told_alone : PutsWell application number at (append_plan false objects application number at items) → appended_by false objects application number at items ≡ Ok (Committed version)
+      → appended_by false (with_file_alone objects (append_plan false objects application number at items)) application number at items ≡ Ok (Committed version)
   told_alone well told =
       let a = committed_put objects application number at items version told in
       let batch = a.0 in
       let was = subst (PutsWell application number at) a.1 well in
       let named = batch_named batch a.2 in
-      let first : answered objects number (puts batch) ≡ Ok (Committed version) = ap (λ (s : Result Step Refusal). s >>= answered objects number) (sym a.1) ∙ told in
-      subst (λ (s : Result Step Refusal). appended_by false (with_file_alone objects s) application number at items ≡ Ok (Committed version)) (sym a.1)
-      (ap (λ (s : Result Step Refusal). s >>= answered (with_file objects batch) number) (again batch a.2 was named) ∙ answered_again batch named first)
+      let first : plan_answer objects number (puts batch) ≡ Ok (Committed version) = ap (λ (s : Result AppendPlan AppendRefusal). s >>= plan_answer objects number) (sym a.1) ∙ told in
+      subst (λ (s : Result AppendPlan AppendRefusal). appended_by false (with_file_alone objects s) application number at items ≡ Ok (Committed version)) (sym a.1)
+      (ap (λ (s : Result AppendPlan AppendRefusal). s >>= plan_answer (with_file objects batch) number) (again batch a.2 was named) ∙ answered_again batch named first)
     where
-      batch_named : (batch : Batch) → IsNew objects application number at items batch → batch.name ≡ data_file_name application number
+      batch_named : (batch : EncodedBatch) → IsNew objects application number at items batch → batch.name ≡ data_file_name application number
       batch_named batch is = (batch_own is.request application number at batch is.made).name

@@ -10,40 +10,40 @@ use Rattle.parquet_file.proofs.Callers.{rows_only}
 use Rattle.row_core.specs.Rows.{Row}
 use Rattle.row_core.proofs.Callers.{same_rows-is}
 use Rattle.table_log.specs.Names.{commit_name}
-use Rattle.sink_core.specs.Appending.{Batch, IsWellMade, Request, Step, puts, stands, batch_of, file_name, fitting, is_past, is_same, repeated_step, unless_other, where_same, with_append, with_file}
-use Rattle.sink_core.specs.Refusals.{Refusal, differs}
+use Rattle.sink_core.specs.Appending.{EncodedBatch, IsWellMade, AppendRequest, AppendPlan, puts, stands, batch_of, file_name, put_plan, is_past, is_same, repeated_plan, unless_other, where_same, with_append, with_file}
+use Rattle.sink_core.specs.Refusals.{AppendRefusal, differs}
 
 -- ---- the batch
 
 -- a batch has its request's schema and rows, and its file's name is its application's and number's
-record IsBatchOf (request : Request) (application : List ℕ) (number : ℕ) (batch : Batch) : Type 0 where
+record IsBatchOf (request : AppendRequest) (application : List ℕ) (number : ℕ) (batch : EncodedBatch) : Type 0 where
   name : batch.name ≡ file_name application number
   schema : batch.schema ≡ request.schema
   rows : batch.rows ≡ request.rows
 
 -- what holds of each batch that is made in steps holds of the one that was
-of_made : (P : Batch → Type 0) (file : Result (List ℕ) Refusal) (make : List ℕ → Batch) → ((bytes : List ℕ) → P (make bytes)) → (batch : Batch) → (file >>= λ bytes. Ok (make bytes)) ≡ Ok batch → P batch
+of_made : (P : EncodedBatch → Type 0) (file : Result (List ℕ) AppendRefusal) (make : List ℕ → EncodedBatch) → ((bytes : List ℕ) → P (make bytes)) → (batch : EncodedBatch) → (file >>= λ bytes. Ok (make bytes)) ≡ Ok batch → P batch
 of_made P (Err refusal) make all batch is = absurd cc
 of_made P (Ok bytes) make all batch is = let same : make bytes ≡ batch = cc in subst P same (all bytes)
 
-batch_is : (request : Request) (application : List ℕ) (number at : ℕ) (batch : Batch) → batch_of request application number at ≡ Ok batch → IsBatchOf request application number batch
+batch_is : (request : AppendRequest) (application : List ℕ) (number at : ℕ) (batch : EncodedBatch) → batch_of request application number at ≡ Ok batch → IsBatchOf request application number batch
 unfolding batch_of
 batch_is request application number at batch is = of_made (IsBatchOf request application number) _ _ (λ bytes. record { name = refl; schema = refl; rows = refl }) batch is
 
 -- ---- the file
 
 -- what isn't refused where a test fails passed it
-passes : (test : Bool) (why : Refusal) (step : Step) → (refused_if (not test) why >>= λ fine. Ok step) ≡ Ok step → test ≡ true
+passes : (test : Bool) (why : AppendRefusal) (step : AppendPlan) → (refused_if (not test) why >>= λ fine. Ok step) ≡ Ok step → test ≡ true
 passes true why step is = refl
 passes false why step is = absurd cc
 
 -- what stands behind the put has the batch's rows: what stood already, or the batch's own file
-has_same : (schema : Tree) (rows : List Row) (name file : List ℕ) (step : Step) (found : Option (List ℕ)) → rows_at file schema ≡ Ok rows
+has_same : (schema : Tree) (rows : List Row) (name file : List ℕ) (step : AppendPlan) (found : Option (List ℕ)) → rows_at file schema ≡ Ok rows
     → (unless_other schema rows name found >>= λ fits. Ok step) ≡ Ok step → is_same rows (rows_at (unwrap_or found file) schema) ≡ true
 has_same schema rows name file step None read fits = ap (is_same rows) read ∙ (same_rows-is rows rows).1 refl
 has_same schema rows name file step (Some old) read fits = passes (is_same rows (rows_at old schema)) (differs name) step fits
 
-module _ (objects : Objects) (batch : Batch) (application : List ℕ) (number at : ℕ) (made : IsWellMade application number at batch) (fits : fitting objects batch ≡ Ok (puts batch)) where
+module _ (objects : Objects) (batch : EncodedBatch) (application : List ℕ) (number at : ℕ) (made : IsWellMade application number at batch) (fits : put_plan objects batch ≡ Ok (puts batch)) where
   -- what stands under the batch's name behind the put
   abbrev behind : List ℕ
   behind = unwrap_or (object_at objects batch.name) batch.file
@@ -57,7 +57,7 @@ module _ (objects : Objects) (batch : Batch) (application : List ℕ) (number at
       (rows_only batch.file batch.schema batch.rows made.file.within made.file.file made.limits) fits
 
   -- Where the batch's file alone stands, the batch fits as before.
-  pub file_fits : fitting (with_file objects batch) batch ≡ Ok (puts batch)
+  pub file_fits : put_plan (with_file objects batch) batch ≡ Ok (puts batch)
   file_fits =
       ap (λ (found : Option (List ℕ)). unless_other batch.schema batch.rows batch.name found >>= λ fine. Ok (puts batch)) is_there
       ∙ ap (λ (test : Bool). refused_if (not test) (differs batch.name) >>= λ fine. Ok (puts batch)) same_rows_there
@@ -77,10 +77,10 @@ module _ (objects : Objects) (batch : Batch) (application : List ℕ) (number at
       ∙ ap (λ (test : Bool). refused_if (not test) (differs batch.name) >>= λ same. Ok stands) same_rows_there
 
 -- Behind an append, a request for the same rows under the same number finds that its batch stands.
-pub appended_same : (objects : Objects) (application : List ℕ) (number at : ℕ) (request other : Request) (batch : Batch)
-    → batch_of request application number at ≡ Ok batch → IsWellMade application number at batch → fitting objects batch ≡ Ok (puts batch)
+pub appended_same : (objects : Objects) (application : List ℕ) (number at : ℕ) (request other : AppendRequest) (batch : EncodedBatch)
+    → batch_of request application number at ≡ Ok batch → IsWellMade application number at batch → put_plan objects batch ≡ Ok (puts batch)
     → other.schema ≡ request.schema → other.rows ≡ request.rows
-    → repeated_step (with_append objects (Ok (puts batch))) other application number ≡ Ok stands
+    → repeated_plan (with_append objects (Ok (puts batch))) other application number ≡ Ok stands
 appended_same objects application number at request other batch is made fits schema rows =
     let own = batch_is request application number at batch is in
     let one : other.schema ≡ batch.schema = schema ∙ sym own.schema in

@@ -17,7 +17,7 @@ use Rattle.table_store.specs.Holds.{FileStands, HoldsFrom}
 use Rattle.table_store.specs.Sound.{IsSound}
 use Rattle.table_store.proofs.HoldingEnds.{HoldsFrom-fit}
 use Rattle.source_core.specs.Offsets.{offset_of}
-use Rattle.source_core.specs.Tailing.{Handed, Refusal, read_by}
+use Rattle.source_core.specs.Tailing.{ReadRows, ReadRefusal, read_by}
 use Rattle.source_core.specs.Tails.{tails}
 use Rattle.lake_script.specs.Keeps.{FileKept, IsKept, KeptFrom}
 use Rattle.lake_script.proofs.KeptNames.{behind_first, first_in}
@@ -30,18 +30,18 @@ use Rattle.job_laws.proofs.TextReads.{as_by_offsets}
 -- ---- a read is a part of the table
 
 -- what was handed out, by what the table answers
-part_by : (answer : Answer) (said : Result Handed Refusal) (max : ℕ) (offset : Offset) (entries : List Entry) (out : Handed) → read max offset entries ≡ answer → IsRead said answer → said ≡ Ok out
+part_by : (answer : Answer) (said : Result ReadRows ReadRefusal) (max : ℕ) (offset : Offset) (entries : List Entry) (out : ReadRows) → read max offset entries ≡ answer → IsRead said answer → said ≡ Ok out
     → IsPart max offset out.rows out.next entries × MayEnd false max out.rows out.next entries
 part_by (handed rows next) said max offset entries out told is says =
     let same : Ok (record { rows = rows; next = next }) ≡ Ok out = sym is ∙ says in
     let one : record { rows = rows; next = next } ≡ out = cc in
-    subst (λ (o : Handed). IsPart max offset o.rows o.next entries × MayEnd false max o.rows o.next entries) one
+    subst (λ (o : ReadRows). IsPart max offset o.rows o.next entries × MayEnd false max o.rows o.next entries) one
     (read_is_part max offset next entries rows told, read_ends max offset next entries rows told)
 part_by (beyond next) said max offset entries out told is says = let wrong = sym is ∙ says in absurd cc
 part_by (bad_place version) said max offset entries out told is says = let wrong = sym is ∙ says in absurd cc
 
 -- A read over a store that keeps a table hands out a part of the table.
-pub kept_part : (objects : Objects) (schema : Tree) (entries : List Entry) (max : ℕ) (offset : Offset) (out : Handed) → IsKept objects schema entries → read_by false objects max offset ≡ Ok out
+pub kept_part : (objects : Objects) (schema : Tree) (entries : List Entry) (max : ℕ) (offset : Offset) (out : ReadRows) → IsKept objects schema entries → read_by false objects max offset ≡ Ok out
     → IsPart max offset out.rows out.next entries × MayEnd false max out.rows out.next entries
 kept_part objects schema entries max offset out kept says =
     part_by (read max offset entries) (read_by false objects max offset) max offset entries out refl (kept_reads reads_told objects schema entries kept max offset) says

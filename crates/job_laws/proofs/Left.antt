@@ -12,11 +12,10 @@ use Rattle.table_folder.specs.Loads.{is_loaded, loaded}
 use Rattle.table_log.specs.Names.{commit_name}
 use Rattle.commit_core.specs.Creating as creations
 use Rattle.commit_core.specs.Creating.{commit_from, with_creation}
-use Rattle.commit_core.specs.Texts.{line_of}
 use Rattle.snapshot_core.specs.Faults.{checked}
 use Rattle.snapshot_core.specs.Taking.{most_bytes}
-use Rattle.sink_core.specs.Appending.{Batch, Step, puts, stands, is_past, settled, with_append, with_commit, with_file, with_file_alone}
-use Rattle.sink_core.specs.Refusals.{Refusal}
+use Rattle.sink_core.specs.Appending.{EncodedBatch, AppendPlan, puts, stands, is_past, append_plan, with_append, with_commit, with_file, with_file_alone}
+use Rattle.sink_core.specs.Refusals.{AppendRefusal}
 use Rattle.lake_script.specs.Checkpoints.{Checkpoint, NotPut, by_log, too_large, checkpoint_by, checkpoint_of, newest_version, with_checkpoint}
 use Rattle.script_lines.specs.Lines.{append, checkpoint, Statement, create, task, foreign}
 use Rattle.lake_script.specs.Runs.{Executes, MayLeave}
@@ -25,21 +24,22 @@ use Rattle.job_laws.specs.Looking.{LooksWithin}
 use Rattle.job_laws.specs.Saved.{with_added}
 use Rattle.job_laws.proofs.Added.{IsAlike, added_alike, alike_before, alike_put}
 use Rattle.job_laws.proofs.Loaded.{commit_loaded, log_loaded}
-use Rattle.job_laws.proofs.OwnSteps.{PutsOwn, settled_own}
-use Rattle.job_laws.proofs.SameReads.{same_settled}
+use Rattle.job_laws.proofs.OwnSteps.{PutsOwn, own_append_plan}
+use Rattle.job_laws.proofs.SameReads.{same_append_plan}
 use Rattle.job_laws.proofs.SameReplies.{same_checkpoint, same_printed, same_reply}
+use Rattle.lake_bytes.specs.Lines.{with_newline}
 
 -- ---- creations
 
 -- a creation
-pub created_alike : (files : List (List ℕ)) (objects : Objects) (commit : Result (List ℕ) creations.Refusal) → IsInOrder objects → IsAlike files objects (with_creation (loaded files objects) commit) (with_creation objects commit)
+pub created_alike : (files : List (List ℕ)) (objects : Objects) (commit : Result (List ℕ) creations.CreateRefusal) → IsInOrder objects → IsAlike files objects (with_creation (loaded files objects) commit) (with_creation objects commit)
 created_alike files objects (Ok bytes) order = alike_put files objects (loaded files objects) objects (commit_name 0) bytes (commit_loaded files 0) (alike_before files objects order)
 created_alike files objects (Err refusal) order = alike_before files objects order
 
 -- ---- appends
 
 -- the file of a batch
-pub file_alike : (files : List (List ℕ)) (objects : Objects) (application : List ℕ) (number : ℕ) (step : Result Step Refusal) → IsInOrder objects → is_loaded files (data_file_name application number) ≡ true → PutsOwn application number step
+pub file_alike : (files : List (List ℕ)) (objects : Objects) (application : List ℕ) (number : ℕ) (step : Result AppendPlan AppendRefusal) → IsInOrder objects → is_loaded files (data_file_name application number) ≡ true → PutsOwn application number step
     → IsAlike files objects (with_file_alone (loaded files objects) step) (with_file_alone objects step)
 file_alike files objects application number (Ok (puts batch)) order is own =
     alike_put files objects (loaded files objects) objects batch.name batch.file (ap (is_loaded files) own.name ∙ is) (alike_before files objects order)
@@ -47,7 +47,7 @@ file_alike files objects application number (Ok stands) order is own = alike_bef
 file_alike files objects application number (Err refusal) order is own = alike_before files objects order
 
 -- its commit, which is put where one may have its version
-commit_alike : (files : List (List ℕ)) (objects one other : Objects) (batch : Batch) → IsAlike files objects one other → IsAlike files objects (with_commit one batch) (with_commit other batch)
+commit_alike : (files : List (List ℕ)) (objects one other : Objects) (batch : EncodedBatch) → IsAlike files objects one other → IsAlike files objects (with_commit one batch) (with_commit other batch)
 commit_alike files objects one other batch alike = by_version (is_past batch.version)
   where
     by_version : (past : Bool)
@@ -56,7 +56,7 @@ commit_alike files objects one other batch alike = by_version (is_past batch.ver
     by_version false = alike_put files objects one other (commit_name batch.version) batch.commit (commit_loaded files batch.version) alike
 
 -- the file, and the commit
-pub append_alike : (files : List (List ℕ)) (objects : Objects) (application : List ℕ) (number : ℕ) (step : Result Step Refusal) → IsInOrder objects → is_loaded files (data_file_name application number) ≡ true → PutsOwn application number step
+pub append_alike : (files : List (List ℕ)) (objects : Objects) (application : List ℕ) (number : ℕ) (step : Result AppendPlan AppendRefusal) → IsInOrder objects → is_loaded files (data_file_name application number) ≡ true → PutsOwn application number step
     → IsAlike files objects (with_append (loaded files objects) step) (with_append objects step)
 append_alike files objects application number (Ok (puts batch)) order is own =
     commit_alike files objects (with_file (loaded files objects) batch) (with_file objects batch) batch (file_alike files objects application number (Ok (puts batch)) order is own)
@@ -96,15 +96,15 @@ checkpoint_alike files objects bytes (Err why) order is = alike_before files obj
 left_alike : (objects : Objects) (statement : Statement) (files : List (List ℕ)) (printed : List ℕ) → IsInOrder objects → LooksWithin objects statement files → IsAlike files objects (left_by_statement (loaded files objects) statement printed) (left_by_statement objects statement printed)
 left_alike objects (create id at schema) files printed order within = created_alike files objects (commit_from id at schema printed) order
 left_alike objects (task (append application number at rows)) files printed order within =
-    subst (λ (step : Result Step Refusal). IsAlike files objects (with_append (loaded files objects) step) (with_append objects (settled false objects application number at rows)))
-    (sym (same_settled files objects application number at rows (within (data_file_name application number) refl)))
-    (append_alike files objects application number (settled false objects application number at rows) order (within (data_file_name application number) refl) (settled_own false objects application number at rows))
+    subst (λ (step : Result AppendPlan AppendRefusal). IsAlike files objects (with_append (loaded files objects) step) (with_append objects (append_plan false objects application number at rows)))
+    (sym (same_append_plan files objects application number at rows (within (data_file_name application number) refl)))
+    (append_alike files objects application number (append_plan false objects application number at rows) order (within (data_file_name application number) refl) (own_append_plan false objects application number at rows))
 left_alike objects (task checkpoint) files printed order within =
     subst (λ (made : Result Checkpoint NotPut). IsAlike files objects (with_checkpoint (loaded files objects) printed made) (with_checkpoint objects printed (checkpoint_by objects printed)))
     (sym (same_checkpoint files objects printed))
     (checkpoint_alike files objects printed (checkpoint_by objects printed) order (puts_loaded files objects printed))
 left_alike objects (foreign version action) files printed order within =
-    alike_put files objects (loaded files objects) objects (commit_name version) (line_of action) (commit_loaded files version) (alike_before files objects order)
+    alike_put files objects (loaded files objects) objects (commit_name version) (with_newline action) (commit_loaded files version) (alike_before files objects order)
 left_alike objects _ files printed order within = alike_before files objects order
 
 -- what a line leaves is loaded of what it leaves over all objects
@@ -121,9 +121,9 @@ may_leave : (objects after : Objects) (statement : Statement) (files : List (Lis
 may_leave objects after (task (append application number at rows)) files order within (inl same) = inl (none_added files objects after order same)
 may_leave objects after (task (append application number at rows)) files order within (inr alone) =
     inr (ap (λ (o : Objects). with_added (loaded files objects) o objects)
-    (alone ∙ ap (with_file_alone (loaded files objects)) (same_settled files objects application number at rows (within (data_file_name application number) refl)))
-    ∙ added_alike files objects (with_file_alone (loaded files objects) (settled false objects application number at rows)) (with_file_alone objects (settled false objects application number at rows)) order
-    (file_alike files objects application number (settled false objects application number at rows) order (within (data_file_name application number) refl) (settled_own false objects application number at rows)))
+    (alone ∙ ap (with_file_alone (loaded files objects)) (same_append_plan files objects application number at rows (within (data_file_name application number) refl)))
+    ∙ added_alike files objects (with_file_alone (loaded files objects) (append_plan false objects application number at rows)) (with_file_alone objects (append_plan false objects application number at rows)) order
+    (file_alike files objects application number (append_plan false objects application number at rows) order (within (data_file_name application number) refl) (own_append_plan false objects application number at rows)))
 may_leave objects after _ files order within same = none_added files objects after order same
 
 -- what a line is executed over the files that are loaded is executed over all objects

@@ -10,14 +10,14 @@ use Rattle.parquet_file.specs.Reading.{rows_at}
 use Rattle.store_core.specs.Objects.{Objects}
 use Rattle.delta_actions.specs.Kinds.{Path}
 use Rattle.table_log.specs.FromCheckpoints.{looked_at, no_start}
-use Rattle.table_log.specs.InForce.{Told}
+use Rattle.table_log.specs.InForce.{SchemaText}
 use Rattle.table_log.specs.Reads.{first_standing}
 use Rattle.table_log.specs.Versions.{Version, version_at, versions_from, versions_of}
 use Rattle.table_log.specs.Counts.{commit_count}
 use Rattle.table_model.specs.declared.reading.Offset.{Offset}
 use Rattle.table_store.specs.Groups.{new_files}
 use Rattle.table_folder.specs.Loads.{is_loaded, loaded}
-use Rattle.source_core.specs.Tailing.{Handed, Item, LogFile, Refusal, actions_in, behind, data_file, end_of, fault_of, hand, hand_on, handed_by, is_before, is_done, item_before, items_at, items_from, items_in, missing_file, numbered, or_bad_file, paths_in, rows_behind, rows_left, rows_of, schema_at, schema_for, unless_beyond, unless_gone, unless_no_file, unless_removed, version_fault, versions_at}
+use Rattle.source_core.specs.Tailing.{ReadRows, Item, LogFile, ReadRefusal, actions_in, offset_behind_rows, data_file, end_of, fault_of, hand, hand_on, handed_by, is_before, is_done, item_before, items_at, items_from, items_in, missing_file, numbered, or_bad_file, paths_in, rows_behind, rows_left, file_rows, schema_at, schema_for, unless_beyond, unless_gone, unless_no_file, unless_removed, version_fault, versions_at}
 use Rattle.job_laws.proofs.Loaded.{loaded_at}
 use Rattle.job_laws.proofs.SameLogs.{same_versions}
 
@@ -85,7 +85,7 @@ numbered_loaded place files version file (path ∷ paths) all =
     (all path.key (first_in path.key (map (λ p. p.key) paths)), numbered_loaded place files version (suc file) paths (λ name has. all name (behind_first path.key (map (λ p. p.key) paths) name has)))
 
 -- a version's fault, or its files
-version_loaded : (place : Offset) (files : List (List ℕ)) (version : ℕ) (fault : Option Refusal) (paths : List Path) → ((name : List ℕ) → Contains (map (λ path. path.key) paths) name → place.version ≤ version → is_loaded files name ≡ true)
+version_loaded : (place : Offset) (files : List (List ℕ)) (version : ℕ) (fault : Option ReadRefusal) (paths : List Path) → ((name : List ℕ) → Contains (map (λ path. path.key) paths) name → place.version ≤ version → is_loaded files name ≡ true)
     → AreLoadedFrom place files (items_in version fault paths)
 version_loaded place files version (Some refusal) paths all = tt
 version_loaded place files version None paths all = numbered_loaded place files version 0 paths all
@@ -95,7 +95,7 @@ pub record AddsLoaded (objects : Objects) (place : Offset) (files : List (List �
   pub each : (version : ℕ) (name : List ℕ) → Contains (map (λ path. path.key) (paths_in (version_at objects version))) name → place.version ≤ version → version < commit_count objects → is_loaded files name ≡ true
 
 -- those of so many versions of the log
-versions_loaded : (objects : Objects) (place : Offset) (files : List (List ℕ)) (told : Told) → AddsLoaded objects place files → (count version : ℕ) → version + count ≤ commit_count objects → AreLoadedFrom place files (items_from told place version (versions_from count version objects))
+versions_loaded : (objects : Objects) (place : Offset) (files : List (List ℕ)) (told : SchemaText) → AddsLoaded objects place files → (count version : ℕ) → version + count ≤ commit_count objects → AreLoadedFrom place files (items_from told place version (versions_from count version objects))
 unfolding versions_from
 versions_loaded objects place files told adds zero version within = tt
 versions_loaded objects place files told adds (suc count) version within =
@@ -105,21 +105,21 @@ versions_loaded objects place files told adds (suc count) version within =
     (subst (λ (v : ℕ). AreLoadedFrom place files (items_from told place (suc version) (versions_from count v objects))) (sym (add-one version)) (versions_loaded objects place files told adds count (suc version) (omega (arith, within))))
 
 -- all that a read from the place on meets
-items_loaded : (objects : Objects) (place : Offset) (files : List (List ℕ)) (told : Told) → AddsLoaded objects place files → AreLoaded files (items_at told place (versions_at false objects place))
+items_loaded : (objects : Objects) (place : Offset) (files : List (List ℕ)) (told : SchemaText) → AddsLoaded objects place files → AreLoaded files (items_at told place (versions_at false objects place))
 items_loaded objects place files told adds =
     loaded_from_place place files (items_from told place 0 (versions_of objects)) (versions_loaded objects place files told adds (commit_count objects) 0 (omega arith))
 
 -- ---- what is handed out
 
 -- the rows of a file
-rows_alike : (files : List (List ℕ)) (objects : Objects) (schema : Tree) (file : LogFile) → is_loaded files file.path.key ≡ true → rows_of (loaded files objects) schema file ≡ rows_of objects schema file
-unfolding rows_of
+rows_alike : (files : List (List ℕ)) (objects : Objects) (schema : Tree) (file : LogFile) → is_loaded files file.path.key ≡ true → file_rows (loaded files objects) schema file ≡ file_rows objects schema file
+unfolding file_rows
 rows_alike files objects schema file own =
     ap (λ (found : Option (List ℕ)). or_refusal found (missing_file file.path.text) >>= λ bytes. or_bad_file file (rows_at bytes schema)) (loaded_at files objects file.path.key own)
 
 -- those behind the first of them
 pub left_alike : (files : List (List ℕ)) (objects : Objects) (schema : Tree) (file : LogFile) (skip : ℕ) → is_loaded files file.path.key ≡ true → rows_left (loaded files objects) schema file skip ≡ rows_left objects schema file skip
-left_alike files objects schema file skip own = ap (λ (read : Result (List Row) Refusal). read >>= rows_behind skip file.version) (rows_alike files objects schema file own)
+left_alike files objects schema file skip own = ap (λ (read : Result (List Row) ReadRefusal). read >>= rows_behind skip file.version) (rows_alike files objects schema file own)
 
 -- the rows of items that are loaded
 hand_alike : (files : List (List ℕ)) (objects : Objects) (schema : Tree) (end : Offset) (items : List Item) → AreLoaded files items → (most skip : ℕ) (rows : List Row) (next : Offset)
@@ -128,18 +128,18 @@ unfolding hand
 hand_alike files objects schema end [] are most skip rows next = refl
 hand_alike files objects schema end (version_fault version refusal ∷ items) are most skip rows next = refl
 hand_alike files objects schema end (data_file f ∷ items) are most skip rows next =
-    let later : (part : List Row) → hand (loaded files objects) schema end (most - length part) 0 (rows ++ part) (behind f skip part next) items ≡ hand objects schema end (most - length part) 0 (rows ++ part) (behind f skip part next) items
-    = λ part. hand_alike files objects schema end items are.1 (most - length part) 0 (rows ++ part) (behind f skip part next) in
-    ap (λ (read : Result (List Row) Refusal). cond (is_done most skip) (Ok (record { rows = rows; next = next })) (hand_on most rows next read (λ part. hand (loaded files objects) schema end (most - length part) 0 (rows ++ part) (behind f skip part next) items))) (left_alike files objects schema f skip are.0)
+    let later : (part : List Row) → hand (loaded files objects) schema end (most - length part) 0 (rows ++ part) (offset_behind_rows f skip part next) items ≡ hand objects schema end (most - length part) 0 (rows ++ part) (offset_behind_rows f skip part next) items
+    = λ part. hand_alike files objects schema end items are.1 (most - length part) 0 (rows ++ part) (offset_behind_rows f skip part next) in
+    ap (λ (read : Result (List Row) ReadRefusal). cond (is_done most skip) (Ok (record { rows = rows; next = next })) (hand_on most rows next read (λ part. hand (loaded files objects) schema end (most - length part) 0 (rows ++ part) (offset_behind_rows f skip part next) items))) (left_alike files objects schema f skip are.0)
     ∙ (λ i. cond (is_done most skip) (Ok (record { rows = rows; next = next })) (hand_on most rows next (rows_left objects schema f skip) (λ part. later part i)))
 
 -- rows of a log from a place on
-pub handed_alike : (files : List (List ℕ)) (objects : Objects) (told : Told) (max : ℕ) (place : Offset) → AddsLoaded objects place files
+pub handed_alike : (files : List (List ℕ)) (objects : Objects) (told : SchemaText) (max : ℕ) (place : Offset) → AddsLoaded objects place files
     → handed_by (loaded files objects) told (versions_at false objects place) max place ≡ handed_by objects told (versions_at false objects place) max place
 unfolding handed_by
 handed_alike files objects told max place adds =
     let versions : List Version = versions_at false objects place in
-    ap (λ (handed : Result Handed Refusal). unless_beyond place (length versions) >>= λ within. unless_gone place (first_standing versions) >>= λ stands. actions_in place.version (slice_get versions place.version) >>= λ actions. unless_no_file place (length (new_files actions)) >>= λ inside. unless_removed place actions >>= λ kept. handed)
+    ap (λ (handed : Result ReadRows ReadRefusal). unless_beyond place (length versions) >>= λ within. unless_gone place (first_standing versions) >>= λ stands. actions_in place.version (slice_get versions place.version) >>= λ actions. unless_no_file place (length (new_files actions)) >>= λ inside. unless_removed place actions >>= λ kept. handed)
     (hand_alike files objects told.schema (end_of versions) (items_at told place versions) (items_loaded objects place files told adds) max place.row [] place)
 
 -- ---- the versions and the schema that a read goes by

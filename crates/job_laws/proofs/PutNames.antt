@@ -11,19 +11,19 @@ use Rattle.table_folder.specs.Loads.{is_loaded, loaded}
 use Rattle.table_folder.proofs.Callers.{list_any-names, list_any-to_save}
 use Rattle.table_log.specs.Names.{commit_name}
 use Rattle.commit_core.specs.Creating.{commit_from, with_creation}
-use Rattle.commit_core.specs.Texts.{line_of}
-use Rattle.sink_core.specs.Appending.{MayAppend, Step, settled, with_append, with_file_alone}
-use Rattle.sink_core.specs.Refusals.{Refusal}
+use Rattle.sink_core.specs.Appending.{MayAppend, AppendPlan, append_plan, with_append, with_file_alone}
+use Rattle.sink_core.specs.Refusals.{AppendRefusal}
 use Rattle.lake_script.specs.Growth.{MayPut}
 use Rattle.script_lines.specs.Lines.{append, checkpoint, Statement, create, task, foreign}
 use Rattle.job_laws.specs.Looking.{LooksWithin}
 use Rattle.job_laws.proofs.Added.{IsAlike, alike_before, alike_put}
 use Rattle.job_laws.proofs.Left.{append_alike, created_alike, file_alike}
 use Rattle.job_laws.proofs.Loaded.{checkpoint_loaded, commit_loaded, found_loaded, loaded_at}
-use Rattle.job_laws.proofs.OwnSteps.{PutsOwn, settled_own}
-use Rattle.job_laws.proofs.SameReads.{same_settled}
+use Rattle.job_laws.proofs.OwnSteps.{PutsOwn, own_append_plan}
+use Rattle.job_laws.proofs.SameReads.{same_append_plan}
 use Rattle.job_laws.proofs.SavedFronts.{puts_too}
 use Rattle.job_laws.proofs.SavedNames.{not_both}
+use Rattle.lake_bytes.specs.Lines.{with_newline}
 
 -- ---- what was put over the files that are loaded, put over all objects
 
@@ -42,7 +42,7 @@ over_all files objects small after whole statement is put alike = record {
 }
 
 -- an append
-append_over_all : (files : List (List ℕ)) (objects after : Objects) (application : List ℕ) (number at : ℕ) (step : Result Step Refusal) → IsInOrder objects → is_loaded files (data_file_name application number) ≡ true
+append_over_all : (files : List (List ℕ)) (objects after : Objects) (application : List ℕ) (number at : ℕ) (step : Result AppendPlan AppendRefusal) → IsInOrder objects → is_loaded files (data_file_name application number) ≡ true
     → PutsOwn application number step → MayAppend application number at step (loaded files objects) after
     → (whole : Objects) × MayAppend application number at step objects whole × IsAlike files objects after whole
 append_over_all files objects after application number at step order is own (inl same) =
@@ -59,8 +59,8 @@ put_over_all objects after (create id at schema) files order within (inr (printe
     (inr (printed, (put.0, refl))) (created_alike files objects (commit_from id at schema printed) order)
 put_over_all objects after (task (append application number at items)) files order within put =
     let own = within (data_file_name application number) refl in
-    let all = append_over_all files objects after application number at (settled false objects application number at items) order own (settled_own false objects application number at items)
-    (subst (λ (step : Result Step Refusal). MayAppend application number at step (loaded files objects) after) (same_settled files objects application number at items own) put.1) in
+    let all = append_over_all files objects after application number at (append_plan false objects application number at items) order own (own_append_plan false objects application number at items)
+    (subst (λ (step : Result AppendPlan AppendRefusal). MayAppend application number at step (loaded files objects) after) (same_append_plan files objects application number at items own) put.1) in
     record { whole = all.0; put = (put.0, all.1); alike = all.2 }
 put_over_all objects after (task checkpoint) files order within (inl same) = over_all files objects (loaded files objects) after objects (task checkpoint) same (inl refl) (alike_before files objects order)
 put_over_all objects after (task checkpoint) files order within (inr (version, put)) =
@@ -69,8 +69,8 @@ put_over_all objects after (task checkpoint) files order within (inr (version, p
     (alike_put files objects (loaded files objects) objects put.name put.bytes (checkpoint_loaded files version put.name put.puts.found) (alike_before files objects order))
 put_over_all objects after (foreign version action) files order within (inl same) = over_all files objects (loaded files objects) after objects (foreign version action) same (inl refl) (alike_before files objects order)
 put_over_all objects after (foreign version action) files order within (inr put) =
-    over_all files objects (with_object (loaded files objects) (commit_name version) (line_of action)) after (with_object objects (commit_name version) (line_of action)) (foreign version action) put
-    (inr refl) (alike_put files objects (loaded files objects) objects (commit_name version) (line_of action) (commit_loaded files version) (alike_before files objects order))
+    over_all files objects (with_object (loaded files objects) (commit_name version) (with_newline action)) after (with_object objects (commit_name version) (with_newline action)) (foreign version action) put
+    (inr refl) (alike_put files objects (loaded files objects) objects (commit_name version) (with_newline action) (commit_loaded files version) (alike_before files objects order))
 put_over_all objects after statement files order within same = over_all files objects (loaded files objects) after objects statement same refl (alike_before files objects order)
 
 -- ---- the names that are new

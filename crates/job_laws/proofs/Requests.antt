@@ -14,11 +14,11 @@ use Rattle.delta_replay.specs.Support.{writable}
 use Rattle.parquet_file.specs.Writing.{written_file}
 use Rattle.row_core.specs.Rows.{Row}
 use Rattle.table_log.specs.Counts.{commit_count}
-use Rattle.table_log.specs.Restoring.{seen}
+use Rattle.table_log.specs.Restoring.{replayed}
 use Rattle.table_log.specs.Versions.{log_of}
 use Rattle.commit_core.specs.Commits.{commit_text}
-use Rattle.sink_core.specs.Appending.{Batch, Request, appending, batch_of, checked, file_name, file_or_refusal, fitting, is_repeat, new_step, puts, repeated_step, request_behind, request_of, settled, stands, step_of, unless_other, where_same}
-use Rattle.sink_core.specs.Refusals.{Refusal, bad_log, read_only, stream_closed}
+use Rattle.sink_core.specs.Appending.{EncodedBatch, AppendRequest, appending, batch_of, checked, file_name, file_or_refusal, put_plan, is_repeat, new_plan, puts, repeated_plan, request_behind, request_of, append_plan, stands, plan_of, unless_other, where_same}
+use Rattle.sink_core.specs.Refusals.{AppendRefusal, bad_log, read_only, stream_closed}
 use Rattle.sink_core.specs.RowsIn.{rows_from, takes_rows}
 
 -- ---- steps that weren't refused
@@ -50,7 +50,7 @@ passed false why x is = refl
 
 -- A request that was taken: of a table that is written, with rows that it takes, for the next version, and with a number
 -- that isn't below the last.
-pub record IsTaken (next : ℕ) (commits : List (List actions.Action)) (application : List ℕ) (number : ℕ) (items : Items) (request : Request) : Type 0 where
+pub record IsTaken (next : ℕ) (commits : List (List actions.Action)) (application : List ℕ) (number : ℕ) (items : Items) (request : AppendRequest) : Type 0 where
   pub schema : writable commits ≡ Ok request.schema
   pub supported : takes_rows request.schema ≡ Ok tt
   pub rows : rows_from 0 request.schema items ≡ Ok request.rows
@@ -59,25 +59,25 @@ pub record IsTaken (next : ℕ) (commits : List (List actions.Action)) (applicat
   pub version : request.version ≡ next
 
 module _ (next : ℕ) (commits : List (List actions.Action)) (application : List ℕ) (number : ℕ) (items : Items) where
-  abbrev asked : Tree → List Row → Bool → Request
+  abbrev asked : Tree → List Row → Bool → AppendRequest
   asked schema rows repeats = record { version = next; schema = schema; rows = rows; repeats = repeats }
 
   -- the steps of a request, each behind the one before it
-  abbrev pub behind_number : Tree → List Row → Bool → Result Request Refusal
+  abbrev pub behind_number : Tree → List Row → Bool → Result AppendRequest AppendRefusal
   behind_number schema rows repeats = refused_if (not repeats && is_closed application commits) stream_closed >>= λ goes_on. Ok (asked schema rows repeats)
 
-  abbrev pub behind_rows : Tree → List Row → Result Request Refusal
+  abbrev pub behind_rows : Tree → List Row → Result AppendRequest AppendRefusal
   behind_rows schema rows = is_repeat number (last_number application commits) >>= behind_number schema rows
 
-  abbrev pub behind_schema : Tree → Result Request Refusal
+  abbrev pub behind_schema : Tree → Result AppendRequest AppendRefusal
   behind_schema schema = takes_rows schema >>= λ supported. rows_from 0 schema items >>= behind_rows schema
 
   -- a request whose number was looked at
-  taken_with : (schema : Tree) (rows : List Row) (repeats : Bool) (request : Request) → writable commits ≡ Ok schema → takes_rows schema ≡ Ok tt → rows_from 0 schema items ≡ Ok rows
+  taken_with : (schema : Tree) (rows : List Row) (repeats : Bool) (request : AppendRequest) → writable commits ≡ Ok schema → takes_rows schema ≡ Ok tt → rows_from 0 schema items ≡ Ok rows
       → is_repeat number (last_number application commits) ≡ Ok repeats → behind_number schema rows repeats ≡ Ok request → IsTaken next commits application number items request
   taken_with schema rows repeats request written supported rows_are number_is is =
       let e = both_done (refused_if (not repeats && is_closed application commits) stream_closed) (λ goes_on. Ok (asked schema rows repeats)) request is in
-      let same : asked schema rows repeats ≡ request = given {E = Refusal} (asked schema rows repeats) request e.2 in
+      let same : asked schema rows repeats ≡ request = given {E = AppendRefusal} (asked schema rows repeats) request e.2 in
       subst (IsTaken next commits application number items) same (record {
         schema = written;
         supported = supported;
@@ -88,7 +88,7 @@ module _ (next : ℕ) (commits : List (List actions.Action)) (application : List
       })
 
   -- the request behind the commits of a log
-  pub taken : (request : Request) → request_behind next commits application number items ≡ Ok request → IsTaken next commits application number items request
+  pub taken : (request : AppendRequest) → request_behind next commits application number items ≡ Ok request → IsTaken next commits application number items request
   unfolding request_behind
   taken request is =
       let a = both_done (refused_as read_only (writable commits)) behind_schema request is in
@@ -100,14 +100,14 @@ module _ (next : ℕ) (commits : List (List actions.Action)) (application : List
 -- ---- the batch
 
 -- a batch that a request asks for
-pub record IsAskedBy (request : Request) (application : List ℕ) (number : ℕ) (batch : Batch) : Type 0 where
+pub record IsRequestOfBatch (request : AppendRequest) (application : List ℕ) (number : ℕ) (batch : EncodedBatch) : Type 0 where
   pub version : batch.version ≡ request.version
   schema : batch.schema ≡ request.schema
   name : batch.name ≡ data_file_name application number
 
-module _ (request : Request) (application : List ℕ) (number at : ℕ) where
+module _ (request : AppendRequest) (application : List ℕ) (number at : ℕ) where
   -- the batch with this file
-  abbrev made : List ℕ → Batch
+  abbrev made : List ℕ → EncodedBatch
   made file = record {
     version = request.version;
     schema = request.schema;
@@ -117,21 +117,21 @@ module _ (request : Request) (application : List ℕ) (number at : ℕ) where
     commit = commit_text (appending application number at (file_name application number) (length file) (length request.rows));
   }
 
-  abbrev with_bytes : List ℕ → Result Batch Refusal
+  abbrev with_bytes : List ℕ → Result EncodedBatch AppendRefusal
   with_bytes file = Ok (made file)
 
   -- the batch of a request is one that it asks for
-  pub batch_asked : (batch : Batch) → batch_of request application number at ≡ Ok batch → IsAskedBy request application number batch
+  pub batch_asked : (batch : EncodedBatch) → batch_of request application number at ≡ Ok batch → IsRequestOfBatch request application number batch
   unfolding batch_of file_name
   batch_asked batch is =
       let a = both_done (file_or_refusal (written_file request.schema request.rows)) with_bytes batch is in
-      let same : made a.0 ≡ batch = given {E = Refusal} (made a.0) batch a.2 in
-      subst (IsAskedBy request application number) same (record { version = refl; schema = refl; name = refl })
+      let same : made a.0 ≡ batch = given {E = AppendRefusal} (made a.0) batch a.2 in
+      subst (IsRequestOfBatch request application number) same (record { version = refl; schema = refl; name = refl })
 
 -- ---- the step
 
 -- A batch that is put: the commits of the log, and what was found in them.
-pub record PutsBatch (objects : Objects) (application : List ℕ) (number : ℕ) (batch : Batch) : Type 0 where
+pub record PutsBatch (objects : Objects) (application : List ℕ) (number : ℕ) (batch : EncodedBatch) : Type 0 where
   pub commits : List (List actions.Action)
   pub log : log_of objects ≡ Ok commits
   pub schema : writable commits ≡ Ok batch.schema
@@ -142,38 +142,38 @@ pub record PutsBatch (objects : Objects) (application : List ℕ) (number : ℕ)
   pub fits : (fine : Unit {0}) × (unless_other batch.schema batch.rows batch.name (object_at objects batch.name) ≡ Ok fine)
 
 -- a step puts one batch
-pub put_is : (batch other : Batch) → puts batch ≡ puts other → batch ≡ other
+pub put_is : (batch other : EncodedBatch) → puts batch ≡ puts other → batch ≡ other
 put_is batch other is = cc
 
-module _ (objects : Objects) (application : List ℕ) (number at : ℕ) (batch : Batch) where
+module _ (objects : Objects) (application : List ℕ) (number at : ℕ) (batch : EncodedBatch) where
   -- what a request asked that puts a batch: its number is new, and its batch fits
-  record NewStep (request : Request) : Type 0 where
+  record NewPlan (request : AppendRequest) : Type 0 where
     new : request.repeats ≡ false
-    asked : IsAskedBy request application number batch
+    asked : IsRequestOfBatch request application number batch
     fits : (fine : Unit {0}) × (unless_other batch.schema batch.rows batch.name (object_at objects batch.name) ≡ Ok fine)
 
-  by_repeats : (request : Request) (repeats : Bool) → request.repeats ≡ repeats
-      → (if repeats then repeated_step objects request application number else new_step objects request application number at) ≡ Ok (puts batch) → NewStep request
+  by_repeats : (request : AppendRequest) (repeats : Bool) → request.repeats ≡ repeats
+      → (if repeats then repeated_plan objects request application number else new_plan objects request application number at) ≡ Ok (puts batch) → NewPlan request
   by_repeats request true again is =
       let a = both_done (where_same request.schema request.rows (file_name application number) (object_at objects (file_name application number))) (λ same. Ok stands) (puts batch) is in
-      let no : stands ≡ puts batch = given {E = Refusal} stands (puts batch) a.2 in
+      let no : stands ≡ puts batch = given {E = AppendRefusal} stands (puts batch) a.2 in
       absurd cc
   by_repeats request false new is =
-      let a = both_done (batch_of request application number at) (fitting objects) (puts batch) is in
+      let a = both_done (batch_of request application number at) (put_plan objects) (puts batch) is in
       let b = both_done (unless_other a.0.schema a.0.rows a.0.name (object_at objects a.0.name)) (λ fits. Ok (puts a.0)) (puts batch) a.2 in
-      let same : a.0 ≡ batch = put_is a.0 batch (given {E = Refusal} (puts a.0) (puts batch) b.2) in
+      let same : a.0 ≡ batch = put_is a.0 batch (given {E = AppendRefusal} (puts a.0) (puts batch) b.2) in
       record {
         new = new;
-        asked = subst (IsAskedBy request application number) same (batch_asked request application number at a.0 a.1);
-        fits = (b.0, subst (λ (found : Batch). unless_other found.schema found.rows found.name (object_at objects found.name) ≡ Ok b.0) same b.1);
+        asked = subst (IsRequestOfBatch request application number) same (batch_asked request application number at a.0 a.1);
+        fits = (b.0, subst (λ (found : EncodedBatch). unless_other found.schema found.rows found.name (object_at objects found.name) ≡ Ok b.0) same b.1);
       }
 
   -- what is done for a request
-  new_step_of : (request : Request) → step_of objects application number at request ≡ Ok (puts batch) → NewStep request
-  new_step_of request is = by_repeats request request.repeats refl is
+  new_plan_of : (request : AppendRequest) → plan_of objects application number at request ≡ Ok (puts batch) → NewPlan request
+  new_plan_of request is = by_repeats request request.repeats refl is
 
   -- the parts of what was found
-  joined : (commits : List (List actions.Action)) (items : Items) (request : Request) → log_of objects ≡ Ok commits → IsTaken (commit_count objects) commits application number items request → NewStep request → PutsBatch objects application number batch
+  joined : (commits : List (List actions.Action)) (items : Items) (request : AppendRequest) → log_of objects ≡ Ok commits → IsTaken (commit_count objects) commits application number items request → NewPlan request → PutsBatch objects application number batch
   joined commits items request log is step = record {
     commits = commits;
     log = log;
@@ -186,10 +186,10 @@ module _ (objects : Objects) (application : List ℕ) (number at : ℕ) (batch :
   }
 
   -- An append that puts a batch.
-  pub puts_batch : (items : Items) → settled false objects application number at items ≡ Ok (puts batch) → PutsBatch objects application number batch
+  pub puts_batch : (items : Items) → append_plan false objects application number at items ≡ Ok (puts batch) → PutsBatch objects application number batch
   unfolding request_of
   puts_batch items is =
-      let a = both_done (request_of false objects application number items) (step_of objects application number at) (puts batch) is in
-      let b = both_done (checked application number (items_len items)) (λ fine. refused_as bad_log (seen false objects) >>= λ commits. request_behind (commit_count objects) commits application number items) a.0 a.1 in
-      let c = both_done (refused_as bad_log (seen false objects)) (λ commits. request_behind (commit_count objects) commits application number items) a.0 b.2 in
-      joined c.0 items a.0 (told_done bad_log (seen false objects) c.0 c.1) (taken (commit_count objects) c.0 application number items a.0 c.2) (new_step_of a.0 a.2)
+      let a = both_done (request_of false objects application number items) (plan_of objects application number at) (puts batch) is in
+      let b = both_done (checked application number (items_len items)) (λ fine. refused_as bad_log (replayed false objects) >>= λ commits. request_behind (commit_count objects) commits application number items) a.0 a.1 in
+      let c = both_done (refused_as bad_log (replayed false objects)) (λ commits. request_behind (commit_count objects) commits application number items) a.0 b.2 in
+      joined c.0 items a.0 (told_done bad_log (replayed false objects) c.0 c.1) (taken (commit_count objects) c.0 application number items a.0 c.2) (new_plan_of a.0 a.2)

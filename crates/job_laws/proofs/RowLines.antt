@@ -21,10 +21,10 @@ use Rattle.schema_tree.specs.Tree.{Tree}
 use Rattle.row_core.specs.Printing.{data_of_row}
 use Rattle.row_core.specs.Rows.{Row}
 use Rattle.table_model.specs.declared.reading.Offset.{Offset}
-use Rattle.commit_core.specs.Texts.{line_of}
 use Rattle.source_core.specs.Offsets.{offset_data, offset_text}
-use Rattle.source_core.specs.Tailing.{Handed, handed_text, next_line, row_line, rows_text}
+use Rattle.source_core.specs.Tailing.{ReadRows, handed_text, next_line, row_line, rows_text}
 use Rattle.job_laws.specs.Enough.{line_count}
+use Rattle.lake_bytes.specs.Lines.{with_newline}
 
 -- ---- texts on one line
 
@@ -123,7 +123,7 @@ unended (x ∷ xs) h =
     rw (not-true (x == 10) p.0) (unended xs p.1)
 
 -- a text on one line is one, with its end
-one_line : (xs : List ℕ) → IsOneLine xs → line_count (line_of xs) ≡ 1
+one_line : (xs : List ℕ) → IsOneLine xs → line_count (with_newline xs) ≡ 1
 one_line xs h = lines_joined xs (10 ∷ []) ∙ ap (λ n. n + 1) (unended xs h)
 
 -- a line for each row
@@ -139,6 +139,6 @@ next_is_a_line : (place : Offset) → line_count (next_line place) ≡ 1
 next_is_a_line place = one_line (codes "next " ++ offset_text place) (joined (codes "next ") (offset_text place) refl (compact_line (offset_data place)))
 
 -- a reply that hands out rows has a line for each, and one more
-pub handed_lines : (schema : Tree) (handed : Handed) → line_count (handed_text schema handed) ≡ length handed.rows + 1
+pub handed_lines : (schema : Tree) (handed : ReadRows) → line_count (handed_text schema handed) ≡ length handed.rows + 1
 handed_lines schema handed =
     lines_joined (rows_text schema handed.rows) (next_line handed.next) ∙ ap₂ ◌+◌ (rows_lines schema handed.rows) (next_is_a_line handed.next)

@@ -4,7 +4,7 @@ use Rattle.std.specs.Prelude.{filter}
 use Rattle.store_core.specs.Objects.{Objects, names_of}
 use Rattle.table_log.specs.Counts.{commit_count, count_in, count_with, next_behind}
 use Rattle.table_log.specs.Names.{commit_name, commit_version}
-use Rattle.table_log.specs.Restoring.{IsSoundCheckpoint, RestoresWell, seen}
+use Rattle.table_log.specs.Restoring.{IsSoundCheckpoint, RestoresWell, replayed}
 use Rattle.table_log.specs.Versions.{Version, commits_in, commits_of, log_of, version_at, version_by, versions_from, versions_of}
 use Rattle.table_log.proofs.Callers.{named}
 use Rattle.table_folder.specs.Loads.{is_loaded, loaded}
@@ -57,8 +57,8 @@ pub same_log : (files : List (List ℕ)) (objects : Objects) → log_of (loaded 
 unfolding log_of
 same_log files objects = ap commits_of (same_versions files objects)
 
-pub same_seen : (files : List (List ℕ)) (objects : Objects) → seen false (loaded files objects) ≡ seen false objects
-same_seen files objects = same_log files objects
+pub same_replayed : (files : List (List ℕ)) (objects : Objects) → replayed false (loaded files objects) ≡ replayed false objects
+same_replayed files objects = same_log files objects
 
 -- ---- its checkpoints
 
@@ -71,6 +71,6 @@ same_sound files objects version bytes sound = record {
 }
 
 -- checkpoints that are sound are so without the other files
-pub restores : (objects : Objects) (files : List (List ℕ)) (restore : Bool) → RestoresWell restore objects → RestoresWell restore (loaded files objects)
-restores objects files restore well = λ on. λ name version bytes is stands asked.
+pub restores : (objects : Objects) (files : List (List ℕ)) (use_checkpoints : Bool) → RestoresWell use_checkpoints objects → RestoresWell use_checkpoints (loaded files objects)
+restores objects files use_checkpoints well = λ on. λ name version bytes is stands asked.
     same_sound files objects version bytes (well on name version bytes is (stands_of_loaded files objects name bytes stands) asked)

@@ -12,23 +12,23 @@ use Rattle.delta_actions.specs.Names.{data_file_name}
 use Rattle.delta_replay.specs.Support.{checkpointable, readable}
 use Rattle.table_log.specs.Counts.{commit_count}
 use Rattle.table_log.specs.Names.{commit_name}
-use Rattle.table_log.specs.Restoring.{seen}
-use Rattle.table_log.specs.InForce.{Told}
+use Rattle.table_log.specs.Restoring.{replayed}
+use Rattle.table_log.specs.InForce.{SchemaText}
 use Rattle.table_model.specs.declared.reading.Offset.{Offset}
 use Rattle.table_folder.specs.Loads.{is_loaded, loaded}
 use Rattle.commit_core.specs.Creating.{commit_from, created_by, unless_there}
 use Rattle.commit_core.specs.Histories.{history_in, history_of}
 use Rattle.snapshot_core.specs.Faults as faults
 use Rattle.sink_core.specs.Appending as appends
-use Rattle.sink_core.specs.Appending.{Batch, Request, Step, appended_by, answered, batch_of, checked, file_name, file_or_refusal, fitting, puts, request_behind, request_of, settled, stands, step_of, unless_other, where_same}
-use Rattle.sink_core.specs.Refusals.{Refusal, bad_log, too_large}
+use Rattle.sink_core.specs.Appending.{EncodedBatch, AppendRequest, AppendPlan, appended_by, plan_answer, batch_of, checked, file_name, file_or_refusal, put_plan, puts, request_behind, request_of, append_plan, stands, plan_of, unless_other, where_same}
+use Rattle.sink_core.specs.Refusals.{AppendRefusal, bad_log, too_large}
 use Rattle.source_core.specs.Offsets.{offset_of}
 use Rattle.source_core.specs.Tailing as tails
 use Rattle.source_core.specs.Tailing.{bad_offset, handed_by, handed_text, schema_at, tailed, versions_at}
 use Rattle.job_laws.specs.Looking.{IsReadFrom}
 use Rattle.job_laws.proofs.Loaded.{commit_loaded, loaded_at}
 use Rattle.job_laws.proofs.LoadedItems.{AddsLoaded, handed_alike, schema_alike, versions_alike}
-use Rattle.job_laws.proofs.SameLogs.{same_count, same_seen, same_versions}
+use Rattle.job_laws.proofs.SameLogs.{same_count, same_replayed, same_versions}
 
 -- ---- steps of which one may be refused
 
@@ -55,16 +55,16 @@ file_named application number = refl
 pub same_request : (files : List (List ℕ)) (objects : Objects) (application : List ℕ) (number : ℕ) (items : Items) → request_of false (loaded files objects) application number items ≡ request_of false objects application number items
 unfolding request_of
 same_request files objects application number items =
-    ap (λ (log : Result (List (List Action)) ℕ). checked application number (items_len items) >>= λ fine. refused_as bad_log log >>= λ commits. request_behind (commit_count (loaded files objects)) commits application number items) (same_seen files objects)
-    ∙ ap (λ (next : ℕ). checked application number (items_len items) >>= λ fine. refused_as bad_log (seen false objects) >>= λ commits. request_behind next commits application number items) (same_count files objects)
+    ap (λ (log : Result (List (List Action)) ℕ). checked application number (items_len items) >>= λ fine. refused_as bad_log log >>= λ commits. request_behind (commit_count (loaded files objects)) commits application number items) (same_replayed files objects)
+    ∙ ap (λ (next : ℕ). checked application number (items_len items) >>= λ fine. refused_as bad_log (replayed false objects) >>= λ commits. request_behind next commits application number items) (same_count files objects)
 
 -- a batch that is made in steps has its name
-made_named : (name : List ℕ) (file : Result (List ℕ) Refusal) (make : List ℕ → Batch) → ((bytes : List ℕ) → (make bytes).name ≡ name) → (batch : Batch) → (file >>= λ bytes. Ok (make bytes)) ≡ Ok batch → batch.name ≡ name
+made_named : (name : List ℕ) (file : Result (List ℕ) AppendRefusal) (make : List ℕ → EncodedBatch) → ((bytes : List ℕ) → (make bytes).name ≡ name) → (batch : EncodedBatch) → (file >>= λ bytes. Ok (make bytes)) ≡ Ok batch → batch.name ≡ name
 made_named name (Err refusal) make all batch is = cc
 made_named name (Ok bytes) make all batch is = let same : make bytes ≡ batch = cc in ap (λ b. b.name) (sym same) ∙ all bytes
 
 -- a batch is put under the name of its file
-batch_named : (request : Request) (application : List ℕ) (number at : ℕ) (batch : Batch) → batch_of request application number at ≡ Ok batch → batch.name ≡ file_name application number
+batch_named : (request : AppendRequest) (application : List ℕ) (number at : ℕ) (batch : EncodedBatch) → batch_of request application number at ≡ Ok batch → batch.name ≡ file_name application number
 unfolding batch_of
 batch_named request application number at batch is = made_named (file_name application number) _ _ (λ bytes. refl) batch is
 
@@ -75,25 +75,25 @@ module _ (files : List (List ℕ)) (objects : Objects) (application : List ℕ) 
   same_file = loaded_at files objects (file_name application number) (ap (is_loaded files) (file_named application number) ∙ own)
 
   -- a batch fits as it did
-  same_fitting : (batch : Batch) → batch.name ≡ file_name application number → fitting (loaded files objects) batch ≡ fitting objects batch
-  same_fitting batch is =
+  same_put_plan : (batch : EncodedBatch) → batch.name ≡ file_name application number → put_plan (loaded files objects) batch ≡ put_plan objects batch
+  same_put_plan batch is =
       ap (λ (found : Option (List ℕ)). unless_other batch.schema batch.rows batch.name found >>= λ fits. Ok (puts batch))
       (ap (object_at (loaded files objects)) is ∙ same_file ∙ ap (object_at objects) (sym is))
 
-  same_step : (request : Request) → step_of (loaded files objects) application number at request ≡ step_of objects application number at request
-  same_step request = by_case request.repeats
+  same_plan : (request : AppendRequest) → plan_of (loaded files objects) application number at request ≡ plan_of objects application number at request
+  same_plan request = by_case request.repeats
     where
-      by_case : (repeats : Bool) → cond repeats (appends.repeated_step (loaded files objects) request application number) (appends.new_step (loaded files objects) request application number at)
-          ≡ cond repeats (appends.repeated_step objects request application number) (appends.new_step objects request application number at)
+      by_case : (repeats : Bool) → cond repeats (appends.repeated_plan (loaded files objects) request application number) (appends.new_plan (loaded files objects) request application number at)
+          ≡ cond repeats (appends.repeated_plan objects request application number) (appends.new_plan objects request application number at)
       by_case true = ap (λ (found : Option (List ℕ)). where_same request.schema request.rows (file_name application number) found >>= λ same. Ok stands) same_file
-      by_case false = same_after (batch_of request application number at) (fitting (loaded files objects)) (fitting objects) (λ batch is. same_fitting batch (batch_named request application number at batch is))
+      by_case false = same_after (batch_of request application number at) (put_plan (loaded files objects)) (put_plan objects) (λ batch is. same_put_plan batch (batch_named request application number at batch is))
 
 -- what an append does
-pub same_settled : (files : List (List ℕ)) (objects : Objects) (application : List ℕ) (number at : ℕ) (items : Items) → is_loaded files (data_file_name application number) ≡ true
-    → settled false (loaded files objects) application number at items ≡ settled false objects application number at items
-same_settled files objects application number at items own =
-    ap (λ (request : Result Request Refusal). request >>= step_of (loaded files objects) application number at) (same_request files objects application number items)
-    ∙ same_after (request_of false objects application number items) (step_of (loaded files objects) application number at) (step_of objects application number at) (λ request is. same_step files objects application number at own request)
+pub same_append_plan : (files : List (List ℕ)) (objects : Objects) (application : List ℕ) (number at : ℕ) (items : Items) → is_loaded files (data_file_name application number) ≡ true
+    → append_plan false (loaded files objects) application number at items ≡ append_plan false objects application number at items
+same_append_plan files objects application number at items own =
+    ap (λ (request : Result AppendRequest AppendRefusal). request >>= plan_of (loaded files objects) application number at) (same_request files objects application number items)
+    ∙ same_after (request_of false objects application number items) (plan_of (loaded files objects) application number at) (plan_of objects application number at) (λ request is. same_plan files objects application number at own request)
 
 -- behind a put, a name that is loaded stands as it does behind the put over all objects
 pub same_behind_put : (files : List (List ℕ)) (objects : Objects) (name bytes other : List ℕ) → is_loaded files other ≡ true → object_at (with_object (loaded files objects) name bytes) other ≡ object_at (with_object objects name bytes) other
@@ -117,7 +117,7 @@ same_behind_put files objects name bytes other own = by_case (bytes_eq other nam
         apart e is = let same : bytes_eq other name ≡ true = (bytes_eq-Decides other name).1 is in absurd cc
 
 -- what is answered to it
-same_answered : (files : List (List ℕ)) (objects : Objects) (number : ℕ) (step : Step) → answered (loaded files objects) number step ≡ answered objects number step
+same_answered : (files : List (List ℕ)) (objects : Objects) (number : ℕ) (step : AppendPlan) → plan_answer (loaded files objects) number step ≡ plan_answer objects number step
 same_answered files objects number (puts batch) =
     ap (λ (found : Option (List ℕ)). refused_if (appends.is_past batch.version) too_large >>= λ small. appends.unless_there batch.version found)
     (same_behind_put files objects batch.name batch.file (commit_name batch.version) (commit_loaded files batch.version))
@@ -127,20 +127,20 @@ same_answered files objects number stands = refl
 pub same_appended : (files : List (List ℕ)) (objects : Objects) (application : List ℕ) (number at : ℕ) (items : Items) → is_loaded files (data_file_name application number) ≡ true
     → appended_by false (loaded files objects) application number at items ≡ appended_by false objects application number at items
 same_appended files objects application number at items own =
-    ap (λ (step : Result Step Refusal). step >>= answered (loaded files objects) number) (same_settled files objects application number at items own)
-    ∙ same_after (settled false objects application number at items) (answered (loaded files objects) number) (answered objects number) (λ step is. same_answered files objects number step)
+    ap (λ (step : Result AppendPlan AppendRefusal). step >>= plan_answer (loaded files objects) number) (same_append_plan files objects application number at items own)
+    ∙ same_after (append_plan false objects application number at items) (plan_answer (loaded files objects) number) (plan_answer objects number) (λ step is. same_answered files objects number step)
 
 -- ---- checkpoints, snapshots and the versions of a log
 
 -- the commits of which a checkpoint may be put
 pub same_checked : (files : List (List ℕ)) (objects : Objects) → faults.checked false (loaded files objects) ≡ faults.checked false objects
 same_checked files objects =
-    ap (λ (log : Result (List (List Action)) ℕ). refused_as faults.bad_log log >>= λ commits. refused_as faults.unsupported (checkpointable commits) >>= λ fine. Ok commits) (same_seen files objects)
+    ap (λ (log : Result (List (List Action)) ℕ). refused_as faults.bad_log log >>= λ commits. refused_as faults.unsupported (checkpointable commits) >>= λ fine. Ok commits) (same_replayed files objects)
 
 -- the commits of a log whose table is read
 pub same_readable : (files : List (List ℕ)) (objects : Objects) → faults.readable_log false (loaded files objects) ≡ faults.readable_log false objects
 same_readable files objects =
-    ap (λ (log : Result (List (List Action)) ℕ). refused_as faults.bad_log log >>= λ commits. refused_as faults.unsupported (readable commits) >>= λ schema. Ok commits) (same_seen files objects)
+    ap (λ (log : Result (List (List Action)) ℕ). refused_as faults.bad_log log >>= λ commits. refused_as faults.unsupported (readable commits) >>= λ schema. Ok commits) (same_replayed files objects)
 
 -- what is told of its versions
 pub same_history : (files : List (List ℕ)) (objects : Objects) → history_of (loaded files objects) ≡ history_of objects
@@ -161,12 +161,12 @@ adds_loaded : (files : List (List ℕ)) (objects : Objects) (offset : List ℕ) 
 adds_loaded files objects offset place read all = record { each = λ version name has from small. all name (record { place = place; read = read; version = version; from = from; small = small; added = has }) }
 
 -- what a read is told from a place on
-abbrev tailed_from : Objects → (max : ℕ) → Offset → Result (List ℕ) tails.Refusal
+abbrev tailed_from : Objects → (max : ℕ) → Offset → Result (List ℕ) tails.ReadRefusal
 tailed_from objects max place = schema_at false objects place >>= λ told. handed_by objects told (versions_at false objects place) max place >>= λ handed. Ok (handed_text told.schema handed)
 
 same_from : (files : List (List ℕ)) (objects : Objects) (max : ℕ) (place : Offset) → AddsLoaded objects place files → tailed_from (loaded files objects) max place ≡ tailed_from objects max place
 same_from files objects max place adds =
-    let handed : (told : Told) → handed_by (loaded files objects) told (versions_at false objects place) max place ≡ handed_by objects told (versions_at false objects place) max place = λ told. handed_alike files objects told max place adds in
+    let handed : (told : SchemaText) → handed_by (loaded files objects) told (versions_at false objects place) max place ≡ handed_by objects told (versions_at false objects place) max place = λ told. handed_alike files objects told max place adds in
     (λ i. schema_alike files objects place i >>= λ told. handed_by (loaded files objects) told (versions_alike files objects place i) max place >>= λ handed. Ok (handed_text told.schema handed))
     ∙ (λ i. schema_at false objects place >>= λ told. handed told i >>= λ handed. Ok (handed_text told.schema handed))
 

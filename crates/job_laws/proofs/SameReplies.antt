@@ -15,11 +15,11 @@ use Rattle.lake_script.specs.Checkpoints.{by_log, checkpoint_by, checkpoint_of, 
 use Rattle.script_lines.specs.Lines.{append, checkpoint, close, tail, Statement, create, die, fault, finish, foreign, hex, history, land, show, snapshot, start, step, task, tries, until}
 use Rattle.lake_script.specs.Replies.{put_word}
 use Rattle.lake_script.specs.Told.{appended_reply, created_reply, in_hex, reply_to_statement, shown, tailed_reply, IsPrintedStatement}
-use Rattle.commit_core.specs.Texts.{line_of}
 use Rattle.job_laws.specs.Looking.{LooksWithin}
 use Rattle.job_laws.proofs.Loaded.{commit_loaded, loaded_at}
-use Rattle.job_laws.proofs.SameLogs.{same_count, same_seen}
+use Rattle.job_laws.proofs.SameLogs.{same_count, same_replayed}
 use Rattle.job_laws.proofs.SameReads.{same_appended, same_checked, same_created, same_history, same_readable, same_tailed}
+use Rattle.lake_bytes.specs.Lines.{with_newline}
 
 -- ---- what lines are told
 
@@ -54,7 +54,7 @@ same_reply objects (step actor kind) files printed within = refl
 same_reply objects (finish actor) files printed within = refl
 same_reply objects (die actor) files printed within = refl
 same_reply objects (land put) files printed within = refl
-same_reply objects (foreign version action) files printed within = ap (λ (found : Option (List ℕ)). line_of (put_word found)) (same_commit files objects version)
+same_reply objects (foreign version action) files printed within = ap (λ (found : Option (List ℕ)). with_newline (put_word found)) (same_commit files objects version)
 
 -- ---- the texts that stand beside lines
 
@@ -75,7 +75,7 @@ newest_printed files objects log bytes is =
 snapshot_printed : (files : List (List ℕ)) (objects : Objects) (text : List ℕ) → TellsSnapshot false (loaded files objects) text → TellsSnapshot false objects text
 snapshot_printed files objects text tells = record {
   commits = tells.commits;
-  read = sym (same_seen files objects) ∙ tells.read;
+  read = sym (same_replayed files objects) ∙ tells.read;
   schema = tells.schema;
   supported = tells.supported;
   version = tells.version;

@@ -10,19 +10,19 @@ use Rattle.table_folder.specs.Loads.{is_loaded, loaded}
 use Rattle.table_log.specs.Names.{commit_name}
 use Rattle.commit_core.specs.Creating as creations
 use Rattle.commit_core.specs.Creating.{IsPut, commit_from}
-use Rattle.commit_core.specs.Texts.{line_of}
 use Rattle.snapshot_core.specs.Taking.{HasPut, PutsCheckpoint}
-use Rattle.sink_core.specs.Appending.{Batch, IsWellMade, MayAppend, Step, is_past, puts, stands, settled, with_append, with_file}
-use Rattle.sink_core.specs.Refusals.{Refusal}
+use Rattle.sink_core.specs.Appending.{EncodedBatch, IsWellMade, MayAppend, AppendPlan, is_past, puts, stands, append_plan, with_append, with_file}
+use Rattle.sink_core.specs.Refusals.{AppendRefusal}
 use Rattle.lake_script.specs.Growth.{MayPut, MayPutCheckpoint}
 use Rattle.script_lines.specs.Lines.{append, checkpoint, Statement, create, task, foreign}
 use Rattle.job_laws.specs.Looking.{LooksWithin}
 use Rattle.job_laws.proofs.Loaded.{checkpoint_loaded, commit_loaded}
 use Rattle.job_laws.proofs.NameKinds.{commit_is_commit, file_is_data}
-use Rattle.job_laws.proofs.OwnSteps.{IsOwn, PutsOwn, settled_own}
-use Rattle.job_laws.proofs.SameLogs.{same_count, same_seen}
-use Rattle.job_laws.proofs.SameReads.{same_settled}
+use Rattle.job_laws.proofs.OwnSteps.{IsOwn, PutsOwn, own_append_plan}
+use Rattle.job_laws.proofs.SameLogs.{same_count, same_replayed}
+use Rattle.job_laws.proofs.SameReads.{same_append_plan}
 use Rattle.job_laws.proofs.SavedPuts.{none_saved, one_saved, two_saved}
+use Rattle.lake_bytes.specs.Lines.{with_newline}
 
 -- a front of what was put over the files that are loaded was saved beside all objects
 abbrev IsSaved : (files : List (List ℕ)) → (objects after new : Objects) → Type 0
@@ -35,7 +35,7 @@ own_commit version is = is
 
 -- ---- creations
 
-commit_saved : (files : List (List ℕ)) (objects after new : Objects) (at : ℕ) (schema : List ℕ) (commit : Result (List ℕ) creations.Refusal) → IsInOrder objects → IsPut at schema commit (loaded files objects) after → IsSaved files objects after new
+commit_saved : (files : List (List ℕ)) (objects after new : Objects) (at : ℕ) (schema : List ℕ) (commit : Result (List ℕ) creations.CreateRefusal) → IsInOrder objects → IsPut at schema commit (loaded files objects) after → IsSaved files objects after new
     → (new ≡ objects) ⊎ IsPut at schema commit objects new
 commit_saved files objects after new at schema (Ok bytes) order put front = by_case (one_saved files objects after new (commit_name 0) bytes order (commit_loaded files 0) put.1 front)
   where
@@ -56,7 +56,7 @@ creation_saved files objects after new id at schema printed order put front = by
 
 module _ (files : List (List ℕ)) (objects after new : Objects) (application : List ℕ) (number at : ℕ) (order : IsInOrder objects) (own_file : is_loaded files (data_file_name application number) ≡ true) (front : IsSaved files objects after new) where
   -- a batch's file alone
-  file_saved : (batch : Batch) → IsOwn application number batch → IsWellMade application number at batch → after ≡ with_file (loaded files objects) batch → MayAppend application number at (Ok (puts batch)) objects new
+  file_saved : (batch : EncodedBatch) → IsOwn application number batch → IsWellMade application number at batch → after ≡ with_file (loaded files objects) batch → MayAppend application number at (Ok (puts batch)) objects new
   file_saved batch own well alone =
       by_case (one_saved files objects after new batch.name batch.file order (ap (is_loaded files) own.name ∙ own_file) alone front)
     where
@@ -65,7 +65,7 @@ module _ (files : List (List ℕ)) (objects after new : Objects) (application : 
       by_case (inr put) = inr (well, inl put)
 
   -- its file and its commit, whose version a commit may have
-  both_saved : (batch : Batch) → IsOwn application number batch → IsWellMade application number at batch → is_past batch.version ≡ false
+  both_saved : (batch : EncodedBatch) → IsOwn application number batch → IsWellMade application number at batch → is_past batch.version ≡ false
       → after ≡ with_object (with_file (loaded files objects) batch) (commit_name batch.version) batch.commit → MayAppend application number at (Ok (puts batch)) objects new
   both_saved batch own well small whole =
       by_case (two_saved files objects after batch.name batch.file (commit_name batch.version) batch.commit order (ap (is_loaded files) own.name ∙ own_file) (commit_loaded files batch.version)
@@ -80,7 +80,7 @@ module _ (files : List (List ℕ)) (objects after new : Objects) (application : 
       by_case (inr (inl put)) = inr (well, inl put)
       by_case (inr (inr both)) = inr (well, inr (both ∙ sym whole_is))
 
-  append_saved : (step : Result Step Refusal) → PutsOwn application number step → MayAppend application number at step (loaded files objects) after → MayAppend application number at step objects new
+  append_saved : (step : Result AppendPlan AppendRefusal) → PutsOwn application number step → MayAppend application number at step (loaded files objects) after → MayAppend application number at step objects new
   append_saved step own (inl same) = inl (none_saved files objects after new same front)
   append_saved (Ok (puts batch)) own (inr (well, inl alone)) = file_saved batch own well alone
   append_saved (Ok (puts batch)) own (inr (well, inr whole)) = by_version (is_past batch.version) refl whole
@@ -101,7 +101,7 @@ module _ (files : List (List ℕ)) (objects after new : Objects) (application : 
 pub puts_too : (files : List (List ℕ)) (objects : Objects) (version : ℕ) (name bytes : List ℕ) → PutsCheckpoint false (loaded files objects) version name bytes → PutsCheckpoint false objects version name bytes
 puts_too files objects version name bytes p = record {
   commits = p.commits;
-  read = sym (same_seen files objects) ∙ p.read;
+  read = sym (same_replayed files objects) ∙ p.read;
   supported = p.supported;
   id = p.id;
   of_table = p.of_table;
@@ -126,11 +126,11 @@ saved objects after new (create id at schema) files order within (inl same) fron
 saved objects after new (create id at schema) files order within (inr (printed, put)) front = creation_saved files objects after new id at schema printed order put front
 saved objects after new (task (append application number at items)) files order within put front = (
   put.0,
-  append_saved files objects after new application number at order (within (data_file_name application number) refl) front (settled false objects application number at items) (settled_own false objects application number at items)
-      (subst (λ (step : Result Step Refusal). MayAppend application number at step (loaded files objects) after) (same_settled files objects application number at items (within (data_file_name application number) refl)) put.1),
+  append_saved files objects after new application number at order (within (data_file_name application number) refl) front (append_plan false objects application number at items) (own_append_plan false objects application number at items)
+      (subst (λ (step : Result AppendPlan AppendRefusal). MayAppend application number at step (loaded files objects) after) (same_append_plan files objects application number at items (within (data_file_name application number) refl)) put.1),
 )
 saved objects after new (task checkpoint) files order within (inl same) front = inl (none_saved files objects after new same front)
 saved objects after new (task checkpoint) files order within (inr (version, put)) front = checkpoint_saved files objects after new version order put front
 saved objects after new (foreign version action) files order within (inl same) front = inl (none_saved files objects after new same front)
-saved objects after new (foreign version action) files order within (inr put) front = one_saved files objects after new (commit_name version) (line_of action) order (commit_loaded files version) put front
+saved objects after new (foreign version action) files order within (inr put) front = one_saved files objects after new (commit_name version) (with_newline action) order (commit_loaded files version) put front
 saved objects after new _ files order within same front = none_saved files objects after new same front

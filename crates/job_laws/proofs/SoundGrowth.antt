@@ -12,8 +12,8 @@ use Rattle.table_store.specs.Commits.{IsCommitOf}
 use Rattle.table_store.specs.Sound.{IsAdmissible, IsSound}
 use Rattle.table_store.proofs.SoundLemmas.{sound_commit, sound_data_file}
 use Rattle.commit_core.specs.Commits.{creation as created}
-use Rattle.commit_core.specs.Creating.{CreatesWell, IsWellCreated, MayCreate, Refusal, commit_from, with_creation}
-use Rattle.sink_core.specs.Appending.{Batch, IsWellMade, MayAppend, PutsWell, Step, is_past, puts, settled, stands, with_append, with_file, with_file_alone}
+use Rattle.commit_core.specs.Creating.{CreatesWell, IsWellCreated, MayCreate, CreateRefusal, commit_from, with_creation}
+use Rattle.sink_core.specs.Appending.{EncodedBatch, IsWellMade, MayAppend, PutsWell, AppendPlan, is_past, puts, append_plan, stands, with_append, with_file, with_file_alone}
 use Rattle.sink_core.specs.Refusals as sink
 use Rattle.table_model.proofs.Callers.{new_is_lawful}
 use Rattle.job_laws.proofs.Admissible.{admissible}
@@ -36,7 +36,7 @@ admissible_creation objects at schema bytes well =
     record { schema = well.read; entries = []; entry = creation; stand = tt; at = refl; fits = omega arith; commit = commit_created at schema bytes well; files = tt; lawful = new_is_lawful }
 
 -- what a creation puts leaves a sound store sound
-creation_sound : (objects : Objects) (at : ℕ) (schema : List ℕ) (commit : Result (List ℕ) Refusal) → CreatesWell at schema commit → IsSound objects → IsSound (with_creation objects commit)
+creation_sound : (objects : Objects) (at : ℕ) (schema : List ℕ) (commit : Result (List ℕ) CreateRefusal) → CreatesWell at schema commit → IsSound objects → IsSound (with_creation objects commit)
 unfolding commit_name
 creation_sound objects at schema (Ok bytes) well sound = sound_commit objects 0 bytes sound (admissible_creation objects at schema bytes well)
 creation_sound objects at schema (Err why) well sound = sound
@@ -51,30 +51,30 @@ create_sound objects new id at schema (inr (printed, put)) sound = subst IsSound
 module _ (objects : Objects) (sound : IsSound objects) (application : List ℕ) (number at : ℕ) (items : Items)
     (are : (bytes : List ℕ) → object_at objects (names.data_file_name application number) ≡ Some bytes → IsBytes bytes) where
   -- the file of a batch leaves a sound store sound
-  file_sound : (batch : Batch) → PutsBatch objects application number batch → IsSound (with_file objects batch)
+  file_sound : (batch : EncodedBatch) → PutsBatch objects application number batch → IsSound (with_file objects batch)
   file_sound batch found = rw found.name (sound_data_file objects application batch.file number sound)
 
   -- a step's file alone
-  alone_sound : (step : Result Step sink.Refusal) → settled false objects application number at items ≡ step → IsSound (with_file_alone objects step)
+  alone_sound : (step : Result AppendPlan sink.AppendRefusal) → append_plan false objects application number at items ≡ step → IsSound (with_file_alone objects step)
   alone_sound (Ok (puts batch)) is = file_sound batch (puts_batch objects application number at batch items is)
   alone_sound (Ok stands) is = sound
   alone_sound (Err why) is = sound
 
   -- the file with the commit, where a commit can have its version; otherwise the file alone
-  batch_sound : (batch : Batch) → IsWellMade application number at batch → PutsBatch objects application number batch → (past : Bool) → is_past batch.version ≡ past → IsSound (with_append objects (Ok (puts batch)))
+  batch_sound : (batch : EncodedBatch) → IsWellMade application number at batch → PutsBatch objects application number batch → (past : Bool) → is_past batch.version ≡ past → IsSound (with_append objects (Ok (puts batch)))
   unfolding commit_name
   batch_sound batch well found true is = rw is (file_sound batch found)
   batch_sound batch well found false is =
       rw is (sound_commit (with_file objects batch) batch.version batch.commit (file_sound batch found) (admissible objects application number at batch well are sound (ltb-false greatest_version batch.version is) found))
 
   -- whatever the step puts
-  whole_sound : (step : Result Step sink.Refusal) → settled false objects application number at items ≡ step → PutsWell application number at step → IsSound (with_append objects step)
+  whole_sound : (step : Result AppendPlan sink.AppendRefusal) → append_plan false objects application number at items ≡ step → PutsWell application number at step → IsSound (with_append objects step)
   whole_sound (Ok (puts batch)) is well = batch_sound batch well (puts_batch objects application number at batch items is) (is_past batch.version) refl
   whole_sound (Ok stands) is well = sound
   whole_sound (Err why) is well = sound
 
   -- whatever an append puts
-  pub append_sound : (new : Objects) → MayAppend application number at (settled false objects application number at items) objects new → IsSound new
+  pub append_sound : (new : Objects) → MayAppend application number at (append_plan false objects application number at items) objects new → IsSound new
   append_sound new (inl same) = subst IsSound (sym same) sound
-  append_sound new (inr (well, inl alone)) = subst IsSound (sym alone) (alone_sound (settled false objects application number at items) refl)
-  append_sound new (inr (well, inr whole)) = subst IsSound (sym whole) (whole_sound (settled false objects application number at items) refl well)
+  append_sound new (inr (well, inl alone)) = subst IsSound (sym alone) (alone_sound (append_plan false objects application number at items) refl)
+  append_sound new (inr (well, inr whole)) = subst IsSound (sym whole) (whole_sound (append_plan false objects application number at items) refl well)

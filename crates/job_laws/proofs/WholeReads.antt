@@ -7,8 +7,8 @@ use Rattle.schema_tree.specs.Tree.{Tree}
 use Rattle.row_core.specs.Rows.{Row}
 use Rattle.store_core.specs.Objects.{Objects, object_at}
 use Rattle.parquet_file.specs.Reading.{rows_at}
-use Rattle.commit_core.specs.Texts.{line_of, refused}
-use Rattle.table_log.specs.InForce.{Told}
+use Rattle.commit_core.specs.Texts.{refused}
+use Rattle.table_log.specs.InForce.{SchemaText}
 use Rattle.table_log.specs.Reads.{first_standing}
 use Rattle.table_log.specs.Versions.{Version}
 use Rattle.table_model.specs.declared.reading.Offset.{Offset}
@@ -16,7 +16,7 @@ use Rattle.table_store.specs.Groups.{new_files}
 use Rattle.table_folder.specs.Loads.{is_loaded, loaded}
 use Rattle.source_core.specs.Offsets.{offset_of}
 use Rattle.source_core.specs.TailFaults.{refusal_text}
-use Rattle.source_core.specs.Tailing.{Handed, Item, LogFile, Refusal, actions_in, bad_offset, behind, data_file, end_of, ended, hand, hand_on, handed_by, handed_text, is_done, items_at, memory, missing_file, or_bad_file, rows_behind, rows_left, rows_of, schema_at, tailed, unless_beyond, unless_gone, unless_no_file, unless_removed, version_fault, versions_at}
+use Rattle.source_core.specs.Tailing.{ReadRows, Item, LogFile, ReadRefusal, actions_in, bad_offset, offset_behind_rows, data_file, end_of, ended, hand, hand_on, handed_by, handed_text, is_done, items_at, memory, missing_file, or_bad_file, rows_behind, rows_left, file_rows, schema_at, tailed, unless_beyond, unless_gone, unless_no_file, unless_removed, version_fault, versions_at}
 use Rattle.script_lines.specs.Lines.{task, tail}
 use Rattle.lake_script.specs.Runs.{Executes}
 use Rattle.lake_script.specs.Told.{tailed_reply}
@@ -24,6 +24,7 @@ use Rattle.job_laws.specs.Enough.{HasRows, line_count}
 use Rattle.job_laws.proofs.Loaded.{found_loaded}
 use Rattle.job_laws.proofs.LoadedItems.{left_alike, schema_alike, versions_alike}
 use Rattle.job_laws.proofs.RowLines.{handed_lines}
+use Rattle.lake_bytes.specs.Lines.{with_newline}
 
 -- ---- steps of which one may be refused
 
@@ -36,13 +37,13 @@ onward (Err e) f g b on is = absurd cc
 
 -- a file that isn't loaded is missing
 not_loaded : (files : List (List ℕ)) (objects : Objects) (schema : Tree) (file : LogFile) (skip : ℕ) → is_loaded files file.path.key ≡ false → rows_left (loaded files objects) schema file skip ≡ Err (missing_file file.path.text)
-unfolding rows_of
+unfolding file_rows
 not_loaded files objects schema file skip not =
     let none : object_at (loaded files objects) file.path.key ≡ None = found_loaded files objects file.path.key ∙ ap (λ b. cond b (object_at objects file.path.key) None) not in
     ap (λ (found : Option (List ℕ)). (or_refusal found (missing_file file.path.text) >>= λ bytes. or_bad_file file (rows_at bytes schema)) >>= rows_behind skip file.version) none
 
 -- A read that isn't done doesn't come behind a missing file to all its rows, but at the first file.
-ends_short : (most skip : ℕ) (rows : List Row) (next : Offset) (path : List ℕ) (handed : Handed) → is_done most skip ≡ false → (rows ≡ []) ⊎ (skip ≡ 0)
+ends_short : (most skip : ℕ) (rows : List Row) (next : Offset) (path : List ℕ) (handed : ReadRows) → is_done most skip ≡ false → (rows ≡ []) ⊎ (skip ≡ 0)
     → hand_on most rows next (Err (missing_file path)) (λ part. Ok handed) ≡ Ok handed → length rows + most ≤ length handed.rows → ⊥
 ends_short most skip [] next path handed going first is all = cc
 ends_short most skip (row ∷ rows) next path handed going (inl none) is all = cc
@@ -51,25 +52,25 @@ ends_short most skip (row ∷ rows) next path handed going (inr at) is all =
     by_most most (subst (λ s. is_done most s ≡ false) at going) (omega (arith, all, same))
   where
     ended_rows : ended (row ∷ rows) next (missing_file path) ≡ Ok handed → length (row ∷ rows) ≡ length handed.rows
-    ended_rows e = let one : record { rows = row ∷ rows; next = next } ≡ handed = cc in ap (λ (h : Handed). length h.rows) one
+    ended_rows e = let one : record { rows = row ∷ rows; next = next } ≡ handed = cc in ap (λ (h : ReadRows). length h.rows) one
 
     by_most : (n : ℕ) → is_done n 0 ≡ false → n ≤ 0 → ⊥
     by_most zero going none = cc
     by_most (suc n) going none = absurd (omega (arith, none))
 
 -- what is handed out of items over some data files, where all rows were found, is handed out over all
-hand_part : (files : List (List ℕ)) (objects : Objects) (schema : Tree) (end : Offset) (items : List Item) (most skip : ℕ) (rows : List Row) (next : Offset) (handed : Handed) → (rows ≡ []) ⊎ (skip ≡ 0)
+hand_part : (files : List (List ℕ)) (objects : Objects) (schema : Tree) (end : Offset) (items : List Item) (most skip : ℕ) (rows : List Row) (next : Offset) (handed : ReadRows) → (rows ≡ []) ⊎ (skip ≡ 0)
     → hand (loaded files objects) schema end most skip rows next items ≡ Ok handed → length rows + most ≤ length handed.rows
     → hand objects schema end most skip rows next items ≡ Ok handed
 unfolding hand
 hand_part files objects schema end [] most skip rows next handed first is all = is
 hand_part files objects schema end (version_fault version refusal ∷ items) most skip rows next handed first is all = is
 hand_part files objects schema end (data_file f ∷ items) most skip rows next handed first is all =
-    by_done (λ part low was. hand_part files objects schema end items (most - length part) 0 (rows ++ part) (behind f skip part next) handed (inr refl) was (omega (arith, all, low, length-append rows part)))
+    by_done (λ part low was. hand_part files objects schema end items (most - length part) 0 (rows ++ part) (offset_behind_rows f skip part next) handed (inr refl) was (omega (arith, all, low, length-append rows part)))
     (is_done most skip) refl is
   where
-    over : Objects → List Row → Result Handed Refusal
-    over o part = hand o schema end (most - length part) 0 (rows ++ part) (behind f skip part next) items
+    over : Objects → List Row → Result ReadRows ReadRefusal
+    over o part = hand o schema end (most - length part) 0 (rows ++ part) (offset_behind_rows f skip part next) items
 
     IsLater : Type 0
     IsLater = (part : List Row) → length part ≤ most → over (loaded files objects) part ≡ Ok handed → over objects part ≡ Ok handed
@@ -79,16 +80,16 @@ hand_part files objects schema end (data_file f ∷ items) most skip rows next h
     taken (suc n) [] = omega arith
     taken (suc n) (row ∷ found) = omega (arith, taken n found)
 
-    by_rows : IsLater → (read : Result (List Row) Refusal) → hand_on most rows next read (over (loaded files objects)) ≡ Ok handed → hand_on most rows next read (over objects) ≡ Ok handed
+    by_rows : IsLater → (read : Result (List Row) ReadRefusal) → hand_on most rows next read (over (loaded files objects)) ≡ Ok handed → hand_on most rows next read (over objects) ≡ Ok handed
     by_rows later (Ok found) is = later (take most found) (taken most found) is
     by_rows later (Err refusal) is = is
 
     by_loaded : IsLater → is_done most skip ≡ false → (own : Bool) → is_loaded files f.path.key ≡ own → hand_on most rows next (rows_left (loaded files objects) schema f skip) (over (loaded files objects)) ≡ Ok handed
         → hand_on most rows next (rows_left objects schema f skip) (over objects) ≡ Ok handed
-    by_loaded later going true own is = by_rows later (rows_left objects schema f skip) (subst (λ (read : Result (List Row) Refusal). hand_on most rows next read (over (loaded files objects)) ≡ Ok handed) (left_alike files objects schema f skip own) is)
+    by_loaded later going true own is = by_rows later (rows_left objects schema f skip) (subst (λ (read : Result (List Row) ReadRefusal). hand_on most rows next read (over (loaded files objects)) ≡ Ok handed) (left_alike files objects schema f skip own) is)
     by_loaded later going false own is =
         absurd (ends_short most skip rows next f.path.text handed going first
-        (subst (λ (read : Result (List Row) Refusal). hand_on most rows next read (over (loaded files objects)) ≡ Ok handed) (not_loaded files objects schema f skip own) is) all)
+        (subst (λ (read : Result (List Row) ReadRefusal). hand_on most rows next read (over (loaded files objects)) ≡ Ok handed) (not_loaded files objects schema f skip own) is) all)
 
     by_done : IsLater → (done : Bool) → is_done most skip ≡ done → cond done (Ok (record { rows = rows; next = next })) (hand_on most rows next (rows_left (loaded files objects) schema f skip) (over (loaded files objects))) ≡ Ok handed
         → cond done (Ok (record { rows = rows; next = next })) (hand_on most rows next (rows_left objects schema f skip) (over objects)) ≡ Ok handed
@@ -96,7 +97,7 @@ hand_part files objects schema end (data_file f ∷ items) most skip rows next h
     by_done later false d is = by_loaded later d (is_loaded files f.path.key) refl is
 
 -- the rows of a log from a place on
-handed_part : (files : List (List ℕ)) (objects : Objects) (told : Told) (versions : List Version) (max : ℕ) (place : Offset) (handed : Handed) → handed_by (loaded files objects) told versions max place ≡ Ok handed → max ≤ length handed.rows
+handed_part : (files : List (List ℕ)) (objects : Objects) (told : SchemaText) (versions : List Version) (max : ℕ) (place : Offset) (handed : ReadRows) → handed_by (loaded files objects) told versions max place ≡ Ok handed → max ≤ length handed.rows
     → handed_by objects told versions max place ≡ Ok handed
 unfolding handed_by
 handed_part files objects told versions max place handed is all =
@@ -110,18 +111,18 @@ handed_part files objects told versions max place handed is all =
 -- ---- a read from the text of an offset on
 
 -- a read's text that tells all its rows is handed out over all
-text_part : (files : List (List ℕ)) (objects : Objects) (told : Told) (versions : List Version) (max : ℕ) (place : Offset) (text : List ℕ) → max < line_count text
+text_part : (files : List (List ℕ)) (objects : Objects) (told : SchemaText) (versions : List Version) (max : ℕ) (place : Offset) (text : List ℕ) → max < line_count text
     → (handed_by (loaded files objects) told versions max place >>= λ handed. Ok (handed_text told.schema handed)) ≡ Ok text
     → (handed_by objects told versions max place >>= λ handed. Ok (handed_text told.schema handed)) ≡ Ok text
 text_part files objects told versions max place text more = by_handed (handed_by (loaded files objects) told versions max place) refl
   where
-    by_handed : (read : Result Handed Refusal) → handed_by (loaded files objects) told versions max place ≡ read → (read >>= λ handed. Ok (handed_text told.schema handed)) ≡ Ok text
+    by_handed : (read : Result ReadRows ReadRefusal) → handed_by (loaded files objects) told versions max place ≡ read → (read >>= λ handed. Ok (handed_text told.schema handed)) ≡ Ok text
         → (handed_by objects told versions max place >>= λ handed. Ok (handed_text told.schema handed)) ≡ Ok text
     by_handed (Err refusal) was is = absurd cc
     by_handed (Ok handed) was is =
         let same : handed_text told.schema handed ≡ text = cc in
         let lines = ap line_count (sym same) ∙ handed_lines told.schema handed in
-        ap (λ (read : Result Handed Refusal). read >>= λ h. Ok (handed_text told.schema h)) (handed_part files objects told versions max place handed was (omega (arith, more, lines))) ∙ is
+        ap (λ (read : Result ReadRows ReadRefusal). read >>= λ h. Ok (handed_text told.schema h)) (handed_part files objects told versions max place handed was (omega (arith, more, lines))) ∙ is
 
 tailed_part : (files : List (List ℕ)) (objects : Objects) (max : ℕ) (offset text : List ℕ) → max < line_count text → tailed false (loaded files objects) max offset ≡ Ok text → tailed false objects max offset ≡ Ok text
 unfolding tailed
@@ -130,22 +131,22 @@ tailed_part files objects max offset text more is =
     onward (schema_at false objects place) (λ told. handed_by (loaded files objects) told (versions_at false objects place) max place >>= λ handed. Ok (handed_text told.schema handed)) _ text
     (λ told. text_part files objects told (versions_at false objects place) max place text more)
     (subst (λ (versions : List Version). (schema_at false objects place >>= λ told. handed_by (loaded files objects) told versions max place >>= λ handed. Ok (handed_text told.schema handed)) ≡ Ok text) (versions_alike files objects place)
-    (subst (λ (schema : Result Told Refusal). (schema >>= λ told. handed_by (loaded files objects) told (versions_at false (loaded files objects) place) max place >>= λ handed. Ok (handed_text told.schema handed)) ≡ Ok text) (schema_alike files objects place) was))) is
+    (subst (λ (schema : Result SchemaText ReadRefusal). (schema >>= λ told. handed_by (loaded files objects) told (versions_at false (loaded files objects) place) max place >>= λ handed. Ok (handed_text told.schema handed)) ≡ Ok text) (schema_alike files objects place) was))) is
 
 -- ---- what is told
 
 -- a refusal is told as one
-is_told : (text : List ℕ) → starts_with nat_eq (line_of (refused text)) (codes "refused ") ≡ true
+is_told : (text : List ℕ) → starts_with nat_eq (with_newline (refused text)) (codes "refused ") ≡ true
 is_told text = refl
 
-no_refusal : (text reply : List ℕ) → starts_with nat_eq reply (codes "refused ") ≡ false → reply ≡ line_of (refused text) → ⊥
+no_refusal : (text reply : List ℕ) → starts_with nat_eq reply (codes "refused ") ≡ false → reply ≡ with_newline (refused text) → ⊥
 no_refusal text reply not is = let told : starts_with nat_eq reply (codes "refused ") ≡ true = ap (λ r. starts_with nat_eq r (codes "refused ")) is ∙ is_told text in absurd cc
 
 -- a reply that tells all rows is the one over all objects
 reply_part : (files : List (List ℕ)) (objects : Objects) (max : ℕ) (offset reply : List ℕ) → HasRows max reply → reply ≡ tailed_reply (tailed false (loaded files objects) max offset) → reply ≡ tailed_reply (tailed false objects max offset)
 reply_part files objects max offset reply has = by_read (tailed false (loaded files objects) max offset) refl
   where
-    by_read : (read : Result (List ℕ) Refusal) → tailed false (loaded files objects) max offset ≡ read → reply ≡ tailed_reply read → reply ≡ tailed_reply (tailed false objects max offset)
+    by_read : (read : Result (List ℕ) ReadRefusal) → tailed false (loaded files objects) max offset ≡ read → reply ≡ tailed_reply read → reply ≡ tailed_reply (tailed false objects max offset)
     by_read (Ok text) was is = is ∙ ap tailed_reply (sym (tailed_part files objects max offset text (subst (λ r. max < line_count r) is has.1) was))
     by_read (Err refusal) was is = absurd (no_refusal _ reply has.0 is)
 

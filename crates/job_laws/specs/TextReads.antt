@@ -5,15 +5,15 @@ use Rattle.lake_bytes.specs.Results.{◌>>=◌, or_refusal}
 use Rattle.store_core.specs.Objects.{Objects}
 use Rattle.row_core.specs.Rows.{Row}
 use Rattle.source_core.specs.Offsets.{offset_of}
-use Rattle.source_core.specs.Tailing.{Refusal, Handed, bad_offset, read_by}
+use Rattle.source_core.specs.Tailing.{ReadRefusal, ReadRows, bad_offset, read_by}
 
 -- a read from the offset that a text spells
-abbrev pub read_at : Objects → (max : ℕ) → (text : List ℕ) → Result Handed Refusal
+abbrev pub read_at : Objects → (max : ℕ) → (text : List ℕ) → Result ReadRows ReadRefusal
 read_at objects max text = or_refusal (offset_of text) bad_offset >>= λ offset. read_by false objects max offset
 
 -- Reads over the same objects with these limits, the first from a text on, handed out these rows together, and the next one
 -- goes on from the last text.
 pub data ReadsByTexts (objects : Objects) : (limits : List ℕ) → (text : List ℕ) → List Row → (last : List ℕ) → Type 0 where
   done : {text : List ℕ} → ReadsByTexts objects [] text [] text
-  goes_on : {max : ℕ} {limits : List ℕ} {text last : List ℕ} (next : List ℕ) (handed : Handed) (rows : List Row) → read_at objects max text ≡ Ok handed
+  goes_on : {max : ℕ} {limits : List ℕ} {text last : List ℕ} (next : List ℕ) (handed : ReadRows) (rows : List Row) → read_at objects max text ≡ Ok handed
       → offset_of next ≡ Some handed.next → ReadsByTexts objects limits next rows last → ReadsByTexts objects (max ∷ limits) text (handed.rows ++ rows) last

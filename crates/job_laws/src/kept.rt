@@ -12,7 +12,7 @@ ghost use Rattle.table_model.specs.declared.reading.Offset.{Offset};
 ghost use Rattle.table_store.specs.Schema.{Schema};
 ghost use Rattle.table_store.specs.Sound.{IsSound};
 ghost use Rattle.source_core.specs.Offsets.{offset_of};
-ghost use Rattle.source_core.specs.Tailing.{Handed, read_by};
+ghost use Rattle.source_core.specs.Tailing.{ReadRows, read_by};
 ghost use Rattle.source_core.specs.Tails.{tails};
 ghost use Rattle.lake_script.specs.Keeps.{HasNoOther, IsKept, Keeps, KeepsBeside};
 ghost use Rattle.script_lines.specs.Lines.{Statement, asks};
@@ -38,7 +38,7 @@ pub fn a_kept_table_is_told()
 /// A read over a store that keeps a table hands out the part of the table from its offset on, up to its limit or the
 /// end of the log.
 pub fn a_read_hands_out_a_part()
-    ensures { (objects : Objects) (schema : Schema) (entries : List Entry) (max : ℕ) (offset : Offset) (out : Handed) → IsKept objects schema entries
+    ensures { (objects : Objects) (schema : Schema) (entries : List Entry) (max : ℕ) (offset : Offset) (out : ReadRows) → IsKept objects schema entries
         → read_by false objects max offset ≡ Ok out → IsPart max offset out.rows out.next entries × MayEnd false max out.rows out.next entries }
 {}
 

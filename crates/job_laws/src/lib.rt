@@ -13,7 +13,7 @@ ghost use Rattle.table_log.specs.Restoring.{RestoresWell};
 ghost use Rattle.table_folder.specs.Copies.{HasSavedFront, to_save};
 ghost use Rattle.table_folder.specs.Loads.{loaded};
 ghost use Rattle.log_laws.specs.Sound.{IsSoundStore};
-ghost use Rattle.sink_core.specs.Appending.{PutsWell, appended_by, settled, stands, with_append, with_file_alone};
+ghost use Rattle.sink_core.specs.Appending.{PutsWell, appended_by, append_plan, stands, with_append, with_file_alone};
 ghost use Rattle.sink_core.specs.declared.appending.Appended.TheVariants.{Already, Committed};
 ghost use Rattle.lake_script.specs.Growth.{MayPut};
 ghost use Rattle.script_lines.specs.Lines.{Statement, asks, tail, task};
@@ -40,7 +40,7 @@ pub fn what_isnt_looked_at_doesnt_matter()
         → MayPut (loaded files objects) statement after → HasSavedFront after (to_save (names_of (loaded files objects)) (names_of after)) objects new
         → MayPut objects statement new }
     // Checkpoints that are sound are so without the other files.
-    ensures restores { (objects : Objects) (files : List (List ℕ)) (restore : Bool) → RestoresWell restore objects → RestoresWell restore (loaded files objects) }
+    ensures restores { (objects : Objects) (files : List (List ℕ)) (use_checkpoints : Bool) → RestoresWell use_checkpoints objects → RestoresWell use_checkpoints (loaded files objects) }
 {}
 
 /// A read over the log and some of the data files that hands out all the rows that it was asked for has that reply over
@@ -54,15 +54,15 @@ pub fn a_read_with_all_its_rows_is_whole()
 /// its batch stands, and puts nothing; and where its data file alone was saved, the same append is told as committed.
 /// It is asked that what the first one puts is well made, as `sink_core::append` says of its own.
 pub fn an_append_again_stands()
-    ensures told { (objects : Objects) (application : List ℕ) (number at later version : ℕ) (items : Items) → PutsWell application number at (settled false objects application number at items)
+    ensures told { (objects : Objects) (application : List ℕ) (number at later version : ℕ) (items : Items) → PutsWell application number at (append_plan false objects application number at items)
         → appended_by false objects application number at items ≡ Ok (Committed version)
-        → appended_by false (with_append objects (settled false objects application number at items)) application number later items ≡ Ok (Already number) }
-    ensures alone { (objects : Objects) (application : List ℕ) (number at version : ℕ) (items : Items) → IsInOrder objects → PutsWell application number at (settled false objects application number at items)
+        → appended_by false (with_append objects (append_plan false objects application number at items)) application number later items ≡ Ok (Already number) }
+    ensures alone { (objects : Objects) (application : List ℕ) (number at version : ℕ) (items : Items) → IsInOrder objects → PutsWell application number at (append_plan false objects application number at items)
         → appended_by false objects application number at items ≡ Ok (Committed version)
-        → appended_by false (with_file_alone objects (settled false objects application number at items)) application number at items ≡ Ok (Committed version) }
-    ensures puts_nothing { (objects : Objects) (application : List ℕ) (number at later version : ℕ) (items : Items) → PutsWell application number at (settled false objects application number at items)
+        → appended_by false (with_file_alone objects (append_plan false objects application number at items)) application number at items ≡ Ok (Committed version) }
+    ensures puts_nothing { (objects : Objects) (application : List ℕ) (number at later version : ℕ) (items : Items) → PutsWell application number at (append_plan false objects application number at items)
         → appended_by false objects application number at items ≡ Ok (Committed version)
-        → settled false (with_append objects (settled false objects application number at items)) application number later items ≡ Ok stands }
+        → append_plan false (with_append objects (append_plan false objects application number at items)) application number later items ≡ Ok stands }
 {}
 
 /// Whatever this program puts for a line leaves a sound store sound, however far it comes with it, where the line puts

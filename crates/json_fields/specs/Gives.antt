@@ -9,6 +9,6 @@ Fails faults.Memory says = Unit {0}
 Fails (faults.BadField field) says = says ≡ Err field.now
 
 -- What a call answered, seen by `view`, is what the definition says, unless memory ran out.
-abbrev pub Gives : {X Y : Type 0} → (X → Y) → Result X FieldFault → Result Y (List ℕ) → Type 0
-Gives view (Ok x) says = says ≡ Ok (view x)
-Gives view (Err e) says = Fails e says
+abbrev pub FieldGives : {X Y : Type 0} → (X → Y) → Result X FieldFault → Result Y (List ℕ) → Type 0
+FieldGives view (Ok x) says = says ≡ Ok (view x)
+FieldGives view (Err e) says = Fails e says

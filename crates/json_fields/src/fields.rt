@@ -3,7 +3,7 @@
 ghost use Rattle.std.specs.Prelude.{◌≡◌, IfOk, IfErr, option_map};
 ghost use Rattle.serde_json.specs.Data.{Data};
 ghost use Rattle.serde_json.specs.View.{view};
-ghost use Rattle.json_fields.specs.Gives.{Gives};
+ghost use Rattle.json_fields.specs.Gives.{FieldGives};
 ghost use Rattle.json_fields.specs.Kinds.{field, of_kind};
 ghost use Rattle.json_fields.specs.Fields.{fields_of, optional, needed, defaulted};
 
@@ -41,7 +41,7 @@ pub struct Fields<'a> {
 impl<'a> Fields<'a> {
     /// The fields of a value, which has to be an object. A fault names `key`, under which it stands.
     pub fn of(alloc: Global, key: &'static str, value: &'a Value) -> Result<Fields<'a>, FieldFault>
-        ensures fields { Gives (λ fields. view fields.value.now) result (fields_of key.now (view value.now)) }
+        ensures fields { FieldGives (λ fields. view fields.value.now) result (fields_of key.now (view value.now)) }
         // It needs no memory.
         ensures fault { IfErr result (λ e. e ≡ FieldFault.BadField key.entry) }
     {
@@ -55,7 +55,7 @@ impl<'a> Fields<'a> {
     /// A field that may be missing; a null one is.
     #[tactic(auto, unfolding(crate::specs::Fields::optional))]
     pub fn optional<T: FieldKind + Drop>(&self, name: &'static str) -> Result<Option<T>, FieldFault>
-        ensures { Gives (λ found. option_map T.plain found) result
+        ensures { FieldGives (λ found. option_map T.plain found) result
             (optional T.kind name.now (view self.now.value.now)) }
     {
         match find(self.alloc, self.value, name)? {
@@ -67,7 +67,7 @@ impl<'a> Fields<'a> {
     /// A field that has to be there.
     #[tactic(auto, unfolding(crate::specs::Fields::needed))]
     pub fn needed<T: FieldKind + Drop>(&self, name: &'static str) -> Result<T, FieldFault>
-        ensures { Gives T.plain result (needed T.kind name.now (view self.now.value.now)) }
+        ensures { FieldGives T.plain result (needed T.kind name.now (view self.now.value.now)) }
     {
         match self.optional(name)? {
             Some(found) => Ok(found),
@@ -82,7 +82,7 @@ impl<'a> Fields<'a> {
         name: &'static str,
         other: T,
     ) -> Result<T, FieldFault>
-        ensures { Gives T.plain result
+        ensures { FieldGives T.plain result
             (defaulted T.kind name.now (T.plain other) (view self.now.value.now)) }
     {
         match self.optional(name)? {

@@ -2,7 +2,7 @@
 use Rattle.std.proofs.Common.{◌⊎◌, ◌≡◌, ℕ, ◌+◌, ◌*◌, ◌/◌, ◌%◌, ◌^◌, ◌<◌, cond, ltb, List, ◌++◌, Result, Ok, Err, refl, sym, ap, subst, ◌∙◌, arith, inl, inr, ℤ, pos, negsuc}
 use Rattle.std.specs.Prelude.{IfOk, OnErr, IsErrOf, ◌↔◌}
 use Rattle.std.proofs.lemmas.Bool.{lt-ltb, le-ltb, cases_lt}
-use Rattle.lake_bytes.specs.Reading.{Gives, id, ReadsFront, ReadsWhatStands}
+use Rattle.lake_bytes.specs.Reading.{ReadingGives, id, ReadsFront, ReadsWhatStands}
 use Rattle.lake_bytes.specs.Results.{◌>>=◌}
 use Rattle.lake_bytes.specs.Varint.{IsBytes, IsCutShort, GoesPastTen, IsTooLarge, varint_at, varint_bytes}
 use Rattle.lake_bytes.specs.Zigzag.{zigzag, unzigzag, SpellsSigned, IsTooWide, signed_at}
@@ -137,7 +137,7 @@ never_both : (old : List ℕ) (width : ℕ) (m : ℤ) (x : List ℕ) (e : ByteFa
 never_both old width m x e a b = let p : done m x ≡ failed e = sym a ∙ b in cc
 
 -- the answer is a fault exactly where reading gives it
-tells_fault : (width : ℕ) (old : List ℕ) (r : Result ℤ ByteFault) (new : List ℕ) (e : ByteFault) → Gives id (signed_at width old) old r new → (IsErrOf r e → signed_at width old ≡ failed e) × (signed_at width old ≡ failed e → IsErrOf r e)
+tells_fault : (width : ℕ) (old : List ℕ) (r : Result ℤ ByteFault) (new : List ℕ) (e : ByteFault) → ReadingGives id (signed_at width old) old r new → (IsErrOf r e → signed_at width old ≡ failed e) × (signed_at width old ≡ failed e → IsErrOf r e)
 tells_fault width old (Ok z) new e h = (λ is. let bad : value z ≡ fault e = is in absurd cc, λ is. absurd (never_both old width z new e h is))
 tells_fault width old (Err d) new e h = (
   λ is. let same : fault d ≡ fault e = is in let one : d ≡ e = cc in h.0 ∙ ap failed one,
@@ -158,7 +158,7 @@ outside_of : (width : ℕ) (bytes : List ℕ) → IsBytes bytes → signed_at wi
 unfolding signed_at
 outside_of width bytes fits h = outside width bytes fits (varint_at bytes) refl h
 
-found_and_stands : (width : ℕ) (old : List ℕ) (r : Result ℤ ByteFault) (new : List ℕ) → IsBytes old → Gives id (signed_at width old) old r new
+found_and_stands : (width : ℕ) (old : List ℕ) (r : Result ℤ ByteFault) (new : List ℕ) → IsBytes old → ReadingGives id (signed_at width old) old r new
     → IfOk r (λ z. ReadsFront (SpellsSigned width) old z new) × ReadsWhatStands (SpellsSigned width) old r new × OnErr r (new ≡ old)
 found_and_stands width old (Ok z) new fits h = (
   signed_found width old z new fits h,
@@ -168,7 +168,7 @@ found_and_stands width old (Ok z) new fits h = (
 found_and_stands width old (Err e) new fits h =
     (tt, λ front rest y spells split. absurd (never_both old width y rest e (ap (signed_at width) split ∙ signed_stands width front rest y spells) h.0), h.1)
 
-pub signed_tells : (width : ℕ) (old : List ℕ) (r : Result ℤ ByteFault) (new : List ℕ) → IsBytes old → Gives id (signed_at width old) old r new → Tells width old r new
+pub signed_tells : (width : ℕ) (old : List ℕ) (r : Result ℤ ByteFault) (new : List ℕ) → IsBytes old → ReadingGives id (signed_at width old) old r new → Tells width old r new
 signed_tells width old r new fits h =
     let main = found_and_stands width old r new fits h in
     let short_is = tells_fault width old r new Short h in

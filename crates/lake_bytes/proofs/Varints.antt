@@ -4,7 +4,7 @@ use Rattle.std.proofs.lemmas.Bool.{lt-ltb, le-ltb, cases_lt}
 use Rattle.std.specs.Prelude.{IfOk, IsErrOf, ◌↔◌}
 use Rattle.std.specs.List.{AllByRecursion}
 use Rattle.std.proofs.lemmas.List.Elements.{recursion_from_All, All-from_recursion}
-use Rattle.lake_bytes.specs.Reading.{Gives, id, ReadsFront, ReadsWhatStands}
+use Rattle.lake_bytes.specs.Reading.{ReadingGives, id, ReadsFront, ReadsWhatStands}
 use Rattle.lake_bytes.specs.Results.{◌>>=◌}
 use Rattle.lake_bytes.specs.Varint.{IsBytes, IsVarint, SpellsNumber, IsCutShort, GoesPastTen, IsTooLarge, groups_at, varint_at}
 use Rattle.lake_bytes.specs.declared.fault.ByteFault.{ByteFault}
@@ -233,7 +233,7 @@ ok_no_fault n e h = cc
 moved : (old : List ℕ) (d e : ByteFault) → varint_at old ≡ failed d → fault d ≡ fault e → varint_at old ≡ failed e
 moved old d e a h = let p : d ≡ e = cc in a ∙ ap failed p
 
-pub varint_tells : (old : List ℕ) (r : Result ℕ ByteFault) (new : List ℕ) → IsBytes old → Gives id (varint_at old) old r new → Tells old r new
+pub varint_tells : (old : List ℕ) (r : Result ℕ ByteFault) (new : List ℕ) → IsBytes old → ReadingGives id (varint_at old) old r new → Tells old r new
 varint_tells old (Ok n) new fits h = record {
   read = varint_found old n new fits h;
   whatever_stands = λ front rest m spells split. same_ok old n m new rest h (ap varint_at split ∙ varint_stands front rest m spells);

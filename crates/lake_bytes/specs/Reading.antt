@@ -9,9 +9,9 @@ id x = x
 
 -- The answer, seen by view, and the bytes left are those that reading from the old bytes gives. A fault
 -- leaves all of them.
-abbrev pub Gives : {X A E : Type 0} → (X → A) → Result (A × List ℕ) E → List ℕ → Result X E → List ℕ → Type 0
-Gives view read old (Ok x) new = read ≡ Ok (view x, new)
-Gives view read old (Err e) new = (read ≡ Err e) × (new ≡ old)
+abbrev pub ReadingGives : {X A E : Type 0} → (X → A) → Result (A × List ℕ) E → List ℕ → Result X E → List ℕ → Type 0
+ReadingGives view read old (Ok x) new = read ≡ Ok (view x, new)
+ReadingGives view read old (Err e) new = (read ≡ Err e) × (new ≡ old)
 
 -- What a function returned, seen by view, is what reading gives.
 abbrev pub IsReading : {X Y E : Type 0} → (X → Y) → Result X E → Result Y E → Type 0

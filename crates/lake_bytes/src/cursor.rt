@@ -2,7 +2,7 @@
 
 ghost use Rattle.std.specs.Prelude.{◌≡◌, ◌<◌, ◌≤◌, ◌+◌, ◌^◌, ◌↔◌, ◌⊎◌, ℕ, ℤ, List, [], length, drop, take, IfOk, OnErr, OnOk, IsErrOf, IsOkAnd};
 ghost use Rattle.std.specs.Int.{w32, w64};
-ghost use Rattle.lake_bytes.specs.Reading.{Gives, id, byte_at, ReadsFront, ReadsWhatStands, bytes_at};
+ghost use Rattle.lake_bytes.specs.Reading.{ReadingGives, id, byte_at, ReadsFront, ReadsWhatStands, bytes_at};
 ghost use Rattle.lake_bytes.specs.Varint.{IsBytes, SpellsNumber, IsCutShort, GoesPastTen, IsTooLarge, varint_at};
 ghost use Rattle.lake_bytes.specs.Zigzag.{SpellsSigned, IsTooWide, signed_at, zigzag, unzigzag};
 ghost use Rattle.lake_bytes.specs.LittleEndian.{little_at, signed_little_at};
@@ -46,7 +46,7 @@ impl<'a> Cursor<'a> {
         ensures taken { IfOk result (λ bytes. (bytes.now ≡ take count self.old) × (self.new ≡ drop count self.old)) }
         ensures short { IsErrOf result ByteFault.Short ↔ (length self.old < count) }
         ensures unchanged { OnErr result (self.new ≡ self.old) }
-        ensures exact { Gives (λ bytes. bytes.now) (bytes_at count self.old) self.old result self.new }
+        ensures exact { ReadingGives (λ bytes. bytes.now) (bytes_at count self.old) self.old result self.new }
     {
         if self.rest.len() < count {
             return Err(ByteFault::Short);
@@ -60,7 +60,7 @@ impl<'a> Cursor<'a> {
     pub fn byte(&mut self) -> Result<u8, ByteFault>
         ensures short { IsErrOf result ByteFault.Short ↔ (self.old ≡ []) }
         ensures unchanged { OnErr result (self.new ≡ self.old) }
-        ensures exact { Gives id (byte_at self.old) self.old result self.new }
+        ensures exact { ReadingGives id (byte_at self.old) self.old result self.new }
     {
         let Some((first, rest)) = self.rest.split_first() else {
             return Err(ByteFault::Short);
@@ -84,14 +84,14 @@ impl<'a> Cursor<'a> {
         ensures unchanged { OnErr result (self.new ≡ self.old) }
 
         // Which of these it is, as reading from the left.
-        ensures exact { Gives id (varint_at self.old) self.old result self.new }
+        ensures exact { ReadingGives id (varint_at self.old) self.old result self.new }
     {
         self.next_varint()
     }
 
     /// The varint in front, as reading from the left has it.
     fn next_varint(&mut self) -> Result<u64, ByteFault>
-        ensures exact { Gives id (varint_at self.old) self.old result self.new }
+        ensures exact { ReadingGives id (varint_at self.old) self.old result self.new }
         ensures bytes { IsBytes self.old }
     {
         let (number, rest) = read_varint(self.rest)?;
@@ -110,7 +110,7 @@ impl<'a> Cursor<'a> {
         ensures too_long { IsErrOf result ByteFault.VarintTooLong ↔ GoesPastTen self.old }
         ensures out_of_range { IsErrOf result ByteFault.OutOfRange ↔ (IsTooLarge self.old ⊎ IsTooWide 64 self.old) }
         ensures unchanged { OnErr result (self.new ≡ self.old) }
-        ensures exact { Gives id (signed_at 64 self.old) self.old result self.new }
+        ensures exact { ReadingGives id (signed_at 64 self.old) self.old result self.new }
     {
         self.next_i64()
     }
@@ -124,7 +124,7 @@ impl<'a> Cursor<'a> {
         ensures too_long { IsErrOf result ByteFault.VarintTooLong ↔ GoesPastTen self.old }
         ensures out_of_range { IsErrOf result ByteFault.OutOfRange ↔ (IsTooLarge self.old ⊎ IsTooWide 32 self.old) }
         ensures unchanged { OnErr result (self.new ≡ self.old) }
-        ensures exact { Gives id (signed_at 32 self.old) self.old result self.new }
+        ensures exact { ReadingGives id (signed_at 32 self.old) self.old result self.new }
     {
         self.next_i32()
     }
@@ -138,20 +138,20 @@ impl<'a> Cursor<'a> {
         ensures too_long { IsErrOf result ByteFault.VarintTooLong ↔ GoesPastTen self.old }
         ensures out_of_range { IsErrOf result ByteFault.OutOfRange ↔ (IsTooLarge self.old ⊎ IsTooWide 16 self.old) }
         ensures unchanged { OnErr result (self.new ≡ self.old) }
-        ensures exact { Gives id (signed_at 16 self.old) self.old result self.new }
+        ensures exact { ReadingGives id (signed_at 16 self.old) self.old result self.new }
     {
         self.next_i16()
     }
 
     fn next_i64(&mut self) -> Result<i64, ByteFault>
-        ensures exact { Gives id (signed_at 64 self.old) self.old result self.new }
+        ensures exact { ReadingGives id (signed_at 64 self.old) self.old result self.new }
         ensures bytes { IsBytes self.old }
     {
         self.signed(u64::MAX)
     }
 
     fn next_i32(&mut self) -> Result<i32, ByteFault>
-        ensures exact { Gives id (signed_at 32 self.old) self.old result self.new }
+        ensures exact { ReadingGives id (signed_at 32 self.old) self.old result self.new }
         ensures bytes { IsBytes self.old }
     {
         match self.signed(0xffff_ffff) {
@@ -161,7 +161,7 @@ impl<'a> Cursor<'a> {
     }
 
     fn next_i16(&mut self) -> Result<i16, ByteFault>
-        ensures exact { Gives id (signed_at 16 self.old) self.old result self.new }
+        ensures exact { ReadingGives id (signed_at 16 self.old) self.old result self.new }
         ensures bytes { IsBytes self.old }
     {
         match self.signed(0xffff) {
@@ -173,7 +173,7 @@ impl<'a> Cursor<'a> {
     /// The signed number in front, by zigzag, whose zigzag number is at most `highest`.
     #[tactic(auto, unfolding(crate::specs::Zigzag::signed_at))]
     fn signed(&mut self, highest: u64) -> Result<i64, ByteFault>
-        ensures exact { (width : ℕ) → highest + 1 ≡ 2 ^ width → Gives id (signed_at width self.old) self.old result self.new }
+        ensures exact { (width : ℕ) → highest + 1 ≡ 2 ^ width → ReadingGives id (signed_at width self.old) self.old result self.new }
         ensures fits { IfOk result (λ z. zigzag z ≤ highest) }
         ensures bytes { IsBytes self.old }
     {
@@ -190,7 +190,7 @@ impl<'a> Cursor<'a> {
     pub fn u32_le(&mut self) -> Result<u32, ByteFault>
         ensures short { IsErrOf result ByteFault.Short ↔ (length self.old < 4) }
         ensures unchanged { OnErr result (self.new ≡ self.old) }
-        ensures exact { Gives id (little_at w32 self.old) self.old result self.new }
+        ensures exact { ReadingGives id (little_at w32 self.old) self.old result self.new }
     {
         let Some((bytes, rest)) = self.rest.split_first_chunk::<4>() else {
             return Err(ByteFault::Short);
@@ -205,7 +205,7 @@ impl<'a> Cursor<'a> {
     pub fn i32_le(&mut self) -> Result<i32, ByteFault>
         ensures short { IsErrOf result ByteFault.Short ↔ (length self.old < 4) }
         ensures unchanged { OnErr result (self.new ≡ self.old) }
-        ensures exact { Gives id (signed_little_at w32 self.old) self.old result self.new }
+        ensures exact { ReadingGives id (signed_little_at w32 self.old) self.old result self.new }
     {
         let Some((bytes, rest)) = self.rest.split_first_chunk::<4>() else {
             return Err(ByteFault::Short);
@@ -220,7 +220,7 @@ impl<'a> Cursor<'a> {
     pub fn i64_le(&mut self) -> Result<i64, ByteFault>
         ensures short { IsErrOf result ByteFault.Short ↔ (length self.old < 8) }
         ensures unchanged { OnErr result (self.new ≡ self.old) }
-        ensures exact { Gives id (signed_little_at w64 self.old) self.old result self.new }
+        ensures exact { ReadingGives id (signed_little_at w64 self.old) self.old result self.new }
     {
         let Some((bytes, rest)) = self.rest.split_first_chunk::<8>() else {
             return Err(ByteFault::Short);

@@ -6,7 +6,7 @@ use row_core::Value;
 use std::alloc::Global;
 use std::io::Write;
 use std::str;
-use table_model::{Answer, Appended, Batch, Closing, Offset, Table, is_lawful};
+use table_model::{Answer, AppendAnswer, Batch, Closing, Offset, Table, is_lawful};
 
 /// Answers the lines of a script over a plain table that was just created: `append APP NUMBER ROW ..`, `close APP` and
 /// `read MAX VERSION FILE ROW`. Blank lines have no answer.
@@ -83,13 +83,13 @@ fn place_of(text: &str) -> Result<Offset, Failure> {
     })
 }
 
-fn tell_appended(answer: Appended, out: &mut Vec<u8>) -> Result<(), Failure> {
+fn tell_appended(answer: AppendAnswer, out: &mut Vec<u8>) -> Result<(), Failure> {
     match answer {
-        Appended::Committed(version) => writeln!(out, "Committed {version}")?,
-        Appended::Already(number) => writeln!(out, "Already {number}")?,
-        Appended::Stale(last) => writeln!(out, "Stale {last}")?,
-        Appended::Differs => writeln!(out, "Differs")?,
-        Appended::StreamClosed => writeln!(out, "StreamClosed")?,
+        AppendAnswer::Committed(version) => writeln!(out, "Committed {version}")?,
+        AppendAnswer::Already(number) => writeln!(out, "Already {number}")?,
+        AppendAnswer::Stale(last) => writeln!(out, "Stale {last}")?,
+        AppendAnswer::Differs => writeln!(out, "Differs")?,
+        AppendAnswer::StreamClosed => writeln!(out, "StreamClosed")?,
     }
     Ok(())
 }

@@ -51,8 +51,14 @@ fn run_script(alloc: Global, case: &mut Case, told: &mut Vec<u8>) -> Outcome {
     };
     let mut input = Input::new(source);
     let mut output = Output::new(alloc, sink);
-    let restore = !case.replays;
-    run(alloc, &mut input, &mut output, &mut case.store, restore)
+    let use_checkpoints = !case.replays;
+    run(
+        alloc,
+        &mut input,
+        &mut output,
+        &mut case.store,
+        use_checkpoints,
+    )
 }
 
 /// Adds what was written. Of many lines the last alone are told, and of those before them the count and the SHA-256.

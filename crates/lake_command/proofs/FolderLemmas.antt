@@ -18,14 +18,14 @@ use Rattle.lake_script.specs.ReplyView.{reply_text}
 use Rattle.lake_script.specs.Runs.{Executes}
 use Rattle.lake_script.specs.Told.{IsPutHere}
 use Rattle.script_lines.specs.declared.line.Line.{Line}
-use Rattle.lake_script.specs.declared.reply.Reply.{Reply}
+use Rattle.lake_script.specs.declared.reply.LineReply.{LineReply}
 use Rattle.job_laws.specs.Bytes.{AreBytes}
 use Rattle.job_laws.specs.Looking.{LooksWithin}
 use Rattle.job_laws.proofs.Callers.{executed as line_executed, line_keeps_sound_bytes, looks_within, put_under, restores, saved as line_saved}
 use Rattle.lake_words.specs.Asked.{Work}
 use Rattle.lake_words.specs.Asked as words
 use Rattle.lake_command.specs.Failures.{ComesOfACall, IsOfFolder, Leaves, NamesPut}
-use Rattle.lake_command.specs.Folders.{AreRows, IsAnswer, IsAskedBy, JobMayLeave, MayHavePut}
+use Rattle.lake_command.specs.Folders.{AreLineRows, IsJobAnswer, IsAskedBy, JobMayLeave, LineMayLeave}
 use Rattle.lake_command.specs.declared.failure.Failure.{Failure}
 use Rattle.lake_command.specs.declared.failure.Failure.TheVariants.{Loading, Saving}
 
@@ -47,14 +47,14 @@ loaded_for base mid first log start statement names read same is untouched withi
 }
 
 -- a read that was told before all were loaded is told over the folder, which is as it was
-pub told_early : (base mid new : Objects) (statement : Statement) (found : Option Reply) (reply : Reply) → mid ≡ base → new ≡ mid → found ≡ Some reply → IfSome found (λ r. Executes mid statement (reply_text r) mid) → Executes base statement (reply_text reply) new
+pub told_early : (base mid new : Objects) (statement : Statement) (found : Option LineReply) (reply : LineReply) → mid ≡ base → new ≡ mid → found ≡ Some reply → IfSome found (λ r. Executes mid statement (reply_text r) mid) → Executes base statement (reply_text reply) new
 told_early base mid new statement found reply same untouched is told =
     subst (λ (o : Objects). Executes o statement (reply_text reply) new) same
-    (subst (λ (o : Objects). Executes mid statement (reply_text reply) o) (sym untouched) (subst (λ (f : Option Reply). IfSome f (λ r. Executes mid statement (reply_text r) mid)) is told))
+    (subst (λ (o : Objects). Executes mid statement (reply_text reply) o) (sym untouched) (subst (λ (f : Option LineReply). IfSome f (λ r. Executes mid statement (reply_text r) mid)) is told))
 
 -- their checkpoints are sound where the folder's are
-pub loaded_well : (restore : Bool) (old start : Objects) (statement : Statement) → IsLoadedFor old statement start → RestoresWell restore old → RestoresWell restore start
-loaded_well restore old start statement is well = subst (RestoresWell restore) (sym is.same) (restores old is.files restore well)
+pub loaded_well : (use_checkpoints : Bool) (old start : Objects) (statement : Statement) → IsLoadedFor old statement start → RestoresWell use_checkpoints old → RestoresWell use_checkpoints start
+loaded_well use_checkpoints old start statement is well = subst (RestoresWell use_checkpoints) (sym is.same) (restores old is.files use_checkpoints well)
 
 -- a line that has what it asks for over what was loaded has it over the folder's objects, once its own are saved
 pub line_done : (old start end new : Objects) (statement : Statement) (reply : List ℕ) (names : List (List ℕ)) → IsInOrder old → IsLoadedFor old statement start → names ≡ names_of start → Executes start statement reply end
@@ -65,7 +65,7 @@ line_done old start end new statement reply names order is listed executed saved
 
 -- a front of what a line put over what was loaded may have been put over the folder's objects
 pub front_saved : (old start end new : Objects) (statement : Statement) (names : List (List ℕ)) → IsInOrder old → IsLoadedFor old statement start → names ≡ names_of start → MayPut start statement end
-    → HasSavedFront end (to_save names (names_of end)) old new → MayHavePut old statement new
+    → HasSavedFront end (to_save names (names_of end)) old new → LineMayLeave old statement new
 front_saved old start end new statement names order is listed put front =
     inr (line_saved old end new statement is.files order is.within (subst (λ o. MayPut o statement end) is.same put)
     (subst (λ ns. HasSavedFront end (to_save ns (names_of end)) old new) (listed ∙ ap names_of is.same) front))
@@ -104,12 +104,12 @@ saved_alone {X} result fault steady held old statement before mid after is same 
 -- ---- what a job leaves
 
 -- what a line leaves, for the job that it was asked for
-pub may_leave : (work : Work) (text : Option (List ℕ)) (statement : Statement) (old new : Objects) → IsAskedBy work text statement → MayHavePut old statement new → JobMayLeave work text old new
+pub may_leave : (work : Work) (text : Option (List ℕ)) (statement : Statement) (old new : Objects) → IsAskedBy work text statement → LineMayLeave old statement new → JobMayLeave work text old new
 may_leave work text statement old new asked (inl same) = inl same
 may_leave work text statement old new asked (inr put) = inr (statement, asked, put)
 
 -- a failure of the folder, for the job whose line was asked for
-pub left_for_job : (failure : Failure) (work : Work) (text : Option (List ℕ)) (statement : Statement) (old new : Objects) → IsAskedBy work text statement → IsOfFolder failure old new → MayHavePut old statement new
+pub left_for_job : (failure : Failure) (work : Work) (text : Option (List ℕ)) (statement : Statement) (old new : Objects) → IsAskedBy work text statement → IsOfFolder failure old new → LineMayLeave old statement new
     → NamesPut failure statement old → Leaves failure work text old new
 left_for_job (Loading fault) work text statement old new asked same put names = same
 left_for_job (Saving (saves.NotSaved name reason)) work text statement old new asked of put names = (may_leave work text statement old new asked put, (statement, asked, names))
@@ -118,11 +118,11 @@ left_for_job (Saving saves.Memory) work text statement old new asked of put name
 left_for_job _ work text statement old new asked none put names = absurd none
 
 -- the same where a call gave a reply or failed
-pub replies_to_job : (result : Result Reply Failure) (work : Work) (text : Option (List ℕ)) (statement : Statement) (old new : Objects) → IsAskedBy work text statement → IfOk result (λ reply. Executes old statement (reply_text reply) new) → IfOk result (λ reply. IsAnswer work text old (reply_text reply) new)
+pub replies_to_job : (result : Result LineReply Failure) (work : Work) (text : Option (List ℕ)) (statement : Statement) (old new : Objects) → IsAskedBy work text statement → IfOk result (λ reply. Executes old statement (reply_text reply) new) → IfOk result (λ reply. IsJobAnswer work text old (reply_text reply) new)
 replies_to_job (Ok reply) work text statement old new asked executed = inr (statement, asked, executed)
 replies_to_job (Err failure) work text statement old new asked executed = tt
 
-pub fails_for_job : (result : Result Reply Failure) (work : Work) (text : Option (List ℕ)) (statement : Statement) (old new : Objects) → IsAskedBy work text statement → IfErr result (λ failure. IsOfFolder failure old new) → MayHavePut old statement new
+pub fails_for_job : (result : Result LineReply Failure) (work : Work) (text : Option (List ℕ)) (statement : Statement) (old new : Objects) → IsAskedBy work text statement → IfErr result (λ failure. IsOfFolder failure old new) → LineMayLeave old statement new
     → IfErr result (λ failure. NamesPut failure statement old) → IfErr result (λ failure. Leaves failure work text old new)
 fails_for_job (Ok reply) work text statement old new asked of put names = tt
 fails_for_job (Err failure) work text statement old new asked of put names = left_for_job failure work text statement old new asked of put names
@@ -139,13 +139,13 @@ put_here words.checkpoint text statement is = rw is tt
 put_here words.history text statement is = rw is tt
 
 -- so a sound table stays sound
-pub stays_sound : (work : Work) (text : Option (List ℕ)) (statement : Statement) (old new : Objects) → AreBytes old → IsAskedBy work text statement → IsSoundStore old → MayHavePut old statement new → IsSoundStore new
+pub stays_sound : (work : Work) (text : Option (List ℕ)) (statement : Statement) (old new : Objects) → AreBytes old → IsAskedBy work text statement → IsSoundStore old → LineMayLeave old statement new → IsSoundStore new
 stays_sound work text statement old new are asked sound (inl same) = subst IsSoundStore (sym same) sound
 stays_sound work text statement old new are asked sound (inr put) = line_keeps_sound_bytes old new statement are (put_here work text statement asked) sound put
 
 -- the checkpoints of a sound table are
-pub sound_restores : (restore : Bool) (objects : Objects) → IsSoundStore objects → RestoresWell restore objects
-sound_restores restore objects sound = λ used. well_sound true objects sound.checkpoints
+pub sound_restores : (use_checkpoints : Bool) (objects : Objects) → IsSoundStore objects → RestoresWell use_checkpoints objects
+sound_restores use_checkpoints objects sound = λ used. well_sound true objects sound.checkpoints
 
 -- ---- failures, and rows of an input
 
@@ -154,7 +154,7 @@ pub found_asked : (found : Option Line) (line : Line) (work : Work) (text : Opti
 found_asked found line work text is asked = subst (λ f. IfSome f (λ l. IsAskedBy work text (statement_view l))) is asked
 
 -- the rows that were read are those of the input
-pub rows_are : (text : List ℕ) (objects : List (Bor (List ℕ))) → map object_of (input_lines text) ≡ map (λ object. Some (text_data object.now)) objects → AreRows text (map (λ object. text_data object.now) objects)
+pub rows_are : (text : List ℕ) (objects : List (Bor (List ℕ))) → map object_of (input_lines text) ≡ map (λ object. Some (text_data object.now)) objects → AreLineRows text (map (λ object. text_data object.now) objects)
 rows_are text objects read = read ∙ some_views objects
   where
     some_views : (values : List (Bor (List ℕ))) → map (λ value. Some (text_data value.now)) values ≡ map (λ row. Some row) (map (λ object. text_data object.now) values)

@@ -13,25 +13,25 @@ use Rattle.lake_command.specs.Folders.{file_names}
 use Rattle.lake_command.specs.declared.looking.DataFile.{DataFile}
 
 -- what a read is told over them, where it may go by their checkpoints
-over_some : (restore : Bool) (start end objects : Objects) (files : List (List ℕ)) (max : ℕ) (offset reply : List ℕ) → start ≡ loaded files objects → (RestoresWell restore start → Executes start (task (tail max offset)) reply end) → RestoresWell restore objects
+over_some : (use_checkpoints : Bool) (start end objects : Objects) (files : List (List ℕ)) (max : ℕ) (offset reply : List ℕ) → start ≡ loaded files objects → (RestoresWell use_checkpoints start → Executes start (task (tail max offset)) reply end) → RestoresWell use_checkpoints objects
     → Executes (loaded files objects) (task (tail max offset)) reply end
-over_some restore start end objects files max offset reply is executed well =
-    subst (λ o. Executes o (task (tail max offset)) reply end) is (executed (subst (RestoresWell restore) (sym is) (restores objects files restore well)))
+over_some use_checkpoints start end objects files max offset reply is executed well =
+    subst (λ o. Executes o (task (tail max offset)) reply end) is (executed (subst (RestoresWell use_checkpoints) (sym is) (restores objects files use_checkpoints well)))
 
 -- a read that has all its rows is the one over all objects
-pub read_whole : (restore : Bool) (start end objects : Objects) (files : List (List ℕ)) (max : ℕ) (offset reply : List ℕ) → start ≡ loaded files objects → (RestoresWell restore start → Executes start (task (tail max offset)) reply end) → RestoresWell restore objects
+pub read_whole : (use_checkpoints : Bool) (start end objects : Objects) (files : List (List ℕ)) (max : ℕ) (offset reply : List ℕ) → start ≡ loaded files objects → (RestoresWell use_checkpoints start → Executes start (task (tail max offset)) reply end) → RestoresWell use_checkpoints objects
     → HasRows max reply → Executes objects (task (tail max offset)) reply objects
-read_whole restore start end objects files max offset reply is executed well has =
-    whole objects end files max offset reply has (over_some restore start end objects files max offset reply is executed well)
+read_whole use_checkpoints start end objects files max offset reply is executed well has =
+    whole objects end files max offset reply has (over_some use_checkpoints start end objects files max offset reply is executed well)
 
 -- a read leaves what it is done over
 leaves : (objects after : Objects) (max : ℕ) (offset reply : List ℕ) → Executes objects (task (tail max offset)) reply after → after ≡ objects
 leaves objects after max offset reply (inl (printed, is, told, left)) = left
 leaves objects after max offset reply (inr (short, left)) = left
 
-pub read_leaves : (restore : Bool) (start end objects : Objects) (files : List (List ℕ)) (max : ℕ) (offset reply : List ℕ) → start ≡ loaded files objects → (RestoresWell restore start → Executes start (task (tail max offset)) reply end) → RestoresWell restore objects → end ≡ start
-read_leaves restore start end objects files max offset reply is executed well =
-    leaves (loaded files objects) end max offset reply (over_some restore start end objects files max offset reply is executed well) ∙ sym is
+pub read_leaves : (use_checkpoints : Bool) (start end objects : Objects) (files : List (List ℕ)) (max : ℕ) (offset reply : List ℕ) → start ≡ loaded files objects → (RestoresWell use_checkpoints start → Executes start (task (tail max offset)) reply end) → RestoresWell use_checkpoints objects → end ≡ start
+read_leaves use_checkpoints start end objects files max offset reply is executed well =
+    leaves (loaded files objects) end max offset reply (over_some use_checkpoints start end objects files max offset reply is executed well) ∙ sym is
 
 -- one file more is loaded
 pub names_more : (files : List DataFile) (i : ℕ) (file : DataFile) → i < length files → file ≡ get_or files i file → file_names (take (i + 1) files) ≡ file_names (take i files) ++ string_bytes file.name ∷ []

@@ -10,10 +10,10 @@ use Rattle.lake_script.specs.declared.engine.End.{End}
 use Rattle.lake_script.specs.declared.engine.End.TheVariants.{Done, BadLine, NotRead, NotWritten}
 use Rattle.lake_script.proofs.Callers.{few_lines}
 use Rattle.lake_script.specs.Runs.{FallsShort, Tells}
-use Rattle.lake_script.specs.Sound.{IsRun}
+use Rattle.lake_script.specs.Sound.{IsScriptRun}
 use Rattle.lake_script.specs.Scripts.{IsScript, IsExpectedOver}
 use Rattle.lake_script.specs.Tables.{nothing, entries_of, AreOfTable, expected_output as expected_by_table}
-use Rattle.lake_script.specs.Told.{ArePrinted, ArePutHere, IsTold, expected_output, Finishes}
+use Rattle.lake_script.specs.Told.{ArePrintedLines, ArePutHere, IsTold, expected_output, Finishes}
 use Rattle.lake_words.specs.Asked.{Spells, replaying, restoring}
 use Rattle.lake_words.specs.declared.command.Command.{Command}
 use Rattle.lake_words.specs.declared.command.Command.TheVariants.{Table}
@@ -21,19 +21,19 @@ use Rattle.lake_words.specs.declared.command.TableCommand.{TableCommand}
 use Rattle.lake_command.specs.Status.{status_of}
 
 -- what is written over nothing is what the script is told
-tells_of_run : (old new : Option (List ℕ)) (text : List ℕ) (before after : Objects) → before ≡ [] → IsRun before text old new after → Tells old new (IsTold [] text)
+tells_of_run : (old new : Option (List ℕ)) (text : List ℕ) (before after : Objects) → before ≡ [] → IsScriptRun before text old new after → Tells old new (IsTold [] text)
 tells_of_run old new text before after empty run =
-    (expected_output [] text run.texts, subst (λ u. Appends old new u) (ap (λ objects. expected_output objects text run.texts) empty) run.told, (run.texts, subst (λ objects. ArePrinted objects (lines_of text) run.texts) empty run.printed, refl))
+    (expected_output [] text run.texts, subst (λ u. Appends old new u) (ap (λ objects. expected_output objects text run.texts) empty) run.told, (run.texts, subst (λ objects. ArePrintedLines objects (lines_of text) run.texts) empty run.printed, refl))
 
 -- the same of a run that isn't refused, where its text is known
-pub told_of_run : (end : End) (input old new : Option (List ℕ)) (before after : Objects) → status_of end ≢ 1 → Finishes end (λ _. IfSome input (λ text. IsRun before text old new after)) → before ≡ []
+pub output_of_run : (end : End) (input old new : Option (List ℕ)) (before after : Objects) → status_of end ≢ 1 → Finishes end (λ _. IfSome input (λ text. IsScriptRun before text old new after)) → before ≡ []
     → IfSome input (λ text. Tells old new (IsTold [] text))
-told_of_run Done None old new before after fine run empty = tt
-told_of_run Done (Some text) old new before after fine run empty = tells_of_run old new text before after empty run
-told_of_run (BadLine number) None old new before after fine run empty = tt
-told_of_run (BadLine number) (Some text) old new before after fine run empty = tells_of_run old new text before after empty run
-told_of_run NotRead input old new before after fine run empty = absurd (fine refl)
-told_of_run NotWritten input old new before after fine run empty = absurd (fine refl)
+output_of_run Done None old new before after fine run empty = tt
+output_of_run Done (Some text) old new before after fine run empty = tells_of_run old new text before after empty run
+output_of_run (BadLine number) None old new before after fine run empty = tt
+output_of_run (BadLine number) (Some text) old new before after fine run empty = tells_of_run old new text before after empty run
+output_of_run NotRead input old new before after fine run empty = absurd (fine refl)
+output_of_run NotWritten input old new before after fine run empty = absurd (fine refl)
 
 -- a text that was read has no more lines than there can be versions
 few_by : (end : End) (text : List ℕ) → status_of end ≢ 1 → (MOST_BYTES < length text → end ≡ NotRead) → length (entries_of nothing) + length (lines_of text) ≤ suc greatest_version

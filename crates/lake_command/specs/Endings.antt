@@ -1,42 +1,42 @@
 -- How a job on the table in a folder ends: what comes of it, what is told and where, and the exit status.
 use Rattle.std.specs.Prelude.{◌≡◌, ◌⊎◌, ℕ, Bool, true, List, Option, Some, None, Result, Ok, Err, IfErr, if◌then◌else◌}
 use Rattle.std.specs.Io.KnownBytes.{Appends}
-use Rattle.commit_core.specs.Texts.{line_of}
 use Rattle.store_core.specs.Objects.{Objects}
 use Rattle.lake_script.specs.ReplyView as replies
 use Rattle.lake_script.specs.ReplyView.{reply_text}
 use Rattle.lake_script.specs.Streams.{held, write_failed, StandsIn}
 use Rattle.lake_script.specs.declared.outputs.Output.{Output}
-use Rattle.lake_script.specs.declared.reply.Reply.{Reply}
+use Rattle.lake_script.specs.declared.reply.LineReply.{LineReply}
 use Rattle.lake_words.specs.Asked.{Work}
 use Rattle.lake_command.specs.Failures.{HasCause, Leaves, failure_text}
-use Rattle.lake_command.specs.Folders.{IsAnswer}
+use Rattle.lake_command.specs.Folders.{IsJobAnswer}
 use Rattle.lake_command.specs.Status.{is_want_of_memory, refuses, status_of_failure}
 use Rattle.lake_command.specs.declared.exit.Exit.{Exit}
 use Rattle.lake_command.specs.declared.failure.Failure.{Failure}
 use Rattle.lake_command.specs.declared.failure.Failure.TheVariants.{BadLine, Memory}
+use Rattle.lake_bytes.specs.Lines.{with_newline}
 
 -- What comes of a job: its reply, with what the same line of a script leaves, or why it has none, with what the folder
 -- holds then.
-abbrev pub IsOutcome : Result Reply Failure → Work → (text : Option (List ℕ)) → (old new : Objects) → Type 0
-IsOutcome (Ok reply) work text old new = IsAnswer work text old (reply_text reply) new
+abbrev pub IsOutcome : Result LineReply Failure → Work → (text : Option (List ℕ)) → (old new : Objects) → Type 0
+IsOutcome (Ok reply) work text old new = IsJobAnswer work text old (reply_text reply) new
 IsOutcome (Err failure) work text old new = Leaves failure work text old new
 
 -- what is told where replies go: a reply, a bad line, or that no room was left for the input or its rows; all else goes
 -- to standard error
-abbrev pub told_of : Result Reply Failure → Option (List ℕ)
-told_of (Ok reply) = Some (reply_text reply)
-told_of (Err (BadLine number)) = Some (line_of (failure_text (BadLine number)))
-told_of (Err Memory) = Some (line_of (failure_text Memory))
-told_of (Err _) = None
+abbrev pub output_of : Result LineReply Failure → Option (List ℕ)
+output_of (Ok reply) = Some (reply_text reply)
+output_of (Err (BadLine number)) = Some (with_newline (failure_text (BadLine number)))
+output_of (Err Memory) = Some (with_newline (failure_text Memory))
+output_of (Err _) = None
 
 -- 0 where a job is done, 1 where its reply refuses it, and the status of a failure where it has no reply
-abbrev pub status_of_outcome : Work → Result Reply Failure → ℕ
+abbrev pub status_of_outcome : Work → Result LineReply Failure → ℕ
 status_of_outcome work (Ok reply) = if refuses work reply then 1 else 0
 status_of_outcome work (Err failure) = status_of_failure failure
 
 -- a growth was refused, or an object would pass 64 MiB
-abbrev pub is_short_outcome : Result Reply Failure → Bool
+abbrev pub is_short_outcome : Result LineReply Failure → Bool
 is_short_outcome (Ok reply) = replies.is_short reply
 is_short_outcome (Err failure) = is_want_of_memory failure
 
@@ -47,27 +47,27 @@ IsWritten contents (Some text) old new err_old err_new = Appends (held contents 
 IsWritten contents None old new err_old err_new = new ≡ old
 
 -- what came of a job is told, and the status is its own
-pub record IsToldWhole {W E : Type 0} (contents : W → Option (List ℕ)) (work : Work) (outcome : Result Reply Failure) (old new : Output W) (err_old err_new : E) (exit : Exit) : Type 0 where
-  pub written : IsWritten contents (told_of outcome) old new err_old err_new
+pub record IsToldWhole {W E : Type 0} (contents : W → Option (List ℕ)) (work : Work) (outcome : Result LineReply Failure) (old new : Output W) (err_old err_new : E) (exit : Exit) : Type 0 where
+  pub written : IsWritten contents (output_of outcome) old new err_old err_new
   pub status : exit.status ≡ status_of_outcome work outcome
   pub short : exit.is_short ≡ is_short_outcome outcome
 
 -- What came of a job isn't told, or not to its end: a write failed or a growth was refused, and the status is 1.
-pub record IsUntold {W : Type 0} (contents : W → Option (List ℕ)) (outcome : Result Reply Failure) (old new : Output W) (exit : Exit) : Type 0 where
+pub record IsUntold {W : Type 0} (contents : W → Option (List ℕ)) (outcome : Result LineReply Failure) (old new : Output W) (exit : Exit) : Type 0 where
   pub text : List ℕ
-  pub meant : told_of outcome ≡ Some text
+  pub meant : output_of outcome ≡ Some text
   pub front : StandsIn (held contents old) (contents new.writer) text
   pub cause : (write_failed new ≡ true) ⊎ (exit.is_short ≡ true)
   pub status : exit.status ≡ 1
 
-abbrev pub EndsWith : {W E : Type 0} → (W → Option (List ℕ)) → Work → Result Reply Failure → (old new : Output W) → (err_old err_new : E) → Exit → Type 0
+abbrev pub EndsWith : {W E : Type 0} → (W → Option (List ℕ)) → Work → Result LineReply Failure → (old new : Output W) → (err_old err_new : E) → Exit → Type 0
 EndsWith contents work outcome old new err_old err_new exit =
     IsToldWhole contents work outcome old new err_old err_new exit ⊎ IsUntold contents outcome old new exit
 
 -- What comes of a job, some reply or a failure, is told; a failure has its cause in the words or the input, or comes
 -- from the folder.
 pub record IsJobTold {W E : Type 0} (contents : W → Option (List ℕ)) (work : Work) (text : Option (List ℕ)) (is_broken : Bool) (old new : Output W) (err_old err_new : E) (exit : Exit) : Type 0 where
-  pub outcome : Result Reply Failure
+  pub outcome : Result LineReply Failure
   pub cause : IfErr outcome (λ failure. HasCause failure work text is_broken)
   pub told : EndsWith contents work outcome old new err_old err_new exit
 

@@ -12,13 +12,13 @@ use Rattle.script_lines.specs.Lines.{Statement, create, task, append, checkpoint
 use Rattle.lake_script.specs.Runs.{Executes}
 use Rattle.lake_script.specs.ReplyView.{reply_text}
 use Rattle.lake_script.specs.Told.{not_yet}
-use Rattle.lake_script.specs.declared.reply.Reply.{Reply}
+use Rattle.lake_script.specs.declared.reply.LineReply.{LineReply}
 use Rattle.lake_command.specs.Status.{refuses}
 use Rattle.lake_command.specs.declared.looking.DataFile.{DataFile}
 
 -- these are the rows of an input: the JSON objects of its lines
-abbrev pub AreRows : List ℕ → List Data → Type 0
-AreRows text rows = map object_of (input_lines text) ≡ map (λ row. Some row) rows
+abbrev pub AreLineRows : List ℕ → List Data → Type 0
+AreLineRows text rows = map object_of (input_lines text) ≡ map (λ row. Some row) rows
 
 -- the names of some data files
 abbrev pub file_names : List DataFile → List (List ℕ)
@@ -34,7 +34,7 @@ reads_input _ = false
 abbrev pub IsAskedBy : Work → (text : Option (List ℕ)) → Statement → Type 0
 IsAskedBy (words.create id schema at) text statement = statement ≡ create id at schema
 IsAskedBy (words.append application number at tries) text statement =
-    (bytes : List ℕ) × (rows : List Data) × IfSome text (λ known. bytes ≡ known) × AreRows bytes rows × (statement ≡ task (append application number at (items_of rows)))
+    (bytes : List ℕ) × (rows : List Data) × IfSome text (λ known. bytes ≡ known) × AreLineRows bytes rows × (statement ≡ task (append application number at (items_of rows)))
 IsAskedBy (words.close application at tries) text statement = ⊥
 IsAskedBy (words.load workers at tries) text statement = ⊥
 IsAskedBy (words.tail max offset) text statement = statement ≡ task (tail max offset)
@@ -49,21 +49,21 @@ IsNotYet (words.load workers at tries) = Unit {0}
 IsNotYet _ = ⊥
 
 -- the reply to a job, and the objects behind it: those of a line of a script, over the same objects
-abbrev pub IsAnswer : Work → (text : Option (List ℕ)) → (old : Objects) → (reply : List ℕ) → (new : Objects) → Type 0
-IsAnswer work text old reply new =
+abbrev pub IsJobAnswer : Work → (text : Option (List ℕ)) → (old : Objects) → (reply : List ℕ) → (new : Objects) → Type 0
+IsJobAnswer work text old reply new =
     (IsNotYet work × (reply ≡ not_yet) × (new ≡ old)) ⊎ ((statement : Statement) × IsAskedBy work text statement × Executes old statement reply new)
 
 -- A job is done: its reply is written behind what was held, doesn't refuse it, and the folder holds what it leaves.
-pub record IsAnswered (work : Work) (text : Option (List ℕ)) (old : Objects) (before after : Option (List ℕ)) (new : Objects) : Type 0 where
-  pub reply : Reply
+pub record IsAnsweredJob (work : Work) (text : Option (List ℕ)) (old : Objects) (before after : Option (List ℕ)) (new : Objects) : Type 0 where
+  pub reply : LineReply
   pub told : Appends before after (reply_text reply)
   pub done : refuses work reply ≡ false
-  pub answer : IsAnswer work text old (reply_text reply) new
+  pub answer : IsJobAnswer work text old (reply_text reply) new
 
 -- behind a line, however it ends: what stood, or what the line may put, all of it or
 -- its data file alone
-abbrev pub MayHavePut : (old : Objects) → Statement → (new : Objects) → Type 0
-MayHavePut old statement new = (new ≡ old) ⊎ MayPut old statement new
+abbrev pub LineMayLeave : (old : Objects) → Statement → (new : Objects) → Type 0
+LineMayLeave old statement new = (new ≡ old) ⊎ MayPut old statement new
 
 -- the same of a line that asks for what a job asks for
 abbrev pub JobMayLeave : Work → (text : Option (List ℕ)) → (old new : Objects) → Type 0

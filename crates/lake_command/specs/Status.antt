@@ -4,8 +4,8 @@ use Rattle.std.specs.List.{list_any, starts_with}
 use Rattle.delta_actions.specs.Commit.{lines_of}
 use Rattle.table_folder.specs.declared.fault.LoadFault.TheVariants as loads
 use Rattle.table_folder.specs.declared.fault.SaveFault.TheVariants as saves
-use Rattle.lake_script.specs.declared.reply.Reply.{Reply}
-use Rattle.lake_script.specs.declared.reply.Reply.TheVariants.{Created, Appended, Checkpointed, Put, Bytes, Digits}
+use Rattle.lake_script.specs.declared.reply.LineReply.{LineReply}
+use Rattle.lake_script.specs.declared.reply.LineReply.TheVariants.{Created, Appended, Checkpointed, Put, Bytes, Digits}
 use Rattle.lake_words.specs.Asked.{Work}
 use Rattle.lake_words.specs.Asked as words
 use Rattle.lake_command.specs.declared.failure.Failure.{Failure}
@@ -67,7 +67,7 @@ ends_early _ text = false
 
 -- A reply to a job refuses it: a text and digits by their bytes; a creation, an append, a checkpoint or a put that was
 -- done doesn't, and each other reply does.
-abbrev pub refuses : Work → Reply → Bool
+abbrev pub refuses : Work → LineReply → Bool
 refuses work (Bytes text) = is_refusal text.items || ends_early work text.items
 refuses work Created = false
 refuses work (Appended answer) = false

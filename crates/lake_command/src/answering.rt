@@ -11,13 +11,13 @@ ghost use Rattle.lake_script.specs.Streams.{read_failed, unread};
 ghost use Rattle.lake_command.specs.Failures.{ComesOfACall, IsByFolder, IsCaused, IsNotRead, IsOfInput, Leaves};
 ghost use Rattle.lake_script.specs.Told.{not_yet};
 ghost use Rattle.lake_script.specs.declared.inputs.TheConstants.{MOST_BYTES};
-ghost use Rattle.lake_command.specs.Folders.{IsAnswer, IsAskedBy, IsNotYet, JobMayLeave, reads_input};
+ghost use Rattle.lake_command.specs.Folders.{IsJobAnswer, IsAskedBy, IsNotYet, JobMayLeave, reads_input};
 
 use crate::Failure;
 use crate::saving::execute_in;
 use json_lines::objects_in;
 use json_text::JsonRows;
-use lake_script::{Fault, Input, Line, Reply};
+use lake_script::{Fault, Input, Line, LineReply};
 use lake_words::{Job, TableCommand};
 use std::alloc::Global;
 use std::io::Read;
@@ -33,22 +33,22 @@ pub fn answer<F: Folder, R: Read>(
     folder: &mut F,
     command: TableCommand<'_>,
     input: &mut Input<R>,
-) -> Result<Reply, Failure>
+) -> Result<LineReply, Failure>
     // Over a steady folder whose checkpoints are sound, or with all commits read, the reply and what the folder then holds
     // are those of the same line of a script over the folder's objects.
-    ensures told { F.is_steady folder.old → RestoresWell command.entry.restore (F.objects folder.old)
-        → IfOk result (λ reply. IsAnswer (work_view command.entry.job) (unread R.remaining input.old)
+    ensures told { F.is_steady folder.old → RestoresWell command.entry.use_checkpoints (F.objects folder.old)
+        → IfOk result (λ reply. IsJobAnswer (work_view command.entry.job) (unread R.remaining input.old)
         (F.objects folder.old) (reply_text reply) (F.objects folder.new)) }
     // A fault of the words or of the input leaves the folder as it was. Where the table isn't saved whole, it holds what the job
     // put, or its data file alone, or nothing of it; an object that isn't saved is one that the job puts where nothing stood,
     // and a call of the folder failed then.
-    ensures failed { F.is_steady folder.old → RestoresWell command.entry.restore (F.objects folder.old)
+    ensures failed { F.is_steady folder.old → RestoresWell command.entry.use_checkpoints (F.objects folder.old)
         → IfErr result (λ failure. Leaves failure (work_view command.entry.job) (unread R.remaining input.old)
         (F.objects folder.old) (F.objects folder.new)) }
-    ensures alone { F.is_steady folder.old → RestoresWell command.entry.restore (F.objects folder.old)
+    ensures alone { F.is_steady folder.old → RestoresWell command.entry.use_checkpoints (F.objects folder.old)
         → ComesOfACall result (F.fault_count folder.old) (F.fault_count folder.new) }
     // However it ends, such a folder holds what it had, or what the job may put, well made: all of it, or its data file alone.
-    ensures puts { F.is_steady folder.old → RestoresWell command.entry.restore (F.objects folder.old)
+    ensures puts { F.is_steady folder.old → RestoresWell command.entry.use_checkpoints (F.objects folder.old)
         → JobMayLeave (work_view command.entry.job) (unread R.remaining input.old) (F.objects folder.old) (F.objects folder.new) }
     // What comes of it has its cause in the words, the input or the folder's calls, the input before the folder. The folder
     // isn't touched where the words or the input are refused.
@@ -69,15 +69,15 @@ pub fn answer<F: Folder, R: Read>(
     ensures steady { F.is_steady folder.old → F.is_steady folder.new }
 {
     let mut text = Vec::new(alloc);
-    match line_of(alloc, command.job, input, &mut text)? {
-        Some(line) => execute_in(alloc, folder, line, command.restore),
-        None => Ok(Reply::Refused(Fault::NotYet)),
+    match line_for(alloc, command.job, input, &mut text)? {
+        Some(line) => execute_in(alloc, folder, line, command.use_checkpoints),
+        None => Ok(LineReply::Refused(Fault::NotYet)),
     }
 }
 
 // The line of a script that asks for the same, or `None` for what isn't there yet. The text of an append's rows is left
 // in the buffer.
-fn line_of<'a, R: Read>(
+fn line_for<'a, R: Read>(
     alloc: Global,
     job: Job<'a>,
     input: &mut Input<R>,

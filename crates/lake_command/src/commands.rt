@@ -22,7 +22,7 @@ use crate::failure::Failure;
 use crate::telling::{table_command, tell_failure};
 use clap::Error;
 use clap::error::ErrorKind;
-use lake_script::{End, Fault, Input, Output, Refusal, run};
+use lake_script::{End, Fault, Input, Output, RefusalText, run};
 use lake_words::{Command, TableCommand, read_words};
 use std::alloc::AllocError;
 use std::convert::AsStr;
@@ -53,7 +53,7 @@ fn ended<E: Write>(end: End, err: &mut E) -> u8
         End::NotRead => Fault::NotRead,
         End::NotWritten => Fault::NotWritten,
     };
-    let _ = err.writeln(Refusal(fault));
+    let _ = err.writeln(RefusalText(fault));
     REFUSED
 }
 
@@ -128,9 +128,9 @@ pub fn command<H: Files + AllocGlobal + Clone + Drop, S: AsStr, R: Read, W: Writ
 
     // What comes of a job is told where it belongs, with its status, and a failure of the words or the input has its cause there,
     // unless memory runs out. What it leaves in a folder on the disk isn't claimed.
-    ensures job { (folder : List ℕ) (restore : Bool) (work : Work) → SpellsJob (map S.text words.now) (table folder restore work)
+    ensures job { (folder : List ℕ) (use_checkpoints : Bool) (work : Work) → SpellsJob (map S.text words.now) (table folder use_checkpoints work)
         → TellsJob W.contents work (unread R.remaining input.old) (read_failed input.new) output.old output.new err.old err.new result }
-    ensures input_untouched { (folder : List ℕ) (restore : Bool) (work : Work) → SpellsJob (map S.text words.now) (table folder restore work)
+    ensures input_untouched { (folder : List ℕ) (use_checkpoints : Bool) (work : Work) → SpellsJob (map S.text words.now) (table folder use_checkpoints work)
         → reads_input work ≡ false → input.new ≡ input.old }
 
     // Words that can't be read have the status of what is wrong with them, and run nothing.
@@ -140,9 +140,9 @@ pub fn command<H: Files + AllocGlobal + Clone + Drop, S: AsStr, R: Read, W: Writ
     let alloc = rt.alloc();
     match read_words(alloc, words) {
         Ok(Command::Table(command)) => command_on_disk(rt, command, input, output, err),
-        Ok(Command::Script { restore }) => {
+        Ok(Command::Script { use_checkpoints }) => {
             let mut store = MemoryStore::new(alloc);
-            let outcome = run(alloc, input, output, &mut store, restore);
+            let outcome = run(alloc, input, output, &mut store, use_checkpoints);
             Exit {
                 status: ended(outcome.end, err),
                 is_short: outcome.short(),

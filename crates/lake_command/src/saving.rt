@@ -7,19 +7,19 @@ ghost use Rattle.script_lines.specs.Lines.{statement_view, task, tail, IsTimely}
 ghost use Rattle.lake_script.specs.ReplyView.{reply_text};
 ghost use Rattle.lake_script.specs.Runs.{Executes};
 ghost use Rattle.lake_command.specs.Failures.{ComesOfACall, CountsFolderFault, IsByFolder, IsLoading, IsOfFolder, NamesPut};
-ghost use Rattle.lake_command.specs.Folders.{file_names, MayHavePut};
+ghost use Rattle.lake_command.specs.Folders.{file_names, LineMayLeave};
 ghost use Rattle.table_folder.specs.Loads.{loaded};
 ghost use Rattle.job_laws.specs.Enough.{HasRows, line_count};
 
 use crate::Failure;
 use crate::looking::{DataFile, files_for};
 use crate::telling::is_refusal;
-use lake_script::{Job, Line, Reply, execute};
+use lake_script::{Job, Line, LineReply, execute};
 use std::alloc::Global;
 use std::slice;
 use store_core::{MemoryStore, Store};
 use table_folder::{Folder, load_files, load_log, save};
-use table_log::Known;
+use table_log::LogCache;
 
 /// A read is tried over the first data files once they have this many bytes, and each time that they have four times as many.
 const FIRST_BYTES: u64 = 8 << 20;
@@ -32,16 +32,16 @@ pub(crate) fn execute_in<F: Folder>(
     alloc: Global,
     folder: &mut F,
     line: Line<'_>,
-    restore: bool,
-) -> Result<Reply, Failure>
+    use_checkpoints: bool,
+) -> Result<LineReply, Failure>
     requires { IsTimely (statement_view line) }
-    ensures told { F.is_steady folder.old → RestoresWell restore (F.objects folder.old)
+    ensures told { F.is_steady folder.old → RestoresWell use_checkpoints (F.objects folder.old)
         → IfOk result (λ reply. Executes (F.objects folder.old) (statement_view line.entry) (reply_text reply) (F.objects folder.new)) }
-    ensures puts { F.is_steady folder.old → RestoresWell restore (F.objects folder.old)
-        → MayHavePut (F.objects folder.old) (statement_view line.entry) (F.objects folder.new) }
-    ensures named { F.is_steady folder.old → RestoresWell restore (F.objects folder.old)
+    ensures puts { F.is_steady folder.old → RestoresWell use_checkpoints (F.objects folder.old)
+        → LineMayLeave (F.objects folder.old) (statement_view line.entry) (F.objects folder.new) }
+    ensures named { F.is_steady folder.old → RestoresWell use_checkpoints (F.objects folder.old)
         → IfErr result (λ failure. NamesPut failure (statement_view line.entry) (F.objects folder.old)) }
-    ensures alone { F.is_steady folder.old → RestoresWell restore (F.objects folder.old)
+    ensures alone { F.is_steady folder.old → RestoresWell use_checkpoints (F.objects folder.old)
         → ComesOfACall result (F.fault_count folder.old) (F.fault_count folder.new) }
     ensures failed { F.is_steady folder.old → IfErr result (λ failure. IsOfFolder failure (F.objects folder.old) (F.objects folder.new)) }
     ensures caused { IfErr result (λ failure. IsByFolder failure) }
@@ -52,11 +52,24 @@ pub(crate) fn execute_in<F: Folder>(
 {
     let mut store = load_log(alloc, folder)?;
     let files = files_for(alloc, &mut store, &line)?;
-    if let Some(reply) = load_until_read(alloc, folder, &mut store, &files, &line, restore)? {
+    if let Some(reply) = load_until_read(
+        alloc,
+        folder,
+        &mut store,
+        &files,
+        &line,
+        use_checkpoints,
+    )? {
         return Ok(reply);
     }
     let loaded = store.list()?;
-    let reply = execute(alloc, line, &mut store, restore, &mut Known::new(alloc));
+    let reply = execute(
+        alloc,
+        line,
+        &mut store,
+        use_checkpoints,
+        &mut LogCache::new(alloc),
+    );
     save(alloc, folder, &mut store, &loaded)?;
     Ok(reply)
 }
@@ -69,12 +82,12 @@ fn load_until_read<F: Folder>(
     store: &mut MemoryStore,
     files: &[DataFile],
     line: &Line<'_>,
-    restore: bool,
-) -> Result<Option<Reply>, Failure>
+    use_checkpoints: bool,
+) -> Result<Option<LineReply>, Failure>
     requires { IsTimely (statement_view line.now) }
-    ensures loaded { F.is_steady folder.old → RestoresWell restore (F.objects folder.old) → stored_objects store.old ≡ loaded [] (F.objects folder.old)
+    ensures loaded { F.is_steady folder.old → RestoresWell use_checkpoints (F.objects folder.old) → stored_objects store.old ≡ loaded [] (F.objects folder.old)
         → result ≡ Ok None → stored_objects store.new ≡ loaded (file_names files.now) (F.objects folder.old) }
-    ensures read { F.is_steady folder.old → RestoresWell restore (F.objects folder.old) → stored_objects store.old ≡ loaded [] (F.objects folder.old)
+    ensures read { F.is_steady folder.old → RestoresWell use_checkpoints (F.objects folder.old) → stored_objects store.old ≡ loaded [] (F.objects folder.old)
         → IfOk result (λ found. IfSome found (λ reply. Executes (F.objects folder.old) (statement_view line.now) (reply_text reply) (F.objects folder.old))) }
     ensures failed { F.is_steady folder.old → IfErr result (λ failure. IsOfFolder failure (F.objects folder.old) (F.objects folder.new)) }
     ensures untouched { F.is_steady folder.old → F.objects folder.new ≡ F.objects folder.old }
@@ -89,7 +102,7 @@ fn load_until_read<F: Folder>(
         bytes = bytes.saturating_add(file.size);
         if bytes >= enough {
             enough = enough.saturating_mul(4);
-            if let Some(reply) = whole_read(alloc, store, line, restore) {
+            if let Some(reply) = whole_read(alloc, store, line, use_checkpoints) {
                 return Ok(Some(reply));
             }
         }
@@ -102,16 +115,22 @@ fn whole_read(
     alloc: Global,
     store: &mut MemoryStore,
     line: &Line<'_>,
-    restore: bool,
-) -> Option<Reply>
-    ensures read { (objects : Objects) (files : List (List ℕ)) → stored_objects store.old ≡ loaded files objects → RestoresWell restore objects
+    use_checkpoints: bool,
+) -> Option<LineReply>
+    ensures read { (objects : Objects) (files : List (List ℕ)) → stored_objects store.old ≡ loaded files objects → RestoresWell use_checkpoints objects
         → IfSome result (λ reply. Executes objects (statement_view line.now) (reply_text reply) objects) }
-    ensures same { (objects : Objects) (files : List (List ℕ)) → stored_objects store.old ≡ loaded files objects → RestoresWell restore objects
+    ensures same { (objects : Objects) (files : List (List ℕ)) → stored_objects store.old ≡ loaded files objects → RestoresWell use_checkpoints objects
         → stored_objects store.new ≡ stored_objects store.old }
 {
     let (max, offset) = read_of(line)?;
     let read = Line::Job(Job::Tail { max, offset });
-    let reply = execute(alloc, read, store, restore, &mut Known::new(alloc));
+    let reply = execute(
+        alloc,
+        read,
+        store,
+        use_checkpoints,
+        &mut LogCache::new(alloc),
+    );
     if has_rows(&reply, max) {
         Some(reply)
     } else {
@@ -130,11 +149,11 @@ fn read_of<'a>(line: &Line<'a>) -> Option<(u64, &'a str)>
 }
 
 // Whether a reply to a read has so many rows.
-fn has_rows(reply: &Reply, max: u64) -> bool
+fn has_rows(reply: &LineReply, max: u64) -> bool
     ensures { result ≡ true → HasRows max (reply_text reply.now) }
 {
     match reply {
-        Reply::Bytes(text) => !is_refusal(text) && line_count(text) > max,
+        LineReply::Bytes(text) => !is_refusal(text) && line_count(text) > max,
         _ => false,
     }
 }

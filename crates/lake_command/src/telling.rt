@@ -1,23 +1,23 @@
 //! The reply to a job on the table in a folder, told, and the exit status.
+ghost use Rattle.lake_bytes.specs.Lines.{with_newline};
 ghost use Rattle.std.specs.Prelude.{◌≡◌, ◌≢◌, ◌⊎◌, ◌||◌, ◌<◌, ℕ, List, true, false, Some, Result, Ok, Err, OnOk, OnErr};
 ghost use Rattle.std.specs.Io.KnownBytes.{Appends};
 ghost use Rattle.store_core.specs.Objects.{object_at};
 ghost use Rattle.log_laws.specs.Sound.{IsSoundStore};
 ghost use Rattle.job_laws.specs.Bytes.{AreBytes};
 ghost use Rattle.table_log.specs.Restoring.{RestoresWell};
-ghost use Rattle.commit_core.specs.Texts.{line_of};
 ghost use Rattle.lake_words.specs.Asked.{Work, work_view};
 ghost use Rattle.lake_script.specs.ReplyView.{reply_text};
 ghost use Rattle.lake_script.specs.Streams.{held, read_failed, unread, write_failed, StandsIn};
 ghost use Rattle.lake_command.specs.Endings.{EndsWith, IsOutcome};
 ghost use Rattle.lake_command.specs.Failures.{ComesOfACall, IsCaused, failure_text};
 ghost use Rattle.lake_command.specs.Status.{ends_early, has_refusal, is_refusal, is_want_of_memory, refuses, status_of_failure};
-ghost use Rattle.lake_command.specs.Folders.{IsAnswered, reads_input};
+ghost use Rattle.lake_command.specs.Folders.{IsAnsweredJob, reads_input};
 
 use crate::answering::answer;
 use crate::exit::{DONE, Exit, MISUSED, REFUSED};
 use crate::failure::Failure;
-use lake_script::{Fault, Input, Output, OutputError, Refusal, Reply};
+use lake_script::{Fault, Input, LineReply, Output, OutputError, RefusalText};
 use lake_words::{Job, TableCommand};
 use std::alloc::Global;
 use std::io::{Read, Write};
@@ -35,13 +35,13 @@ pub fn table_command<F: Folder, R: Read, W: Write, E: Write>(
 ) -> Exit
     // Over a steady folder whose checkpoints are sound, or with all commits read, a job that is done writes the reply of the
     // same line of a script over the folder's objects, and the folder then holds what that line leaves.
-    ensures done { F.is_steady folder.old → RestoresWell command.entry.restore (F.objects folder.old) → result.status ≡ DONE
-        → IsAnswered (work_view command.entry.job) (unread R.remaining input.old) (F.objects folder.old)
+    ensures done { F.is_steady folder.old → RestoresWell command.entry.use_checkpoints (F.objects folder.old) → result.status ≡ DONE
+        → IsAnsweredJob (work_view command.entry.job) (unread R.remaining input.old) (F.objects folder.old)
         (held W.contents output.old) (W.contents output.new.writer) (F.objects folder.new) }
     // However it ends, there is a reply, or a failure that has its cause; over such a folder it is the answer, or leaves what it
     // may. It is told where it belongs, with its status, or a write failed or a growth was refused, and the status is 1.
-    ensures ended { (outcome : Result Reply Failure)
-        × (F.is_steady folder.old → RestoresWell command.entry.restore (F.objects folder.old)
+    ensures ended { (outcome : Result LineReply Failure)
+        × (F.is_steady folder.old → RestoresWell command.entry.use_checkpoints (F.objects folder.old)
         → IsOutcome outcome (work_view command.entry.job) (unread R.remaining input.old) (F.objects folder.old) (F.objects folder.new)
         × ComesOfACall outcome (F.fault_count folder.old) (F.fault_count folder.new))
         × IsCaused outcome (work_view command.entry.job) (unread R.remaining input.old) (read_failed input.new)
@@ -65,7 +65,7 @@ pub fn table_command<F: Folder, R: Read, W: Write, E: Write>(
 
 // Tells a reply.
 fn tell<W: Write, E: Write>(
-    reply: &Reply,
+    reply: &LineReply,
     job: Job<'_>,
     output: &mut Output<W>,
     err: &mut E,
@@ -90,7 +90,7 @@ fn tell<W: Write, E: Write>(
 }
 
 // Gives a reply and writes it.
-fn give<W: Write>(reply: &Reply, output: &mut Output<W>) -> Result<(), OutputError>
+fn give<W: Write>(reply: &LineReply, output: &mut Output<W>) -> Result<(), OutputError>
     ensures told { OnOk result (Appends (held W.contents output.old) (W.contents output.new.writer) (reply_text reply.now)) }
     ensures front { OnErr result (StandsIn (held W.contents output.old) (W.contents output.new.writer) (reply_text reply.now)) }
     ensures broken { result ≡ Err OutputError.Broken → write_failed output.new ≡ true }
@@ -104,7 +104,7 @@ fn not_written<E: Write>(error: OutputError, is_short: bool, err: &mut E) -> Exi
     ensures status { result.status ≡ REFUSED }
     ensures short { (result.is_short ≡ true) ⊎ (error ≡ OutputError.Broken) }
 {
-    let _ = err.writeln(Refusal(Fault::NotWritten));
+    let _ = err.writeln(RefusalText(Fault::NotWritten));
     Exit {
         status: REFUSED,
         is_short: is_short || error == OutputError::Memory,
@@ -149,8 +149,8 @@ fn hint<E: Write>(failure: &Failure, err: &mut E) {
 
 // Says why there is no reply, where replies go.
 fn say<W: Write>(failure: &Failure, output: &mut Output<W>) -> Result<(), OutputError>
-    ensures told { OnOk result (Appends (held W.contents output.old) (W.contents output.new.writer) (line_of (failure_text failure.now))) }
-    ensures front { OnErr result (StandsIn (held W.contents output.old) (W.contents output.new.writer) (line_of (failure_text failure.now))) }
+    ensures told { OnOk result (Appends (held W.contents output.old) (W.contents output.new.writer) (with_newline (failure_text failure.now))) }
+    ensures front { OnErr result (StandsIn (held W.contents output.old) (W.contents output.new.writer) (with_newline (failure_text failure.now))) }
     ensures broken { result ≡ Err OutputError.Broken → write_failed output.new ≡ true }
 {
     output.say(failure)?;
@@ -176,13 +176,16 @@ fn is_want_of_memory(failure: &Failure) -> bool
 }
 
 // Whether a reply to a job refuses it. A history that ends early says so in its last line.
-fn is_refused(reply: &Reply, job: Job<'_>) -> bool
+fn is_refused(reply: &LineReply, job: Job<'_>) -> bool
     ensures { result ≡ refuses (work_view job.entry) reply.now }
 {
     match reply {
-        Reply::Bytes(text) => text_refuses(text, job),
-        Reply::Digits(text) => text_refuses(text.as_bytes(), job),
-        Reply::Created | Reply::Appended(_) | Reply::Checkpointed(_) | Reply::Put(_) => false,
+        LineReply::Bytes(text) => text_refuses(text, job),
+        LineReply::Digits(text) => text_refuses(text.as_bytes(), job),
+        LineReply::Created
+        | LineReply::Appended(_)
+        | LineReply::Checkpointed(_)
+        | LineReply::Put(_) => false,
         _ => true,
     }
 }

@@ -10,18 +10,19 @@ use Rattle.delta_replay.specs.SupportTexts as supports
 use Rattle.delta_replay.specs.declared.support.SupportFault.{SupportFault}
 use Rattle.delta_replay.specs.declared.support.SupportFault.TheVariants.{NoProtocol, NoMetadata, Feature, Partitioned, ReaderVersion, BadSchema}
 use Rattle.source_core.specs.TailFaults.{support_text}
-use Rattle.commit_core.specs.Texts.{refused, line_of}
+use Rattle.commit_core.specs.Texts.{refused}
 use Rattle.snapshot_core.specs.Faults.{checked, readable_log, says}
 use Rattle.snapshot_core.specs.Taking.{most_bytes, IsRefusal, IsTooLarge, PutsCheckpoint}
 use Rattle.snapshot_core.specs.Telling.{TellsSnapshot}
 use Rattle.snapshot_core.specs.declared.fault.SnapshotFault.{SnapshotFault}
 use Rattle.snapshot_core.specs.declared.fault.SnapshotFault.TheVariants as faults
-use Rattle.lake_script.specs.declared.reply.Reply.TheVariants.{Checkpointed, NoSnapshot}
+use Rattle.lake_script.specs.declared.reply.LineReply.TheVariants.{Checkpointed, NoSnapshot}
 use Rattle.lake_script.specs.Checkpoints.{checkpoint_by, newest_version}
 use Rattle.script_lines.specs.Lines.{Statement, checkpoint, snapshot, task}
 use Rattle.lake_script.specs.ReplyView.{reply_text, is_short}
 use Rattle.lake_script.specs.Runs.{Executes, Has, IsShort, no_room_to_tell}
 use Rattle.lake_script.specs.Sound.{IsExecuted}
+use Rattle.lake_bytes.specs.Lines.{with_newline}
 
 -- the two texts of what a table lacks are the same
 support_is : (why : SupportFault) → supports.fault_text why ≡ support_text (fault_of why)
@@ -64,7 +65,7 @@ log_executed objects (faults.BadLog version) said enough kept = record {
 log_executed objects (faults.Unsupported why) said enough kept = record {
   text = [];
   printed = rw said tt;
-  told = rw said (ap (λ (text : List ℕ). line_of (refused (codes "K8 Unsupported " ++ text))) (support_is why));
+  told = rw said (ap (λ (text : List ℕ). with_newline (refused (codes "K8 Unsupported " ++ text))) (support_is why));
   left = rw said refl;
   sound = rw said tt;
 }
@@ -135,7 +136,7 @@ unread_executed objects (faults.BadLog version) said enough kept = record {
 unread_executed objects (faults.Unsupported why) said enough kept = record {
   text = [];
   printed = rw said tt;
-  told = rw said (ap (λ (text : List ℕ). line_of (refused (codes "K8 Unsupported " ++ text))) (support_is why));
+  told = rw said (ap (λ (text : List ℕ). with_newline (refused (codes "K8 Unsupported " ++ text))) (support_is why));
   left = refl;
   sound = tt;
 }

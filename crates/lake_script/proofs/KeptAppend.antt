@@ -12,7 +12,7 @@ use Rattle.parquet_footer.specs.declared.fault.FileFault.{FileFault}
 use Rattle.parquet_file.specs.Reading.{rows_at}
 use Rattle.parquet_file.specs.Writing.{written_file}
 use Rattle.table_model.specs.Appends.{appended, with_batch}
-use Rattle.table_model.specs.declared.table.Appended.TheVariants.{Committed, Already, Differs, StreamClosed}
+use Rattle.table_model.specs.declared.table.AppendAnswer.TheVariants.{Committed, Already, Differs, StreamClosed}
 use Rattle.table_model.specs.Lawful.{IsLawful}
 use Rattle.delta_actions.specs.Names.{data_file_name, greatest_version}
 use Rattle.delta_actions.specs.Names as names
@@ -23,11 +23,10 @@ use Rattle.table_model.specs.Table.{Entry, creation, group, last_batch, is_close
 use Rattle.table_store.specs.Commits.{IsCommitOf}
 use Rattle.table_store.proofs.Callers.{commit_name-data_file_name}
 use Rattle.table_model.proofs.Callers.{append_keeps}
-use Rattle.sink_core.specs.Appending.{Batch, Request, Step, puts, stands, checked, appending, file_name, greatest_number, is_repeat, request_of, file_or_refusal, batch_of, fitting, new_step, repeated_step, step_of, settled, answered, with_append, IsWellMade, PutsWell}
+use Rattle.sink_core.specs.Appending.{EncodedBatch, AppendRequest, AppendPlan, puts, stands, checked, appending, file_name, greatest_number, is_repeat, request_of, file_or_refusal, batch_of, put_plan, new_plan, repeated_plan, plan_of, append_plan, plan_answer, with_append, IsWellMade, PutsWell}
 use Rattle.commit_core.specs.Commits.{commit_text}
 use Rattle.script_lines.specs.Lines.{append, task}
-use Rattle.sink_core.specs.Refusals.{Refusal, bad_app, too_large, file_too_large, stale, differs, bad_log}
-use Rattle.commit_core.specs.Texts.{line_of}
+use Rattle.sink_core.specs.Refusals.{AppendRefusal, bad_app, too_large, file_too_large, stale, differs, bad_log}
 use Rattle.lake_bytes.specs.Results.{◌>>=◌, refused_if}
 use Rattle.sink_core.specs.RowsIn.{rows_from, takes_rows}
 use Rattle.lake_script.specs.Sound.{IsSoundStatement}
@@ -43,15 +42,16 @@ use Rattle.lake_script.proofs.KeptPuts.{kept_more, no_other_more}
 use Rattle.lake_script.proofs.KeptRequest.{asked, goes_on, unless_invariant, request_is}
 use Rattle.log_laws.proofs.Callers.{log_of_nothing}
 use Rattle.lake_script.proofs.KeptVersions.{count_kept, log_kept}
+use Rattle.lake_bytes.specs.Lines.{with_newline}
 
 -- what an append does agrees with the batch that is handed in at the plain table
-abbrev Agrees : (objects : Objects) (schema : Tree) (entries : List Entry) (number : ℕ) → Result Step Refusal → Result model.Batch Refusal → Type 0
+abbrev Agrees : (objects : Objects) (schema : Tree) (entries : List Entry) (number : ℕ) → Result AppendPlan AppendRefusal → Result model.Batch AppendRefusal → Type 0
 Agrees objects schema entries number step answer =
-    (appended_reply (step >>= answered objects number) ≡ tables.appended_reply (table schema entries) answer) × Keeps (with_append objects step) (tables.with_append (table schema entries) answer)
+    (appended_reply (step >>= plan_answer objects number) ≡ tables.appended_reply (table schema entries) answer) × Keeps (with_append objects step) (tables.with_append (table schema entries) answer)
 
 -- what is put is well made, and no file is too large
-abbrev IsSoundStep : (application : List ℕ) (number at : ℕ) → Result Step Refusal → Type 0
-IsSoundStep application number at step = PutsWell application number at step × (step ≢ Err file_too_large)
+abbrev IsSoundPlan : (application : List ℕ) (number at : ℕ) → Result AppendPlan AppendRefusal → Type 0
+IsSoundPlan application number at step = PutsWell application number at step × (step ≢ Err file_too_large)
 
 -- ---- the tests in front
 
@@ -75,7 +75,7 @@ pub version_fits : (entries : List Entry) → length entries ≤ greatest_versio
 version_fits entries few = le-ltb greatest_version (length entries) few
 
 -- the batch that is put with this file
-abbrev pub made_with : (version : ℕ) (schema : Tree) (rows : List Row) (application : List ℕ) (number at : ℕ) (file : List ℕ) → Batch
+abbrev pub made_with : (version : ℕ) (schema : Tree) (rows : List Row) (application : List ℕ) (number at : ℕ) (file : List ℕ) → EncodedBatch
 made_with version schema rows application number at file = record {
   version = version;
   schema = schema;
@@ -119,18 +119,18 @@ module _ (objects : Objects) (schema : Tree) (entries : List Entry) (kept : IsKe
 
   -- what is done for a new number
   new_agrees : appended (handed_in application number rows) entries ≡ Committed (length entries) → object_at objects (data_file_name application number) ≡ None
-      → IsSoundStep application number at (new_step objects (asked (length entries) schema rows false) application number at)
-      → Agrees objects schema entries number (new_step objects (asked (length entries) schema rows false) application number at) (Ok (handed_in application number rows))
+      → IsSoundPlan application number at (new_plan objects (asked (length entries) schema rows false) application number at)
+      → Agrees objects schema entries number (new_plan objects (asked (length entries) schema rows false) application number at) (Ok (handed_in application number rows))
   unfolding batch_of
   new_agrees new free sound = by_file (written_file schema rows) sound
     where
-      by_file : (written : Result (List ℕ) FileFault) → IsSoundStep application number at ((file_or_refusal written >>= λ file. Ok (made_with (length entries) schema rows application number at file)) >>= fitting objects)
-          → Agrees objects schema entries number ((file_or_refusal written >>= λ file. Ok (made_with (length entries) schema rows application number at file)) >>= fitting objects) (Ok (handed_in application number rows))
+      by_file : (written : Result (List ℕ) FileFault) → IsSoundPlan application number at ((file_or_refusal written >>= λ file. Ok (made_with (length entries) schema rows application number at file)) >>= put_plan objects)
+          → Agrees objects schema entries number ((file_or_refusal written >>= λ file. Ok (made_with (length entries) schema rows application number at file)) >>= put_plan objects) (Ok (handed_in application number rows))
       by_file (Err fault) sound = absurd (sound.1 refl)
       by_file (Ok file) sound =
           let made = made_with (length entries) schema rows application number at file in
           let absent : object_at objects made.name ≡ None = ap (object_at objects) (same_file_name application number) ∙ free in
-          let fitted : fitting objects made ≡ Ok (puts made) = rw absent refl in
+          let fitted : put_plan objects made ≡ Ok (puts made) = rw absent refl in
           rw fitted (put_agrees file new free (rw fitted at sound.0))
 
   -- ---- the last number again
@@ -138,31 +138,31 @@ module _ (objects : Objects) (schema : Tree) (entries : List Entry) (kept : IsKe
   -- where its file stands and is read, its rows are compared
   again_agrees : (before : model.Batch) (bytes : List ℕ) → last_batch application entries ≡ Some before → ltb number before.number ≡ false → eqb number before.number ≡ true
       → object_at objects (data_file_name application number) ≡ Some bytes → rows_at bytes schema ≡ Ok before.rows
-      → Agrees objects schema entries number (repeated_step objects (asked (length entries) schema rows true) application number) (Ok (handed_in application number rows))
+      → Agrees objects schema entries number (repeated_plan objects (asked (length entries) schema rows true) application number) (Ok (handed_in application number rows))
   again_agrees before bytes last over equal there reads =
       rw (same_file_name application number, there, reads, same_either_way before.rows rows, last, over, equal) (by_same (same_rows rows before.rows))
     where
       by_same : (same : Bool)
-          → (appended_reply ((refused_if (not same) (differs (data_file_name application number)) >>= λ fits. Ok stands) >>= answered objects number)
-          ≡ line_of (tables.answer_text (handed_in application number rows) (cond same (Already number) Differs)))
+          → (appended_reply ((refused_if (not same) (differs (data_file_name application number)) >>= λ fits. Ok stands) >>= plan_answer objects number)
+          ≡ with_newline (tables.answer_text (handed_in application number rows) (cond same (Already number) Differs)))
           × Keeps (with_append objects (refused_if (not same) (differs (data_file_name application number)) >>= λ fits. Ok stands)) (table schema (with_batch (cond same (Already number) Differs) (handed_in application number rows) entries))
       by_same true = (refl, (kept, own))
       by_same false = (refl, (kept, own))
 
   -- what is done behind the application's last number
-  abbrev behind_last : Option ℕ → Result Step Refusal
-  behind_last last = (is_repeat number last >>= λ repeats. goes_on (is_closed application entries) repeats >>= λ open_. Ok (asked (length entries) schema rows repeats)) >>= step_of objects application number at
+  abbrev behind_last : Option ℕ → Result AppendPlan AppendRefusal
+  behind_last last = (is_repeat number last >>= λ repeats. goes_on (is_closed application entries) repeats >>= λ open_. Ok (asked (length entries) schema rows repeats)) >>= plan_of objects application number at
 
   -- what is done for a new number, where the stream may be closed
   open_agrees : (closed : Bool) → appended (handed_in application number rows) entries ≡ cond closed StreamClosed (Committed (length entries)) → object_at objects (data_file_name application number) ≡ None
-      → IsSoundStep application number at ((goes_on closed false >>= λ open_. Ok (asked (length entries) schema rows false)) >>= step_of objects application number at)
-      → Agrees objects schema entries number ((goes_on closed false >>= λ open_. Ok (asked (length entries) schema rows false)) >>= step_of objects application number at) (Ok (handed_in application number rows))
+      → IsSoundPlan application number at ((goes_on closed false >>= λ open_. Ok (asked (length entries) schema rows false)) >>= plan_of objects application number at)
+      → Agrees objects schema entries number ((goes_on closed false >>= λ open_. Ok (asked (length entries) schema rows false)) >>= plan_of objects application number at) (Ok (handed_in application number rows))
   open_agrees true new free sound = rw new (refl, (kept, own))
   open_agrees false new free sound = new_agrees new free sound
 
   -- the file of the last batch does stand, and is read
   last_agrees : (before : model.Batch) → last_batch application entries ≡ Some before → ltb number before.number ≡ false → eqb number before.number ≡ true
-      → Agrees objects schema entries number (repeated_step objects (asked (length entries) schema rows true) application number) (Ok (handed_in application number rows))
+      → Agrees objects schema entries number (repeated_plan objects (asked (length entries) schema rows true) application number) (Ok (handed_in application number rows))
   last_agrees before last over equal =
       let file : FileKept objects schema before = batch_stands objects schema 0 entries before kept.kept (last_stands application entries before last) in
       let name : data_file_name application number ≡ data_file_name before.application before.number =
@@ -170,14 +170,14 @@ module _ (objects : Objects) (schema : Tree) (entries : List Entry) (kept : IsKe
       again_agrees before file.0 last over equal (ap (object_at objects) name ∙ file.1) (file_read schema before file.0 file.2)
 
   -- what is done behind the last batch, if there is one
-  behind_agrees : (last : Option model.Batch) → last_batch application entries ≡ last → IsSoundStep application number at (behind_last (option_map (λ (b : model.Batch). b.number) last))
+  behind_agrees : (last : Option model.Batch) → last_batch application entries ≡ last → IsSoundPlan application number at (behind_last (option_map (λ (b : model.Batch). b.number) last))
       → Agrees objects schema entries number (behind_last (option_map (λ (b : model.Batch). b.number) last)) (Ok (handed_in application number rows))
   behind_agrees None is sound = open_agrees (is_closed application entries) (rw is refl) (no_file objects schema entries application number kept own utf8 fits (rw is tt)) sound
   behind_agrees (Some before) is sound = by_tests (ltb number before.number) (eqb number before.number) refl refl sound
     where
       by_tests : (below equal : Bool) → ltb number before.number ≡ below → eqb number before.number ≡ equal
-          → IsSoundStep application number at ((cond below (Err (stale before.number)) (Ok equal) >>= λ repeats. goes_on (is_closed application entries) repeats >>= λ open_. Ok (asked (length entries) schema rows repeats)) >>= step_of objects application number at)
-          → Agrees objects schema entries number ((cond below (Err (stale before.number)) (Ok equal) >>= λ repeats. goes_on (is_closed application entries) repeats >>= λ open_. Ok (asked (length entries) schema rows repeats)) >>= step_of objects application number at) (Ok (handed_in application number rows))
+          → IsSoundPlan application number at ((cond below (Err (stale before.number)) (Ok equal) >>= λ repeats. goes_on (is_closed application entries) repeats >>= λ open_. Ok (asked (length entries) schema rows repeats)) >>= plan_of objects application number at)
+          → Agrees objects schema entries number ((cond below (Err (stale before.number)) (Ok equal) >>= λ repeats. goes_on (is_closed application entries) repeats >>= λ open_. Ok (asked (length entries) schema rows repeats)) >>= plan_of objects application number at) (Ok (handed_in application number rows))
       by_tests true equal under same sound = rw (is, under) (refl, (kept, own))
       by_tests false true over same sound = last_agrees before is over same
       by_tests false false over other sound =
@@ -189,20 +189,20 @@ module _ (objects : Objects) (schema : Tree) (entries : List Entry) (kept : IsKe
 -- ---- a line that appends
 
 -- what is done with rows that were read
-abbrev pub step_with : (objects : Objects) (entries : List Entry) (application : List ℕ) (number at : ℕ) (schema : Tree) → Result (List Row) Refusal → Result Step Refusal
+abbrev pub step_with : (objects : Objects) (entries : List Entry) (application : List ℕ) (number at : ℕ) (schema : Tree) → Result (List Row) AppendRefusal → Result AppendPlan AppendRefusal
 step_with objects entries application number at schema read =
     (read >>= λ rows. is_repeat number (option_map (λ (b : model.Batch). b.number) (last_batch application entries)) >>= λ repeats. goes_on (is_closed application entries) repeats >>= λ open_. Ok (asked (length entries) schema rows repeats))
-    >>= step_of objects application number at
+    >>= plan_of objects application number at
 
 -- what a line asks of a kept table
-abbrev pub step_behind : (objects : Objects) (schema : Tree) (entries : List Entry) (application : List ℕ) (number at : ℕ) (items : Items) → Result (Unit {0}) Refusal → (barred : Bool) → Result (Unit {0}) Refusal → Result Step Refusal
+abbrev pub step_behind : (objects : Objects) (schema : Tree) (entries : List Entry) (application : List ℕ) (number at : ℕ) (items : Items) → Result (Unit {0}) AppendRefusal → (barred : Bool) → Result (Unit {0}) AppendRefusal → Result AppendPlan AppendRefusal
 step_behind objects schema entries application number at items fine barred takes =
     (fine >>= λ passed. unless_invariant barred >>= λ plain. takes >>= λ supported. rows_from 0 schema items >>= λ rows. is_repeat number (option_map (λ (b : model.Batch). b.number) (last_batch application entries)) >>= λ repeats.
-    goes_on (is_closed application entries) repeats >>= λ open_. Ok (asked (length entries) schema rows repeats)) >>= step_of objects application number at
+    goes_on (is_closed application entries) repeats >>= λ open_. Ok (asked (length entries) schema rows repeats)) >>= plan_of objects application number at
 
 -- that is what an append does over the objects
 pub step_is : (objects : Objects) (schema : Tree) (entries : List Entry) (application : List ℕ) (number at : ℕ) (items : Items) → IsUtf8 application → IsKept objects schema entries
-    → settled false objects application number at items
+    → append_plan false objects application number at items
     ≡ step_behind objects schema entries application number at items (checked application number (items_len items)) (has_key_inside (codes "delta.invariants") schema) (takes_rows schema)
 unfolding request_of
 step_is objects schema entries application number at items utf8 kept =
@@ -210,9 +210,9 @@ step_is objects schema entries application number at items utf8 kept =
     rw (log_kept objects schema entries kept, count_kept objects schema entries kept, request_is objects (length entries) schema entries kept.rest commits application number items utf8 kept.begins (are_made objects schema 0 entries kept.kept)) refl
 
 -- where a table is kept, the answer is the plain table's
-table_agrees : (objects : Objects) (schema : Tree) (entries : List Entry) (application : List ℕ) (number at : ℕ) (items : Items) (fine : Result (Unit {0}) Refusal) (barred : Bool) (takes : Result (Unit {0}) Refusal)
+table_agrees : (objects : Objects) (schema : Tree) (entries : List Entry) (application : List ℕ) (number at : ℕ) (items : Items) (fine : Result (Unit {0}) AppendRefusal) (barred : Bool) (takes : Result (Unit {0}) AppendRefusal)
     → Keeps objects (table schema entries) → length entries ≤ greatest_version → IsUtf8 application → checked application number (items_len items) ≡ fine
-    → IsSoundStep application number at (step_behind objects schema entries application number at items fine barred takes)
+    → IsSoundPlan application number at (step_behind objects schema entries application number at items fine barred takes)
     → Agrees objects schema entries number (step_behind objects schema entries application number at items fine barred takes)
     (fine >>= λ passed. unless_invariant barred >>= λ plain. takes >>= λ supported. rows_from 0 schema items >>= λ rows. Ok (handed_in application number rows))
 table_agrees objects schema entries application number at items (Err why) barred takes kept few utf8 is sound = (refl, kept)
@@ -220,24 +220,24 @@ table_agrees objects schema entries application number at items (Ok passed) true
 table_agrees objects schema entries application number at items (Ok passed) false (Err why) kept few utf8 is sound = (refl, kept)
 table_agrees objects schema entries application number at items (Ok passed) false (Ok supported) kept few utf8 is sound = by_read (rows_from 0 schema items) sound
   where
-    by_read : (read : Result (List Row) Refusal) → IsSoundStep application number at (step_with objects entries application number at schema read)
+    by_read : (read : Result (List Row) AppendRefusal) → IsSoundPlan application number at (step_with objects entries application number at schema read)
         → Agrees objects schema entries number (step_with objects entries application number at schema read) (read >>= λ rows. Ok (handed_in application number rows))
     by_read (Err why) sound = (refl, kept)
     by_read (Ok rows) sound =
         behind_agrees objects schema entries kept.0 kept.1 few application number at utf8 (small_number application number (items_len items) is) rows (last_batch application entries) refl sound
 
 -- what a line asks of a store of nothing
-abbrev pub step_of_nothing : (application : List ℕ) (number at : ℕ) → Result (Unit {0}) Refusal → Result Step Refusal
-step_of_nothing application number at fine = ◌>>=◌ {B = Request} fine (λ passed. Err (bad_log 0)) >>= step_of [] application number at
+abbrev pub step_of_nothing : (application : List ℕ) (number at : ℕ) → Result (Unit {0}) AppendRefusal → Result AppendPlan AppendRefusal
+step_of_nothing application number at fine = ◌>>=◌ {B = AppendRequest} fine (λ passed. Err (bad_log 0)) >>= plan_of [] application number at
 
 -- that is what an append does where nothing stands
-pub nothing_is : (application : List ℕ) (number at : ℕ) (items : Items) → settled false [] application number at items ≡ step_of_nothing application number at (checked application number (items_len items))
+pub nothing_is : (application : List ℕ) (number at : ℕ) (items : Items) → append_plan false [] application number at items ≡ step_of_nothing application number at (checked application number (items_len items))
 unfolding request_of
 nothing_is application number at items = rw log_of_nothing refl
 
 -- no batch is handed in where nothing stands
-nothing_agrees : (application : List ℕ) (number at : ℕ) (fine : Result (Unit {0}) Refusal)
-    → (appended_reply (step_of_nothing application number at fine >>= answered [] number) ≡ tables.appended_reply nothing (fine >>= λ passed. Err (bad_log 0))) × (with_append [] (step_of_nothing application number at fine) ≡ [])
+nothing_agrees : (application : List ℕ) (number at : ℕ) (fine : Result (Unit {0}) AppendRefusal)
+    → (appended_reply (step_of_nothing application number at fine >>= plan_answer [] number) ≡ tables.appended_reply nothing (fine >>= λ passed. Err (bad_log 0))) × (with_append [] (step_of_nothing application number at fine) ≡ [])
 nothing_agrees application number at (Err why) = (refl, refl)
 nothing_agrees application number at (Ok passed) = (refl, refl)
 
@@ -250,7 +250,7 @@ append_told objects nothing application number at items printed keeps few sound 
     rw (keeps, nothing_is application number at items) (nothing_agrees application number at (checked application number (items_len items)))
 append_told objects (table schema entries) application number at items printed keeps few sound =
     let is = step_is objects schema entries application number at items sound.0 keeps.0 in
-    let step_sound : IsSoundStep application number at (settled false objects application number at items) = (sound.1, sound.2) in
+    let step_sound : IsSoundPlan application number at (append_plan false objects application number at items) = (sound.1, sound.2) in
     let barred = has_key_inside (codes "delta.invariants") schema in
     let told = table_agrees objects schema entries application number at items (checked application number (items_len items)) barred (takes_rows schema) keeps few sound.0 refl (rw is at step_sound) in
     rw is told

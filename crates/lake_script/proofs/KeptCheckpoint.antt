@@ -8,7 +8,7 @@ use Rattle.delta_checkpoint.specs.Names.{IsCheckpointName, checkpoint_name}
 use Rattle.delta_replay.specs.Support.{feature, has_key_inside, meta_data_of}
 use Rattle.lake_bytes.specs.Results.{◌>>=◌, refused_as, refused_if}
 use Rattle.table_model.specs.Table.{Entry, creation}
-use Rattle.commit_core.specs.Texts.{refused, line_of}
+use Rattle.commit_core.specs.Texts.{refused}
 use Rattle.snapshot_core.specs.Faults.{bad_log, unsupported}
 use Rattle.snapshot_core.specs.Taking.{most_bytes}
 use Rattle.lake_script.specs.Checkpoints.{Checkpoint, NotPut, by_log, too_large, checkpoint_by, checkpoint_of, checkpoint_reply, checkpointed_at, not_put_text, with_checkpoint, IsWellPut}
@@ -23,6 +23,7 @@ use Rattle.lake_script.proofs.KeptLog.{made_of, are_made}
 use Rattle.log_laws.proofs.Callers.{log_checkpointable, log_meta_data, log_of_nothing}
 use Rattle.lake_script.proofs.KeptPuts.{kept_checkpoint, same_files}
 use Rattle.lake_script.proofs.KeptVersions.{count_kept, log_kept}
+use Rattle.lake_bytes.specs.Lines.{with_newline}
 
 -- a store of nothing has no checkpoint
 over_nothing : (bytes : List ℕ) → checkpoint_by [] bytes ≡ Err (by_log (bad_log 0))
@@ -54,7 +55,7 @@ module _ (objects : Objects) (schema : Tree) (entries : List Entry) (keeps : Kee
   abbrev IsAsTold : (barred : Bool) → Result Checkpoint NotPut → Type 0
   IsAsTold barred put =
       (checkpoint_reply put
-      ≡ (if barred then line_of (refused (not_put_text (by_log (unsupported (feature (codes "invariants")))))) else line_of (checkpointed_at (length entries - 1))))
+      ≡ (if barred then with_newline (refused (not_put_text (by_log (unsupported (feature (codes "invariants")))))) else with_newline (checkpointed_at (length entries - 1))))
       × Keeps (with_checkpoint objects bytes put) (table schema entries)
 
   by_metadata : (metadata : actions.MetaDataAction) (found : Option actions.MetaDataAction) → found ≡ Some metadata → IsWellPut (checkpoint_of (length entries - 1) found) → IsAsTold false (checkpoint_of (length entries - 1) found)

@@ -13,7 +13,7 @@ use Rattle.table_model.proofs.Callers.{new_is_lawful}
 use Rattle.table_store.proofs.Callers.{commit_name-data_file_name, commit_name-once}
 use Rattle.commit_core.specs.Commits.{commit_text, creation as created}
 use Rattle.table_log.specs.Names.{commit_name}
-use Rattle.commit_core.specs.Creating.{Refusal, bad_schema, bad_id, too_large, id_of, described, within, most_bytes, commit_from, unless_there, with_creation}
+use Rattle.commit_core.specs.Creating.{CreateRefusal, bad_schema, bad_id, too_large, id_of, described, within, most_bytes, commit_from, unless_there, with_creation}
 use Rattle.script_lines.specs.Lines.{create}
 use Rattle.lake_bytes.specs.Results.{◌>>=◌, or_refusal, refused_as}
 use Rattle.commit_core.specs.Creating.{IsWellCreated, CreatesWell}
@@ -28,8 +28,8 @@ use Rattle.lake_script.proofs.KeptNames.{none_unless, same_name}
 -- ---- what a line describes, and what is put for it
 
 -- A line describes no table, and is refused; or it describes one of a schema, and bytes are put for it.
-data IsTold (text : List ℕ) (found : Result Tree Refusal) (put : Result (List ℕ) Refusal) : Type 0 where
-  refuses : (why : Refusal) → found ≡ Err why → put ≡ Err why → IsTold text found put
+data IsTold (text : List ℕ) (found : Result Tree CreateRefusal) (put : Result (List ℕ) CreateRefusal) : Type 0 where
+  refuses : (why : CreateRefusal) → found ≡ Err why → put ≡ Err why → IsTold text found put
   puts : (schema : Tree) (bytes : List ℕ) → found ≡ Ok schema → put ≡ Ok bytes → schema_of text ≡ Ok schema → IsTold text found put
 
 module _ (text printed : List ℕ) where
@@ -102,7 +102,7 @@ first_commit objects schema entries kept =
 -- ---- a line that creates a table
 
 -- where nothing stands, what is put is the table
-told_nothing : (at : ℕ) (text : List ℕ) (found : Result Tree Refusal) (put : Result (List ℕ) Refusal) → IsTold text found put → CreatesWell at text put
+told_nothing : (at : ℕ) (text : List ℕ) (found : Result Tree CreateRefusal) (put : Result (List ℕ) CreateRefusal) → IsTold text found put → CreatesWell at text put
     → (created_reply (unless_there None put) ≡ tables.created_reply (creating nothing found)) × Keeps (with_creation [] put) (with_table nothing (creating nothing found))
 told_nothing at text found put (refuses why f p) well = rw (f, p) (refl, refl)
 told_nothing at text found put (puts schema bytes f p is) well =
@@ -111,19 +111,19 @@ told_nothing at text found put (puts schema bytes f p is) well =
     rw (f, p, one) (refl, (kept_creation (commit_name 0) at text schema bytes (same_name 0) is made, λ application number utf8 small some. absurd (no_data_file (commit_name 0) bytes (same_name 0) application number some)))
 
 -- where a table stands, no other is created
-told_table : (text : List ℕ) (old : Tree) (entries : List Entry) (there : Option (List ℕ)) (found : Result Tree Refusal) (put : Result (List ℕ) Refusal)
+told_table : (text : List ℕ) (old : Tree) (entries : List Entry) (there : Option (List ℕ)) (found : Result Tree CreateRefusal) (put : Result (List ℕ) CreateRefusal)
     → is_some there ≡ true → IsTold text found put → created_reply (unless_there there put) ≡ tables.created_reply (creating (table old entries) found)
 told_table text old entries None found put some told = absurd cc
 told_table text old entries (Some bytes) found put some (refuses why f p) = rw (f, p) refl
 told_table text old entries (Some bytes) found put some (puts schema new f p is) = rw (f, p) refl
 
 -- nor is anything put over these objects
-pub left_table : (objects : Objects) (put : Result (List ℕ) Refusal) → is_some (object_at objects (commit_name 0)) ≡ true → with_creation objects put ≡ objects
+pub left_table : (objects : Objects) (put : Result (List ℕ) CreateRefusal) → is_some (object_at objects (commit_name 0)) ≡ true → with_creation objects put ≡ objects
 left_table objects (Ok bytes) some = with_object_stands objects (commit_name 0) bytes some
 left_table objects (Err why) some = refl
 
 -- and the plain table is the old one
-same_table : (old : Tree) (entries : List Entry) (found : Result Tree Refusal) → with_table (table old entries) (creating (table old entries) found) ≡ table old entries
+same_table : (old : Tree) (entries : List Entry) (found : Result Tree CreateRefusal) → with_table (table old entries) (creating (table old entries) found) ≡ table old entries
 same_table old entries (Ok schema) = refl
 same_table old entries (Err why) = refl
 

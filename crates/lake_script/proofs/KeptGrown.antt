@@ -11,16 +11,16 @@ use Rattle.store_core.specs.ObjectLaws.{with_object_absent}
 use Rattle.table_store.specs.Sound.{IsSound}
 use Rattle.table_model.specs.Table.{creation}
 use Rattle.table_store.proofs.Callers.{lawful_log}
-use Rattle.sink_core.specs.Appending.{checked, settled, with_append, with_file_alone}
+use Rattle.sink_core.specs.Appending.{checked, append_plan, with_append, with_file_alone}
 use Rattle.table_log.specs.Names.{commit_name}
 use Rattle.commit_core.specs.Creating as creations
 use Rattle.commit_core.specs.Creating.{commit_from, with_creation}
 use Rattle.sink_core.specs.Appending.{MayAppend}
 use Rattle.lake_script.specs.Growth.{MayPut}
-use Rattle.table_log.specs.Restoring.{AreCheckpointsSound, HasOnlySoundCheckpoints, seen}
+use Rattle.table_log.specs.Restoring.{AreCheckpointsSound, HasOnlySoundCheckpoints, replayed}
 use Rattle.snapshot_core.specs.Taking.{HasPut}
 use Rattle.script_lines.specs.Lines.{append, checkpoint, Statement, create, task, foreign, Reading, skipped, bad, asks, reading_of}
-use Rattle.sink_core.specs.Refusals.{Refusal}
+use Rattle.sink_core.specs.Refusals.{AppendRefusal}
 use Rattle.lake_script.specs.Runs.{Replies, RunsInPart, waits, begins, follows}
 use Rattle.lake_script.specs.Told.{IsPutHere, ArePutHere}
 use Rattle.commit_core.specs.Creating.{CreatesWell}
@@ -33,7 +33,7 @@ use Rattle.lake_script.proofs.KeptPuts.{kept_checkpoint, same_files}
 use Rattle.lake_script.specs.Keeps.{KeepsBeside}
 use Rattle.lake_script.specs.Scripts.{StaysSound}
 use Rattle.lake_script.specs.Tables.{State, entries_of}
-use Rattle.lake_script.proofs.KeptStep.{Stays, bare, keeps, GoesOn, append_goes_on, ends, starts}
+use Rattle.lake_script.proofs.KeptPlan.{Stays, bare, keeps, GoesOn, append_goes_on, ends, starts}
 
 -- ---- a line
 
@@ -46,7 +46,7 @@ still : (most : ℕ) (objects : Objects) → Stays most objects → Stays (suc m
 still most objects stays = more_room most (suc most) objects (omega arith) stays
 
 -- a creation where nothing stands
-created_over_nothing : (most at : ℕ) (text : List ℕ) (commit : Result (List ℕ) creations.Refusal) → CreatesWell at text commit → Stays (suc most) (with_creation [] commit)
+created_over_nothing : (most at : ℕ) (text : List ℕ) (commit : Result (List ℕ) creations.CreateRefusal) → CreatesWell at text commit → Stays (suc most) (with_creation [] commit)
 created_over_nothing most at text (Err fault) well = bare refl
 created_over_nothing most at text (Ok bytes) well =
     let name = commit_name 0 in
@@ -55,28 +55,28 @@ created_over_nothing most at text (Ok bytes) well =
     (λ application number found utf8 small stands. absurd (no_data_file name bytes (same_name 0) application number (ap is_some stands))) (omega arith))
 
 -- a creation
-created_stays : (most : ℕ) (objects : Objects) (at : ℕ) (text : List ℕ) (commit : Result (List ℕ) creations.Refusal) → CreatesWell at text commit → Stays most objects → Stays (suc most) (with_creation objects commit)
+created_stays : (most : ℕ) (objects : Objects) (at : ℕ) (text : List ℕ) (commit : Result (List ℕ) creations.CreateRefusal) → CreatesWell at text commit → Stays most objects → Stays (suc most) (with_creation objects commit)
 created_stays most objects at text commit well (bare none) = rw none (created_over_nothing most at text commit well)
 created_stays most objects at text commit well (keeps schema entries kept files up) =
     rw (left_table objects commit (first_commit objects schema entries kept)) (keeps schema entries kept files (omega (arith, up)))
 
 -- an append where nothing stands
-append_over_nothing : (most : ℕ) (application : List ℕ) (number at : ℕ) (fine : Result (Unit {0}) Refusal) → GoesOn (suc most) [] (step_of_nothing application number at fine)
+append_over_nothing : (most : ℕ) (application : List ℕ) (number at : ℕ) (fine : Result (Unit {0}) AppendRefusal) → GoesOn (suc most) [] (step_of_nothing application number at fine)
 append_over_nothing most application number at (Ok passed) = (bare refl, bare refl)
 append_over_nothing most application number at (Err why) = (bare refl, bare refl)
 
 -- an append
 append_stays : (most : ℕ) (objects : Objects) (application : List ℕ) (number at : ℕ) (items : Items) (new : Objects) → IsUtf8 application
-    → MayAppend application number at (settled false objects application number at items) objects new → Stays most objects → Stays (suc most) new
+    → MayAppend application number at (append_plan false objects application number at items) objects new → Stays most objects → Stays (suc most) new
 append_stays most objects application number at items new utf8 (inl same) stays = rw same (still most objects stays)
 append_stays most objects application number at items new utf8 (inr (well, put)) stays = by_put put (goes stays)
   where
-    goes : Stays most objects → GoesOn (suc most) objects (settled false objects application number at items)
+    goes : Stays most objects → GoesOn (suc most) objects (append_plan false objects application number at items)
     goes (bare none) = rw (none, nothing_is application number at items) (append_over_nothing most application number at (checked application number (items_len items)))
     goes (keeps schema entries kept files up) = append_goes_on objects schema entries kept files most up application number at items utf8 well
 
-    by_put : (new ≡ with_file_alone objects (settled false objects application number at items)) ⊎ (new ≡ with_append objects (settled false objects application number at items))
-        → GoesOn (suc most) objects (settled false objects application number at items) → Stays (suc most) new
+    by_put : (new ≡ with_file_alone objects (append_plan false objects application number at items)) ⊎ (new ≡ with_append objects (append_plan false objects application number at items))
+        → GoesOn (suc most) objects (append_plan false objects application number at items) → Stays (suc most) new
     by_put (inl alone) goes = subst (Stays (suc most)) (sym alone) goes.0
     by_put (inr whole) goes = subst (Stays (suc most)) (sym whole) goes.1
 
@@ -86,12 +86,12 @@ not_read commits version (Ok found) wrong is = absurd cc
 not_read commits version (Err first) wrong is = absurd cc
 
 -- a store of nothing has no log that is read
-no_log : (commits : List (List Action)) → seen false [] ≡ Ok commits → ⊥
-no_log commits is = not_read commits 0 (seen false []) log_of_nothing is
+no_log : (commits : List (List Action)) → replayed false [] ≡ Ok commits → ⊥
+no_log commits is = not_read commits 0 (replayed false []) log_of_nothing is
 
 -- a checkpoint
 checkpoint_stays : (most : ℕ) (objects new : Objects) (version : ℕ) → HasPut false version objects new → Stays most objects → Stays (suc most) new
-checkpoint_stays most objects new version put (bare none) = absurd (no_log put.puts.commits (subst (λ (o : Objects). seen false o ≡ Ok put.puts.commits) none put.puts.read))
+checkpoint_stays most objects new version put (bare none) = absurd (no_log put.puts.commits (subst (λ (o : Objects). replayed false o ≡ Ok put.puts.commits) none put.puts.read))
 checkpoint_stays most objects new version put (keeps schema entries kept files few) =
     let named = put.puts.found in
     rw put.put (keeps schema entries (kept_checkpoint objects version put.name put.bytes named schema entries kept)

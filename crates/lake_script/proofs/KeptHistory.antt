@@ -19,13 +19,13 @@ use Rattle.table_store.proofs.LawfulLogLemmas.{AreMadeFor}
 use Rattle.commit_core.proofs.CloseLemmas.{closes_found}
 use Rattle.table_log.specs.Versions.{commit}
 use Rattle.commit_core.specs.Histories.{action_told, close_told, number_told, history_from, history_in, history_of, bad_log}
-use Rattle.commit_core.specs.Texts.{line_of}
 use Rattle.lake_script.specs.Tables as tables
 use Rattle.lake_script.specs.Tables.{entry_told}
 use Rattle.lake_script.specs.Keeps.{IsKept}
 use Rattle.lake_script.proofs.KeptLog.{made_of, are_made}
 use Rattle.log_laws.proofs.Callers.{says_so, versions_of_nothing}
 use Rattle.lake_script.proofs.KeptVersions.{versions_kept, has_commits}
+use Rattle.lake_bytes.specs.Lines.{with_newline}
 
 -- what tells only of the commit isn't told
 silent : (action : actions.Action) (info : Data) → commit_info_in action ≡ Some info → action_told action ≡ []
@@ -77,7 +77,7 @@ lines_told objects schema version [] (first ∷ commits) made = absurd made
 lines_told objects schema version (entry ∷ entries) [] made = absurd made
 lines_told objects schema version (entry ∷ entries) (first ∷ commits) made =
     rw (lines_told objects schema (suc version) entries commits made.2)
-    (ap (λ (told : List ℕ). line_of (decimal version ++ told) ++ tables.history_from (suc version) entries) (told-without_commit_info first ∙ entry_is_told schema entry (without_commit_info first) made.0))
+    (ap (λ (told : List ℕ). with_newline (decimal version ++ told) ++ tables.history_from (suc version) entries) (told-without_commit_info first ∙ entry_is_told schema entry (without_commit_info first) made.0))
 
 -- where a commit stands, its line is told
 told_from_first : (commits : List (List actions.Action)) → 0 < length commits → history_in (map commit commits) ≡ history_from 0 (map commit commits)

@@ -9,23 +9,23 @@ use Rattle.delta_actions.specs.Action as actions
 use Rattle.delta_replay.specs.Support.{feature, has_key_inside}
 use Rattle.row_core.specs.Rows.{Row}
 use Rattle.table_model.specs.Table.{Batch, Entry, creation, is_closed, last_batch}
-use Rattle.sink_core.specs.Appending.{Request, is_repeat, request_behind}
-use Rattle.sink_core.specs.Refusals.{Refusal, read_only, stream_closed}
+use Rattle.sink_core.specs.Appending.{AppendRequest, is_repeat, request_behind}
+use Rattle.sink_core.specs.Refusals.{AppendRefusal, read_only, stream_closed}
 use Rattle.sink_core.specs.RowsIn.{rows_from, takes_rows}
 use Rattle.lake_bytes.specs.Results.{◌>>=◌, refused_if, refused_as}
 use Rattle.table_store.proofs.LawfulLogLemmas.{AreMadeFor}
 use Rattle.log_laws.proofs.Callers.{log_closed, log_last, log_writable}
 
 -- what is asked of a table
-abbrev pub asked : (version : ℕ) (schema : Tree) (rows : List Row) (repeats : Bool) → Request
+abbrev pub asked : (version : ℕ) (schema : Tree) (rows : List Row) (repeats : Bool) → AppendRequest
 asked version schema rows repeats = record { version = version; schema = schema; rows = rows; repeats = repeats }
 
 -- the reason why a table isn't written of which a field has invariants
-abbrev pub unless_invariant : (barred : Bool) → Result (Unit {0}) Refusal
+abbrev pub unless_invariant : (barred : Bool) → Result (Unit {0}) AppendRefusal
 unless_invariant barred = refused_if barred (read_only (feature (codes "invariants")))
 
 -- a new number is refused where the stream is closed
-abbrev pub goes_on : (closed repeats : Bool) → Result (Unit {0}) Refusal
+abbrev pub goes_on : (closed repeats : Bool) → Result (Unit {0}) AppendRefusal
 goes_on closed repeats = refused_if (not repeats && closed) stream_closed
 
 -- the request behind the commits of a table's entries

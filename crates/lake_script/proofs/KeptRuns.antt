@@ -8,20 +8,20 @@ use Rattle.store_core.specs.Objects.{Objects}
 use Rattle.delta_actions.specs.Names.{greatest_version}
 use Rattle.table_model.specs.Table.{Batch, Entry, group}
 use Rattle.table_model.specs.Appends.{appended, with_batch}
-use Rattle.table_model.specs.declared.table.Appended.{Appended}
-use Rattle.table_model.specs.declared.table.Appended.TheVariants.{Committed, Already, Stale, Differs, StreamClosed}
+use Rattle.table_model.specs.declared.table.AppendAnswer.{AppendAnswer}
+use Rattle.table_model.specs.declared.table.AppendAnswer.TheVariants.{Committed, Already, Stale, Differs, StreamClosed}
 use Rattle.commit_core.specs.Creating as creations
 use Rattle.commit_core.specs.Histories.{history_of, bad_log}
 use Rattle.script_lines.specs.Lines.{Statement, create, task, history, show, hex, snapshot, foreign, append, close, checkpoint, tail, Reading, skipped, bad, asks, reading_of}
 use Rattle.source_core.specs.Offsets.{offset_of}
-use Rattle.sink_core.specs.Refusals.{Refusal}
-use Rattle.lake_script.specs.Sound.{IsSoundStatement, IsSound, AreSound}
+use Rattle.sink_core.specs.Refusals.{AppendRefusal}
+use Rattle.lake_script.specs.Sound.{IsSoundStatement, IsSoundLine, AreSoundLines}
 use Rattle.lake_script.specs.Scripts.{line_over, reply_over, expected_over}
 use Rattle.lake_script.specs.Tables as tables
 use Rattle.lake_script.specs.Tables.{State, nothing, table, entries_of, AsksTable, IsOfTable, AreOfTable}
 use Rattle.source_core.specs.Tailing.{tailed}
 use Rattle.lake_script.specs.Told as told
-use Rattle.lake_script.specs.Told.{tailed_reply, is_bad, UnlessBad, ArePrinted, IsPutHere, ArePutHere}
+use Rattle.lake_script.specs.Told.{tailed_reply, is_bad, UnlessBad, ArePrintedLines, IsPutHere, ArePutHere}
 use Rattle.lake_script.specs.Keeps.{IsKept, Keeps}
 
 -- what is known of single lines
@@ -46,12 +46,12 @@ pub record Given : Type 0 where
 -- ---- a line adds one entry at most
 
 -- a creation leaves one entry, or what was there
-created_one : (state : State) (found : Result Tree creations.Refusal) → length (entries_of (tables.with_table state found)) ≤ suc (length (entries_of state))
+created_one : (state : State) (found : Result Tree creations.CreateRefusal) → length (entries_of (tables.with_table state found)) ≤ suc (length (entries_of state))
 created_one state (Ok schema) = omega arith
 created_one state (Err why) = omega arith
 
 -- an append leaves one entry more, or what was there
-batch_one : (answer : Appended) (b : Batch) (entries : List Entry) → length (with_batch answer b entries) ≤ suc (length entries)
+batch_one : (answer : AppendAnswer) (b : Batch) (entries : List Entry) → length (with_batch answer b entries) ≤ suc (length entries)
 batch_one (Committed version) b entries = let joined = length-append entries (group (b ∷ []) ∷ []) in omega arith
 batch_one (Already number) b entries = omega arith
 batch_one (Stale last) b entries = omega arith
@@ -59,7 +59,7 @@ batch_one Differs b entries = omega arith
 batch_one StreamClosed b entries = omega arith
 
 -- the same of a table, where there is one
-appended_one : (state : State) (answer : Result Batch Refusal) → length (entries_of (tables.with_append state answer)) ≤ suc (length (entries_of state))
+appended_one : (state : State) (answer : Result Batch AppendRefusal) → length (entries_of (tables.with_append state answer)) ≤ suc (length (entries_of state))
 appended_one nothing answer = omega arith
 appended_one (table schema entries) (Ok b) = batch_one (appended b entries) b entries
 appended_one (table schema entries) (Err refusal) = omega arith
@@ -95,23 +95,23 @@ unless_bad false Holds h is = h
 
 module _ (line printed : List ℕ) (lines texts : List (List ℕ)) (objects : Objects) where
   -- the texts behind the first are those of the lines behind it, where it isn't bad
-  rest_printed : ArePrinted objects (line ∷ lines) (printed ∷ texts) → is_bad (reading_of line) ≡ false → ArePrinted (told.left_by objects (reading_of line) printed) lines texts
-  unfolding ArePrinted
-  rest_printed all on = unless_bad (is_bad (reading_of line)) (ArePrinted (told.left_by objects (reading_of line) printed) lines texts) all.1 on
+  rest_printed : ArePrintedLines objects (line ∷ lines) (printed ∷ texts) → is_bad (reading_of line) ≡ false → ArePrintedLines (told.left_by objects (reading_of line) printed) lines texts
+  unfolding ArePrintedLines
+  rest_printed all on = unless_bad (is_bad (reading_of line)) (ArePrintedLines (told.left_by objects (reading_of line) printed) lines texts) all.1 on
 
   -- the first line is sound
-  first_sound : AreSound objects (line ∷ lines) (printed ∷ texts) → IsSound objects (reading_of line) printed
-  unfolding AreSound
+  first_sound : AreSoundLines objects (line ∷ lines) (printed ∷ texts) → IsSoundLine objects (reading_of line) printed
+  unfolding AreSoundLines
   first_sound sound = sound.0
 
   -- those behind it are, where it isn't bad
-  rest_sound : AreSound objects (line ∷ lines) (printed ∷ texts) → is_bad (reading_of line) ≡ false → AreSound (told.left_by objects (reading_of line) printed) lines texts
-  unfolding AreSound
-  rest_sound sound on = unless_bad (is_bad (reading_of line)) (AreSound (told.left_by objects (reading_of line) printed) lines texts) sound.1 on
+  rest_sound : AreSoundLines objects (line ∷ lines) (printed ∷ texts) → is_bad (reading_of line) ≡ false → AreSoundLines (told.left_by objects (reading_of line) printed) lines texts
+  unfolding AreSoundLines
+  rest_sound sound on = unless_bad (is_bad (reading_of line)) (AreSoundLines (told.left_by objects (reading_of line) printed) lines texts) sound.1 on
 
 -- beside a line a text stands
-no_text : (objects : Objects) (line : List ℕ) (lines : List (List ℕ)) → ArePrinted objects (line ∷ lines) [] → ⊥
-unfolding ArePrinted
+no_text : (objects : Objects) (line : List ℕ) (lines : List (List ℕ)) → ArePrintedLines objects (line ∷ lines) [] → ⊥
+unfolding ArePrintedLines
 no_text objects line lines none = none
 
 -- ---- lines that put what this program makes
@@ -168,14 +168,14 @@ module _ (given : Given) where
   statement_kept objects state _ printed keeps small sound here = keeps
 
   -- a line that asks the table alone is told what the table tells
-  pub line_told : (number : ℕ) (objects : Objects) (state : State) (r : Reading) (printed : List ℕ) → Keeps objects state → length (entries_of state) ≤ greatest_version → IsSound objects r printed → IsOfTable r
+  pub line_told : (number : ℕ) (objects : Objects) (state : State) (r : Reading) (printed : List ℕ) → Keeps objects state → length (entries_of state) ≤ greatest_version → IsSoundLine objects r printed → IsOfTable r
       → told.reply_to number objects r printed ≡ tables.reply_to number state r
   line_told number objects state skipped printed keeps small sound only = refl
   line_told number objects state bad printed keeps small sound only = refl
   line_told number objects state (asks statement) printed keeps small sound only = statement_told objects state statement printed keeps small sound only
 
   -- behind a line that puts no other tool's commit the store keeps the table behind it
-  pub line_kept : (objects : Objects) (state : State) (r : Reading) (printed : List ℕ) → Keeps objects state → length (entries_of state) ≤ greatest_version → IsSound objects r printed → IsPutHere r
+  pub line_kept : (objects : Objects) (state : State) (r : Reading) (printed : List ℕ) → Keeps objects state → length (entries_of state) ≤ greatest_version → IsSoundLine objects r printed → IsPutHere r
       → Keeps (told.left_by objects r printed) (tables.left_by state r)
   line_kept objects state skipped printed keeps small sound here = keeps
   line_kept objects state bad printed keeps small sound here = keeps
@@ -185,7 +185,7 @@ module _ (given : Given) where
 
   -- what lines are told where the store keeps a table
   pub told_on : (number : ℕ) (objects : Objects) (state : State) (lines texts : List (List ℕ)) → Keeps objects state → length (entries_of state) + length lines ≤ suc greatest_version
-      → ArePrinted objects lines texts → AreSound objects lines texts → AreOfTable lines → told.expected_from number objects lines texts ≡ tables.expected_from number state lines
+      → ArePrintedLines objects lines texts → AreSoundLines objects lines texts → AreOfTable lines → told.expected_from number objects lines texts ≡ tables.expected_from number state lines
   unfolding told.expected_from tables.expected_from
   told_on number objects state [] texts keeps few printed sound only = refl
   told_on number objects state (line ∷ lines) [] keeps few printed sound only = absurd (no_text objects line lines printed)
@@ -205,7 +205,7 @@ module _ (given : Given) where
 
   -- lines begin as the plain table tells those in front of the first that doesn't ask it alone
   pub told_in_front : (number : ℕ) (objects : Objects) (state : State) (front rest texts : List (List ℕ)) → Keeps objects state → length (entries_of state) + length front ≤ suc greatest_version
-      → ArePrinted objects (front ++ rest) texts → AreSound objects (front ++ rest) texts → AreOfTable front → (more : List ℕ) × (told.expected_from number objects (front ++ rest) texts ≡ tables.expected_from number state front ++ more)
+      → ArePrintedLines objects (front ++ rest) texts → AreSoundLines objects (front ++ rest) texts → AreOfTable front → (more : List ℕ) × (told.expected_from number objects (front ++ rest) texts ≡ tables.expected_from number state front ++ more)
   unfolding told.expected_from tables.expected_from
   told_in_front number objects state [] rest texts keeps few printed sound only = (told.expected_from number objects rest texts, refl)
   told_in_front number objects state (line ∷ front) rest [] keeps few printed sound only = absurd (no_text objects line (front ++ rest) printed)
@@ -226,7 +226,7 @@ module _ (given : Given) where
 
   -- the store keeps the table that lines leave where it keeps one before them
   pub left_on : (objects : Objects) (state : State) (lines texts : List (List ℕ)) → Keeps objects state → length (entries_of state) + length lines ≤ suc greatest_version
-      → ArePrinted objects lines texts → AreSound objects lines texts → ArePutHere lines → Keeps (told.left_from objects lines texts) (tables.left_from state lines)
+      → ArePrintedLines objects lines texts → AreSoundLines objects lines texts → ArePutHere lines → Keeps (told.left_from objects lines texts) (tables.left_from state lines)
   unfolding told.left_from tables.left_from
   left_on objects state [] texts keeps few printed sound here = keeps
   left_on objects state (line ∷ lines) [] keeps few printed sound here = absurd (no_text objects line lines printed)
@@ -254,7 +254,7 @@ module _ (given : Given) where
   statement_over objects state (foreign version action) printed keeps small sound = refl
   statement_over objects state _ printed keeps small sound = refl
 
-  line_told_over : (number : ℕ) (objects : Objects) (state : State) (r : Reading) (printed : List ℕ) → Keeps objects state → length (entries_of state) ≤ greatest_version → IsSound objects r printed
+  line_told_over : (number : ℕ) (objects : Objects) (state : State) (r : Reading) (printed : List ℕ) → Keeps objects state → length (entries_of state) ≤ greatest_version → IsSoundLine objects r printed
       → told.reply_to number objects r printed ≡ line_over number state objects r printed
   line_told_over number objects state skipped printed keeps small sound = refl
   line_told_over number objects state bad printed keeps small sound = refl
@@ -262,7 +262,7 @@ module _ (given : Given) where
 
   -- lines that put no other tool's commit are told by the table, or by the objects that they show
   pub told_with_objects : (number : ℕ) (objects : Objects) (state : State) (lines texts : List (List ℕ)) → Keeps objects state → length (entries_of state) + length lines ≤ suc greatest_version
-      → ArePrinted objects lines texts → AreSound objects lines texts → ArePutHere lines → told.expected_from number objects lines texts ≡ expected_over number state objects lines texts
+      → ArePrintedLines objects lines texts → AreSoundLines objects lines texts → ArePutHere lines → told.expected_from number objects lines texts ≡ expected_over number state objects lines texts
   unfolding told.expected_from expected_over
   told_with_objects number objects state [] texts keeps few printed sound here = refl
   told_with_objects number objects state (line ∷ lines) [] keeps few printed sound here = absurd (no_text objects line lines printed)

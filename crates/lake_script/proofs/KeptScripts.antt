@@ -2,7 +2,7 @@
 use Rattle.std.proofs.Common.{◌≡◌, [], map, Err, Result, refl}
 use Rattle.store_core.specs.Objects.{Objects}
 use Rattle.table_model.specs.Reads.{Answer, handed, beyond, bad_place}
-use Rattle.source_core.specs.Tailing.{Handed, Refusal, bad_log, schema_for}
+use Rattle.source_core.specs.Tailing.{ReadRows, ReadRefusal, bad_log, schema_for}
 use Rattle.table_log.specs.FromCheckpoints.{no_start}
 use Rattle.table_log.specs.Versions.{commit, versions_of}
 use Rattle.table_model.specs.declared.reading.Offset.{Offset}
@@ -33,7 +33,7 @@ lines_told = record {
 }
 
 -- what a read is told by the table, it is told over the objects
-read_told : (answer : Answer) (said : Result Handed Refusal) → IsTold answer said → IsRead said answer
+read_told : (answer : Answer) (said : Result ReadRows ReadRefusal) → IsTold answer said → IsRead said answer
 read_told (handed rows next) said is = is
 read_told (beyond next) said is = is
 read_told (bad_place version) said is = is

@@ -10,7 +10,7 @@ use Rattle.store_core.specs.Objects.{Objects}
 use Rattle.delta_actions.specs.Action as actions
 use Rattle.row_core.specs.Rows.{Row}
 use Rattle.table_model.specs.Table.{Batch, Entry, creation, group, close, files_of, last}
-use Rattle.table_model.specs.Reads.{Answer, handed, beyond, bad_place, is_beyond, is_offset, behind, part, next_offset, end, read}
+use Rattle.table_model.specs.Reads.{Answer, handed, beyond, bad_place, is_beyond, is_offset, offset_behind, part, next_offset, end, read}
 use Rattle.table_model.specs.declared.reading.Offset.{Offset}
 use Rattle.source_core.specs.Offsets.{offset_of}
 use Rattle.lake_bytes.specs.Results.{◌>>=◌}
@@ -22,9 +22,9 @@ use Rattle.table_store.proofs.HoldingLogs.{AreFilesOf-new, new_files-added, new_
 use Rattle.table_store.proofs.HoldingOne.{named}
 use Rattle.table_store.proofs.LawfulLogLemmas.{AreMadeFor}
 use Rattle.table_log.specs.FromCheckpoints.{no_start}
-use Rattle.table_log.specs.InForce.{Told, told_at}
+use Rattle.table_log.specs.InForce.{SchemaText, schema_text_at}
 use Rattle.table_log.specs.Reads.{removes_rows}
-use Rattle.source_core.specs.Tailing.{Refusal, Handed, data_file, rows_of, hand, handed_by, handed_text, schema_for, tailed}
+use Rattle.source_core.specs.Tailing.{ReadRefusal, ReadRows, data_file, file_rows, hand, handed_by, handed_text, schema_for, tailed}
 use Rattle.lake_script.specs.Told.{tailed_reply}
 use Rattle.lake_script.specs.Keeps.{FileKept, FilesKept, KeptFrom, IsKept}
 use Rattle.lake_script.proofs.KeptFile.{file_read}
@@ -47,7 +47,7 @@ use Rattle.delta_replay.specs.Keys.{last as last_of}
 -- files of batches in order, which stand, read as the batches' rows
 files_found : (objects : Objects) (schema : Tree) (bs : List Batch) (files : List AddAction) → AreFilesOf (map named bs) files → AllByRecursion (FileKept objects schema) bs
     → AreFilesFound objects schema (paths_of files) (map (λ b. b.rows) bs)
-unfolding rows_of
+unfolding file_rows
 files_found objects schema [] [] are kept = tt
 files_found objects schema [] (file ∷ files) are kept = absurd are
 files_found objects schema (b ∷ bs) [] are kept = absurd are
@@ -133,14 +133,14 @@ tell_none objects schema (close application ∷ entries) (first ∷ commits) non
     (here, tell_none objects schema entries commits none made.2)
 
 -- the creation's commit tells the schema
-creation_tells : (schema : Tree) (made : List actions.Action) → StandFor schema creation (without_commit_info made) → (told : Told) × (told_at (commit made) ≡ Some told) × (told.schema ≡ schema)
+creation_tells : (schema : Tree) (made : List actions.Action) → StandFor schema creation (without_commit_info made) → (told : SchemaText) × (schema_text_at (commit made) ≡ Some told) × (told.schema ≡ schema)
 creation_tells schema made stand =
     let found : last_of (filter_map meta_data_in made) ≡ Some stand.metadata = same_meta_data made ∙ rw stand.actions refl in
     (record { text = stand.metadata.schema_string; schema = schema }, rw (found, stand.schema_string) refl, refl)
 
 -- What a read of a table's log goes by: the schema that the creation tells, over commits that keep what was there.
 pub record IsPlain (schema : Tree) (commits : List (List actions.Action)) : Type 0 where
-  pub told : Told
+  pub told : SchemaText
   pub is_schema : told.schema ≡ schema
   pub keeps : KeepsRows commits
   pub goes_by : (place : Offset) → schema_for no_start (map commit commits) place ≡ Ok told
@@ -169,7 +169,7 @@ kept_plain objects schema entries kept =
 -- ---- a read
 
 -- What is handed out is what the plain table answers.
-abbrev pub IsTold : Answer → Result Handed Refusal → Type 0
+abbrev pub IsTold : Answer → Result ReadRows ReadRefusal → Type 0
 IsTold (handed rows next) said = said ≡ Ok (record { rows = rows; next = next })
 IsTold (beyond next) said = said ≡ Err (tails.beyond_log next)
 IsTold (bad_place version) said = said ≡ Err (tails.bad_place version)
@@ -184,7 +184,7 @@ module _ (objects : Objects) (schema : Tree) (entries : List Entry) (commits : L
   behind_log = record { version = length commits; file = 0; row = 0 }
 
   -- what is handed out of the commits' files
-  abbrev out : Result Handed Refusal
+  abbrev out : Result ReadRows ReadRefusal
   out = tails.unless_beyond place (length commits) >>= λ within. tails.unless_no_file place (length (new_files (commit_at place.version commits))) >>= λ file.
       hand objects schema behind_log max place.row [] place (map data_file (files_at place commits))
 
@@ -210,8 +210,8 @@ module _ (objects : Objects) (schema : Tree) (entries : List Entry) (commits : L
       let same : rows_out ≡ part max place entries = ap (λ (ps : List (Offset × Row)). take max ps) (sym ahead.rows) in
       let last_end : behind_log ≡ end entries = ap (λ (n : ℕ). record { version = n; file = 0; row = 0 }) many in
       let rows_are : goes.handed.rows ≡ map (λ p. p.1) (part max place entries) = goes.rows_are ∙ ap (λ (ps : List (Offset × Row)). map (λ p. p.1) ps) same in
-      let onward : (if length rows_out == max then behind_all place rows_out else behind_log) ≡ (if length rows_out == max then behind place (last rows_out) else end entries) = rw (last_end, behind_last place rows_out) refl in
-      let next_is : goes.handed.next ≡ next_offset max place entries = goes.onward ∙ onward ∙ ap (λ (ps : List (Offset × Row)). if length ps == max then behind place (last ps) else end entries) same in
+      let onward : (if length rows_out == max then behind_all place rows_out else behind_log) ≡ (if length rows_out == max then offset_behind place (last rows_out) else end entries) = rw (last_end, behind_last place rows_out) refl in
+      let next_is : goes.handed.next ≡ next_offset max place entries = goes.onward ∙ onward ∙ ap (λ (ps : List (Offset × Row)). if length ps == max then offset_behind place (last ps) else end entries) same in
       let said : out ≡ Ok (record { rows = map (λ p. p.1) (part max place entries); next = next_offset max place entries }) =
       handed_of near file (map file_of ahead.founds) ahead.files ∙ goes.said_is ∙ ap (λ (next : Offset). Ok (record { rows = goes.handed.rows; next = next })) next_is
       ∙ ap (λ (rows : List Row). Ok (record { rows = rows; next = next_offset max place entries })) rows_are in
@@ -246,12 +246,12 @@ handed_told objects schema entries commits kept made plain max place =
     plain_handed objects plain.told commits max place plain.keeps
     ∙ ap (λ (t : Tree). tails.unless_beyond place (length commits) >>= λ within. tails.unless_no_file place (length (new_files (commit_at place.version commits))) >>= λ file.
     hand objects t (record { version = length commits; file = 0; row = 0 }) max place.row [] place (map data_file (files_at place commits))) plain.is_schema in
-    subst (λ (said : Result Handed Refusal). IsTold (read max place entries) said) (sym same) told
+    subst (λ (said : Result ReadRows ReadRefusal). IsTold (read max place entries) said) (sym same) told
 
 -- ---- its text
 
 -- what is told of an answer
-text_told : (schema : Tree) (answer : Answer) (said : Result Handed Refusal) → IsTold answer said → tailed_reply (said >>= λ found. Ok (handed_text schema found)) ≡ tables.read_text schema answer
+text_told : (schema : Tree) (answer : Answer) (said : Result ReadRows ReadRefusal) → IsTold answer said → tailed_reply (said >>= λ found. Ok (handed_text schema found)) ≡ tables.read_text schema answer
 text_told schema (handed rows next) said told = rw told refl
 text_told schema (beyond next) said told = rw told refl
 text_told schema (bad_place version) said told = rw told refl

@@ -13,14 +13,14 @@ use Rattle.table_model.proofs.Callers.{beginning_is_offset, is_answered}
 use Rattle.table_model.proofs.Callers.{final_grows, log_from_beginning, onward_in_the_log, all_after_short}
 use Rattle.table_log.specs.Versions.{Version, versions_of}
 use Rattle.table_log.specs.FromCheckpoints.{no_start}
-use Rattle.table_log.specs.InForce.{Told}
+use Rattle.table_log.specs.InForce.{SchemaText}
 use Rattle.lake_script.specs.Tables.{State, nothing, table, entries_of}
-use Rattle.source_core.specs.Tailing.{Handed, Refusal, bad_log, handed_by, read_by, schema_for, beyond_log, bad_place as bad_place_told}
+use Rattle.source_core.specs.Tailing.{ReadRows, ReadRefusal, bad_log, handed_by, read_by, schema_for, beyond_log, bad_place as bad_place_told}
 use Rattle.source_core.specs.Tails.{Tails, rows_handed, offset_after, with_earlier, tails, HandOutTheLog, HandOutAll, AreAnswered}
 use Rattle.lake_script.specs.Keeps.{IsKept, Keeps}
 
 -- the store answers what the table answers
-abbrev pub IsRead : Result Handed Refusal → Answer → Type 0
+abbrev pub IsRead : Result ReadRows ReadRefusal → Answer → Type 0
 IsRead answered (handed out next) = answered ≡ Ok (record { rows = out; next = next })
 IsRead answered (beyond next) = answered ≡ Err (beyond_log next)
 IsRead answered (bad_place version) = answered ≡ Err (bad_place_told version)
@@ -32,19 +32,19 @@ ReadsAs objects entries = (max : ℕ) (place : Offset) → IsRead (read_by false
 -- ---- one read
 
 -- it hands out the rows that the table hands out
-rows_as : (answered : Result Handed Refusal) (answer : Answer) → IsRead answered answer → rows_handed answered ≡ resumed.rows_of answer
+rows_as : (answered : Result ReadRows ReadRefusal) (answer : Answer) → IsRead answered answer → rows_handed answered ≡ resumed.answer_rows answer
 rows_as answered (handed out next) is = rw is refl
 rows_as answered (beyond next) is = rw is refl
 rows_as answered (bad_place version) is = rw is refl
 
 -- and its next read begins where the table's does
-next_as : (place : Offset) (answered : Result Handed Refusal) (answer : Answer) → IsRead answered answer → offset_after place answered ≡ resumed.next_after place answer
+next_as : (place : Offset) (answered : Result ReadRows ReadRefusal) (answer : Answer) → IsRead answered answer → offset_after place answered ≡ resumed.next_after place answer
 next_as place answered (handed out next) is = rw is refl
 next_as place answered (beyond next) is = rw is refl
 next_as place answered (bad_place version) is = rw is refl
 
 -- where the table hands out rows, the read isn't refused
-handed_is_answered : (answered : Result Handed Refusal) (answer : Answer) (out : List Row) (next : Offset) → IsRead answered answer → answer ≡ handed out next → IsOk answered
+handed_is_answered : (answered : Result ReadRows ReadRefusal) (answer : Answer) (out : List Row) (next : Offset) → IsRead answered answer → answer ≡ handed out next → IsOk answered
 handed_is_answered answered answer out next is e =
     let there : IsRead answered (handed out next) = subst (λ (a : Answer). IsRead answered a) e is in
     rw there refl
@@ -66,17 +66,17 @@ final_still limits place entries = final_grows (still limits) place entries ∙ 
 
 -- the first of such reads, and those behind it
 reads_on_still : (max : ℕ) (limits : List ℕ) (place : Offset) (entries : List Entry)
-    → reads_on (still (max ∷ limits)) place entries ≡ resumed.with_earlier (resumed.rows_of (read max place entries)) (reads_on (still limits) (resumed.next_after place (read max place entries)) entries)
+    → reads_on (still (max ∷ limits)) place entries ≡ resumed.with_earlier (resumed.answer_rows (read max place entries)) (reads_on (still limits) (resumed.next_after place (read max place entries)) entries)
 reads_on_still max limits place entries =
-    ap (λ (es : List Entry). resumed.with_earlier (resumed.rows_of (read max place es)) (reads_on (still limits) (resumed.next_after place (read max place es)) es)) (append-nil entries)
+    ap (λ (es : List Entry). resumed.with_earlier (resumed.answer_rows (read max place es)) (reads_on (still limits) (resumed.next_after place (read max place es)) es)) (append-nil entries)
 
 -- reads over objects hand out what reads of the table hand out
-record AreSame (all : Tails) (said : resumed.Handed) : Type 0 where
+record AreSame (all : Tails) (said : resumed.ResumedReads) : Type 0 where
   rows : all.rows ≡ said.out
   next : all.next ≡ said.next
 
 -- the same rows in front leave them the same
-earlier_same : (rows out : List Row) (all : Tails) (said : resumed.Handed) → rows ≡ out → AreSame all said → AreSame (with_earlier rows all) (resumed.with_earlier out said)
+earlier_same : (rows out : List Row) (all : Tails) (said : resumed.ResumedReads) → rows ≡ out → AreSame all said → AreSame (with_earlier rows all) (resumed.with_earlier out said)
 earlier_same rows out all said is same = record { rows = rw (is, same.rows) refl; next = same.next }
 
 module _ (objects : Objects) (entries : List Entry) (reads : ReadsAs objects entries) where
@@ -89,8 +89,8 @@ module _ (objects : Objects) (entries : List Entry) (reads : ReadsAs objects ent
       let answer = read max place entries in
       let later : AreSame (tails objects limits (offset_after place answered)) (reads_on (still limits) (resumed.next_after place answer) entries) =
       subst (λ (p : Offset). AreSame (tails objects limits (offset_after place answered)) (reads_on (still limits) p entries)) (next_as place answered answer (reads max place)) (all_same limits (offset_after place answered)) in
-      let all = earlier_same (rows_handed answered) (resumed.rows_of answer) (tails objects limits (offset_after place answered)) (reads_on (still limits) (resumed.next_after place answer) entries) (rows_as answered answer (reads max place)) later in
-      subst (λ (h : resumed.Handed). AreSame (tails objects (max ∷ limits) place) h) (sym (reads_on_still max limits place entries)) all
+      let all = earlier_same (rows_handed answered) (resumed.answer_rows answer) (tails objects limits (offset_after place answered)) (reads_on (still limits) (resumed.next_after place answer) entries) (rows_as answered answer (reads max place)) later in
+      subst (λ (h : resumed.ResumedReads). AreSame (tails objects (max ∷ limits) place) h) (sym (reads_on_still max limits place entries)) all
 
   -- they hand out the rows in order
   pub reads_log : HandOutTheLog objects entries
@@ -137,7 +137,7 @@ module _ (objects : Objects) (entries : List Entry) (reads : ReadsAs objects ent
       let table_then : said.final ++ [] ≡ entries = append-nil said.final ∙ final_still earlier beginning entries in
       let is : read max said.next (said.final ++ []) ≡ handed h.out h.next =
       ap (λ (es : List Entry). read max said.next es) table_then ∙ ap (λ (p : Offset). read max p entries) (sym (all_same earlier beginning).next) ∙ h.is in
-      let rows_are : rows_handed (read_by false objects max place) ≡ h.out = rows_as (read_by false objects max place) (read max place entries) (reads max place) ∙ ap resumed.rows_of h.is in
+      let rows_are : rows_handed (read_by false objects max place) ≡ h.out = rows_as (read_by false objects max place) (read max place entries) (reads max place) ∙ ap resumed.answer_rows h.is in
       let as_many : length h.out ≡ length (rows_handed (read_by false objects max place)) = ap (λ (rs : List Row). length rs) (sym rows_are) in
       let less : length h.out < max = omega (arith, short, as_many) in
       let final : whole.final ≡ entries = ap (λ (r : List (ℕ × List Entry)). (reads_on r beginning entries).final) (sym joined) ∙ final_still (earlier ++ max ∷ []) beginning entries in
@@ -148,7 +148,7 @@ module _ (objects : Objects) (entries : List Entry) (reads : ReadsAs objects ent
 
 -- What is known of reads of a table's log: the schema that they go by, and that each answers what the table answers.
 pub record IsReadAs (objects : Objects) (entries : List Entry) : Type 0 where
-  pub told : Told
+  pub told : SchemaText
   pub versions : List Version
   pub log : versions_of objects ≡ versions
   pub goes_by : (place : Offset) → schema_for no_start versions place ≡ Ok told

@@ -13,7 +13,7 @@ pub mod KeptPuts
 pub mod KeptRequest
 pub mod KeptRuns
 pub mod KeptScripts
-pub mod KeptStep
+pub mod KeptPlan
 pub mod KeptTail
 pub mod KeptTails
 pub mod KeptVersions

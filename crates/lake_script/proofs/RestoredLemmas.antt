@@ -6,33 +6,34 @@ use Rattle.lake_bytes.specs.Outcome.{IsSaid}
 use Rattle.lake_bytes.specs.Results.{◌>>=◌}
 use Rattle.store_core.specs.Objects.{Objects}
 use Rattle.table_log.specs.Restoring.{HasOnlySoundCheckpoints, AreCheckpointsSound, HasSoundCheckpoints, RestoresWell}
-use Rattle.commit_core.specs.Texts.{refused, line_of}
-use Rattle.sink_core.specs.Appending.{Step, appended_by, answered, settled, with_append, MayHoldFile, PutsWell}
-use Rattle.sink_core.specs.Refusals.{Refusal, refusal_text, refusal_view, says, file_too_large}
+use Rattle.commit_core.specs.Texts.{refused}
+use Rattle.sink_core.specs.Appending.{AppendPlan, appended_by, plan_answer, append_plan, with_append, MayHoldFile, PutsWell}
+use Rattle.sink_core.specs.Refusals.{AppendRefusal, refusal_text, refusal_view, says, file_too_large}
 use Rattle.sink_core.specs.declared.appending.Appended.{Appended}
 use Rattle.sink_core.specs.declared.appending.Appended.TheVariants.{Committed, Already}
 use Rattle.sink_core.specs.declared.refusal.AppendFault.{AppendFault}
 use Rattle.sink_core.specs.declared.refusal.AppendFault.TheVariants as faults
-use Rattle.lake_script.specs.declared.reply.Reply.TheVariants as replies
-use Rattle.lake_script.specs.declared.reply.Reply.TheVariants.{NotAppended}
+use Rattle.lake_script.specs.declared.reply.LineReply.TheVariants as replies
+use Rattle.lake_script.specs.declared.reply.LineReply.TheVariants.{NotAppended}
 use Rattle.script_lines.specs.Lines.{append, task}
 use Rattle.lake_script.specs.ReplyView.{reply_text, is_short}
 use Rattle.lake_script.specs.Runs.{Executes}
 use Rattle.lake_script.specs.Sound.{IsExecuted}
 use Rattle.lake_script.specs.Told.{appended_reply}
 use Rattle.table_log.proofs.Callers.{sound_empty}
+use Rattle.lake_bytes.specs.Lines.{with_newline}
 
 -- in an empty store no checkpoint stands
-pub well_of_empty : (restore : Bool) (objects : Objects) → objects ≡ [] → RestoresWell restore objects
-well_of_empty restore objects empty = λ is. subst HasSoundCheckpoints (sym empty) (sound_empty false)
+pub well_of_empty : (use_checkpoints : Bool) (objects : Objects) → objects ≡ [] → RestoresWell use_checkpoints objects
+well_of_empty use_checkpoints objects empty = λ is. subst HasSoundCheckpoints (sym empty) (sound_empty false)
 
 -- where each checkpoint is one of the log, those that read well are
-pub well_of_sound : (restore : Bool) (objects : Objects) → HasOnlySoundCheckpoints objects → RestoresWell restore objects
-well_of_sound restore objects sound = λ is name version bytes named there asked. sound name version bytes named there tt
+pub well_of_sound : (use_checkpoints : Bool) (objects : Objects) → HasOnlySoundCheckpoints objects → RestoresWell use_checkpoints objects
+well_of_sound use_checkpoints objects sound = λ is name version bytes named there asked. sound name version bytes named there tt
 
 -- where checkpoints go on to be sound, a log goes on to be read from them
-pub still_well : (restore : Bool) (old new : Objects) → RestoresWell restore old → ((every : Bool) → AreCheckpointsSound every old → AreCheckpointsSound every new) → RestoresWell restore new
-still_well restore old new well sound = λ is. sound false (well is)
+pub still_well : (use_checkpoints : Bool) (old new : Objects) → RestoresWell use_checkpoints old → ((every : Bool) → AreCheckpointsSound every old → AreCheckpointsSound every new) → RestoresWell use_checkpoints new
+still_well use_checkpoints old new well sound = λ is. sound false (well is)
 
 -- ---- an append
 
@@ -42,11 +43,11 @@ answer_text (Committed version) = refl
 answer_text (Already number) = refl
 
 -- an append that is answered has no file that is too large, and one that has is told so
-not_large : (step : Result Step Refusal) (objects : Objects) (number : ℕ) (answer : Appended) → (step >>= answered objects number) ≡ Ok answer → step ≢ Err file_too_large
+not_large : (step : Result AppendPlan AppendRefusal) (objects : Objects) (number : ℕ) (answer : Appended) → (step >>= plan_answer objects number) ≡ Ok answer → step ≢ Err file_too_large
 not_large (Ok step) objects number answer told = λ wrong. cc
 not_large (Err refusal) objects number answer told = absurd cc
 
-large_told : (step : Result Step Refusal) (objects : Objects) (number : ℕ) → step ≡ Err file_too_large → (step >>= answered objects number) ≡ Err file_too_large
+large_told : (step : Result AppendPlan AppendRefusal) (objects : Objects) (number : ℕ) → step ≡ Err file_too_large → (step >>= plan_answer objects number) ≡ Err file_too_large
 large_told (Ok step) objects number large = absurd cc
 large_told (Err refusal) objects number large = let is : refusal ≡ file_too_large = cc in ap Err is
 
@@ -56,7 +57,7 @@ kept_memory faults.Memory enough = absurd cc
 kept_memory _ enough = λ wrong. cc
 
 module _ (objects : Objects) (application : List ℕ) (number at : ℕ) (items : Items) (after : Objects) where
-  module _ (left : after ≡ with_append objects (settled false objects application number at items)) (text : IsUtf8 application) (made : PutsWell application number at (settled false objects application number at items)) where
+  module _ (left : after ≡ with_append objects (append_plan false objects application number at items)) (text : IsUtf8 application) (made : PutsWell application number at (append_plan false objects application number at items)) where
     -- a batch that is appended, or stands already, is told so
     pub append_executed : (answer : Appended) → appended_by false objects application number at items ≡ Ok answer → IsExecuted objects (task (append application number at items)) (reply_text (replies.Appended answer)) after
     append_executed answer told = record {
@@ -64,17 +65,17 @@ module _ (objects : Objects) (application : List ℕ) (number at : ℕ) (items :
       printed = tt;
       told = answer_text answer ∙ ap appended_reply (sym told);
       left = left;
-      sound = (text, made, not_large (settled false objects application number at items) objects number answer told);
+      sound = (text, made, not_large (append_plan false objects application number at items) objects number answer told);
     }
 
     -- so is a refusal
-    refused_executed : (refusal : Refusal) → appended_by false objects application number at items ≡ Err refusal → refusal ≢ file_too_large → IsExecuted objects (task (append application number at items)) (line_of (refused (refusal_text refusal))) after
+    refused_executed : (refusal : AppendRefusal) → appended_by false objects application number at items ≡ Err refusal → refusal ≢ file_too_large → IsExecuted objects (task (append application number at items)) (with_newline (refused (refusal_text refusal))) after
     refused_executed refusal told small = record {
       text = [];
       printed = tt;
       told = ap appended_reply (sym told);
       left = left;
-      sound = (text, made, λ large. small (let is = sym told ∙ large_told (settled false objects application number at items) objects number large in cc));
+      sound = (text, made, λ large. small (let is = sym told ∙ large_told (append_plan false objects application number at items) objects number large in cc));
     }
 
     -- each that isn't short
@@ -93,16 +94,16 @@ module _ (objects : Objects) (application : List ℕ) (number at : ℕ) (items :
     append_refusal_executed (faults.Lost version) said enough kept = absurd (kept version refl)
     append_refusal_executed faults.Memory said enough kept = absurd cc
 
-  module _ (left : after ≡ with_append objects (settled false objects application number at items)) where
+  module _ (left : after ≡ with_append objects (append_plan false objects application number at items)) where
     pub has_append : (answer : Appended) → appended_by false objects application number at items ≡ Ok answer → Executes objects (task (append application number at items)) (reply_text (replies.Appended answer)) after
     has_append answer told = inl ([], tt, answer_text answer ∙ ap appended_reply (sym told), left)
 
-    has_refused : (refusal : Refusal) → appended_by false objects application number at items ≡ Err refusal → Executes objects (task (append application number at items)) (line_of (refused (refusal_text refusal))) after
+    has_refused : (refusal : AppendRefusal) → appended_by false objects application number at items ≡ Err refusal → Executes objects (task (append application number at items)) (with_newline (refused (refusal_text refusal))) after
     has_refused refusal told = inl ([], tt, ap appended_reply (sym told), left)
 
   -- an append that is refused is told so, or of want of memory
-  pub append_refusal_told : (fault : AppendFault) → IsSaid (says (refusal_view fault)) (appended_by false objects application number at items) → (fault ≢ faults.Memory → after ≡ with_append objects (settled false objects application number at items))
-      → (fault ≡ faults.Memory → MayHoldFile objects (settled false objects application number at items) after) → ((version : Option ℕ) → fault ≢ faults.Lost version)
+  pub append_refusal_told : (fault : AppendFault) → IsSaid (says (refusal_view fault)) (appended_by false objects application number at items) → (fault ≢ faults.Memory → after ≡ with_append objects (append_plan false objects application number at items))
+      → (fault ≡ faults.Memory → MayHoldFile objects (append_plan false objects application number at items) after) → ((version : Option ℕ) → fault ≢ faults.Lost version)
       → Executes objects (task (append application number at items)) (reply_text (NotAppended fault)) after
   append_refusal_told faults.BadApp said left short kept = has_refused (left (λ wrong. cc)) _ said
   append_refusal_told faults.TooLarge said left short kept = has_refused (left (λ wrong. cc)) _ said

@@ -5,17 +5,17 @@ use Rattle.std.proofs.lemmas.Bool.{cond-true, cond-false}
 use Rattle.delta_actions.specs.Commit.{lines_of}
 use Rattle.store_core.specs.Objects.{Objects}
 use Rattle.script_lines.specs.Lines.{Statement, Reading, skipped, bad, asks, reading_of}
-use Rattle.lake_script.specs.Sound.{IsExecuted, IsAnswered, AreSound, IsRun, IsRunInPart}
+use Rattle.lake_script.specs.Sound.{IsExecuted, IsAnsweredLine, AreSoundLines, IsScriptRun, IsRunInPart}
 use Rattle.lake_script.specs.Streams.{StandsIn}
-use Rattle.lake_script.specs.Told.{reply_to, left_by, is_bad, UnlessBad, ArePrinted, ArePrintedInPart, expected_from, left_from, first_bad_from}
+use Rattle.lake_script.specs.Told.{reply_to, left_by, is_bad, UnlessBad, ArePrintedLines, ArePrintedInPart, expected_from, left_from, first_bad_from}
 use Rattle.script_lines.specs.Splitting.{lines_left}
 use Rattle.lake_script.proofs.StreamLemmas.{Appends-none, Appends-both, nothing_known, stands_in_whole}
 
 -- a line that has what it asks for is answered
 pub answered : (number : ℕ) (objects after : Objects) (statement : Statement) (reading : Reading) (reply : List ℕ) (old new : Option (List ℕ)) → asks statement ≡ reading → IsExecuted objects statement reply after → Appends old new reply
-    → IsAnswered number objects reading old new after
+    → IsAnsweredLine number objects reading old new after
 answered number objects after statement reading reply old new asked executed said =
-    subst (λ r. IsAnswered number objects r old new after) asked (record {
+    subst (λ r. IsAnsweredLine number objects r old new after) asked (record {
       text = executed.text;
       printed = executed.printed;
       told = subst (λ u. Appends old new u) executed.told said;
@@ -29,11 +29,11 @@ pub record SoFar (start : Objects) (script : List ℕ) (old now : Option (List �
   pub front : List ℕ
   pub texts : List (List ℕ) → List (List ℕ)
   pub added : Appends old now front
-  pub printed : (rest : List (List ℕ)) → ArePrinted objects lines rest → ArePrinted start (lines_of script) (texts rest)
+  pub printed : (rest : List (List ℕ)) → ArePrintedLines objects lines rest → ArePrintedLines start (lines_of script) (texts rest)
   pub in_part : (rest : List (List ℕ)) → ArePrintedInPart objects lines rest → ArePrintedInPart start (lines_of script) (texts rest)
   pub told : (rest : List (List ℕ)) → expected_from 1 start (lines_of script) (texts rest) ≡ front ++ expected_from number objects lines rest
   pub left : (rest : List (List ℕ)) → left_from start (lines_of script) (texts rest) ≡ left_from objects lines rest
-  pub sound : (rest : List (List ℕ)) → AreSound objects lines rest → AreSound start (lines_of script) (texts rest)
+  pub sound : (rest : List (List ℕ)) → AreSoundLines objects lines rest → AreSoundLines start (lines_of script) (texts rest)
 
 -- before the first line
 pub at_first : (start : Objects) (script : List ℕ) (old : Option (List ℕ)) → SoFar start script old old 1 start (lines_of script)
@@ -78,24 +78,24 @@ module _ (start : Objects) (script : List ℕ) (old now new : Option (List ℕ))
     }) stands;
   }
 
-  module _ (line : List ℕ) (after : Objects) (so_far : SoFar start script old now number objects (line ∷ lines)) (here : IsAnswered number objects (reading_of line) now new after) where
+  module _ (line : List ℕ) (after : Objects) (so_far : SoFar start script old now number objects (line ∷ lines)) (here : IsAnsweredLine number objects (reading_of line) now new after) where
     said : Appends old new (so_far.front ++ reply_to number objects (reading_of line) here.text)
     said = Appends-both old now new so_far.front _ so_far.added here.told
 
     module _ (goes_on : is_bad (reading_of line) ≡ false) where
       behind : SoFar start script old new (number + 1) (left_by objects (reading_of line) here.text) lines
-      unfolding ArePrinted ArePrintedInPart AreSound expected_from left_from
+      unfolding ArePrintedLines ArePrintedInPart AreSoundLines expected_from left_from
       behind = record {
         front = so_far.front ++ reply_to number objects (reading_of line) here.text;
         texts = λ rest. so_far.texts (here.text ∷ rest);
         added = said;
-        printed = λ rest all. so_far.printed (here.text ∷ rest) (here.printed, subst (λ is. UnlessBad is (ArePrinted (left_by objects (reading_of line) here.text) lines rest)) (sym goes_on) all);
+        printed = λ rest all. so_far.printed (here.text ∷ rest) (here.printed, subst (λ is. UnlessBad is (ArePrintedLines (left_by objects (reading_of line) here.text) lines rest)) (sym goes_on) all);
         in_part = λ rest all. so_far.in_part (here.text ∷ rest) (here.printed, subst (λ is. UnlessBad is (ArePrintedInPart (left_by objects (reading_of line) here.text) lines rest)) (sym goes_on) all);
         told = λ rest.
             so_far.told (here.text ∷ rest) ∙ ap (λ u. so_far.front ++ (reply_to number objects (reading_of line) here.text ++ u)) (cond-false _ _ _ goes_on)
             ∙ sym (append_assoc so_far.front _ _);
         left = λ rest. so_far.left (here.text ∷ rest) ∙ cond-false _ _ _ goes_on;
-        sound = λ rest all. so_far.sound (here.text ∷ rest) (here.sound, subst (λ is. UnlessBad is (AreSound (left_by objects (reading_of line) here.text) lines rest)) (sym goes_on) all);
+        sound = λ rest all. so_far.sound (here.text ∷ rest) (here.sound, subst (λ is. UnlessBad is (AreSoundLines (left_by objects (reading_of line) here.text) lines rest)) (sym goes_on) all);
       }
 
       -- a line that isn't bad leaves the rest to be told
@@ -104,21 +104,21 @@ module _ (start : Objects) (script : List ℕ) (old now new : Option (List ℕ))
 
     -- behind a bad line nothing is told
     module _ (ends : is_bad (reading_of line) ≡ true) where
-      pub so_far_stops : IsRun start script old new after
-      unfolding ArePrinted AreSound expected_from left_from
+      pub so_far_stops : IsScriptRun start script old new after
+      unfolding ArePrintedLines AreSoundLines expected_from left_from
       so_far_stops = record {
         texts = so_far.texts (here.text ∷ []);
-        printed = so_far.printed (here.text ∷ []) (here.printed, subst (λ is. UnlessBad is (ArePrinted (left_by objects (reading_of line) here.text) lines [])) (sym ends) tt);
+        printed = so_far.printed (here.text ∷ []) (here.printed, subst (λ is. UnlessBad is (ArePrintedLines (left_by objects (reading_of line) here.text) lines [])) (sym ends) tt);
         told =
             let last = ap (λ u. reply_to number objects (reading_of line) here.text ++ u) (cond-true (is_bad (reading_of line)) [] (expected_from (number + 1) (left_by objects (reading_of line) here.text) lines []) ends) ∙ append-nil _ in
             subst (λ u. Appends old new u) (sym (so_far.told (here.text ∷ []) ∙ ap (λ u. so_far.front ++ u) last)) said;
         left = here.left ∙ left_by_bad objects (reading_of line) here.text ends ∙ sym (so_far.left (here.text ∷ []) ∙ cond-true _ _ _ ends);
-        sound = so_far.sound (here.text ∷ []) (here.sound, subst (λ is. UnlessBad is (AreSound (left_by objects (reading_of line) here.text) lines [])) (sym ends) tt);
+        sound = so_far.sound (here.text ∷ []) (here.sound, subst (λ is. UnlessBad is (AreSoundLines (left_by objects (reading_of line) here.text) lines [])) (sym ends) tt);
       }
 
 -- all lines were told
-pub so_far_done : (start : Objects) (script : List ℕ) (old now : Option (List ℕ)) (number : ℕ) (objects : Objects) → SoFar start script old now number objects [] → IsRun start script old now objects
-unfolding ArePrinted AreSound expected_from left_from
+pub so_far_done : (start : Objects) (script : List ℕ) (old now : Option (List ℕ)) (number : ℕ) (objects : Objects) → SoFar start script old now number objects [] → IsScriptRun start script old now objects
+unfolding ArePrintedLines AreSoundLines expected_from left_from
 so_far_done start script old now number objects so_far = record {
   texts = so_far.texts [];
   printed = so_far.printed [] tt;
@@ -134,17 +134,17 @@ unless_too true P Q all holds = tt
 unless_too false P Q all holds = all holds
 
 -- texts that stand beside all lines stand beside the first of them
-printed_in_part : (objects : Objects) (lines texts : List (List ℕ)) → ArePrinted objects lines texts → ArePrintedInPart objects lines texts
-unfolding ArePrinted ArePrintedInPart
+printed_in_part : (objects : Objects) (lines texts : List (List ℕ)) → ArePrintedLines objects lines texts → ArePrintedInPart objects lines texts
+unfolding ArePrintedLines ArePrintedInPart
 printed_in_part objects [] texts all = tt
 printed_in_part objects (line ∷ lines) [] all = absurd all
 printed_in_part objects (line ∷ lines) (text ∷ texts) all =
     let behind = left_by objects (reading_of line) text in
-    (all.0, unless_too (is_bad (reading_of line)) (ArePrinted behind lines texts) (ArePrintedInPart behind lines texts) (λ rest. printed_in_part behind lines texts rest) all.1)
+    (all.0, unless_too (is_bad (reading_of line)) (ArePrintedLines behind lines texts) (ArePrintedInPart behind lines texts) (λ rest. printed_in_part behind lines texts rest) all.1)
 
-module _ (start : Objects) (script : List ℕ) (old mid : Option (List ℕ)) (after : Objects) (run : IsRun start script old mid after) where
+module _ (start : Objects) (script : List ℕ) (old mid : Option (List ℕ)) (after : Objects) (run : IsScriptRun start script old mid after) where
   -- what is told is written once nothing waits
-  pub run_through : (contents : Option (List ℕ)) (pending : List ℕ) → Appends mid (append_known contents pending) [] → pending ≡ [] → IsRun start script old contents after
+  pub run_through : (contents : Option (List ℕ)) (pending : List ℕ) → Appends mid (append_known contents pending) [] → pending ≡ [] → IsScriptRun start script old contents after
   run_through contents pending flushed none =
       let now = append_known contents pending in
       let all = Appends-both old mid now _ [] run.told flushed in

@@ -8,10 +8,10 @@ use Rattle.commit_core.specs.declared.fault.CreateFault.{CreateFault}
 use Rattle.commit_core.specs.declared.fault.CreateFault.TheVariants as creating
 use Rattle.sink_core.specs.declared.refusal.AppendFault.{AppendFault}
 use Rattle.sink_core.specs.declared.refusal.AppendFault.TheVariants as appending
-use Rattle.sink_core.specs.Appending.{settled}
+use Rattle.sink_core.specs.Appending.{append_plan}
 use Rattle.sink_core.specs.Puts.{IsSaidBy}
 use Rattle.source_core.specs.Tailing.{tailed}
-use Rattle.lake_script.specs.declared.reply.Reply.TheVariants.{NotCreated, NotAppended}
+use Rattle.lake_script.specs.declared.reply.LineReply.TheVariants.{NotCreated, NotAppended}
 use Rattle.script_lines.specs.Lines.{append, Statement, create, tail, task, reading_of}
 use Rattle.lake_script.specs.ReplyView.{reply_text, is_short}
 use Rattle.lake_script.specs.Runs.{IsShort, IsWantOfMemory, MayLeave, Executes, IsCutOff, Replies, Runs, done, stops, goes_on, RunsInPart, waits, begins, follows, no_room_to_read, FallsShort, here, later, Tells, TellsFront, TellsShort}
@@ -39,7 +39,7 @@ creation_short creating.TooLarge objects id at schema h = inr refl
 creation_short _ objects id at schema h = cc
 
 pub append_short : (fault : AppendFault) (objects : Objects) (application : List ℕ) (number at : ℕ) (items : Items) → is_short (NotAppended fault) ≡ true
-    → IsSaidBy (settled false objects application number at items) fault → IsShort objects (task (append application number at items)) (reply_text (NotAppended fault))
+    → IsSaidBy (append_plan false objects application number at items) fault → IsShort objects (task (append application number at items)) (reply_text (NotAppended fault))
 append_short appending.Memory objects application number at items h said = inl refl
 append_short appending.FileTooLarge objects application number at items h said = inr (refl, said)
 append_short _ objects application number at items h said = cc

@@ -5,13 +5,13 @@ use Rattle.std.proofs.lemmas.List.Sums.{count_by-le-length}
 use Rattle.std.specs.Io.KnownBytes.{Appends}
 use Rattle.store_core.specs.Objects.{Objects}
 use Rattle.lake_script.specs.Scripts.{HoldsState, IsScript, ReadsOut}
-use Rattle.lake_script.specs.Sound.{AreSound, IsRun}
+use Rattle.lake_script.specs.Sound.{AreSoundLines, IsScriptRun}
 use Rattle.lake_script.specs.Tables as tables
 use Rattle.delta_actions.specs.Commit.{lines_of}
 use Rattle.delta_actions.specs.Names.{greatest_version}
 use Rattle.lake_script.specs.Keeps.{Keeps}
 use Rattle.lake_script.specs.Tables.{State, entries_of}
-use Rattle.lake_script.specs.Told.{expected_from, ArePrinted}
+use Rattle.lake_script.specs.Told.{expected_from, ArePrintedLines}
 use Rattle.script_lines.specs.Splitting.{is_newline}
 use Rattle.lake_script.proofs.KeptRuns.{told_on, told_in_front, told_with_objects, left_on, left_is_short}
 use Rattle.lake_script.proofs.KeptScripts.{lines_told, kept_held, kept_reads_out}
@@ -25,7 +25,7 @@ front_few : (state : State) (front rest lines : List (List ℕ)) → lines ≡ f
 front_few state front rest lines split few = let both = length-append front rest in omega (arith, both, ap length split, few)
 
 -- a run over objects that keep a table, or nothing, as the plain table tells it
-pub script_told : (state : State) (old new : Option (List ℕ)) (text : List ℕ) (before after : Objects) → length (entries_of state) + length (lines_of text) ≤ suc greatest_version → Keeps before state → IsRun before text old new after
+pub script_told : (state : State) (old new : Option (List ℕ)) (text : List ℕ) (before after : Objects) → length (entries_of state) + length (lines_of text) ≤ suc greatest_version → Keeps before state → IsScriptRun before text old new after
     → IsScript state old new text before after
 script_told state old new text before after few kept run =
     let lines = lines_of text in
@@ -35,8 +35,8 @@ script_told state old new text before after few kept run =
       by_table = λ of_table.
           subst (Appends old new) (told_on lines_told 1 before state lines run.texts kept few run.printed run.sound of_table) run.told;
       begins = λ front rest split of_table.
-          let beside = subst (λ ls. ArePrinted before ls run.texts) split run.printed in
-          let sound = subst (λ ls. AreSound before ls run.texts) split run.sound in
+          let beside = subst (λ ls. ArePrintedLines before ls run.texts) split run.printed in
+          let sound = subst (λ ls. AreSoundLines before ls run.texts) split run.sound in
           let begun = told_in_front lines_told 1 before state front rest run.texts kept (front_few state front rest lines split few) beside sound of_table in
           let wrote = ap (λ ls. expected_from 1 before ls run.texts) split ∙ begun.1 in
           (begun.0, subst (Appends old new) wrote run.told);

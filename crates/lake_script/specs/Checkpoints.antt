@@ -9,11 +9,12 @@ use Rattle.delta_actions.specs.Action.{Action, MetaDataAction}
 use Rattle.delta_checkpoint.specs.Names.{IsCheckpointName, checkpoint_name}
 use Rattle.delta_replay.specs.Support.{meta_data_of, no_meta_data}
 use Rattle.table_log.specs.Counts.{commit_count}
-use Rattle.commit_core.specs.Texts.{refused, line_of}
+use Rattle.commit_core.specs.Texts.{refused}
 use Rattle.snapshot_core.specs.Faults.{Reason, bad_log, unsupported, checked, readable_log}
 use Rattle.snapshot_core.specs.Taking.{most_bytes, IsNewestCheckpoint}
 use Rattle.snapshot_core.specs.Telling.{TellsSnapshot}
 use Rattle.source_core.specs.TailFaults.{support_text}
+use Rattle.lake_bytes.specs.Lines.{with_newline}
 
 -- the newest version of a log
 abbrev pub newest_version : Objects → ℕ
@@ -72,8 +73,8 @@ abbrev pub checkpointed_at : ℕ → List ℕ
 checkpointed_at version = codes "Checkpointed " ++ decimal version
 
 abbrev pub checkpoint_reply : Result Checkpoint NotPut → List ℕ
-checkpoint_reply (Ok c) = line_of (checkpointed_at c.version)
-checkpoint_reply (Err why) = line_of (refused (not_put_text why))
+checkpoint_reply (Ok c) = with_newline (checkpointed_at c.version)
+checkpoint_reply (Err why) = with_newline (refused (not_put_text why))
 
 -- ---- snapshot
 
@@ -83,4 +84,4 @@ IsItsSnapshot objects text = IfOk (readable_log false objects) (λ commits. Tell
 
 abbrev pub snapshot_reply : Result (List (List Action)) Reason → (text : List ℕ) → List ℕ
 snapshot_reply (Ok commits) text = text
-snapshot_reply (Err why) text = line_of (refused (reason_text why))
+snapshot_reply (Err why) text = with_newline (refused (reason_text why))

@@ -1,9 +1,9 @@
 -- The texts of replies.
 use Rattle.std.specs.Prelude.{ℕ, List, ◌++◌, Option, None, Some, codes}
 use Rattle.std.specs.Fmt.{decimal}
-use Rattle.commit_core.specs.Texts.{line_of}
 use Rattle.lake_script.specs.declared.faults.Fault.{Fault}
 use Rattle.lake_script.specs.declared.faults.Fault.TheVariants.{NotYet, NoSuchName, NotRead, NotWritten}
+use Rattle.lake_bytes.specs.Lines.{with_newline}
 
 -- a fault: its code and its name
 abbrev pub fault_text : Fault → List ℕ
@@ -14,7 +14,7 @@ fault_text NotWritten = codes "F4 NotWritten"
 
 -- the reply to a line that is none, by its number
 abbrev pub bad_line : ℕ → List ℕ
-bad_line number = line_of (codes "bad line " ++ decimal number)
+bad_line number = with_newline (codes "bad line " ++ decimal number)
 
 -- the reply where version 0 was put
 abbrev pub created : List ℕ

@@ -6,37 +6,38 @@ use Rattle.store_core.specs.Objects.{Objects}
 use Rattle.store_core.specs.Texts as stores
 use Rattle.store_core.specs.declared.fault.StoreFault.TheVariants as store_faults
 use Rattle.commit_core.specs.declared.fault.CreateFault.TheVariants as create_faults
-use Rattle.sink_core.specs.Appending.{settled, MayHoldFile}
+use Rattle.sink_core.specs.Appending.{append_plan, MayHoldFile}
 use Rattle.lake_script.specs.Growth.{MayPut}
 use Rattle.commit_core.specs.Histories.{unanswered}
 use Rattle.snapshot_core.specs.Taking as checkpoints
 use Rattle.lake_script.specs.Checkpoints.{not_put_text, too_large}
 use Rattle.script_lines.specs.Lines.{Statement, append, close, checkpoint, tail, create, task, snapshot, history, show, hex, tries, fault, start, until, step, finish, die, land, foreign, Reading, skipped, bad, asks, reading_of}
 use Rattle.sink_core.specs.Refusals.{refusal_text, memory, file_too_large}
-use Rattle.commit_core.specs.Texts.{create_fault_text, refused, line_of}
+use Rattle.commit_core.specs.Texts.{create_fault_text, refused}
 use Rattle.lake_script.specs.Replies.{bad_line}
 use Rattle.lake_script.specs.Streams.{StandsIn}
 use Rattle.source_core.specs.TailFaults as tail_texts
 use Rattle.source_core.specs.Tailing as tails
 use Rattle.delta_actions.specs.Commit.{lines_of}
 use Rattle.lake_script.specs.Told.{is_bad, IsPrintedStatement, reply_to_statement, left_by_statement}
+use Rattle.lake_bytes.specs.Lines.{with_newline}
 
 -- the replies to lines that create a table, append a batch, show or put an object, read rows, and put a checkpoint or tell
 -- the snapshot or the history, where a growth was refused
 abbrev pub no_room_to_create : List ℕ
-no_room_to_create = line_of (refused (create_fault_text create_faults.Memory))
+no_room_to_create = with_newline (refused (create_fault_text create_faults.Memory))
 
 abbrev pub no_room_to_append : List ℕ
-no_room_to_append = line_of (refused (refusal_text memory))
+no_room_to_append = with_newline (refused (refusal_text memory))
 
 abbrev pub no_room_to_show : List ℕ
-no_room_to_show = line_of (refused (stores.fault_text store_faults.Memory))
+no_room_to_show = with_newline (refused (stores.fault_text store_faults.Memory))
 
 abbrev pub no_room_to_read : List ℕ
-no_room_to_read = line_of (refused (tail_texts.refusal_text tails.memory))
+no_room_to_read = with_newline (refused (tail_texts.refusal_text tails.memory))
 
 abbrev pub no_room_to_tell : List ℕ
-no_room_to_tell = line_of (refused (unanswered store_faults.Memory))
+no_room_to_tell = with_newline (refused (unanswered store_faults.Memory))
 
 -- the reply to a line whose growth was refused; no other line is told so
 abbrev pub IsWantOfMemory : Statement → List ℕ → Type 0
@@ -61,20 +62,20 @@ IsWantOfMemory (land put) reply = ⊥
 
 -- the replies to lines that create a table and append a batch, where an object would pass 64 MiB
 abbrev pub too_large_to_create : List ℕ
-too_large_to_create = line_of (refused (create_fault_text create_faults.TooLarge))
+too_large_to_create = with_newline (refused (create_fault_text create_faults.TooLarge))
 
 abbrev pub too_large_to_append : List ℕ
-too_large_to_append = line_of (refused (refusal_text file_too_large))
+too_large_to_append = with_newline (refused (refusal_text file_too_large))
 
 abbrev pub too_large_to_checkpoint : List ℕ
-too_large_to_checkpoint = line_of (refused (not_put_text too_large))
+too_large_to_checkpoint = with_newline (refused (not_put_text too_large))
 
 -- the reply to a line over these objects whose object would pass 64 MiB: the text to a creation, which is told so for
 -- nothing else; the text to an append, and the file of its batch would pass them; or that to a checkpoint, and its bytes
 -- would
 abbrev pub IsTooLarge : Objects → Statement → List ℕ → Type 0
 IsTooLarge objects (create id at schema) reply = reply ≡ too_large_to_create
-IsTooLarge objects (task (append application number at rows)) reply = (reply ≡ too_large_to_append) × (settled false objects application number at rows ≡ Err file_too_large)
+IsTooLarge objects (task (append application number at rows)) reply = (reply ≡ too_large_to_append) × (append_plan false objects application number at rows ≡ Err file_too_large)
 IsTooLarge objects (task checkpoint) reply = (reply ≡ too_large_to_checkpoint) × checkpoints.IsTooLarge false objects
 IsTooLarge objects (task (tail max offset)) reply = ⊥
 IsTooLarge objects snapshot reply = ⊥
@@ -98,7 +99,7 @@ IsShort objects statement reply = IsWantOfMemory statement reply ⊎ IsTooLarge 
 
 -- the objects behind a line whose growth was refused: as they were, or with the file of the batch that it appends
 abbrev pub MayLeave : Objects → Statement → Objects → Type 0
-MayLeave objects (task (append application number at rows)) after = MayHoldFile objects (settled false objects application number at rows) after
+MayLeave objects (task (append application number at rows)) after = MayHoldFile objects (append_plan false objects application number at rows) after
 MayLeave objects (create id at schema) after = after ≡ objects
 MayLeave objects (task (tail max offset)) after = after ≡ objects
 MayLeave objects (task checkpoint) after = after ≡ objects

@@ -14,7 +14,7 @@ use Rattle.lake_script.specs.Replies.{bad_line}
 use Rattle.lake_script.specs.Tables as tables
 use Rattle.lake_script.specs.Tables.{State, nothing, table, expected_from, expected_output, left, entries_of, AreOfTable}
 use Rattle.lake_script.specs.Told as told
-use Rattle.lake_script.specs.Told.{is_bad, ArePrinted, ArePutHere}
+use Rattle.lake_script.specs.Told.{is_bad, ArePrintedLines, ArePutHere}
 
 -- the store holds this table, or nothing stands
 abbrev pub HoldsState : Objects → State → Type 0
@@ -73,7 +73,7 @@ expected_over number state objects (line ∷ lines) (printed ∷ texts) =
 
 -- that is what was written, for some texts that stand beside the lines
 abbrev pub IsExpectedOver : (held written : Option (List ℕ)) → State → Objects → (lines : List (List ℕ)) → Type 0
-IsExpectedOver held written state objects lines = (texts : List (List ℕ)) × ArePrinted objects lines texts × Appends held written (expected_over 1 state objects lines texts)
+IsExpectedOver held written state objects lines = (texts : List (List ℕ)) × ArePrintedLines objects lines texts × Appends held written (expected_over 1 state objects lines texts)
 
 -- ---- a whole script
 

@@ -4,20 +4,20 @@ use Rattle.std.specs.Io.KnownBytes.{Appends}
 use Rattle.std.specs.Str.{IsUtf8}
 use Rattle.delta_actions.specs.Commit.{lines_of}
 use Rattle.store_core.specs.Objects.{Objects}
-use Rattle.sink_core.specs.Appending.{settled, PutsWell}
+use Rattle.sink_core.specs.Appending.{append_plan, PutsWell}
 use Rattle.commit_core.specs.Creating.{too_large, commit_from, CreatesWell}
 use Rattle.lake_script.specs.Checkpoints.{checkpoint_by, IsWellPut}
 use Rattle.script_lines.specs.Lines.{Statement, append, close, checkpoint, tail, create, task, snapshot, history, show, hex, tries, fault, start, until, step, finish, die, land, foreign, Reading, skipped, bad, asks, reading_of}
 use Rattle.sink_core.specs.Refusals.{file_too_large}
 use Rattle.lake_script.specs.Streams.{StandsIn}
-use Rattle.lake_script.specs.Told.{is_bad, UnlessBad, IsPrintedStatement, IsPrintedLine, ArePrinted, ArePrintedInPart, reply_to_statement, left_by_statement, reply_to, left_by}
+use Rattle.lake_script.specs.Told.{is_bad, UnlessBad, IsPrintedStatement, IsPrintedLine, ArePrintedLines, ArePrintedInPart, reply_to_statement, left_by_statement, reply_to, left_by}
 use Rattle.lake_script.specs.Told as scripts
 
 -- what a line puts is well made, and didn't pass 64 MiB; another tool's commit may be anything
 abbrev pub IsSoundStatement : Objects → Statement → (printed : List ℕ) → Type 0
 IsSoundStatement objects (create id at schema) printed = CreatesWell at schema (commit_from id at schema printed) × (commit_from id at schema printed ≢ Err too_large)
 IsSoundStatement objects (task (append application number at items)) printed = IsUtf8 application
-    × PutsWell application number at (settled false objects application number at items) × (settled false objects application number at items ≢ Err file_too_large)
+    × PutsWell application number at (append_plan false objects application number at items) × (append_plan false objects application number at items ≢ Err file_too_large)
 IsSoundStatement objects (task checkpoint) printed = IsWellPut (checkpoint_by objects printed)
 IsSoundStatement objects (task (tail max offset)) printed = Unit {0}
 IsSoundStatement objects snapshot printed = Unit {0}
@@ -44,34 +44,34 @@ pub record IsExecuted (objects : Objects) (statement : Statement) (reply : List 
   pub sound : IsSoundStatement objects statement text
 
 -- the same of a line that is read
-abbrev pub IsSound : Objects → Reading → (printed : List ℕ) → Type 0
-IsSound objects skipped printed = Unit {0}
-IsSound objects bad printed = Unit {0}
-IsSound objects (asks statement) printed = IsSoundStatement objects statement printed
+abbrev pub IsSoundLine : Objects → Reading → (printed : List ℕ) → Type 0
+IsSoundLine objects skipped printed = Unit {0}
+IsSoundLine objects bad printed = Unit {0}
+IsSoundLine objects (asks statement) printed = IsSoundStatement objects statement printed
 
 -- the same of a line of that number, behind whose reply the output holds `new`
-pub record IsAnswered (number : ℕ) (objects : Objects) (reading : Reading) (old new : Option (List ℕ)) (after : Objects) : Type 0 where
+pub record IsAnsweredLine (number : ℕ) (objects : Objects) (reading : Reading) (old new : Option (List ℕ)) (after : Objects) : Type 0 where
   pub text : List ℕ
   pub printed : IsPrintedLine objects reading text
   pub told : Appends old new (reply_to number objects reading text)
   pub left : after ≡ left_by objects reading text
-  pub sound : IsSound objects reading text
+  pub sound : IsSoundLine objects reading text
 
 -- what each of these lines puts is well made; a bad line ends them
-unfoldable pub AreSound : Objects → (lines texts : List (List ℕ)) → Type 0
-AreSound objects [] texts = Unit {0}
-AreSound objects (line ∷ lines) [] = Unit {0}
-AreSound objects (line ∷ lines) (printed ∷ texts) =
-    IsSound objects (reading_of line) printed × UnlessBad (is_bad (reading_of line)) (AreSound (left_by objects (reading_of line) printed) lines texts)
+unfoldable pub AreSoundLines : Objects → (lines texts : List (List ℕ)) → Type 0
+AreSoundLines objects [] texts = Unit {0}
+AreSoundLines objects (line ∷ lines) [] = Unit {0}
+AreSoundLines objects (line ∷ lines) (printed ∷ texts) =
+    IsSoundLine objects (reading_of line) printed × UnlessBad (is_bad (reading_of line)) (AreSoundLines (left_by objects (reading_of line) printed) lines texts)
 
 -- A script is told what it asks for, and leaves what it is to leave; what it puts is well made. One text is meant for each
 -- line in all of it: what its schema was printed as, its checkpoint's bytes or its snapshot's text.
-pub record IsRun (objects : Objects) (script : List ℕ) (old new : Option (List ℕ)) (after : Objects) : Type 0 where
+pub record IsScriptRun (objects : Objects) (script : List ℕ) (old new : Option (List ℕ)) (after : Objects) : Type 0 where
   pub texts : List (List ℕ)
-  pub printed : ArePrinted objects (lines_of script) texts
+  pub printed : ArePrintedLines objects (lines_of script) texts
   pub told : Appends old new (scripts.expected_output objects script texts)
   pub left : after ≡ scripts.left objects script texts
-  pub sound : AreSound objects (lines_of script) texts
+  pub sound : AreSoundLines objects (lines_of script) texts
 
 -- What is written is a front of what some first lines of a script are told.
 pub record IsRunInPart (objects : Objects) (script : List ℕ) (old new : Option (List ℕ)) : Type 0 where

@@ -10,8 +10,8 @@ use Rattle.serde_json.specs.Data.{Items}
 use Rattle.table_model.specs.Table.{Batch, Entry, creation, batches_of, closes_of}
 use Rattle.delta_actions.specs.Names.{data_file_name}
 use Rattle.table_model.specs.Appends.{appended, with_batch}
-use Rattle.table_model.specs.declared.table.Appended.{Appended}
-use Rattle.table_model.specs.declared.table.Appended.TheVariants.{Committed, Already, Stale, Differs, StreamClosed}
+use Rattle.table_model.specs.declared.table.AppendAnswer.{AppendAnswer}
+use Rattle.table_model.specs.declared.table.AppendAnswer.TheVariants.{Committed, Already, Stale, Differs, StreamClosed}
 use Rattle.table_model.specs.declared.reading.Offset.{Offset}
 use Rattle.table_model.specs.Reads.{Answer, handed, beyond, bad_place, read}
 use Rattle.schema_tree.specs.Tree.{Tree}
@@ -26,7 +26,7 @@ use Rattle.script_lines.specs.Lines.{Statement, append, close, checkpoint, tail,
 use Rattle.source_core.specs.Offsets.{offset_of}
 use Rattle.sink_core.specs.Refusals as appends
 use Rattle.commit_core.specs.Texts as texts
-use Rattle.commit_core.specs.Texts.{refused, line_of}
+use Rattle.commit_core.specs.Texts.{refused}
 use Rattle.lake_script.specs.Replies.{created, committed_at, already, bad_line}
 use Rattle.lake_bytes.specs.Results.{◌>>=◌, refused_if}
 use Rattle.delta_replay.specs.Support.{feature, has_key_inside}
@@ -35,6 +35,7 @@ use Rattle.source_core.specs.Tailing as tails
 use Rattle.source_core.specs.TailFaults as tail_texts
 use Rattle.delta_actions.specs.Commit.{lines_of}
 use Rattle.lake_script.specs.Told.{is_bad, not_yet}
+use Rattle.lake_bytes.specs.Lines.{with_newline}
 
 -- what there is: no table, or one of a schema and its entries
 pub data State : Type 0 where
@@ -44,23 +45,23 @@ pub data State : Type 0 where
 -- ---- create
 
 -- one table is created, and no second one
-abbrev pub creating : State → Result Tree creations.Refusal → Result Tree creations.Refusal
+abbrev pub creating : State → Result Tree creations.CreateRefusal → Result Tree creations.CreateRefusal
 creating state (Err why) = Err why
 creating nothing (Ok schema) = Ok schema
 creating (table old entries) (Ok schema) = Err table_exists
 
-abbrev pub created_reply : Result Tree creations.Refusal → List ℕ
-created_reply (Ok schema) = line_of created
-created_reply (Err why) = line_of (refused (texts.refusal_text why))
+abbrev pub created_reply : Result Tree creations.CreateRefusal → List ℕ
+created_reply (Ok schema) = with_newline created
+created_reply (Err why) = with_newline (refused (texts.refusal_text why))
 
-abbrev pub with_table : State → Result Tree creations.Refusal → State
+abbrev pub with_table : State → Result Tree creations.CreateRefusal → State
 with_table state (Ok schema) = table schema (creation ∷ [])
 with_table state (Err why) = state
 
 -- ---- append
 
 -- the batch that a line hands in, or the first reason why it hands in none
-abbrev pub batch_in : State → (application : List ℕ) (number : ℕ) → Items → Result Batch appends.Refusal
+abbrev pub batch_in : State → (application : List ℕ) (number : ℕ) → Items → Result Batch appends.AppendRefusal
 batch_in nothing application number items = checked application number (items_len items) >>= λ fine. Err (appends.bad_log 0)
 batch_in (table schema entries) application number items = do
   fine ← checked application number (items_len items)
@@ -70,7 +71,7 @@ batch_in (table schema entries) application number items = do
   Ok (record { application = application; number = number; rows = rows })
 
 -- what the table answers
-abbrev pub answer_text : Batch → Appended → List ℕ
+abbrev pub answer_text : Batch → AppendAnswer → List ℕ
 answer_text b (Committed version) = committed_at version
 answer_text b (Already number) = already number
 answer_text b (Stale last) = refused (codes "S1 Stale " ++ decimal last)
@@ -81,11 +82,11 @@ abbrev pub entries_of : State → List Entry
 entries_of nothing = []
 entries_of (table schema entries) = entries
 
-abbrev pub appended_reply : State → Result Batch appends.Refusal → List ℕ
-appended_reply state (Ok b) = line_of (answer_text b (appended b (entries_of state)))
-appended_reply state (Err refusal) = line_of (refused (appends.refusal_text refusal))
+abbrev pub appended_reply : State → Result Batch appends.AppendRefusal → List ℕ
+appended_reply state (Ok b) = with_newline (answer_text b (appended b (entries_of state)))
+appended_reply state (Err refusal) = with_newline (refused (appends.refusal_text refusal))
 
-abbrev pub with_append : State → Result Batch appends.Refusal → State
+abbrev pub with_append : State → Result Batch appends.AppendRefusal → State
 with_append nothing answer = nothing
 with_append (table schema entries) (Ok b) = table schema (with_batch (appended b entries) b entries)
 with_append (table schema entries) (Err refusal) = table schema entries
@@ -95,17 +96,17 @@ with_append (table schema entries) (Err refusal) = table schema entries
 -- a row a line, and where the next read begins
 abbrev pub read_text : (schema : Tree) → Answer → List ℕ
 read_text schema (handed rows next) = tails.rows_text schema rows ++ tails.next_line next
-read_text schema (beyond next) = line_of (refused (tail_texts.refusal_text (tails.beyond_log next)))
-read_text schema (bad_place version) = line_of (refused (tail_texts.refusal_text (tails.bad_place version)))
+read_text schema (beyond next) = with_newline (refused (tail_texts.refusal_text (tails.beyond_log next)))
+read_text schema (bad_place version) = with_newline (refused (tail_texts.refusal_text (tails.bad_place version)))
 
 -- a read from an offset on
 abbrev pub read_from : State → (max : ℕ) → Offset → List ℕ
-read_from nothing max offset = line_of (refused (tail_texts.refusal_text (tails.bad_log 0)))
+read_from nothing max offset = with_newline (refused (tail_texts.refusal_text (tails.bad_log 0)))
 read_from (table schema entries) max offset = read_text schema (read max offset entries)
 
 -- a read from an offset on, where its text can be read
 abbrev pub tail_reply : State → (max : ℕ) → Option Offset → List ℕ
-tail_reply state max None = line_of (refused (tail_texts.refusal_text tails.bad_offset))
+tail_reply state max None = with_newline (refused (tail_texts.refusal_text tails.bad_offset))
 tail_reply state max (Some offset) = read_from state max offset
 
 -- ---- history
@@ -116,7 +117,7 @@ entry_told entry = flat_map (λ b. number_told b.application b.number) (batches_
 
 abbrev pub history_from : (version : ℕ) → List Entry → List ℕ
 history_from version [] = []
-history_from version (entry ∷ entries) = line_of (decimal version ++ entry_told entry) ++ history_from (suc version) entries
+history_from version (entry ∷ entries) = with_newline (decimal version ++ entry_told entry) ++ history_from (suc version) entries
 
 abbrev pub history_reply : State → List ℕ
 history_reply nothing = histories.bad_log 0
@@ -126,11 +127,11 @@ history_reply (table schema entries) = history_from 0 entries
 
 -- a table of a schema with invariants has none; otherwise that of its newest version
 abbrev pub checkpoint_reply : State → List ℕ
-checkpoint_reply nothing = line_of (refused (not_put_text (by_log (bad_log 0))))
+checkpoint_reply nothing = with_newline (refused (not_put_text (by_log (bad_log 0))))
 checkpoint_reply (table schema entries) =
     if has_key_inside (codes "delta.invariants") schema
-    then line_of (refused (not_put_text (by_log (unsupported (feature (codes "invariants"))))))
-    else line_of (checkpointed_at (length entries - 1))
+    then with_newline (refused (not_put_text (by_log (unsupported (feature (codes "invariants"))))))
+    else with_newline (checkpointed_at (length entries - 1))
 
 -- ---- lines
 

@@ -9,7 +9,7 @@ use Rattle.lake_script.specs.declared.engine.End.{End}
 use Rattle.lake_script.specs.declared.engine.End.TheVariants.{Done, BadLine, NotRead, NotWritten}
 use Rattle.lake_script.specs.declared.engine.Outcome.{Outcome}
 use Rattle.lake_script.specs.declared.faults.Fault.TheVariants.{NotYet, NoSuchName}
-use Rattle.sink_core.specs.Appending.{appended_by, settled, with_append}
+use Rattle.sink_core.specs.Appending.{appended_by, append_plan, with_append}
 use Rattle.sink_core.specs.declared.appending.Appended.{Appended}
 use Rattle.sink_core.specs.declared.appending.Appended.TheVariants.{Committed, Already}
 use Rattle.table_log.specs.Names.{commit_name}
@@ -19,43 +19,44 @@ use Rattle.commit_core.specs.Histories.{history_of}
 use Rattle.snapshot_core.specs.Faults.{readable_log}
 use Rattle.lake_script.specs.Checkpoints.{checkpoint_by, checkpoint_reply, snapshot_reply, with_checkpoint, IsItsCheckpoint, IsItsSnapshot}
 use Rattle.script_lines.specs.Lines.{Statement, append, close, checkpoint, tail, create, task, snapshot, history, show, hex, tries, fault, start, until, step, finish, die, land, foreign, Reading, skipped, bad, asks, reading_of}
-use Rattle.sink_core.specs.Refusals.{Refusal, refusal_text}
+use Rattle.sink_core.specs.Refusals.{AppendRefusal, refusal_text}
 use Rattle.lake_script.specs.Replies.{fault_text, created, committed_at, already, put_word, bad_line}
 use Rattle.commit_core.specs.Texts as texts
-use Rattle.commit_core.specs.Texts.{refused, line_of}
+use Rattle.commit_core.specs.Texts.{refused}
 use Rattle.source_core.specs.TailFaults as tail_texts
 use Rattle.source_core.specs.Tailing as tails
 use Rattle.source_core.specs.Tailing.{tailed}
+use Rattle.lake_bytes.specs.Lines.{with_newline}
 
 -- the reply to a line that creates a table
-abbrev pub created_reply : Result (List ℕ) creations.Refusal → List ℕ
-created_reply (Ok bytes) = line_of created
-created_reply (Err refusal) = line_of (refused (texts.refusal_text refusal))
+abbrev pub created_reply : Result (List ℕ) creations.CreateRefusal → List ℕ
+created_reply (Ok bytes) = with_newline created
+created_reply (Err refusal) = with_newline (refused (texts.refusal_text refusal))
 
 -- the reply to a line that appends a batch
-abbrev pub appended_reply : Result Appended Refusal → List ℕ
-appended_reply (Ok (Committed version)) = line_of (committed_at version)
-appended_reply (Ok (Already number)) = line_of (already number)
-appended_reply (Err refusal) = line_of (refused (refusal_text refusal))
+abbrev pub appended_reply : Result Appended AppendRefusal → List ℕ
+appended_reply (Ok (Committed version)) = with_newline (committed_at version)
+appended_reply (Ok (Already number)) = with_newline (already number)
+appended_reply (Err refusal) = with_newline (refused (refusal_text refusal))
 
 -- the reply to a line that reads from an offset on
-abbrev pub tailed_reply : Result (List ℕ) tails.Refusal → List ℕ
+abbrev pub tailed_reply : Result (List ℕ) tails.ReadRefusal → List ℕ
 tailed_reply (Ok text) = text
-tailed_reply (Err refusal) = line_of (refused (tail_texts.refusal_text refusal))
+tailed_reply (Err refusal) = with_newline (refused (tail_texts.refusal_text refusal))
 
 -- an object, as it stands
 abbrev pub shown : Option (List ℕ) → List ℕ
-shown None = line_of (refused (fault_text NoSuchName))
+shown None = with_newline (refused (fault_text NoSuchName))
 shown (Some bytes) = bytes
 
 -- an object, in hexadecimal
 abbrev pub in_hex : Option (List ℕ) → List ℕ
-in_hex None = line_of (refused (fault_text NoSuchName))
-in_hex (Some bytes) = line_of (encode_lower bytes)
+in_hex None = with_newline (refused (fault_text NoSuchName))
+in_hex (Some bytes) = with_newline (encode_lower bytes)
 
 -- the reply to what isn't there yet
 abbrev pub not_yet : List ℕ
-not_yet = line_of (refused (fault_text NotYet))
+not_yet = with_newline (refused (fault_text NotYet))
 
 -- the text is one that the schema of a line that creates a table is printed as, the bytes of the checkpoint that a line
 -- puts, or the text of the snapshot that a line tells, over these objects
@@ -89,7 +90,7 @@ reply_to_statement objects snapshot printed = snapshot_reply (readable_log false
 reply_to_statement objects history printed = history_of objects
 reply_to_statement objects (show version) printed = shown (object_at objects (commit_name version))
 reply_to_statement objects (hex name) printed = in_hex (object_at objects name)
-reply_to_statement objects (foreign version action) printed = line_of (put_word (object_at objects (commit_name version)))
+reply_to_statement objects (foreign version action) printed = with_newline (put_word (object_at objects (commit_name version)))
 reply_to_statement objects (task (close application at)) printed = not_yet
 reply_to_statement objects (tries count) printed = not_yet
 reply_to_statement objects (fault kind) printed = not_yet
@@ -103,9 +104,9 @@ reply_to_statement objects (land put) printed = not_yet
 -- the objects that stand once a line has what it asks for
 abbrev pub left_by_statement : Objects → Statement → (printed : List ℕ) → Objects
 left_by_statement objects (create id at schema) printed = with_creation objects (commit_from id at schema printed)
-left_by_statement objects (task (append application number at rows)) printed = with_append objects (settled false objects application number at rows)
+left_by_statement objects (task (append application number at rows)) printed = with_append objects (append_plan false objects application number at rows)
 left_by_statement objects (task checkpoint) printed = with_checkpoint objects printed (checkpoint_by objects printed)
-left_by_statement objects (foreign version action) printed = with_object objects (commit_name version) (line_of action)
+left_by_statement objects (foreign version action) printed = with_object objects (commit_name version) (with_newline action)
 left_by_statement objects (task (tail max offset)) printed = objects
 left_by_statement objects snapshot printed = objects
 left_by_statement objects history printed = objects
@@ -178,11 +179,11 @@ UnlessBad false Holds = Holds
 
 -- One text stands beside each of these lines, up to the first bad one, and is one of its own over the objects in front
 -- of it.
-unfoldable pub ArePrinted : Objects → (lines texts : List (List ℕ)) → Type 0
-ArePrinted objects [] texts = Unit {0}
-ArePrinted objects (line ∷ lines) [] = ⊥
-ArePrinted objects (line ∷ lines) (printed ∷ texts) =
-    IsPrintedLine objects (reading_of line) printed × UnlessBad (is_bad (reading_of line)) (ArePrinted (left_by objects (reading_of line) printed) lines texts)
+unfoldable pub ArePrintedLines : Objects → (lines texts : List (List ℕ)) → Type 0
+ArePrintedLines objects [] texts = Unit {0}
+ArePrintedLines objects (line ∷ lines) [] = ⊥
+ArePrintedLines objects (line ∷ lines) (printed ∷ texts) =
+    IsPrintedLine objects (reading_of line) printed × UnlessBad (is_bad (reading_of line)) (ArePrintedLines (left_by objects (reading_of line) printed) lines texts)
 
 -- The same of some first lines, as many as there are texts.
 unfoldable pub ArePrintedInPart : Objects → (lines texts : List (List ℕ)) → Type 0
@@ -223,7 +224,7 @@ left objects script texts = left_from objects (lines_of script) texts
 
 -- this is told for a script over these objects, with some texts beside its lines
 abbrev pub IsTold : Objects → (script written : List ℕ) → Type 0
-IsTold objects script written = (texts : List (List ℕ)) × ArePrinted objects (lines_of script) texts × (written ≡ expected_output objects script texts)
+IsTold objects script written = (texts : List (List ℕ)) × ArePrintedLines objects (lines_of script) texts × (written ≡ expected_output objects script texts)
 
 -- the number of a script's first bad line, if it has one
 abbrev pub first_bad : List ℕ → Option ℕ

@@ -6,12 +6,12 @@ ghost use Rattle.script_lines.specs.Lines.{reading_of};
 ghost use Rattle.lake_script.specs.Runs.{FallsShort, IsCutOff, Replies, Runs, RunsInPart, Tells, TellsFront, TellsShort};
 ghost use Rattle.lake_script.specs.Keeps.{Keeps, KeepsBeside};
 ghost use Rattle.lake_script.specs.Scripts.{IsScript, StaysSound};
-ghost use Rattle.lake_script.specs.Sound.{IsAnswered, IsRun, IsRunInPart};
+ghost use Rattle.lake_script.specs.Sound.{IsAnsweredLine, IsScriptRun, IsRunInPart};
 ghost use Rattle.lake_script.specs.Streams.{held, waiting, write_failed, unread, read_failed, StandsIn};
 ghost use Rattle.lake_script.specs.Tables.{State, entries_of};
 ghost use Rattle.delta_actions.specs.Commit.{lines_of};
 ghost use Rattle.delta_actions.specs.Names.{greatest_version};
-ghost use Rattle.table_log.specs.Known.{IsKnown};
+ghost use Rattle.table_log.specs.LogCache.{IsCacheOf};
 ghost use Rattle.table_log.specs.Restoring.{AreCheckpointsSound, HasOnlySoundCheckpoints, RestoresWell};
 ghost use Rattle.lake_script.specs.Told.{ArePutHere, is_bad, first_bad, Finishes, fell_short};
 
@@ -23,7 +23,7 @@ use script_lines::{Reading, first_line, reading_of};
 use std::alloc::Global;
 use std::io::{Read, Write};
 use store_core::Store;
-use table_log::Known;
+use table_log::LogCache;
 
 /// How a run ended.
 #[derive(Clone, Copy, Debug, PartialEq, Eq)]
@@ -64,19 +64,19 @@ fn answer<S: Store, W: Write>(
     store: &mut S,
     output: &mut Output<W>,
     is_short: &mut bool,
-    restore: bool,
-    known: &mut Known,
+    use_checkpoints: bool,
+    cache: &mut LogCache,
     scratch: &mut Scratch,
 ) -> Result<bool, OutputError>
-    requires { IsKnown (S.objects store.old) known.old }
-    ensures known { IsKnown (S.objects store.new) known.new }
-    ensures whole { S.is_reliable store.old → RestoresWell restore (S.objects store.old) → is_short.new ≡ false → OnOk result (IsAnswered number (S.objects store.old) (reading_of line.now)
+    requires { IsCacheOf (S.objects store.old) cache.old }
+    ensures cache { IsCacheOf (S.objects store.new) cache.new }
+    ensures whole { S.is_reliable store.old → RestoresWell use_checkpoints (S.objects store.old) → is_short.new ≡ false → OnOk result (IsAnsweredLine number (S.objects store.old) (reading_of line.now)
         (held W.contents output.old) (held W.contents output.new) (S.objects store.new)) }
-    ensures tells { S.is_reliable store.old → RestoresWell restore (S.objects store.old) → OnOk result (Tells (held W.contents output.old) (held W.contents output.new)
+    ensures tells { S.is_reliable store.old → RestoresWell use_checkpoints (S.objects store.old) → OnOk result (Tells (held W.contents output.old) (held W.contents output.new)
         (λ reply. Replies number (S.objects store.old) (reading_of line.now) reply (S.objects store.new))) }
-    ensures short { S.is_reliable store.old → RestoresWell restore (S.objects store.old) → is_short.old ≡ false → is_short.new ≡ true → OnOk result (Tells (held W.contents output.old) (held W.contents output.new)
+    ensures short { S.is_reliable store.old → RestoresWell use_checkpoints (S.objects store.old) → is_short.old ≡ false → is_short.new ≡ true → OnOk result (Tells (held W.contents output.old) (held W.contents output.new)
         (λ reply. Replies number (S.objects store.old) (reading_of line.now) reply (S.objects store.new) × TellsShort (S.objects store.old) (reading_of line.now) reply)) }
-    ensures cut_off { S.is_reliable store.old → RestoresWell restore (S.objects store.old) → OnErr result (IsCutOff number (S.objects store.old) (reading_of line.now) (S.objects store.new)) }
+    ensures cut_off { S.is_reliable store.old → RestoresWell use_checkpoints (S.objects store.old) → OnErr result (IsCutOff number (S.objects store.old) (reading_of line.now) (S.objects store.new)) }
     ensures reliable { S.is_reliable store.old → S.is_reliable store.new }
     ensures restores { S.is_reliable store.old → (every : Bool) → AreCheckpointsSound every (S.objects store.old) → AreCheckpointsSound every (S.objects store.new) }
     ensures remembers { is_short.new ≡ false → is_short.old ≡ false }
@@ -94,7 +94,7 @@ fn answer<S: Store, W: Write>(
             Ok(false)
         }
         Reading::Asks(line) => {
-            let reply = execute(alloc, line, store, restore, known);
+            let reply = execute(alloc, line, store, use_checkpoints, cache);
             if reply.is_short() {
                 *is_short = true;
             }
@@ -112,21 +112,21 @@ fn answer_all<S: Store, W: Write>(
     store: &mut S,
     output: &mut Output<W>,
     is_short: &mut bool,
-    restore: bool,
+    use_checkpoints: bool,
 ) -> Result<Option<u64>, OutputError>
     requires { length text.now ≤ 2 ^ 30 }
-    ensures whole { S.is_reliable store.old → RestoresWell restore (S.objects store.old) → is_short.new ≡ false → OnOk result (IsRun (S.objects store.old) text.now
+    ensures whole { S.is_reliable store.old → RestoresWell use_checkpoints (S.objects store.old) → is_short.new ≡ false → OnOk result (IsScriptRun (S.objects store.old) text.now
         (held W.contents output.old) (held W.contents output.new) (S.objects store.new)) }
-    ensures tells { S.is_reliable store.old → RestoresWell restore (S.objects store.old) → OnOk result (Tells (held W.contents output.old) (held W.contents output.new)
+    ensures tells { S.is_reliable store.old → RestoresWell use_checkpoints (S.objects store.old) → OnOk result (Tells (held W.contents output.old) (held W.contents output.new)
         (λ written. Runs 1 (S.objects store.old) (lines_of text.now) written (S.objects store.new))) }
-    ensures short { S.is_reliable store.old → RestoresWell restore (S.objects store.old) → is_short.old ≡ false → is_short.new ≡ true → OnOk result (Tells (held W.contents output.old) (held W.contents output.new)
+    ensures short { S.is_reliable store.old → RestoresWell use_checkpoints (S.objects store.old) → is_short.old ≡ false → is_short.new ≡ true → OnOk result (Tells (held W.contents output.old) (held W.contents output.new)
         (FallsShort 1 (S.objects store.old) (lines_of text.now))) }
     ensures reliable { S.is_reliable store.old → S.is_reliable store.new }
     ensures restores { S.is_reliable store.old → (every : Bool) → AreCheckpointsSound every (S.objects store.old) → AreCheckpointsSound every (S.objects store.new) }
     ensures bad { IfOk result (λ bad. bad ≡ first_bad text.now) }
-    ensures stands { S.is_reliable store.old → RestoresWell restore (S.objects store.old) → is_short.new ≡ false
+    ensures stands { S.is_reliable store.old → RestoresWell use_checkpoints (S.objects store.old) → is_short.new ≡ false
         → OnErr result (IsRunInPart (S.objects store.old) text.now (held W.contents output.old) (W.contents output.new.writer)) }
-    ensures front { S.is_reliable store.old → RestoresWell restore (S.objects store.old) → OnErr result (TellsFront (held W.contents output.old) (W.contents output.new.writer)
+    ensures front { S.is_reliable store.old → RestoresWell use_checkpoints (S.objects store.old) → OnErr result (TellsFront (held W.contents output.old) (W.contents output.new.writer)
         (λ written. RunsInPart 1 (S.objects store.old) (lines_of text.now) written (S.objects store.new))) }
     ensures behind { OnOk result (Tells (held W.contents output.old) (held W.contents output.new) (λ written. ⊤)) }
     ensures unbroken { OnOk result (write_failed output.new ≡ write_failed output.old) }
@@ -135,7 +135,7 @@ fn answer_all<S: Store, W: Write>(
 {
     let mut number = 1u64;
     let mut rest = Some(text);
-    let mut known = Known::new(alloc);
+    let mut cache = LogCache::new(alloc);
     let mut scratch = Scratch::new(alloc);
     while let Some(text) = rest {
         let (line, after) = first_line(text);
@@ -146,8 +146,8 @@ fn answer_all<S: Store, W: Write>(
             store,
             output,
             is_short,
-            restore,
-            &mut known,
+            use_checkpoints,
+            &mut cache,
             &mut scratch,
         )? {
             return Ok(Some(number));
@@ -165,41 +165,41 @@ fn answer_and_flush<S: Store, W: Write>(
     store: &mut S,
     output: &mut Output<W>,
     is_short: &mut bool,
-    restore: bool,
+    use_checkpoints: bool,
 ) -> Result<Option<u64>, OutputError>
     requires { length text.now ≤ 2 ^ 30 }
-    ensures whole { S.is_reliable store.old → RestoresWell restore (S.objects store.old) → is_short.new ≡ false → OnOk result (IsRun (S.objects store.old) text.now
+    ensures whole { S.is_reliable store.old → RestoresWell use_checkpoints (S.objects store.old) → is_short.new ≡ false → OnOk result (IsScriptRun (S.objects store.old) text.now
         (held W.contents output.old) (W.contents output.new.writer) (S.objects store.new)) }
-    ensures tells { S.is_reliable store.old → RestoresWell restore (S.objects store.old) → OnOk result (Tells (held W.contents output.old) (W.contents output.new.writer)
+    ensures tells { S.is_reliable store.old → RestoresWell use_checkpoints (S.objects store.old) → OnOk result (Tells (held W.contents output.old) (W.contents output.new.writer)
         (λ written. Runs 1 (S.objects store.old) (lines_of text.now) written (S.objects store.new))) }
-    ensures short { S.is_reliable store.old → RestoresWell restore (S.objects store.old) → is_short.old ≡ false → is_short.new ≡ true → OnOk result (Tells (held W.contents output.old) (W.contents output.new.writer)
+    ensures short { S.is_reliable store.old → RestoresWell use_checkpoints (S.objects store.old) → is_short.old ≡ false → is_short.new ≡ true → OnOk result (Tells (held W.contents output.old) (W.contents output.new.writer)
         (FallsShort 1 (S.objects store.old) (lines_of text.now))) }
     ensures reliable { S.is_reliable store.old → S.is_reliable store.new }
     ensures restores { S.is_reliable store.old → (every : Bool) → AreCheckpointsSound every (S.objects store.old) → AreCheckpointsSound every (S.objects store.new) }
     ensures through { OnOk result (waiting output.new ≡ []) }
     ensures bad { IfOk result (λ bad. bad ≡ first_bad text.now) }
-    ensures stands { S.is_reliable store.old → RestoresWell restore (S.objects store.old) → is_short.new ≡ false
+    ensures stands { S.is_reliable store.old → RestoresWell use_checkpoints (S.objects store.old) → is_short.new ≡ false
         → OnErr result (IsRunInPart (S.objects store.old) text.now (held W.contents output.old) (W.contents output.new.writer)) }
-    ensures front { S.is_reliable store.old → RestoresWell restore (S.objects store.old) → OnErr result (TellsFront (held W.contents output.old) (W.contents output.new.writer)
+    ensures front { S.is_reliable store.old → RestoresWell use_checkpoints (S.objects store.old) → OnErr result (TellsFront (held W.contents output.old) (W.contents output.new.writer)
         (λ written. RunsInPart 1 (S.objects store.old) (lines_of text.now) written (S.objects store.new))) }
     ensures behind { OnOk result (Tells (held W.contents output.old) (W.contents output.new.writer) (λ written. ⊤)) }
     ensures unbroken { OnOk result (write_failed output.new ≡ write_failed output.old) }
     ensures broken { result ≡ Err OutputError.Broken → write_failed output.new ≡ true }
 {
-    let bad = answer_all(alloc, text, store, output, is_short, restore)?;
+    let bad = answer_all(alloc, text, store, output, is_short, use_checkpoints)?;
     output.flush()?;
     Ok(bad)
 }
 
 /// Runs a script that is given as text, of at most 1 GiB, over a store: answers each of its lines, up
-/// to the first bad one, and writes what waits then. It never ends as [`End::NotRead`]. With `restore`
+/// to the first bad one, and writes what waits then. It never ends as [`End::NotRead`]. With `use_checkpoints`
 /// appends, reads, checkpoints and snapshots go by the log's checkpoints, and otherwise by its commits
 /// alone, from version 0.
 ///
 /// Time is linear in the text, the objects that are put, compared and shown and the data files that
 /// rows are handed out of, and for each line that reads the log in the names of the store, the actions
 /// of the log and the bytes of the checkpoint and the commits that are read, but for the store's own.
-/// Without `restore`, or where no object has a checkpoint's name, appends read a commit once, and so do
+/// Without `use_checkpoints`, or where no object has a checkpoint's name, appends read a commit once, and so do
 /// reads, until a line puts something else than a batch or a read of the log fails. Many replies go in
 /// one write.
 pub fn run_text<S: Store, W: Write>(
@@ -207,30 +207,30 @@ pub fn run_text<S: Store, W: Write>(
     text: &[u8],
     store: &mut S,
     output: &mut Output<W>,
-    restore: bool,
+    use_checkpoints: bool,
 ) -> Outcome
     requires { length text.now ≤ 2 ^ 30 }
     // Where the run finishes, no growth was refused, no object of the product's passed 64 MiB, the store
-    // loses no call and, with `restore`, each checkpoint that stands and reads well is one of the log, what
+    // loses no call and, with `use_checkpoints`, each checkpoint that stands and reads well is one of the log, what
     // is written is what is told for the text, and the objects are what it leaves, for some texts that the
     // schemas of its lines are printed as, its checkpoints and its snapshots. They are known to the last
     // byte where no line creates a table with a number in its metadata that has a fraction or an exponent,
     // is `-0` or is beyond 64 bits, or puts another tool's commit: then what is written is one text. What
-    // is told is told by all commits, so with `restore` and without it is the same.
-    ensures told { S.is_reliable store.old → RestoresWell restore (S.objects store.old) → fell_short result ≡ false → Finishes result.end
-        (λ _. IsRun (S.objects store.old) text.now (held W.contents output.old) (W.contents output.new.writer) (S.objects store.new)) }
+    // is told is told by all commits, so with `use_checkpoints` and without it is the same.
+    ensures told { S.is_reliable store.old → RestoresWell use_checkpoints (S.objects store.old) → fell_short result ≡ false → Finishes result.end
+        (λ _. IsScriptRun (S.objects store.old) text.now (held W.contents output.old) (W.contents output.new.writer) (S.objects store.new)) }
     // Where a growth was refused, each line has its reply and effect, or is told of want of memory
     // and leaves the objects as they were, but for a batch's file, which may stand.
-    ensures tells { S.is_reliable store.old → RestoresWell restore (S.objects store.old) → Finishes result.end (λ _. Tells (held W.contents output.old) (W.contents output.new.writer)
+    ensures tells { S.is_reliable store.old → RestoresWell use_checkpoints (S.objects store.old) → Finishes result.end (λ _. Tells (held W.contents output.old) (W.contents output.new.writer)
         (λ written. Runs 1 (S.objects store.old) (lines_of text.now) written (S.objects store.new))) }
     // A run that finishes is short only where a reply that is written tells so.
-    ensures short { S.is_reliable store.old → RestoresWell restore (S.objects store.old) → fell_short result ≡ true → Finishes result.end
+    ensures short { S.is_reliable store.old → RestoresWell use_checkpoints (S.objects store.old) → fell_short result ≡ true → Finishes result.end
         (λ _. Tells (held W.contents output.old) (W.contents output.new.writer) (FallsShort 1 (S.objects store.old) (lines_of text.now))) }
     // Over a store that keeps a table, or nothing, where there can be as many versions as it has entries and the text lines,
     // this is what the plain table tells, where no line shows an object, tells the snapshot or puts another tool's commit;
     // where none puts such a commit, what is shown is told by the objects and all else by the table, the store then keeps
     // the table that was told, and reads over it hand out its rows.
-    ensures script { (state : State) → S.is_reliable store.old → RestoresWell restore (S.objects store.old) → Keeps (S.objects store.old) state
+    ensures script { (state : State) → S.is_reliable store.old → RestoresWell use_checkpoints (S.objects store.old) → Keeps (S.objects store.old) state
         → fell_short result ≡ false → Finishes result.end
         (λ _. length (entries_of state) + length (lines_of text.now) ≤ suc greatest_version
         → IsScript state (held W.contents output.old) (W.contents output.new.writer) text.now (S.objects store.old) (S.objects store.new)) }
@@ -245,18 +245,18 @@ pub fn run_text<S: Store, W: Write>(
     // Over any store, one that loses calls too, what is written stands behind what was held.
     ensures behind { Finishes result.end (λ _. Tells (held W.contents output.old) (W.contents output.new.writer) (λ written. ⊤)) }
     ensures finished { Finishes result.end (λ bad. (bad ≡ first_bad text.now) × (write_failed output.new ≡ write_failed output.old)) }
-    ensures stands { S.is_reliable store.old → RestoresWell restore (S.objects store.old) → fell_short result ≡ false → result.end ≡ End.NotWritten
+    ensures stands { S.is_reliable store.old → RestoresWell use_checkpoints (S.objects store.old) → fell_short result ≡ false → result.end ≡ End.NotWritten
         → IsRunInPart (S.objects store.old) text.now (held W.contents output.old) (W.contents output.new.writer) }
     // Where a reply can't be given, this holds of some first lines, and what is written is a front
     // of their replies.
-    ensures front { S.is_reliable store.old → RestoresWell restore (S.objects store.old) → result.end ≡ End.NotWritten
+    ensures front { S.is_reliable store.old → RestoresWell use_checkpoints (S.objects store.old) → result.end ≡ End.NotWritten
         → TellsFront (held W.contents output.old) (W.contents output.new.writer)
         (λ written. RunsInPart 1 (S.objects store.old) (lines_of text.now) written (S.objects store.new)) }
     ensures not_written { result.end ≡ End.NotWritten → (write_failed output.new ≡ true) ⊎ (fell_short result ≡ true) }
     ensures read { result.end ≢ End.NotRead }
 {
     let mut is_short = false;
-    match answer_and_flush(alloc, text, store, output, &mut is_short, restore) {
+    match answer_and_flush(alloc, text, store, output, &mut is_short, use_checkpoints) {
         Ok(None) => Outcome {
             end: End::Done,
             is_short,
@@ -273,14 +273,14 @@ pub fn run_text<S: Store, W: Write>(
 }
 
 /// Runs a script over a store: reads its input to the end, then answers each line, up to the first
-/// bad one. With `restore` appends, reads, checkpoints and snapshots go by the log's checkpoints, and
+/// bad one. With `use_checkpoints` appends, reads, checkpoints and snapshots go by the log's checkpoints, and
 /// otherwise by its commits alone, from version 0; where each checkpoint that stands and reads well is
 /// one of the log, what is told is the same.
 ///
 /// Time is linear in the input, the objects that are put, compared and shown and the data files that
 /// rows are handed out of, and for each line that reads the log in the names of the store, the actions
 /// of the log and the bytes of the checkpoint and the commits that are read, but for the store's own.
-/// Without `restore`, or where no object has a checkpoint's name, appends read a commit once, and so do
+/// Without `use_checkpoints`, or where no object has a checkpoint's name, appends read a commit once, and so do
 /// reads, until a line puts something else than a batch or a read of the log fails. Many replies go in
 /// one write.
 pub fn run<R: Read, W: Write, S: Store>(
@@ -288,26 +288,26 @@ pub fn run<R: Read, W: Write, S: Store>(
     input: &mut Input<R>,
     output: &mut Output<W>,
     store: &mut S,
-    restore: bool,
+    use_checkpoints: bool,
 ) -> Outcome
     // Where the run finishes, no growth was refused, no object of the product's passed 64 MiB, the store
-    // loses no call and, with `restore`, each checkpoint that stands and reads well is one of the log, what
+    // loses no call and, with `use_checkpoints`, each checkpoint that stands and reads well is one of the log, what
     // is written is what is told for the text that is read, and the objects are what the text leaves, for
     // some texts that the schemas of its lines are printed as, its checkpoints and its snapshots. They are
     // known to the last byte where no line creates a table with a number in its metadata that has a
     // fraction or an exponent, is `-0` or is beyond 64 bits, or puts another tool's commit: then what is
-    // written is one text. What is told is told by all commits, so with `restore` and without it is the
+    // written is one text. What is told is told by all commits, so with `use_checkpoints` and without it is the
     // same.
-    ensures told { S.is_reliable store.old → RestoresWell restore (S.objects store.old) → fell_short result ≡ false
+    ensures told { S.is_reliable store.old → RestoresWell use_checkpoints (S.objects store.old) → fell_short result ≡ false
         → Finishes result.end (λ _. IfSome (unread R.remaining input.old) (λ text.
-        IsRun (S.objects store.old) text (held W.contents output.old) (W.contents output.new.writer) (S.objects store.new))) }
+        IsScriptRun (S.objects store.old) text (held W.contents output.old) (W.contents output.new.writer) (S.objects store.new))) }
 
     // Over a store that keeps a table, or nothing, where there can be as many versions as it has entries and the text lines,
     // this is what the plain table tells, where no line shows an object, tells the snapshot or puts another tool's commit,
     // and begins with that in any case; where none puts such a commit, what is shown is told by the objects and all else
     // by the table, the store then keeps the table that was told, and reads over it, each from the offset where the one
     // before ended, are answered and hand out its rows, whatever their limits.
-    ensures script { (state : State) → S.is_reliable store.old → RestoresWell restore (S.objects store.old) → Keeps (S.objects store.old) state
+    ensures script { (state : State) → S.is_reliable store.old → RestoresWell use_checkpoints (S.objects store.old) → Keeps (S.objects store.old) state
         → fell_short result ≡ false → Finishes result.end (λ _. IfSome (unread R.remaining input.old)
         (λ text. length (entries_of state) + length (lines_of text) ≤ suc greatest_version
         → IsScript state (held W.contents output.old) (W.contents output.new.writer) text (S.objects store.old) (S.objects store.new))) }
@@ -320,15 +320,15 @@ pub fn run<R: Read, W: Write, S: Store>(
 
     // Where a growth was refused, each line has its reply and effect, or is told of want of memory
     // and leaves the objects as they were, but for a batch's file, which may stand.
-    ensures tells { S.is_reliable store.old → RestoresWell restore (S.objects store.old) → Finishes result.end (λ _. IfSome (unread R.remaining input.old) (λ text.
+    ensures tells { S.is_reliable store.old → RestoresWell use_checkpoints (S.objects store.old) → Finishes result.end (λ _. IfSome (unread R.remaining input.old) (λ text.
         Tells (held W.contents output.old) (W.contents output.new.writer)
         (λ written. Runs 1 (S.objects store.old) (lines_of text) written (S.objects store.new)))) }
     // A run that finishes is short only where a reply that is written tells so.
-    ensures short { S.is_reliable store.old → RestoresWell restore (S.objects store.old) → fell_short result ≡ true → Finishes result.end (λ _. IfSome (unread R.remaining input.old) (λ text.
+    ensures short { S.is_reliable store.old → RestoresWell use_checkpoints (S.objects store.old) → fell_short result ≡ true → Finishes result.end (λ _. IfSome (unread R.remaining input.old) (λ text.
         Tells (held W.contents output.old) (W.contents output.new.writer) (FallsShort 1 (S.objects store.old) (lines_of text)))) }
     // Where a reply can't be given, this holds of some first lines, and what is written is a front
     // of their replies.
-    ensures front { S.is_reliable store.old → RestoresWell restore (S.objects store.old) → result.end ≡ End.NotWritten → IfSome (unread R.remaining input.old) (λ text.
+    ensures front { S.is_reliable store.old → RestoresWell use_checkpoints (S.objects store.old) → result.end ≡ End.NotWritten → IfSome (unread R.remaining input.old) (λ text.
         TellsFront (held W.contents output.old) (W.contents output.new.writer)
         (λ written. RunsInPart 1 (S.objects store.old) (lines_of text) written (S.objects store.new))) }
 
@@ -341,7 +341,7 @@ pub fn run<R: Read, W: Write, S: Store>(
     ensures restores { S.is_reliable store.old → (every : Bool) → AreCheckpointsSound every (S.objects store.old) → AreCheckpointsSound every (S.objects store.new) }
 
     ensures bad { Finishes result.end (λ bad. IfSome (unread R.remaining input.old) (λ text. bad ≡ first_bad text)) }
-    ensures stands { S.is_reliable store.old → RestoresWell restore (S.objects store.old) → fell_short result ≡ false → result.end ≡ End.NotWritten
+    ensures stands { S.is_reliable store.old → RestoresWell use_checkpoints (S.objects store.old) → fell_short result ≡ false → result.end ≡ End.NotWritten
         → IfSome (unread R.remaining input.old)
         (λ text. IsRunInPart (S.objects store.old) text (held W.contents output.old) (W.contents output.new.writer)) }
     ensures nothing { result.end ≡ End.NotRead → (output.new ≡ output.old) × (store.new ≡ store.old) }
@@ -355,7 +355,7 @@ pub fn run<R: Read, W: Write, S: Store>(
     ensures broken_output { Finishes result.end (λ _. write_failed output.new ≡ write_failed output.old) }
 {
     match input.read_to_end(alloc) {
-        Ok(text) => run_text(alloc, text.as_slice(), store, output, restore),
+        Ok(text) => run_text(alloc, text.as_slice(), store, output, use_checkpoints),
         Err(error) => Outcome {
             end: End::NotRead,
             is_short: error == InputError::Memory,

@@ -35,9 +35,9 @@ impl Display for Fault {
 
 /// A fault of any crate as it is told: `refused`, a space, and the fault's own text.
 #[derive(Clone, Copy, Debug, PartialEq, Eq)]
-pub struct Refusal<D>(pub D);
+pub struct RefusalText<D>(pub D);
 
-impl<D: Display> Display for Refusal<D> {
+impl<D: Display> Display for RefusalText<D> {
     ghost output = { λ refusal. option_map refused (D.output refusal.0) };
 
     fn fmt<W: fmt::Write>(&self, f: &mut Formatter<W>) -> fmt::Result {

@@ -1,6 +1,6 @@
 // Commits that another tool puts.
+ghost use Rattle.lake_bytes.specs.Lines.{with_newline};
 ghost use Rattle.std.specs.Prelude.{◌≡◌, IfOk, OnOk, IsErrOf};
-ghost use Rattle.commit_core.specs.Texts.{line_of};
 ghost use Rattle.store_core.specs.Calls.{CountsFault, MayHaveLanded, put_told};
 ghost use Rattle.store_core.specs.Objects.{object_at, with_object};
 ghost use Rattle.table_log.specs.Names.{commit_name};
@@ -11,7 +11,7 @@ use table_log::commit_name;
 
 // The bytes of a line, with the newline that ends it.
 fn line_bytes(alloc: Global, text: &str) -> Result<Vec<u8>, AllocError>
-    ensures { IfOk result (λ bytes. bytes.items ≡ line_of text.now) }
+    ensures { IfOk result (λ bytes. bytes.items ≡ with_newline text.now) }
 {
     let mut bytes = Vec::new(alloc);
     bytes.extend_from_slice(text.as_bytes())?;
@@ -30,8 +30,8 @@ pub fn put_line<S: Store>(
     action: &str,
 ) -> Result<Put, StoreFault>
     ensures told { S.is_reliable store.old → IfOk result (λ put. put ≡ put_told (object_at (S.objects store.old) (commit_name version))) }
-    ensures landed { OnOk result (S.objects store.new ≡ with_object (S.objects store.old) (commit_name version) (line_of action.now)) }
-    ensures lost { IsErrOf result StoreFault.Lost → MayHaveLanded (commit_name version) (line_of action.now)
+    ensures landed { OnOk result (S.objects store.new ≡ with_object (S.objects store.old) (commit_name version) (with_newline action.now)) }
+    ensures lost { IsErrOf result StoreFault.Lost → MayHaveLanded (commit_name version) (with_newline action.now)
         (S.objects store.old, S.in_flight store.old) (S.objects store.new, S.in_flight store.new) }
     ensures memory { IsErrOf result StoreFault.Memory → S.objects store.new ≡ S.objects store.old }
     ensures faults { CountsFault result (S.fault_count store.old) (S.fault_count store.new) }

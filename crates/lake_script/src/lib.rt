@@ -11,8 +11,8 @@ mod reply;
 mod showing;
 
 pub use engine::{End, Outcome, run, run_text};
-pub use faults::{Fault, Refusal};
+pub use faults::{Fault, RefusalText};
 pub use inputs::{Input, InputError, MOST_BYTES, MOST_READS};
 pub use outputs::{Output, OutputError};
-pub use reply::{Reply, execute};
+pub use reply::{LineReply, execute};
 pub use script_lines::{Job, Line};

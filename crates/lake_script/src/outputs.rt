@@ -1,7 +1,7 @@
 // The output of a run, which gathers many replies into one write.
+ghost use Rattle.lake_bytes.specs.Lines.{with_newline};
 ghost use Rattle.std.specs.Prelude.{◌≡◌, ◌⊎◌, [], OnOk, OnErr, IfErr, IfSome, true, false};
 ghost use Rattle.std.specs.Io.KnownBytes.{Appends};
-ghost use Rattle.commit_core.specs.Texts.{line_of};
 ghost use Rattle.lake_script.specs.Streams.{held, waiting, write_failed, StandsIn};
 
 use std::alloc::{AllocError, Global};
@@ -90,7 +90,7 @@ impl<W: Write> Output<W> {
     /// Gives one reply, a line. It is written with those that wait once they are many.
     pub fn say<D: Display + Drop>(&mut self, reply: D) -> Result<(), OutputError>
         ensures held { OnOk result (IfSome (D.output reply) (λ text.
-            Appends (held W.contents self.old) (held W.contents self.new) (line_of text))) }
+            Appends (held W.contents self.old) (held W.contents self.new) (with_newline text))) }
         ensures stands { OnErr result (StandsIn (held W.contents self.old) (W.contents self.new.writer) []) }
         ensures unbroken { OnOk result (write_failed self.new ≡ write_failed self.old) }
         ensures broken { result ≡ Err OutputError.Broken → write_failed self.new ≡ true }

@@ -4,7 +4,7 @@ ghost use Rattle.std.specs.Io.KnownBytes.{Appends};
 ghost use Rattle.json_text.specs.Rows.{rows_data};
 ghost use Rattle.store_core.specs.Calls.{HasRisen};
 ghost use Rattle.store_core.specs.Objects.{Objects, object_at};
-ghost use Rattle.table_log.specs.Known.{IsKnown};
+ghost use Rattle.table_log.specs.LogCache.{IsCacheOf};
 ghost use Rattle.table_log.specs.Names.{commit_name};
 ghost use Rattle.table_log.specs.Restoring.{AreCheckpointsSound, RestoresWell};
 ghost use Rattle.lake_script.specs.Growth.{MayPut};
@@ -17,7 +17,7 @@ ghost use Rattle.lake_script.specs.Streams.{held, waiting, write_failed, StandsI
 ghost use Rattle.source_core.specs.Tailing.{tailed};
 ghost use Rattle.lake_script.specs.Told.{shown, in_hex, tailed_reply};
 
-use crate::faults::{Fault, Refusal};
+use crate::faults::{Fault, RefusalText};
 use crate::foreign::put_line;
 use crate::outputs::{Output, OutputError};
 use crate::showing::hex_of;
@@ -30,11 +30,11 @@ use source_core::{TailFault, tail};
 use std::alloc::Global;
 use std::io::Write;
 use store_core::{Put, Store, StoreFault};
-use table_log::{Known, commit_at};
+use table_log::{LogCache, commit_at};
 
 /// What a line is told.
 #[derive(Drop)]
-pub enum Reply {
+pub enum LineReply {
     /// Version 0 was put.
     Created,
     /// The table was not created.
@@ -63,19 +63,19 @@ pub enum Reply {
     Digits(String),
 }
 
-impl Reply {
+impl LineReply {
     /// Whether a growth was refused, or an object would pass 64 MiB.
     pub fn is_short(&self) -> bool
         ensures { result ≡ is_short self.now }
     {
         matches!(
             self,
-            Reply::NotCreated(CreateFault::Memory | CreateFault::TooLarge)
-                | Reply::NotAppended(AppendFault::Memory | AppendFault::FileTooLarge)
-                | Reply::NotTailed(TailFault::Memory)
-                | Reply::NoSnapshot(SnapshotFault::Memory | SnapshotFault::TooLarge)
-                | Reply::NoHistory(StoreFault::Memory)
-                | Reply::Unanswered(StoreFault::Memory)
+            LineReply::NotCreated(CreateFault::Memory | CreateFault::TooLarge)
+                | LineReply::NotAppended(AppendFault::Memory | AppendFault::FileTooLarge)
+                | LineReply::NotTailed(TailFault::Memory)
+                | LineReply::NoSnapshot(SnapshotFault::Memory | SnapshotFault::TooLarge)
+                | LineReply::NoHistory(StoreFault::Memory)
+                | LineReply::Unanswered(StoreFault::Memory)
         )
     }
 
@@ -91,32 +91,38 @@ impl Reply {
         ensures waits { result ≡ Err OutputError.Memory → (waiting output.new ≡ waiting output.old) ⊎ (waiting output.new ≡ []) }
     {
         match self {
-            Reply::Created => output.say("Created 0"),
-            Reply::NotCreated(fault) => output.say(Refusal(fault)),
-            Reply::Appended(Appended::Committed(version)) => {
+            LineReply::Created => output.say("Created 0"),
+            LineReply::NotCreated(fault) => output.say(RefusalText(fault)),
+            LineReply::Appended(Appended::Committed(version)) => {
                 output.say(format_args!("Committed {version}"))
             }
-            Reply::Appended(Appended::Already(number)) => {
+            LineReply::Appended(Appended::Already(number)) => {
                 output.say(format_args!("Already {number}"))
             }
-            Reply::NotAppended(fault) => output.say(Refusal(fault)),
-            Reply::NotTailed(fault) => output.say(Refusal(fault)),
-            Reply::Checkpointed(version) => output.say(format_args!("Checkpointed {version}")),
-            Reply::NoSnapshot(fault) => output.say(Refusal(fault)),
-            Reply::NoHistory(StoreFault::Lost) => output.say("refused K5 Lost"),
-            Reply::NoHistory(StoreFault::Memory) => output.say("refused K6 Memory"),
-            Reply::Put(Put::Created) => output.say("created"),
-            Reply::Put(Put::Exists) => output.say("taken"),
-            Reply::Refused(fault) => output.say(Refusal(*fault)),
-            Reply::Unanswered(fault) => output.say(Refusal(*fault)),
-            Reply::Bytes(bytes) => output.show(bytes.as_slice()),
-            Reply::Digits(text) => output.say(text.as_str()),
+            LineReply::NotAppended(fault) => output.say(RefusalText(fault)),
+            LineReply::NotTailed(fault) => output.say(RefusalText(fault)),
+            LineReply::Checkpointed(version) => output.say(format_args!("Checkpointed {version}")),
+            LineReply::NoSnapshot(fault) => output.say(RefusalText(fault)),
+            LineReply::NoHistory(StoreFault::Lost) => output.say("refused K5 Lost"),
+            LineReply::NoHistory(StoreFault::Memory) => output.say("refused K6 Memory"),
+            LineReply::Put(Put::Created) => output.say("created"),
+            LineReply::Put(Put::Exists) => output.say("taken"),
+            LineReply::Refused(fault) => output.say(RefusalText(*fault)),
+            LineReply::Unanswered(fault) => output.say(RefusalText(*fault)),
+            LineReply::Bytes(bytes) => output.show(bytes.as_slice()),
+            LineReply::Digits(text) => output.say(text.as_str()),
         }
     }
 }
 
 // The reply to a line that creates a table.
-fn create_table<S: Store>(alloc: Global, store: &mut S, id: &str, at: u64, schema: &str) -> Reply
+fn create_table<S: Store>(
+    alloc: Global,
+    store: &mut S,
+    id: &str,
+    at: u64,
+    schema: &str,
+) -> LineReply
     requires { at < 2 ^ 63 }
     ensures told { S.is_reliable store.old → Executes (S.objects store.old) (create id.now at schema.now) (reply_text result) (S.objects store.new) }
     ensures whole { S.is_reliable store.old → is_short result ≡ false → IsExecuted (S.objects store.old) (create id.now at schema.now) (reply_text result) (S.objects store.new) }
@@ -127,8 +133,8 @@ fn create_table<S: Store>(alloc: Global, store: &mut S, id: &str, at: u64, schem
     ensures counted { says_lost result ≡ false → S.fault_count store.new ≡ S.fault_count store.old }
 {
     match create(alloc, store, id, at, schema) {
-        Ok(()) => Reply::Created,
-        Err(fault) => Reply::NotCreated(fault),
+        Ok(()) => LineReply::Created,
+        Err(fault) => LineReply::NotCreated(fault),
     }
 }
 
@@ -140,23 +146,32 @@ fn append_batch<S: Store>(
     number: u64,
     at: u64,
     rows: &JsonRows<'_>,
-    restore: bool,
-    known: &mut Known,
-) -> Reply
+    use_checkpoints: bool,
+    cache: &mut LogCache,
+) -> LineReply
     requires at { at < 2 ^ 63 }
-    requires known { IsKnown (S.objects store.old) known.old }
-    ensures known { IsKnown (S.objects store.new) known.new }
-    ensures told { S.is_reliable store.old → RestoresWell restore (S.objects store.old) → Executes (S.objects store.old) (task (append application.now number at (rows_data rows.now))) (reply_text result) (S.objects store.new) }
-    ensures whole { S.is_reliable store.old → RestoresWell restore (S.objects store.old) → is_short result ≡ false → IsExecuted (S.objects store.old) (task (append application.now number at (rows_data rows.now))) (reply_text result) (S.objects store.new) }
-    ensures grows { S.is_reliable store.old → RestoresWell restore (S.objects store.old) → MayPut (S.objects store.old) (task (append application.now number at (rows_data rows.now))) (S.objects store.new) }
-    ensures short { RestoresWell restore (S.objects store.old) → is_short result ≡ true → IsShort (S.objects store.old) (task (append application.now number at (rows_data rows.now))) (reply_text result) }
+    requires cache { IsCacheOf (S.objects store.old) cache.old }
+    ensures cache { IsCacheOf (S.objects store.new) cache.new }
+    ensures told { S.is_reliable store.old → RestoresWell use_checkpoints (S.objects store.old) → Executes (S.objects store.old) (task (append application.now number at (rows_data rows.now))) (reply_text result) (S.objects store.new) }
+    ensures whole { S.is_reliable store.old → RestoresWell use_checkpoints (S.objects store.old) → is_short result ≡ false → IsExecuted (S.objects store.old) (task (append application.now number at (rows_data rows.now))) (reply_text result) (S.objects store.new) }
+    ensures grows { S.is_reliable store.old → RestoresWell use_checkpoints (S.objects store.old) → MayPut (S.objects store.old) (task (append application.now number at (rows_data rows.now))) (S.objects store.new) }
+    ensures short { RestoresWell use_checkpoints (S.objects store.old) → is_short result ≡ true → IsShort (S.objects store.old) (task (append application.now number at (rows_data rows.now))) (reply_text result) }
     ensures reliable { S.is_reliable store.old → S.is_reliable store.new }
     ensures lost { says_lost result ≡ true → HasRisen (S.fault_count store.old) (S.fault_count store.new) }
     ensures counted { says_lost result ≡ false → S.fault_count store.new ≡ S.fault_count store.old }
 {
-    match append(alloc, store, application, number, at, rows, restore, known) {
-        Ok(answer) => Reply::Appended(answer),
-        Err(fault) => Reply::NotAppended(fault),
+    match append(
+        alloc,
+        store,
+        application,
+        number,
+        at,
+        rows,
+        use_checkpoints,
+        cache,
+    ) {
+        Ok(answer) => LineReply::Appended(answer),
+        Err(fault) => LineReply::NotAppended(fault),
     }
 }
 
@@ -166,12 +181,12 @@ fn read<S: Store>(
     store: &mut S,
     max: u64,
     offset: &str,
-    restore: bool,
-    known: &mut Known,
-) -> Reply
-    requires { IsKnown (S.objects store.old) known.old }
-    ensures known { IsKnown (S.objects store.new) known.new }
-    ensures told { S.is_reliable store.old → RestoresWell restore (S.objects store.old) → is_short result ≡ false
+    use_checkpoints: bool,
+    cache: &mut LogCache,
+) -> LineReply
+    requires { IsCacheOf (S.objects store.old) cache.old }
+    ensures cache { IsCacheOf (S.objects store.new) cache.new }
+    ensures told { S.is_reliable store.old → RestoresWell use_checkpoints (S.objects store.old) → is_short result ≡ false
         → reply_text result ≡ tailed_reply (tailed false (S.objects store.old) max offset.now) }
     ensures wants { is_short result ≡ true → reply_text result ≡ no_room_to_read }
     ensures untouched { S.objects store.new ≡ S.objects store.old }
@@ -179,46 +194,46 @@ fn read<S: Store>(
     ensures lost { says_lost result ≡ true → HasRisen (S.fault_count store.old) (S.fault_count store.new) }
     ensures counted { says_lost result ≡ false → S.fault_count store.new ≡ S.fault_count store.old }
 {
-    match tail(alloc, store, max, offset, restore, known) {
-        Ok(text) => Reply::Bytes(text),
-        Err(fault) => Reply::NotTailed(fault),
+    match tail(alloc, store, max, offset, use_checkpoints, cache) {
+        Ok(text) => LineReply::Bytes(text),
+        Err(fault) => LineReply::NotTailed(fault),
     }
 }
 
 // The reply to a line that puts a checkpoint.
-fn take_checkpoint<S: Store>(alloc: Global, store: &mut S, restore: bool) -> Reply
-    ensures told { S.is_reliable store.old → RestoresWell restore (S.objects store.old) → Executes (S.objects store.old) (task checkpoint) (reply_text result) (S.objects store.new) }
-    ensures whole { S.is_reliable store.old → RestoresWell restore (S.objects store.old) → is_short result ≡ false → IsExecuted (S.objects store.old) (task checkpoint) (reply_text result) (S.objects store.new) }
-    ensures grows { S.is_reliable store.old → RestoresWell restore (S.objects store.old) → MayPut (S.objects store.old) (task checkpoint) (S.objects store.new) }
-    ensures short { RestoresWell restore (S.objects store.old) → is_short result ≡ true → IsShort (S.objects store.old) (task checkpoint) (reply_text result) }
+fn take_checkpoint<S: Store>(alloc: Global, store: &mut S, use_checkpoints: bool) -> LineReply
+    ensures told { S.is_reliable store.old → RestoresWell use_checkpoints (S.objects store.old) → Executes (S.objects store.old) (task checkpoint) (reply_text result) (S.objects store.new) }
+    ensures whole { S.is_reliable store.old → RestoresWell use_checkpoints (S.objects store.old) → is_short result ≡ false → IsExecuted (S.objects store.old) (task checkpoint) (reply_text result) (S.objects store.new) }
+    ensures grows { S.is_reliable store.old → RestoresWell use_checkpoints (S.objects store.old) → MayPut (S.objects store.old) (task checkpoint) (S.objects store.new) }
+    ensures short { RestoresWell use_checkpoints (S.objects store.old) → is_short result ≡ true → IsShort (S.objects store.old) (task checkpoint) (reply_text result) }
     ensures reliable { S.is_reliable store.old → S.is_reliable store.new }
     ensures lost { says_lost result ≡ true → HasRisen (S.fault_count store.old) (S.fault_count store.new) }
     ensures counted { says_lost result ≡ false → S.fault_count store.new ≡ S.fault_count store.old }
 {
-    match checkpoint(alloc, store, restore) {
-        Ok(version) => Reply::Checkpointed(version),
-        Err(fault) => Reply::NoSnapshot(fault),
+    match checkpoint(alloc, store, use_checkpoints) {
+        Ok(version) => LineReply::Checkpointed(version),
+        Err(fault) => LineReply::NoSnapshot(fault),
     }
 }
 
 // The reply to a line that asks for the snapshot.
-fn tell_snapshot<S: Store>(alloc: Global, store: &mut S, restore: bool) -> Reply
-    ensures told { S.is_reliable store.old → RestoresWell restore (S.objects store.old) → Executes (S.objects store.old) snapshot (reply_text result) (S.objects store.new) }
-    ensures whole { S.is_reliable store.old → RestoresWell restore (S.objects store.old) → is_short result ≡ false → IsExecuted (S.objects store.old) snapshot (reply_text result) (S.objects store.new) }
-    ensures wants { RestoresWell restore (S.objects store.old) → is_short result ≡ true → reply_text result ≡ no_room_to_tell }
+fn tell_snapshot<S: Store>(alloc: Global, store: &mut S, use_checkpoints: bool) -> LineReply
+    ensures told { S.is_reliable store.old → RestoresWell use_checkpoints (S.objects store.old) → Executes (S.objects store.old) snapshot (reply_text result) (S.objects store.new) }
+    ensures whole { S.is_reliable store.old → RestoresWell use_checkpoints (S.objects store.old) → is_short result ≡ false → IsExecuted (S.objects store.old) snapshot (reply_text result) (S.objects store.new) }
+    ensures wants { RestoresWell use_checkpoints (S.objects store.old) → is_short result ≡ true → reply_text result ≡ no_room_to_tell }
     ensures untouched { S.objects store.new ≡ S.objects store.old }
     ensures reliable { S.is_reliable store.old → S.is_reliable store.new }
     ensures lost { says_lost result ≡ true → HasRisen (S.fault_count store.old) (S.fault_count store.new) }
     ensures counted { says_lost result ≡ false → S.fault_count store.new ≡ S.fault_count store.old }
 {
-    match snapshot_core::snapshot(alloc, store, restore) {
-        Ok(text) => Reply::Bytes(text),
-        Err(fault) => Reply::NoSnapshot(fault),
+    match snapshot_core::snapshot(alloc, store, use_checkpoints) {
+        Ok(text) => LineReply::Bytes(text),
+        Err(fault) => LineReply::NoSnapshot(fault),
     }
 }
 
 // The reply to a line that asks for what each version holds.
-fn tell_history<S: Store>(alloc: Global, store: &mut S) -> Reply
+fn tell_history<S: Store>(alloc: Global, store: &mut S) -> LineReply
     ensures told { S.is_reliable store.old → is_short result ≡ false → reply_text result ≡ history_of (S.objects store.old) }
     ensures wants { is_short result ≡ true → reply_text result ≡ no_room_to_tell }
     ensures untouched { S.objects store.new ≡ S.objects store.old }
@@ -227,13 +242,13 @@ fn tell_history<S: Store>(alloc: Global, store: &mut S) -> Reply
     ensures counted { says_lost result ≡ false → S.fault_count store.new ≡ S.fault_count store.old }
 {
     match history(alloc, store) {
-        Ok(text) => Reply::Bytes(text),
-        Err(fault) => Reply::NoHistory(fault),
+        Ok(text) => LineReply::Bytes(text),
+        Err(fault) => LineReply::NoHistory(fault),
     }
 }
 
 // The reply to a line that shows a commit.
-fn show<S: Store>(alloc: Global, store: &mut S, version: u64) -> Reply
+fn show<S: Store>(alloc: Global, store: &mut S, version: u64) -> LineReply
     ensures told { S.is_reliable store.old → is_short result ≡ false
         → reply_text result ≡ shown (object_at (S.objects store.old) (commit_name version)) }
     ensures wants { is_short result ≡ true → reply_text result ≡ no_room_to_show }
@@ -243,14 +258,14 @@ fn show<S: Store>(alloc: Global, store: &mut S, version: u64) -> Reply
     ensures counted { says_lost result ≡ false → S.fault_count store.new ≡ S.fault_count store.old }
 {
     match commit_at(alloc, store, version) {
-        Ok(Some(bytes)) => Reply::Bytes(bytes),
-        Ok(None) => Reply::Refused(Fault::NoSuchName),
-        Err(fault) => Reply::Unanswered(fault),
+        Ok(Some(bytes)) => LineReply::Bytes(bytes),
+        Ok(None) => LineReply::Refused(Fault::NoSuchName),
+        Err(fault) => LineReply::Unanswered(fault),
     }
 }
 
 // The reply to a line that shows an object in hexadecimal.
-fn show_in_hex<S: Store>(alloc: Global, store: &mut S, name: &str) -> Reply
+fn show_in_hex<S: Store>(alloc: Global, store: &mut S, name: &str) -> LineReply
     ensures told { S.is_reliable store.old → is_short result ≡ false
         → reply_text result ≡ in_hex (object_at (S.objects store.old) name.now) }
     ensures wants { is_short result ≡ true → reply_text result ≡ no_room_to_show }
@@ -260,14 +275,14 @@ fn show_in_hex<S: Store>(alloc: Global, store: &mut S, name: &str) -> Reply
     ensures counted { says_lost result ≡ false → S.fault_count store.new ≡ S.fault_count store.old }
 {
     match hex_of(alloc, store, name) {
-        Ok(Some(digits)) => Reply::Digits(digits),
-        Ok(None) => Reply::Refused(Fault::NoSuchName),
-        Err(fault) => Reply::Unanswered(fault),
+        Ok(Some(digits)) => LineReply::Digits(digits),
+        Ok(None) => LineReply::Refused(Fault::NoSuchName),
+        Err(fault) => LineReply::Unanswered(fault),
     }
 }
 
 // The reply to a line that puts another tool's commit.
-fn put_foreign<S: Store>(alloc: Global, store: &mut S, version: u64, action: &str) -> Reply
+fn put_foreign<S: Store>(alloc: Global, store: &mut S, version: u64, action: &str) -> LineReply
     ensures told { S.is_reliable store.old → Executes (S.objects store.old) (foreign version action.now) (reply_text result) (S.objects store.new) }
     ensures whole { S.is_reliable store.old → is_short result ≡ false → IsExecuted (S.objects store.old) (foreign version action.now) (reply_text result) (S.objects store.new) }
     ensures grows { S.is_reliable store.old → MayPut (S.objects store.old) (foreign version action.now) (S.objects store.new) }
@@ -277,16 +292,16 @@ fn put_foreign<S: Store>(alloc: Global, store: &mut S, version: u64, action: &st
     ensures counted { says_lost result ≡ false → S.fault_count store.new ≡ S.fault_count store.old }
 {
     match put_line(alloc, store, version, action) {
-        Ok(put) => Reply::Put(put),
-        Err(fault) => Reply::Unanswered(fault),
+        Ok(put) => LineReply::Put(put),
+        Err(fault) => LineReply::Unanswered(fault),
     }
 }
 
 // Nothing is known of the log any more.
-fn forget(alloc: Global, known: &mut Known)
-    ensures { (objects : Objects) → IsKnown objects known.new }
+fn forget(alloc: Global, cache: &mut LogCache)
+    ensures { (objects : Objects) → IsCacheOf objects cache.new }
 {
-    *known = Known::new(alloc);
+    *cache = LogCache::new(alloc);
 }
 
 // Does what a job asks for, and finds its reply.
@@ -294,17 +309,17 @@ fn execute_job<S: Store>(
     alloc: Global,
     job: Job<'_>,
     store: &mut S,
-    restore: bool,
-    known: &mut Known,
-) -> Reply
+    use_checkpoints: bool,
+    cache: &mut LogCache,
+) -> LineReply
     requires timely { IsTimelyTask (task_view job) }
-    requires known { IsKnown (S.objects store.old) known.old }
-    ensures known { IsKnown (S.objects store.new) known.new }
-    ensures whole { S.is_reliable store.old → RestoresWell restore (S.objects store.old) → is_short result ≡ false
+    requires cache { IsCacheOf (S.objects store.old) cache.old }
+    ensures cache { IsCacheOf (S.objects store.new) cache.new }
+    ensures whole { S.is_reliable store.old → RestoresWell use_checkpoints (S.objects store.old) → is_short result ≡ false
         → IsExecuted (S.objects store.old) (task (task_view job.entry)) (reply_text result) (S.objects store.new) }
-    ensures told { S.is_reliable store.old → RestoresWell restore (S.objects store.old) → Executes (S.objects store.old) (task (task_view job.entry)) (reply_text result) (S.objects store.new) }
-    ensures grows { S.is_reliable store.old → RestoresWell restore (S.objects store.old) → MayPut (S.objects store.old) (task (task_view job.entry)) (S.objects store.new) }
-    ensures short { RestoresWell restore (S.objects store.old) → is_short result ≡ true → IsShort (S.objects store.old) (task (task_view job.entry)) (reply_text result) }
+    ensures told { S.is_reliable store.old → RestoresWell use_checkpoints (S.objects store.old) → Executes (S.objects store.old) (task (task_view job.entry)) (reply_text result) (S.objects store.new) }
+    ensures grows { S.is_reliable store.old → RestoresWell use_checkpoints (S.objects store.old) → MayPut (S.objects store.old) (task (task_view job.entry)) (S.objects store.new) }
+    ensures short { RestoresWell use_checkpoints (S.objects store.old) → is_short result ≡ true → IsShort (S.objects store.old) (task (task_view job.entry)) (reply_text result) }
     ensures reliable { S.is_reliable store.old → S.is_reliable store.new }
     ensures lost { says_lost result ≡ true → HasRisen (S.fault_count store.old) (S.fault_count store.new) }
     ensures counted { says_lost result ≡ false → S.fault_count store.new ≡ S.fault_count store.old }
@@ -315,38 +330,47 @@ fn execute_job<S: Store>(
             number,
             at,
             rows,
-        } => append_batch(alloc, store, application, number, at, &rows, restore, known),
-        Job::Tail { max, offset } => read(alloc, store, max, offset, restore, known),
+        } => append_batch(
+            alloc,
+            store,
+            application,
+            number,
+            at,
+            &rows,
+            use_checkpoints,
+            cache,
+        ),
+        Job::Tail { max, offset } => read(alloc, store, max, offset, use_checkpoints, cache),
         Job::Checkpoint => {
-            forget(alloc, known);
-            take_checkpoint(alloc, store, restore)
+            forget(alloc, cache);
+            take_checkpoint(alloc, store, use_checkpoints)
         }
-        Job::Close { .. } => Reply::Refused(Fault::NotYet),
+        Job::Close { .. } => LineReply::Refused(Fault::NotYet),
     }
 }
 
 /// Does what a line asks for, and finds its reply. What is known of the store's log is what earlier calls over this store
-/// left, or [`Known::new`]: appends and reads needn't read those commits again.
+/// left, or [`LogCache::new`]: appends and reads needn't read those commits again.
 pub fn execute<S: Store>(
     alloc: Global,
     line: Line<'_>,
     store: &mut S,
-    restore: bool,
-    known: &mut Known,
-) -> Reply
+    use_checkpoints: bool,
+    cache: &mut LogCache,
+) -> LineReply
     requires timely { IsTimely (statement_view line) }
-    requires known { IsKnown (S.objects store.old) known.old }
-    ensures known { IsKnown (S.objects store.new) known.new }
+    requires cache { IsCacheOf (S.objects store.old) cache.old }
+    ensures cache { IsCacheOf (S.objects store.new) cache.new }
     // What was asked for is told and done, and what was put is well made.
-    ensures whole { S.is_reliable store.old → RestoresWell restore (S.objects store.old) → is_short result ≡ false
+    ensures whole { S.is_reliable store.old → RestoresWell use_checkpoints (S.objects store.old) → is_short result ≡ false
         → IsExecuted (S.objects store.old) (statement_view line.entry) (reply_text result) (S.objects store.new) }
     // The line has its reply and effect, or is told of want of memory and leaves the objects as they
     // were, but for a batch's file.
-    ensures told { S.is_reliable store.old → RestoresWell restore (S.objects store.old) → Executes (S.objects store.old) (statement_view line.entry) (reply_text result) (S.objects store.new) }
+    ensures told { S.is_reliable store.old → RestoresWell use_checkpoints (S.objects store.old) → Executes (S.objects store.old) (statement_view line.entry) (reply_text result) (S.objects store.new) }
     // However it ends, what it puts is well made.
-    ensures grows { S.is_reliable store.old → RestoresWell restore (S.objects store.old) → MayPut (S.objects store.old) (statement_view line.entry) (S.objects store.new) }
+    ensures grows { S.is_reliable store.old → RestoresWell use_checkpoints (S.objects store.old) → MayPut (S.objects store.old) (statement_view line.entry) (S.objects store.new) }
     // A reply is short only where it tells so.
-    ensures short { RestoresWell restore (S.objects store.old) → is_short result ≡ true → IsShort (S.objects store.old) (statement_view line.entry) (reply_text result) }
+    ensures short { RestoresWell use_checkpoints (S.objects store.old) → is_short result ≡ true → IsShort (S.objects store.old) (statement_view line.entry) (reply_text result) }
     ensures reliable { S.is_reliable store.old → S.is_reliable store.new }
     ensures restores { S.is_reliable store.old → (every : Bool) → AreCheckpointsSound every (S.objects store.old) → AreCheckpointsSound every (S.objects store.new) }
     // Over any store, one that loses calls too: the reply says that a call was lost where one was, and nowhere else.
@@ -355,18 +379,18 @@ pub fn execute<S: Store>(
 {
     match line {
         Line::Create { id, at, schema } => {
-            forget(alloc, known);
+            forget(alloc, cache);
             create_table(alloc, store, id, at, schema)
         }
-        Line::Job(job) => execute_job(alloc, job, store, restore, known),
-        Line::Snapshot => tell_snapshot(alloc, store, restore),
+        Line::Job(job) => execute_job(alloc, job, store, use_checkpoints, cache),
+        Line::Snapshot => tell_snapshot(alloc, store, use_checkpoints),
         Line::History => tell_history(alloc, store),
         Line::Show { version } => show(alloc, store, version),
         Line::Hex { name } => show_in_hex(alloc, store, name),
         Line::Foreign { version, action } => {
-            forget(alloc, known);
+            forget(alloc, cache);
             put_foreign(alloc, store, version, action)
         }
-        _ => Reply::Refused(Fault::NotYet),
+        _ => LineReply::Refused(Fault::NotYet),
     }
 }

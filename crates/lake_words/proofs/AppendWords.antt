@@ -17,50 +17,50 @@ unfolding clap_on_literals
 append_is_job = record { walked = refl; passes = refl; found = refl }
 
 -- the numbers are those that the texts read as
-append_asked : {p q r : Option ℕ} {n at tries : ℕ} (dir application : Text) (restore : Bool) → p ≡ Some n → q ≡ Some at → r ≡ Some tries
-    → table dir restore (asked.append application (unwrap_or p 0) (unwrap_or q 0) (unwrap_or r 0)) ≡ table dir restore (asked.append application n at tries)
-append_asked dir application restore p q r = rw (p, q, r) refl
+append_asked : {p q r : Option ℕ} {n at tries : ℕ} (dir application : Text) (use_checkpoints : Bool) → p ≡ Some n → q ≡ Some at → r ≡ Some tries
+    → table dir use_checkpoints (asked.append application (unwrap_or p 0) (unwrap_or q 0) (unwrap_or r 0)) ≡ table dir use_checkpoints (asked.append application n at tries)
+append_asked dir application use_checkpoints p q r = rw (p, q, r) refl
 
 -- append DIR APP NUMBER [--at MS] [--tries N] [--no-checkpoint]
-pub append_read : (program dir application number : Text) (n at tries : ℕ) (restore : Bool) (moment_words tries_words restore_words : List Text)
-    → IsPlain dir → IsPlain application → IsNumber number n → SpellsMoment moment_words at → SpellsTries tries_words tries → SpellsRestore restore_words restore
-    → AreRead (program ∷ codes "append" ∷ dir ∷ application ∷ number ∷ moment_words ++ (tries_words ++ restore_words)) (table dir restore (asked.append application n at tries))
+pub append_read : (program dir application number : Text) (n at tries : ℕ) (use_checkpoints : Bool) (moment_words tries_words restore_words : List Text)
+    → IsPlain dir → IsPlain application → IsNumber number n → SpellsMoment moment_words at → SpellsTries tries_words tries → SpellsRestore restore_words use_checkpoints
+    → AreRead (program ∷ codes "append" ∷ dir ∷ application ∷ number ∷ moment_words ++ (tries_words ++ restore_words)) (table dir use_checkpoints (asked.append application n at tries))
 unfolding clap_on_literals
-append_read program dir application number n at tried restore moment_words tries_words restore_words d a e beginning sixteen restoring =
+append_read program dir application number n at tried use_checkpoints moment_words tries_words restore_words d a e beginning sixteen restoring =
     job_read program (codes "append") (plain dir ∷ plain application ∷ plain number ∷ [])
     (leaf words.append) true _ append_is_job (d, (a, (number_plain number n e, tt)))
     (all_taken _ _ (next refl (next refl (next refl no_more))) (at_end (any_accepted number n e)) refl)
     (given_restore true _ refl) (append_asked dir application true e zero_is sixteen_is)
-append_read program dir application number n at tried restore moment_words tries_words restore_words d a e beginning sixteen replaying =
+append_read program dir application number n at tried use_checkpoints moment_words tries_words restore_words d a e beginning sixteen replaying =
     job_read program (codes "append") (plain dir ∷ plain application ∷ plain number ∷ flag (codes "--no-checkpoint") ∷ [])
     (leaf words.append) false _ append_is_job (d, (a, (number_plain number n e, tt)))
     (all_taken _ _ (next refl (next refl (next refl (next (before_flag (any_accepted number n e)) no_more)))) refl refl)
     (given_restore false _ refl) (append_asked dir application false e zero_is sixteen_is)
-append_read program dir application number n at tried restore moment_words tries_words restore_words d a e beginning (tries {text = u} {n = k} g low high) restoring =
+append_read program dir application number n at tried use_checkpoints moment_words tries_words restore_words d a e beginning (tries {text = u} {n = k} g low high) restoring =
     job_read program (codes "append") (plain dir ∷ plain application ∷ plain number ∷ flag (codes "--tries") ∷ plain u ∷ [])
     (leaf words.append) true _ append_is_job (d, (a, (number_plain number n e, (number_plain u k g, tt))))
     (all_taken _ _ (next refl (next refl (next refl (next (before_option (any_accepted number n e)) (next refl no_more))))) (at_end (tries_accepted u k g low high)) refl)
     (given_restore true _ refl) (append_asked dir application true e zero_is g)
-append_read program dir application number n at tried restore moment_words tries_words restore_words d a e beginning (tries {text = u} {n = k} g low high) replaying =
+append_read program dir application number n at tried use_checkpoints moment_words tries_words restore_words d a e beginning (tries {text = u} {n = k} g low high) replaying =
     job_read program (codes "append") (plain dir ∷ plain application ∷ plain number ∷ flag (codes "--tries") ∷ plain u ∷ flag (codes "--no-checkpoint") ∷ [])
     (leaf words.append) false _ append_is_job (d, (a, (number_plain number n e, (number_plain u k g, tt))))
     (all_taken _ _ (next refl (next refl (next refl (next (before_option (any_accepted number n e)) (next refl
     (next (before_flag (tries_accepted u k g low high)) no_more))))))
     refl refl)
     (given_restore false _ refl) (append_asked dir application false e zero_is g)
-append_read program dir application number n at tried restore moment_words tries_words restore_words d a e (moment {text = t} {at = m} f below) sixteen restoring =
+append_read program dir application number n at tried use_checkpoints moment_words tries_words restore_words d a e (moment {text = t} {at = m} f below) sixteen restoring =
     job_read program (codes "append") (plain dir ∷ plain application ∷ plain number ∷ flag (codes "--at") ∷ plain t ∷ [])
     (leaf words.append) true _ append_is_job (d, (a, (number_plain number n e, (number_plain t m f, tt))))
     (all_taken _ _ (next refl (next refl (next refl (next (before_option (any_accepted number n e)) (next refl no_more))))) (at_end (moment_accepted t m f below)) refl)
     (given_restore true _ refl) (append_asked dir application true e f sixteen_is)
-append_read program dir application number n at tried restore moment_words tries_words restore_words d a e (moment {text = t} {at = m} f below) sixteen replaying =
+append_read program dir application number n at tried use_checkpoints moment_words tries_words restore_words d a e (moment {text = t} {at = m} f below) sixteen replaying =
     job_read program (codes "append") (plain dir ∷ plain application ∷ plain number ∷ flag (codes "--at") ∷ plain t ∷ flag (codes "--no-checkpoint") ∷ [])
     (leaf words.append) false _ append_is_job (d, (a, (number_plain number n e, (number_plain t m f, tt))))
     (all_taken _ _ (next refl (next refl (next refl (next (before_option (any_accepted number n e)) (next refl
     (next (before_flag (moment_accepted t m f below)) no_more))))))
     refl refl)
     (given_restore false _ refl) (append_asked dir application false e f sixteen_is)
-append_read program dir application number n at tried restore moment_words tries_words restore_words d a e
+append_read program dir application number n at tried use_checkpoints moment_words tries_words restore_words d a e
     (moment {text = t} {at = m} f below) (tries {text = u} {n = k} g low high) restoring =
     job_read program (codes "append") (plain dir ∷ plain application ∷ plain number ∷ flag (codes "--at") ∷ plain t ∷ flag (codes "--tries") ∷ plain u ∷ [])
     (leaf words.append) true _ append_is_job (d, (a, (number_plain number n e, (number_plain t m f, (number_plain u k g, tt)))))
@@ -68,7 +68,7 @@ append_read program dir application number n at tried restore moment_words tries
     (next (before_option (moment_accepted t m f below)) (next refl no_more)))))))
     (at_end (tries_accepted u k g low high)) refl)
     (given_restore true _ refl) (append_asked dir application true e f g)
-append_read program dir application number n at tried restore moment_words tries_words restore_words d a e
+append_read program dir application number n at tried use_checkpoints moment_words tries_words restore_words d a e
     (moment {text = t} {at = m} f below) (tries {text = u} {n = k} g low high) replaying =
     job_read program (codes "append") (plain dir ∷ plain application ∷ plain number ∷
     flag (codes "--at") ∷ plain t ∷ flag (codes "--tries") ∷ plain u ∷ flag (codes "--no-checkpoint") ∷ [])

@@ -15,13 +15,13 @@ unfolding clap_on_literals
 snapshot_is_job = record { walked = refl; passes = refl; found = refl }
 
 -- snapshot DIR [--no-checkpoint]
-pub snapshot_read : (program dir : Text) (restore : Bool) (restore_words : List Text) → IsPlain dir → SpellsRestore restore_words restore
-    → AreRead (program ∷ codes "snapshot" ∷ dir ∷ restore_words) (table dir restore asked.snapshot)
+pub snapshot_read : (program dir : Text) (use_checkpoints : Bool) (restore_words : List Text) → IsPlain dir → SpellsRestore restore_words use_checkpoints
+    → AreRead (program ∷ codes "snapshot" ∷ dir ∷ restore_words) (table dir use_checkpoints asked.snapshot)
 unfolding clap_on_literals
-snapshot_read program dir restore restore_words d restoring =
+snapshot_read program dir use_checkpoints restore_words d restoring =
     job_read program (codes "snapshot") (plain dir ∷ []) (leaf words.snapshot) true _ snapshot_is_job (d, tt)
     (all_taken _ _ (next refl no_more) refl refl) (given_restore true _ refl) refl
-snapshot_read program dir restore restore_words d replaying =
+snapshot_read program dir use_checkpoints restore_words d replaying =
     job_read program (codes "snapshot") (plain dir ∷ flag (codes "--no-checkpoint") ∷ []) (leaf words.snapshot) false _ snapshot_is_job (d, tt)
     (all_taken _ _ (next refl (next refl no_more)) refl refl) (given_restore false _ refl) refl
 
@@ -31,13 +31,13 @@ unfolding clap_on_literals
 checkpoint_is_job = record { walked = refl; passes = refl; found = refl }
 
 -- checkpoint DIR [--no-checkpoint]
-pub checkpoint_read : (program dir : Text) (restore : Bool) (restore_words : List Text) → IsPlain dir → SpellsRestore restore_words restore
-    → AreRead (program ∷ codes "checkpoint" ∷ dir ∷ restore_words) (table dir restore asked.checkpoint)
+pub checkpoint_read : (program dir : Text) (use_checkpoints : Bool) (restore_words : List Text) → IsPlain dir → SpellsRestore restore_words use_checkpoints
+    → AreRead (program ∷ codes "checkpoint" ∷ dir ∷ restore_words) (table dir use_checkpoints asked.checkpoint)
 unfolding clap_on_literals
-checkpoint_read program dir restore restore_words d restoring =
+checkpoint_read program dir use_checkpoints restore_words d restoring =
     job_read program (codes "checkpoint") (plain dir ∷ []) (leaf words.checkpoint) true _ checkpoint_is_job (d, tt)
     (all_taken _ _ (next refl no_more) refl refl) (given_restore true _ refl) refl
-checkpoint_read program dir restore restore_words d replaying =
+checkpoint_read program dir use_checkpoints restore_words d replaying =
     job_read program (codes "checkpoint") (plain dir ∷ flag (codes "--no-checkpoint") ∷ []) (leaf words.checkpoint) false _ checkpoint_is_job (d, tt)
     (all_taken _ _ (next refl (next refl no_more)) refl refl) (given_restore false _ refl) refl
 
@@ -47,12 +47,12 @@ unfolding clap_on_literals
 history_is_job = record { walked = refl; passes = refl; found = refl }
 
 -- history DIR [--no-checkpoint]
-pub history_read : (program dir : Text) (restore : Bool) (restore_words : List Text) → IsPlain dir → SpellsRestore restore_words restore
-    → AreRead (program ∷ codes "history" ∷ dir ∷ restore_words) (table dir restore asked.history)
+pub history_read : (program dir : Text) (use_checkpoints : Bool) (restore_words : List Text) → IsPlain dir → SpellsRestore restore_words use_checkpoints
+    → AreRead (program ∷ codes "history" ∷ dir ∷ restore_words) (table dir use_checkpoints asked.history)
 unfolding clap_on_literals
-history_read program dir restore restore_words d restoring =
+history_read program dir use_checkpoints restore_words d restoring =
     job_read program (codes "history") (plain dir ∷ []) (leaf words.history) true _ history_is_job (d, tt)
     (all_taken _ _ (next refl no_more) refl refl) (given_restore true _ refl) refl
-history_read program dir restore restore_words d replaying =
+history_read program dir use_checkpoints restore_words d replaying =
     job_read program (codes "history") (plain dir ∷ flag (codes "--no-checkpoint") ∷ []) (leaf words.history) false _ history_is_job (d, tt)
     (all_taken _ _ (next refl (next refl no_more)) refl refl) (given_restore false _ refl) refl

@@ -17,53 +17,53 @@ unfolding clap_on_literals
 close_is_job = record { walked = refl; passes = refl; found = refl }
 
 -- the numbers are those that the texts read as
-close_asked : {q r : Option ℕ} {at tries : ℕ} (dir application : Text) (restore : Bool) → q ≡ Some at → r ≡ Some tries
-    → table dir restore (asked.close application (unwrap_or q 0) (unwrap_or r 0)) ≡ table dir restore (asked.close application at tries)
-close_asked dir application restore q r = rw (q, r) refl
+close_asked : {q r : Option ℕ} {at tries : ℕ} (dir application : Text) (use_checkpoints : Bool) → q ≡ Some at → r ≡ Some tries
+    → table dir use_checkpoints (asked.close application (unwrap_or q 0) (unwrap_or r 0)) ≡ table dir use_checkpoints (asked.close application at tries)
+close_asked dir application use_checkpoints q r = rw (q, r) refl
 
 -- close DIR APP [--at MS] [--tries N] [--no-checkpoint]
-pub close_read : (program dir application : Text) (at tries : ℕ) (restore : Bool) (moment_words tries_words restore_words : List Text)
-    → IsPlain dir → IsPlain application → SpellsMoment moment_words at → SpellsTries tries_words tries → SpellsRestore restore_words restore
-    → AreRead (program ∷ codes "close" ∷ dir ∷ application ∷ moment_words ++ (tries_words ++ restore_words)) (table dir restore (asked.close application at tries))
+pub close_read : (program dir application : Text) (at tries : ℕ) (use_checkpoints : Bool) (moment_words tries_words restore_words : List Text)
+    → IsPlain dir → IsPlain application → SpellsMoment moment_words at → SpellsTries tries_words tries → SpellsRestore restore_words use_checkpoints
+    → AreRead (program ∷ codes "close" ∷ dir ∷ application ∷ moment_words ++ (tries_words ++ restore_words)) (table dir use_checkpoints (asked.close application at tries))
 unfolding clap_on_literals
-close_read program dir application at tried restore moment_words tries_words restore_words d a beginning sixteen restoring =
+close_read program dir application at tried use_checkpoints moment_words tries_words restore_words d a beginning sixteen restoring =
     job_read program (codes "close") (plain dir ∷ plain application ∷ [])
     (leaf words.close) true _ close_is_job (d, (a, tt))
     (all_taken _ _ (next refl (next refl no_more)) refl refl)
     (given_restore true _ refl) (close_asked dir application true zero_is sixteen_is)
-close_read program dir application at tried restore moment_words tries_words restore_words d a beginning sixteen replaying =
+close_read program dir application at tried use_checkpoints moment_words tries_words restore_words d a beginning sixteen replaying =
     job_read program (codes "close") (plain dir ∷ plain application ∷ flag (codes "--no-checkpoint") ∷ [])
     (leaf words.close) false _ close_is_job (d, (a, tt))
     (all_taken _ _ (next refl (next refl (next refl no_more))) refl refl)
     (given_restore false _ refl) (close_asked dir application false zero_is sixteen_is)
-close_read program dir application at tried restore moment_words tries_words restore_words d a beginning (tries {text = u} {n = k} g low high) restoring =
+close_read program dir application at tried use_checkpoints moment_words tries_words restore_words d a beginning (tries {text = u} {n = k} g low high) restoring =
     job_read program (codes "close") (plain dir ∷ plain application ∷ flag (codes "--tries") ∷ plain u ∷ [])
     (leaf words.close) true _ close_is_job (d, (a, (number_plain u k g, tt)))
     (all_taken _ _ (next refl (next refl (next refl (next refl no_more)))) (at_end (tries_accepted u k g low high)) refl)
     (given_restore true _ refl) (close_asked dir application true zero_is g)
-close_read program dir application at tried restore moment_words tries_words restore_words d a beginning (tries {text = u} {n = k} g low high) replaying =
+close_read program dir application at tried use_checkpoints moment_words tries_words restore_words d a beginning (tries {text = u} {n = k} g low high) replaying =
     job_read program (codes "close") (plain dir ∷ plain application ∷ flag (codes "--tries") ∷ plain u ∷ flag (codes "--no-checkpoint") ∷ [])
     (leaf words.close) false _ close_is_job (d, (a, (number_plain u k g, tt)))
     (all_taken _ _ (next refl (next refl (next refl (next refl (next (before_flag (tries_accepted u k g low high)) no_more))))) refl refl)
     (given_restore false _ refl) (close_asked dir application false zero_is g)
-close_read program dir application at tried restore moment_words tries_words restore_words d a (moment {text = t} {at = m} f below) sixteen restoring =
+close_read program dir application at tried use_checkpoints moment_words tries_words restore_words d a (moment {text = t} {at = m} f below) sixteen restoring =
     job_read program (codes "close") (plain dir ∷ plain application ∷ flag (codes "--at") ∷ plain t ∷ [])
     (leaf words.close) true _ close_is_job (d, (a, (number_plain t m f, tt)))
     (all_taken _ _ (next refl (next refl (next refl (next refl no_more)))) (at_end (moment_accepted t m f below)) refl)
     (given_restore true _ refl) (close_asked dir application true f sixteen_is)
-close_read program dir application at tried restore moment_words tries_words restore_words d a (moment {text = t} {at = m} f below) sixteen replaying =
+close_read program dir application at tried use_checkpoints moment_words tries_words restore_words d a (moment {text = t} {at = m} f below) sixteen replaying =
     job_read program (codes "close") (plain dir ∷ plain application ∷ flag (codes "--at") ∷ plain t ∷ flag (codes "--no-checkpoint") ∷ [])
     (leaf words.close) false _ close_is_job (d, (a, (number_plain t m f, tt)))
     (all_taken _ _ (next refl (next refl (next refl (next refl (next (before_flag (moment_accepted t m f below)) no_more))))) refl refl)
     (given_restore false _ refl) (close_asked dir application false f sixteen_is)
-close_read program dir application at tried restore moment_words tries_words restore_words d a
+close_read program dir application at tried use_checkpoints moment_words tries_words restore_words d a
     (moment {text = t} {at = m} f below) (tries {text = u} {n = k} g low high) restoring =
     job_read program (codes "close") (plain dir ∷ plain application ∷ flag (codes "--at") ∷ plain t ∷ flag (codes "--tries") ∷ plain u ∷ [])
     (leaf words.close) true _ close_is_job (d, (a, (number_plain t m f, (number_plain u k g, tt))))
     (all_taken _ _ (next refl (next refl (next refl (next refl (next (before_option (moment_accepted t m f below)) (next refl no_more))))))
     (at_end (tries_accepted u k g low high)) refl)
     (given_restore true _ refl) (close_asked dir application true f g)
-close_read program dir application at tried restore moment_words tries_words restore_words d a
+close_read program dir application at tried use_checkpoints moment_words tries_words restore_words d a
     (moment {text = t} {at = m} f below) (tries {text = u} {n = k} g low high) replaying =
     job_read program (codes "close") (plain dir ∷ plain application ∷
     flag (codes "--at") ∷ plain t ∷ flag (codes "--tries") ∷ plain u ∷ flag (codes "--no-checkpoint") ∷ [])

@@ -99,28 +99,28 @@ pub record AreRead (words : List Text) (asked : Asked) : Type 0 where
 
 -- what `clap` has for `--no-checkpoint` says whether the log is restored
 abbrev pub TellsRestore : Option Text → Bool → Type 0
-TellsRestore text restore = (r : Bool) → IsFlag text (not r) → r ≡ restore
+TellsRestore text use_checkpoints = (r : Bool) → IsFlag text (not r) → r ≡ use_checkpoints
 
-pub given_restore : (restore : Bool) (text : Option Text) → text ≡ Some (bool_text (not restore)) → TellsRestore text restore
+pub given_restore : (use_checkpoints : Bool) (text : Option Text) → text ≡ Some (bool_text (not use_checkpoints)) → TellsRestore text use_checkpoints
 given_restore true text e = λ r flag. not-false r (flag.2 e)
 given_restore false text e = λ r flag. not-true r (flag.1 e)
 
 pub no_restore : (text : Option Text) → text ≡ None → TellsRestore text true
 no_restore text e = λ r flag. not-false r (flag.0 e)
 
-asks : (sub : Option (Text × List Row)) (name : Text) (rows : List Row) (c : Command) (restore : Bool) (asked : Asked)
-    → sub ≡ Some (name, rows) → TellsRestore (one_of (codes "no-checkpoint") rows) restore → asked_by name rows restore ≡ asked
+asks : (sub : Option (Text × List Row)) (name : Text) (rows : List Row) (c : Command) (use_checkpoints : Bool) (asked : Asked)
+    → sub ≡ Some (name, rows) → TellsRestore (one_of (codes "no-checkpoint") rows) use_checkpoints → asked_by name rows use_checkpoints ≡ asked
     → AsksFor sub c → command_view c ≡ asked
-asks sub name rows c restore asked found tells is h =
+asks sub name rows c use_checkpoints asked found tells is h =
     let seen = subst (λ s. AsksFor s c) found h in
     seen.2 ∙ ap (asked_by name rows) (tells seen.0 seen.1) ∙ is
 
 -- the words of a job are read by its rules
-pub job_read : (program job : Text) (items : List Item) (s : Shape) (restore : Bool) (asked : Asked) → IsJob job s → ArePlain items
-    → items_taken s items ≡ true → TellsRestore (one_of (codes "no-checkpoint") (item_rows s.rules items)) restore
-    → asked_by s.name (item_rows s.rules items) restore ≡ asked → AreRead (program ∷ job ∷ map word_of items) asked
-job_read program job items s restore asked is plain taken tells reads = record {
+pub job_read : (program job : Text) (items : List Item) (s : Shape) (use_checkpoints : Bool) (asked : Asked) → IsJob job s → ArePlain items
+    → items_taken s items ≡ true → TellsRestore (one_of (codes "no-checkpoint") (item_rows s.rules items)) use_checkpoints
+    → asked_by s.name (item_rows s.rules items) use_checkpoints ≡ asked → AreRead (program ∷ job ∷ map word_of items) asked
+job_read program job items s use_checkpoints asked is plain taken tells reads = record {
   taken = job_taken program job (map word_of items) s is (items_are_taken s items plain ∙ taken);
-  read = λ c h. asks _ s.name (item_rows s.rules items) c restore asked
+  read = λ c h. asks _ s.name (item_rows s.rules items) c use_checkpoints asked
       (job_found program job (map word_of items) s is ∙ ap (λ rows. Some (s.name, rows)) (rows_of_items s.rules items plain)) tells reads h;
 }

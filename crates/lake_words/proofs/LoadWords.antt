@@ -17,50 +17,50 @@ unfolding clap_on_literals
 load_is_job = record { walked = refl; passes = refl; found = refl }
 
 -- the numbers are those that the texts read as
-load_asked : {p q r : Option ℕ} {n at tries : ℕ} (dir : Text) (restore : Bool) → p ≡ Some n → q ≡ Some at → r ≡ Some tries
-    → table dir restore (asked.load (unwrap_or p 0) (unwrap_or q 0) (unwrap_or r 0)) ≡ table dir restore (asked.load n at tries)
-load_asked dir restore p q r = rw (p, q, r) refl
+load_asked : {p q r : Option ℕ} {n at tries : ℕ} (dir : Text) (use_checkpoints : Bool) → p ≡ Some n → q ≡ Some at → r ≡ Some tries
+    → table dir use_checkpoints (asked.load (unwrap_or p 0) (unwrap_or q 0) (unwrap_or r 0)) ≡ table dir use_checkpoints (asked.load n at tries)
+load_asked dir use_checkpoints p q r = rw (p, q, r) refl
 
 -- load DIR --workers N [--at MS] [--tries N] [--no-checkpoint]
-pub load_read : (program dir number : Text) (n at tries : ℕ) (restore : Bool) (moment_words tries_words restore_words : List Text)
-    → IsPlain dir → IsNumber number n → SpellsMoment moment_words at → SpellsTries tries_words tries → SpellsRestore restore_words restore
-    → AreRead (program ∷ codes "load" ∷ dir ∷ codes "--workers" ∷ number ∷ moment_words ++ (tries_words ++ restore_words)) (table dir restore (asked.load n at tries))
+pub load_read : (program dir number : Text) (n at tries : ℕ) (use_checkpoints : Bool) (moment_words tries_words restore_words : List Text)
+    → IsPlain dir → IsNumber number n → SpellsMoment moment_words at → SpellsTries tries_words tries → SpellsRestore restore_words use_checkpoints
+    → AreRead (program ∷ codes "load" ∷ dir ∷ codes "--workers" ∷ number ∷ moment_words ++ (tries_words ++ restore_words)) (table dir use_checkpoints (asked.load n at tries))
 unfolding clap_on_literals
-load_read program dir number n at tried restore moment_words tries_words restore_words d e beginning sixteen restoring =
+load_read program dir number n at tried use_checkpoints moment_words tries_words restore_words d e beginning sixteen restoring =
     job_read program (codes "load") (plain dir ∷ flag (codes "--workers") ∷ plain number ∷ [])
     (leaf words.load) true _ load_is_job (d, (number_plain number n e, tt))
     (all_taken _ _ (next refl (next refl (next refl no_more))) (at_end (any_accepted number n e)) refl)
     (given_restore true _ refl) (load_asked dir true e zero_is sixteen_is)
-load_read program dir number n at tried restore moment_words tries_words restore_words d e beginning sixteen replaying =
+load_read program dir number n at tried use_checkpoints moment_words tries_words restore_words d e beginning sixteen replaying =
     job_read program (codes "load") (plain dir ∷ flag (codes "--workers") ∷ plain number ∷ flag (codes "--no-checkpoint") ∷ [])
     (leaf words.load) false _ load_is_job (d, (number_plain number n e, tt))
     (all_taken _ _ (next refl (next refl (next refl (next (before_flag (any_accepted number n e)) no_more)))) refl refl)
     (given_restore false _ refl) (load_asked dir false e zero_is sixteen_is)
-load_read program dir number n at tried restore moment_words tries_words restore_words d e beginning (tries {text = u} {n = k} g low high) restoring =
+load_read program dir number n at tried use_checkpoints moment_words tries_words restore_words d e beginning (tries {text = u} {n = k} g low high) restoring =
     job_read program (codes "load") (plain dir ∷ flag (codes "--workers") ∷ plain number ∷ flag (codes "--tries") ∷ plain u ∷ [])
     (leaf words.load) true _ load_is_job (d, (number_plain number n e, (number_plain u k g, tt)))
     (all_taken _ _ (next refl (next refl (next refl (next (before_option (any_accepted number n e)) (next refl no_more))))) (at_end (tries_accepted u k g low high)) refl)
     (given_restore true _ refl) (load_asked dir true e zero_is g)
-load_read program dir number n at tried restore moment_words tries_words restore_words d e beginning (tries {text = u} {n = k} g low high) replaying =
+load_read program dir number n at tried use_checkpoints moment_words tries_words restore_words d e beginning (tries {text = u} {n = k} g low high) replaying =
     job_read program (codes "load") (plain dir ∷ flag (codes "--workers") ∷ plain number ∷ flag (codes "--tries") ∷ plain u ∷ flag (codes "--no-checkpoint") ∷ [])
     (leaf words.load) false _ load_is_job (d, (number_plain number n e, (number_plain u k g, tt)))
     (all_taken _ _ (next refl (next refl (next refl (next (before_option (any_accepted number n e)) (next refl
     (next (before_flag (tries_accepted u k g low high)) no_more))))))
     refl refl)
     (given_restore false _ refl) (load_asked dir false e zero_is g)
-load_read program dir number n at tried restore moment_words tries_words restore_words d e (moment {text = t} {at = m} f below) sixteen restoring =
+load_read program dir number n at tried use_checkpoints moment_words tries_words restore_words d e (moment {text = t} {at = m} f below) sixteen restoring =
     job_read program (codes "load") (plain dir ∷ flag (codes "--workers") ∷ plain number ∷ flag (codes "--at") ∷ plain t ∷ [])
     (leaf words.load) true _ load_is_job (d, (number_plain number n e, (number_plain t m f, tt)))
     (all_taken _ _ (next refl (next refl (next refl (next (before_option (any_accepted number n e)) (next refl no_more))))) (at_end (moment_accepted t m f below)) refl)
     (given_restore true _ refl) (load_asked dir true e f sixteen_is)
-load_read program dir number n at tried restore moment_words tries_words restore_words d e (moment {text = t} {at = m} f below) sixteen replaying =
+load_read program dir number n at tried use_checkpoints moment_words tries_words restore_words d e (moment {text = t} {at = m} f below) sixteen replaying =
     job_read program (codes "load") (plain dir ∷ flag (codes "--workers") ∷ plain number ∷ flag (codes "--at") ∷ plain t ∷ flag (codes "--no-checkpoint") ∷ [])
     (leaf words.load) false _ load_is_job (d, (number_plain number n e, (number_plain t m f, tt)))
     (all_taken _ _ (next refl (next refl (next refl (next (before_option (any_accepted number n e)) (next refl
     (next (before_flag (moment_accepted t m f below)) no_more))))))
     refl refl)
     (given_restore false _ refl) (load_asked dir false e f sixteen_is)
-load_read program dir number n at tried restore moment_words tries_words restore_words d e
+load_read program dir number n at tried use_checkpoints moment_words tries_words restore_words d e
     (moment {text = t} {at = m} f below) (tries {text = u} {n = k} g low high) restoring =
     job_read program (codes "load") (plain dir ∷ flag (codes "--workers") ∷ plain number ∷ flag (codes "--at") ∷ plain t ∷ flag (codes "--tries") ∷ plain u ∷ [])
     (leaf words.load) true _ load_is_job (d, (number_plain number n e, (number_plain t m f, (number_plain u k g, tt))))
@@ -68,7 +68,7 @@ load_read program dir number n at tried restore moment_words tries_words restore
     (next (before_option (moment_accepted t m f below)) (next refl no_more)))))))
     (at_end (tries_accepted u k g low high)) refl)
     (given_restore true _ refl) (load_asked dir true e f g)
-load_read program dir number n at tried restore moment_words tries_words restore_words d e
+load_read program dir number n at tried use_checkpoints moment_words tries_words restore_words d e
     (moment {text = t} {at = m} f below) (tries {text = u} {n = k} g low high) replaying =
     job_read program (codes "load") (plain dir ∷ flag (codes "--workers") ∷ plain number ∷
     flag (codes "--at") ∷ plain t ∷ flag (codes "--tries") ∷ plain u ∷ flag (codes "--no-checkpoint") ∷ [])

@@ -17,21 +17,21 @@ unfolding clap_on_literals
 tail_is_job = record { walked = refl; passes = refl; found = refl }
 
 -- the numbers are those that the texts read as
-tail_asked : {p : Option ℕ} {max : ℕ} (dir offset : Text) (restore : Bool) → p ≡ Some max
-    → table dir restore (asked.tail (unwrap_or p 0) offset) ≡ table dir restore (asked.tail max offset)
-tail_asked dir offset restore p = rw p refl
+tail_asked : {p : Option ℕ} {max : ℕ} (dir offset : Text) (use_checkpoints : Bool) → p ≡ Some max
+    → table dir use_checkpoints (asked.tail (unwrap_or p 0) offset) ≡ table dir use_checkpoints (asked.tail max offset)
+tail_asked dir offset use_checkpoints p = rw p refl
 
 -- tail DIR --from OFFSET --max N [--no-checkpoint]
-pub tail_read : (program dir offset number : Text) (max : ℕ) (restore : Bool) (restore_words : List Text)
-    → IsPlain dir → IsPlain offset → IsNumber number max → max ≤ 65_536 → SpellsRestore restore_words restore
-    → AreRead (program ∷ codes "tail" ∷ dir ∷ codes "--from" ∷ offset ∷ codes "--max" ∷ number ∷ restore_words) (table dir restore (asked.tail max offset))
+pub tail_read : (program dir offset number : Text) (max : ℕ) (use_checkpoints : Bool) (restore_words : List Text)
+    → IsPlain dir → IsPlain offset → IsNumber number max → max ≤ 65_536 → SpellsRestore restore_words use_checkpoints
+    → AreRead (program ∷ codes "tail" ∷ dir ∷ codes "--from" ∷ offset ∷ codes "--max" ∷ number ∷ restore_words) (table dir use_checkpoints (asked.tail max offset))
 unfolding clap_on_literals
-tail_read program dir offset number max restore restore_words d o e below restoring =
+tail_read program dir offset number max use_checkpoints restore_words d o e below restoring =
     job_read program (codes "tail") (plain dir ∷ flag (codes "--from") ∷ plain offset ∷ flag (codes "--max") ∷ plain number ∷ [])
     (leaf words.tail) true _ tail_is_job (d, (o, (number_plain number max e, tt)))
     (all_taken _ _ (next refl (next refl (next refl (next refl (next refl no_more))))) (at_end (max_accepted number max e below)) refl)
     (given_restore true _ refl) (tail_asked dir offset true e)
-tail_read program dir offset number max restore restore_words d o e below replaying =
+tail_read program dir offset number max use_checkpoints restore_words d o e below replaying =
     job_read program (codes "tail") (plain dir ∷ flag (codes "--from") ∷ plain offset ∷ flag (codes "--max") ∷ plain number ∷ flag (codes "--no-checkpoint") ∷ [])
     (leaf words.tail) false _ tail_is_job (d, (o, (number_plain number max e, tt)))
     (all_taken _ _ (next refl (next refl (next refl (next refl (next refl (next (before_flag (max_accepted number max e below)) no_more)))))) refl refl)

@@ -22,9 +22,9 @@ spelled_takes words c restoring = refl
 spelled_takes words c replaying = refl
 
 -- the command that is seen as a script is one
-script_is : (c : Command) (restore : Bool) → command_view c ≡ script restore → c ≡ Script restore
-script_is (Script r) restore e = cc
-script_is (Table t) restore e = cc
+script_is : (c : Command) (use_checkpoints : Bool) → command_view c ≡ script use_checkpoints → c ≡ Script use_checkpoints
+script_is (Script r) use_checkpoints e = cc
+script_is (Table t) use_checkpoints e = cc
 
 restoring_asks : (name : List ℕ) (c : Command) → AsksFor (subcommand_of commands (name ∷ codes "script" ∷ [])) c → c ≡ Script true
 unfolding clap_on_literals

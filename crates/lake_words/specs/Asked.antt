@@ -22,8 +22,8 @@ pub data Work : Type 0 where
 
 -- what the program is asked for
 pub data Asked : Type 0 where
-  script : (restore : Bool) → Asked
-  table : (folder : Text) (restore : Bool) → Work → Asked
+  script : (use_checkpoints : Bool) → Asked
+  table : (folder : Text) (use_checkpoints : Bool) → Work → Asked
 
 -- the same of the code
 abbrev pub work_view : Job → Work
@@ -37,8 +37,8 @@ work_view jobs.Checkpoint = checkpoint
 work_view jobs.History = history
 
 abbrev pub command_view : Command → Asked
-command_view (commands.Script restore) = script restore
-command_view (commands.Table command) = table command.folder.now command.restore (work_view command.job)
+command_view (commands.Script use_checkpoints) = script use_checkpoints
+command_view (commands.Table command) = table command.folder.now command.use_checkpoints (work_view command.job)
 
 -- the text that was given for a place or an option
 abbrev pub text_in : Text → List Row → Text
@@ -74,14 +74,14 @@ work_of name rows =
     else None
 
 -- what a subcommand asks for
-abbrev pub asked_by : Text → List Row → (restore : Bool) → Asked
-asked_by name rows restore = option_map_or (λ work. table (text_in (codes "DIR") rows) restore work) (work_of name rows) (script restore)
+abbrev pub asked_by : Text → List Row → (use_checkpoints : Bool) → Asked
+asked_by name rows use_checkpoints = option_map_or (λ work. table (text_in (codes "DIR") rows) use_checkpoints work) (work_of name rows) (script use_checkpoints)
 
 -- the command that a subcommand with these rows is
 abbrev pub AsksFor : Option (Text × List Row) → Command → Type 0
 AsksFor None command = command ≡ commands.Script true
 AsksFor (Some sub) command =
-    (restore : Bool) × IsFlag (one_of (codes "no-checkpoint") sub.1) (not restore) × (command_view command ≡ asked_by sub.0 sub.1 restore)
+    (use_checkpoints : Bool) × IsFlag (one_of (codes "no-checkpoint") sub.1) (not use_checkpoints) × (command_view command ≡ asked_by sub.0 sub.1 use_checkpoints)
 
 -- the words that ask for a script, behind the program's name
 pub data Spells : List (List ℕ) → Command → Type 0 where

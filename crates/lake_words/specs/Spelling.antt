@@ -36,34 +36,34 @@ pub data SpellsJob : List Text → Asked → Type 0 where
       → SpellsJob (program ∷ codes "create" ∷ dir ∷ codes "--id" ∷ id ∷ codes "--schema" ∷ schema ∷ moment_words)
       (table dir true (asked.create id schema at))
   -- append DIR APP NUMBER [--at MS] [--tries N] [--no-checkpoint]
-  append : {program dir application number : Text} {moment_words tries_words restore_words : List Text} {n at tries : ℕ} {restore : Bool}
+  append : {program dir application number : Text} {moment_words tries_words restore_words : List Text} {n at tries : ℕ} {use_checkpoints : Bool}
       → IsPlain dir → IsPlain application → IsNumber number n
-      → SpellsMoment moment_words at → SpellsTries tries_words tries → SpellsRestore restore_words restore
+      → SpellsMoment moment_words at → SpellsTries tries_words tries → SpellsRestore restore_words use_checkpoints
       → SpellsJob (program ∷ codes "append" ∷ dir ∷ application ∷ number ∷ moment_words ++ (tries_words ++ restore_words))
-      (table dir restore (asked.append application n at tries))
+      (table dir use_checkpoints (asked.append application n at tries))
   -- close DIR APP [--at MS] [--tries N] [--no-checkpoint]
-  close : {program dir application : Text} {moment_words tries_words restore_words : List Text} {at tries : ℕ} {restore : Bool}
+  close : {program dir application : Text} {moment_words tries_words restore_words : List Text} {at tries : ℕ} {use_checkpoints : Bool}
       → IsPlain dir → IsPlain application
-      → SpellsMoment moment_words at → SpellsTries tries_words tries → SpellsRestore restore_words restore
+      → SpellsMoment moment_words at → SpellsTries tries_words tries → SpellsRestore restore_words use_checkpoints
       → SpellsJob (program ∷ codes "close" ∷ dir ∷ application ∷ moment_words ++ (tries_words ++ restore_words))
-      (table dir restore (asked.close application at tries))
+      (table dir use_checkpoints (asked.close application at tries))
   -- load DIR --workers N [--at MS] [--tries N] [--no-checkpoint]
-  load : {program dir number : Text} {moment_words tries_words restore_words : List Text} {workers at tries : ℕ} {restore : Bool}
+  load : {program dir number : Text} {moment_words tries_words restore_words : List Text} {workers at tries : ℕ} {use_checkpoints : Bool}
       → IsPlain dir → IsNumber number workers
-      → SpellsMoment moment_words at → SpellsTries tries_words tries → SpellsRestore restore_words restore
+      → SpellsMoment moment_words at → SpellsTries tries_words tries → SpellsRestore restore_words use_checkpoints
       → SpellsJob (program ∷ codes "load" ∷ dir ∷ codes "--workers" ∷ number ∷ moment_words ++ (tries_words ++ restore_words))
-      (table dir restore (asked.load workers at tries))
+      (table dir use_checkpoints (asked.load workers at tries))
   -- tail DIR --from OFFSET --max N [--no-checkpoint]
-  tail : {program dir offset number : Text} {restore_words : List Text} {max : ℕ} {restore : Bool}
-      → IsPlain dir → IsPlain offset → IsNumber number max → max ≤ 65_536 → SpellsRestore restore_words restore
+  tail : {program dir offset number : Text} {restore_words : List Text} {max : ℕ} {use_checkpoints : Bool}
+      → IsPlain dir → IsPlain offset → IsNumber number max → max ≤ 65_536 → SpellsRestore restore_words use_checkpoints
       → SpellsJob (program ∷ codes "tail" ∷ dir ∷ codes "--from" ∷ offset ∷ codes "--max" ∷ number ∷ restore_words)
-      (table dir restore (asked.tail max offset))
+      (table dir use_checkpoints (asked.tail max offset))
   -- snapshot DIR [--no-checkpoint]
-  snapshot : {program dir : Text} {restore_words : List Text} {restore : Bool} → IsPlain dir → SpellsRestore restore_words restore
-      → SpellsJob (program ∷ codes "snapshot" ∷ dir ∷ restore_words) (table dir restore asked.snapshot)
+  snapshot : {program dir : Text} {restore_words : List Text} {use_checkpoints : Bool} → IsPlain dir → SpellsRestore restore_words use_checkpoints
+      → SpellsJob (program ∷ codes "snapshot" ∷ dir ∷ restore_words) (table dir use_checkpoints asked.snapshot)
   -- checkpoint DIR [--no-checkpoint]
-  checkpoint : {program dir : Text} {restore_words : List Text} {restore : Bool} → IsPlain dir → SpellsRestore restore_words restore
-      → SpellsJob (program ∷ codes "checkpoint" ∷ dir ∷ restore_words) (table dir restore asked.checkpoint)
+  checkpoint : {program dir : Text} {restore_words : List Text} {use_checkpoints : Bool} → IsPlain dir → SpellsRestore restore_words use_checkpoints
+      → SpellsJob (program ∷ codes "checkpoint" ∷ dir ∷ restore_words) (table dir use_checkpoints asked.checkpoint)
   -- history DIR [--no-checkpoint]
-  history : {program dir : Text} {restore_words : List Text} {restore : Bool} → IsPlain dir → SpellsRestore restore_words restore
-      → SpellsJob (program ∷ codes "history" ∷ dir ∷ restore_words) (table dir restore asked.history)
+  history : {program dir : Text} {restore_words : List Text} {use_checkpoints : Bool} → IsPlain dir → SpellsRestore restore_words use_checkpoints
+      → SpellsJob (program ∷ codes "history" ∷ dir ∷ restore_words) (table dir use_checkpoints asked.history)

@@ -3,9 +3,9 @@
 /// What the program is asked for.
 #[derive(Clone, Copy, Debug, PartialEq, Eq)]
 pub enum Command<'a> {
-    /// Runs the script on standard input. Where `restore` is false, tables are replayed from
+    /// Runs the script on standard input. Where `use_checkpoints` is false, tables are replayed from
     /// version 0 and no checkpoint is used.
-    Script { restore: bool },
+    Script { use_checkpoints: bool },
     /// Does a job on the table in a folder.
     Table(TableCommand<'a>),
 }
@@ -15,7 +15,7 @@ pub enum Command<'a> {
 pub struct TableCommand<'a> {
     pub folder: &'a str,
     /// Whether the log is read from its newest checkpoint, and otherwise from version 0.
-    pub restore: bool,
+    pub use_checkpoints: bool,
     pub job: Job<'a>,
 }
 

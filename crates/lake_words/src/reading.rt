@@ -69,16 +69,18 @@ fn command_in<'a>(matches: &ArgMatches<'a>) -> Command<'a>
     ensures { AsksFor (subcommand_rows_of matches.now) result }
 {
     let Some((name, matches)) = matches.subcommand() else {
-        return Command::Script { restore: true };
+        return Command::Script {
+            use_checkpoints: true,
+        };
     };
-    let restore = !matches.get_flag("no-checkpoint");
+    let use_checkpoints = !matches.get_flag("no-checkpoint");
     match job_in(name, matches) {
         Some(job) => Command::Table(TableCommand {
             folder: text_in(matches, "DIR"),
-            restore,
+            use_checkpoints,
             job,
         }),
-        None => Command::Script { restore },
+        None => Command::Script { use_checkpoints },
     }
 }
 

@@ -5,7 +5,7 @@ use delta_replay::SupportError;
 use std::alloc::Global;
 use std::io::Write;
 use table_log::{
-    Log, Told, Version, changes_schema, first_standing, in_force, removes_rows, standing_at,
+    Log, SchemaText, Version, changes_schema, first_standing, in_force, removes_rows, standing_at,
     supported,
 };
 
@@ -35,7 +35,7 @@ pub fn tell_read(alloc: Global, log: &Log, version: u64, out: &mut Vec<u8>) -> R
 /// Adds a line for each version from one on that a read stops at.
 fn tell_versions(
     alloc: Global,
-    told: &Told<'_>,
+    told: &SchemaText<'_>,
     log: &Log,
     from: u64,
     out: &mut Vec<u8>,

@@ -2,7 +2,7 @@
 pub use Rattle.log_laws.proofs.Beside.{no_checkpoint, sound_beside}
 pub use Rattle.log_laws.proofs.EmptyStores.{log_of_nothing, nothing_sound, versions_of_nothing}
 pub use Rattle.log_laws.proofs.LogCloses.{log_closed, log_open, says_so}
-pub use Rattle.log_laws.proofs.LogEntries.{IsLogOf, held_first, made_length, some_commits, sound_count, sound_log}
+pub use Rattle.log_laws.proofs.LogEntries.{IsLogOfEntries, held_first, made_length, some_commits, sound_count, sound_log}
 pub use Rattle.log_laws.proofs.LogNewest.{newest-cons, of_commit}
 pub use Rattle.log_laws.proofs.LogNumbers.{log_last}
 pub use Rattle.log_laws.proofs.LogSchema.{log_checkpointable, log_meta_data, log_readable, log_writable, one_writable}

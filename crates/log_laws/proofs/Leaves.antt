@@ -9,9 +9,9 @@ use Rattle.delta_replay.specs.Keys.{Key, at, last_number}
 use Rattle.delta_replay.specs.Support.{readable, writable}
 use Rattle.table_log.specs.Counts.{commit_count}
 use Rattle.table_log.specs.Names.{commit_name}
-use Rattle.table_log.specs.Restoring.{AreAlike, RestoresWell, seen}
+use Rattle.table_log.specs.Restoring.{AreAlike, RestoresWell, replayed}
 use Rattle.table_log.specs.Versions.{commit, commits_of, log_of, versions_from, versions_of}
-use Rattle.table_log.proofs.Callers.{of_commit, same_values, seen_alike, well_sound}
+use Rattle.table_log.proofs.Callers.{of_commit, same_values, replayed_alike, well_sound}
 use Rattle.table_model.specs.Lawful.{BeginsWithCreation}
 use Rattle.table_model.specs.Table.{Entry, creation, group, close, is_closed, last_batch}
 use Rattle.table_store.specs.Holds.{Holds, HoldsFrom}
@@ -127,8 +127,8 @@ abbrev HasLog : Objects → List (List actions.Action) → Type 0
 HasLog objects commits = (log : List (List actions.Action)) × (log_of objects ≡ Ok log) × ((key : Key) → at key commits ≡ at key log)
 
 -- a sound store's checkpoints are sound
-restores : (restore : Bool) (objects : Objects) → IsSoundStore objects → RestoresWell restore objects
-restores restore objects sound = λ is. well_sound true objects sound.checkpoints
+restores : (use_checkpoints : Bool) (objects : Objects) → IsSoundStore objects → RestoresWell use_checkpoints objects
+restores use_checkpoints objects sound = λ is. well_sound true objects sound.checkpoints
 
 alike_log : (objects : Objects) (commits : List (List actions.Action)) (read : Result (List (List actions.Action)) ℕ) → log_of objects ≡ read → AreAlike (Ok commits) read → HasLog objects commits
 alike_log objects commits (Ok log) is alike = (log, is, alike)
@@ -138,20 +138,20 @@ alike_refused : (objects : Objects) (version : ℕ) (read : Result (List (List a
 alike_refused objects version (Ok log) is alike = absurd alike
 alike_refused objects version (Err other) is alike = is ∙ ap (λ (v : ℕ). Err v) (sym alike)
 
-module _ (restore : Bool) (objects : Objects) (sound : IsSoundStore objects) where
+module _ (use_checkpoints : Bool) (objects : Objects) (sound : IsSoundStore objects) where
   -- what is seen is read like the whole log
-  alike : {read : Result (List (List actions.Action)) ℕ} → seen restore objects ≡ read → AreAlike read (log_of objects)
-  alike is = subst (λ (read : Result (List (List actions.Action)) ℕ). AreAlike read (log_of objects)) is (seen_alike restore objects (restores restore objects sound))
+  alike : {read : Result (List (List actions.Action)) ℕ} → replayed use_checkpoints objects ≡ read → AreAlike read (log_of objects)
+  alike is = subst (λ (read : Result (List (List actions.Action)) ℕ). AreAlike read (log_of objects)) is (replayed_alike use_checkpoints objects (restores use_checkpoints objects sound))
 
   -- It leaves what all commits leave.
-  pub seen_leaves : (commits : List (List actions.Action)) → seen restore objects ≡ Ok commits → HasLog objects commits
+  pub seen_leaves : (commits : List (List actions.Action)) → replayed use_checkpoints objects ≡ Ok commits → HasLog objects commits
   seen_leaves commits is = alike_log objects commits (log_of objects) refl (alike is)
 
   -- It is refused where they are.
-  pub seen_refused : (version : ℕ) → seen restore objects ≡ Err version → log_of objects ≡ Err version
+  pub seen_refused : (version : ℕ) → replayed use_checkpoints objects ≡ Err version → log_of objects ≡ Err version
   seen_refused version is = alike_refused objects version (log_of objects) refl (alike is)
 
-  module _ (schema : Schema) (entries : List Entry) (holds : Holds objects schema entries) (commits : List (List actions.Action)) (is : seen restore objects ≡ Ok commits) where
+  module _ (schema : Schema) (entries : List Entry) (holds : Holds objects schema entries) (commits : List (List actions.Action)) (is : replayed use_checkpoints objects ≡ Ok commits) where
     -- the log that stands
     whole : (log : List (List actions.Action)) × IsLog objects log × ((key : Key) → at key commits ≡ at key log)
     whole = let found = seen_leaves commits is in (found.0, log_stood objects sound.table found.0 found.1, found.2)

@@ -107,14 +107,14 @@ some_commits [] some = absurd (omega arith)
 some_commits (made ∷ commits) some = all_commits 0 (made ∷ commits)
 
 -- The commits of a log that can be read: they stand for the entries, of which the first is the creation.
-pub record IsLogOf (objects : Objects) (schema : Schema) (entries : List Entry) (commits : List (List actions.Action)) : Type 0 where
+pub record IsLogOfEntries (objects : Objects) (schema : Schema) (entries : List Entry) (commits : List (List actions.Action)) : Type 0 where
   pub rest : List Entry
   pub begins : entries ≡ creation ∷ rest
   pub made : AreMadeFor objects schema entries commits
 
 -- commits that are read for entries are a log of them
 log_by : (objects : Objects) (schema : Schema) (entries : List Entry) (made commits : List (List actions.Action)) → BeginsWithCreation entries → AreMadeFor objects schema entries made
-    → commits_of (map commit made) ≡ Ok commits → IsLogOf objects schema entries commits
+    → commits_of (map commit made) ≡ Ok commits → IsLogOfEntries objects schema entries commits
 log_by objects schema [] [] commits begins are told = absurd cc
 log_by objects schema [] (first ∷ made) commits begins are told = absurd are
 log_by objects schema (creation ∷ rest) [] commits begins are told = absurd are
@@ -126,7 +126,7 @@ log_by objects schema (group bs ∷ rest) made commits begins are told = absurd 
 log_by objects schema (close application ∷ rest) made commits begins are told = absurd begins
 
 -- The log of a sound store, where it can be read, has a commit for each entry.
-pub sound_log : (objects : Objects) (sound : IsSound objects) → (commits : List (List actions.Action)) → log_of objects ≡ Ok commits → IsLogOf objects sound.schema sound.entries commits
+pub sound_log : (objects : Objects) (sound : IsSound objects) → (commits : List (List actions.Action)) → log_of objects ≡ Ok commits → IsLogOfEntries objects sound.schema sound.entries commits
 unfolding log_of
 sound_log objects sound commits told =
     let stand = held_first objects sound.schema 0 sound.entries sound.holds in

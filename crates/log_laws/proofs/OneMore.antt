@@ -1,7 +1,7 @@
 -- A table with one more batch.
 use Rattle.std.proofs.Common.{◌≡◌, List, [], ◌∷◌, ◌++◌, length, sym, subst}
 use Rattle.table_model.specs.Appends.{appended, with_batch}
-use Rattle.table_model.specs.declared.table.Appended.TheVariants.{Committed}
+use Rattle.table_model.specs.declared.table.AppendAnswer.TheVariants.{Committed}
 use Rattle.table_model.specs.Lawful.{IsLawful}
 use Rattle.table_model.specs.Table.{Batch, Entry, creation, group}
 use Rattle.table_model.proofs.Callers.{append_keeps}

@@ -8,7 +8,7 @@ ghost use Rattle.delta_replay.specs.Closes as logs;
 ghost use Rattle.delta_replay.specs.Keys.{Key, at, last_number};
 ghost use Rattle.delta_replay.specs.Support.{readable, writable};
 ghost use Rattle.table_log.specs.Counts.{commit_count};
-ghost use Rattle.table_log.specs.Restoring.{IsSoundCheckpoint, seen};
+ghost use Rattle.table_log.specs.Restoring.{IsSoundCheckpoint, replayed};
 ghost use Rattle.table_log.specs.Versions.{commits_in, log_of, versions_from};
 ghost use Rattle.table_model.specs.Lawful.{IsLawful};
 ghost use Rattle.table_model.specs.Table.{Entry, is_closed, last_batch};
@@ -64,17 +64,17 @@ pub fn the_first_commits_leave_the_first_entries()
 /// From its newest checkpoint on, the log of a sound store leaves for each key what all its commits leave, and is refused
 /// where they are. So it leaves what the table tells.
 pub fn a_checkpoint_leaves_what_its_log_leaves()
-    ensures leaves { (restore : Bool) (objects : Objects) (commits : List (List Action)) → IsSoundStore objects → seen restore objects ≡ Ok commits
+    ensures leaves { (use_checkpoints : Bool) (objects : Objects) (commits : List (List Action)) → IsSoundStore objects → replayed use_checkpoints objects ≡ Ok commits
         → (log : List (List Action)) × (log_of objects ≡ Ok log) × ((key : Key) → at key commits ≡ at key log) }
-    ensures refused { (restore : Bool) (objects : Objects) (version : ℕ) → IsSoundStore objects → seen restore objects ≡ Err version → log_of objects ≡ Err version }
-    ensures number { (restore : Bool) (objects : Objects) (schema : Schema) (entries : List Entry) (commits : List (List Action)) (application : List ℕ) → IsSoundStore objects
-        → Holds objects schema entries → seen restore objects ≡ Ok commits → last_number application commits ≡ option_map (λ b. b.number) (last_batch application entries) }
-    ensures closed { (restore : Bool) (objects : Objects) (schema : Schema) (entries : List Entry) (commits : List (List Action)) (application : List ℕ) → IsUtf8 application → IsSoundStore objects
-        → Holds objects schema entries → seen restore objects ≡ Ok commits → logs.is_closed application commits ≡ is_closed application entries }
-    ensures read { (restore : Bool) (objects : Objects) (schema : Schema) (entries : List Entry) (commits : List (List Action)) → IsSoundStore objects
-        → Holds objects schema entries → seen restore objects ≡ Ok commits → readable commits ≡ Ok schema }
-    ensures written { (restore : Bool) (objects : Objects) (schema found : Schema) (entries : List Entry) (commits : List (List Action)) → IsSoundStore objects
-        → Holds objects schema entries → seen restore objects ≡ Ok commits → writable commits ≡ Ok found → found ≡ schema }
+    ensures refused { (use_checkpoints : Bool) (objects : Objects) (version : ℕ) → IsSoundStore objects → replayed use_checkpoints objects ≡ Err version → log_of objects ≡ Err version }
+    ensures number { (use_checkpoints : Bool) (objects : Objects) (schema : Schema) (entries : List Entry) (commits : List (List Action)) (application : List ℕ) → IsSoundStore objects
+        → Holds objects schema entries → replayed use_checkpoints objects ≡ Ok commits → last_number application commits ≡ option_map (λ b. b.number) (last_batch application entries) }
+    ensures closed { (use_checkpoints : Bool) (objects : Objects) (schema : Schema) (entries : List Entry) (commits : List (List Action)) (application : List ℕ) → IsUtf8 application → IsSoundStore objects
+        → Holds objects schema entries → replayed use_checkpoints objects ≡ Ok commits → logs.is_closed application commits ≡ is_closed application entries }
+    ensures read { (use_checkpoints : Bool) (objects : Objects) (schema : Schema) (entries : List Entry) (commits : List (List Action)) → IsSoundStore objects
+        → Holds objects schema entries → replayed use_checkpoints objects ≡ Ok commits → readable commits ≡ Ok schema }
+    ensures written { (use_checkpoints : Bool) (objects : Objects) (schema found : Schema) (entries : List Entry) (commits : List (List Action)) → IsSoundStore objects
+        → Holds objects schema entries → replayed use_checkpoints objects ≡ Ok commits → writable commits ≡ Ok found → found ≡ schema }
 {}
 
 /// A checkpoint of a log's commits up to a version stands for these commits: with the commits of some later versions

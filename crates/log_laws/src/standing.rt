@@ -1,14 +1,13 @@
 //! Laws of sound stores that grow: what stood stands, and what was told of it stays true.
 
 ghost use Rattle.std.specs.Prelude.{◌≡◌, ◌≤◌, ℕ, List, [], ◌∷◌, ◌++◌, true, Some, Contains, slice_get};
-ghost use Rattle.store_core.specs.Objects.{Objects};
-ghost use Rattle.table_model.specs.Appends.{Tells, TellsClose};
+ghost use Rattle.store_core.specs.Objects.{Objects, HasObjectsOf};
+ghost use Rattle.table_model.specs.Appends.{TellsAppend, TellsClose};
 ghost use Rattle.table_model.specs.Reads.{is_offset, position};
 ghost use Rattle.table_model.specs.Table.{Batch, Entry, batches, is_closed, last_batch};
 ghost use Rattle.table_model.specs.declared.reading.Offset.{Offset};
-ghost use Rattle.table_model.specs.declared.table.Appended.{Appended};
+ghost use Rattle.table_model.specs.declared.table.AppendAnswer.{AppendAnswer};
 ghost use Rattle.table_model.specs.declared.table.Closing.{Closing};
-ghost use Rattle.table_store.specs.Growth.{HasObjectsOf};
 ghost use Rattle.table_store.specs.Holds.{Holds};
 ghost use Rattle.table_store.specs.Schema.{Schema};
 ghost use Rattle.log_laws.specs.Sound.{IsSoundStore};
@@ -37,8 +36,8 @@ pub fn what_a_sound_table_has_stays()
         → Holds more other others → Contains (batches entries) b → Contains (batches others) b }
     ensures closed { (objects more : Objects) (schema other : Schema) (entries others : List Entry) (application : List ℕ) → IsSoundStore objects → HasObjectsOf objects more → Holds objects schema entries
         → Holds more other others → is_closed application entries ≡ true → is_closed application others ≡ true }
-    ensures append { (objects more : Objects) (schema other : Schema) (entries others : List Entry) (answer : Appended) (b : Batch) → IsSoundStore objects → HasObjectsOf objects more → Holds objects schema entries
-        → Holds more other others → Tells answer b entries → Tells answer b others }
+    ensures append { (objects more : Objects) (schema other : Schema) (entries others : List Entry) (answer : AppendAnswer) (b : Batch) → IsSoundStore objects → HasObjectsOf objects more → Holds objects schema entries
+        → Holds more other others → TellsAppend answer b entries → TellsAppend answer b others }
     ensures close { (objects more : Objects) (schema other : Schema) (entries others : List Entry) (answer : Closing) (application : List ℕ) → IsSoundStore objects → HasObjectsOf objects more → Holds objects schema entries
         → Holds more other others → TellsClose answer application entries → TellsClose answer application others }
     ensures number { (objects more : Objects) (schema other : Schema) (entries others : List Entry) (b : Batch) → IsSoundStore objects → IsSoundStore more → HasObjectsOf objects more → Holds objects schema entries

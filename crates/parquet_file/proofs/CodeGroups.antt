@@ -22,7 +22,7 @@ use Rattle.parquet_schema.specs.Fitting.{fitted_list}
 use Rattle.parquet_schema.specs.Leaves.{LeafIn, leaves_in}
 use Rattle.parquet_file.specs.File.{leaf_of}
 use Rattle.parquet_file.specs.Internal.{are_counted, is_counted}
-use Rattle.parquet_file.specs.Reading.{chunk_named, claimed_rows, column_at, columns_at, has_rows, rows_of, rows_of_group, rows_of_groups}
+use Rattle.parquet_file.specs.Reading.{chunk_named, claimed_rows, column_at, columns_at, has_rows, footer_rows, rows_of_group, rows_of_groups}
 
 -- ---- columns that count a group's rows
 
@@ -149,12 +149,12 @@ groups_many given t shape (g ∷ groups) rows some e =
 
 -- where the groups' rows are read, only what they claim together is left to be looked at
 pub rows_by_claims : (given : List ℕ) (t : Tree) (metadata : FileMetaData) (shape : Shape) (rows : List Row) → fitted_list t metadata.schema ≡ Some shape → 0 < length (leaves_in t shape)
-    → rows_of_groups given t shape metadata.row_groups ≡ Ok rows → rows_of given t metadata ≡ cond (eqb (claimed_rows metadata.row_groups) metadata.num_rows) (Ok rows) (Err CountMismatch)
-unfolding rows_of
+    → rows_of_groups given t shape metadata.row_groups ≡ Ok rows → footer_rows given t metadata ≡ cond (eqb (claimed_rows metadata.row_groups) metadata.num_rows) (Ok rows) (Err CountMismatch)
+unfolding footer_rows
 rows_by_claims given t metadata shape rows fit some read = rw (fit, read, groups_many given t shape metadata.row_groups rows some read) refl
 
 -- where the groups' rows aren't read, nor are the file's
 pub rows_fail : (given : List ℕ) (t : Tree) (metadata : FileMetaData) (shape : Shape) (fault : FileFault) → fitted_list t metadata.schema ≡ Some shape
-    → rows_of_groups given t shape metadata.row_groups ≡ Err fault → rows_of given t metadata ≡ Err fault
-unfolding rows_of
+    → rows_of_groups given t shape metadata.row_groups ≡ Err fault → footer_rows given t metadata ≡ Err fault
+unfolding footer_rows
 rows_fail given t metadata shape fault fit e = rw (fit, e) refl

@@ -17,7 +17,7 @@ use Rattle.parquet_schema.specs.Fitting.{fitted, fitted_list}
 use Rattle.parquet_schema.specs.Reading.{file_fields}
 use Rattle.parquet_schema.proofs.Callers.{list_found}
 use Rattle.parquet_file.specs.File.{AreGroups, IsFile, KeepsLimits}
-use Rattle.parquet_file.specs.Reading.{rows_at, rows_of, rows_of_groups}
+use Rattle.parquet_file.specs.Reading.{rows_at, footer_rows, rows_of_groups}
 use Rattle.parquet_file.proofs.ColumnsSuit.{AreRows}
 use Rattle.parquet_file.proofs.FittedShapes.{some_is}
 use Rattle.parquet_file.proofs.GroupRows.{groups_found}
@@ -42,8 +42,8 @@ record TableFound (given : List ℕ) (t : Tree) (metadata : FileMetaData) (rows 
   are : AreRows t rows
 
 table_found : (given : List ℕ) (t : Tree) (metadata : FileMetaData) (rows : List Row) → IsBytes given → is_sound t ≡ true
-    → rows_of given t metadata ≡ Ok rows → TableFound given t metadata rows
-unfolding rows_of
+    → footer_rows given t metadata ≡ Ok rows → TableFound given t metadata rows
+unfolding footer_rows
 table_found given t metadata rows h sound e =
     let counts = λ (rows : List Row). cond (length rows == metadata.num_rows) (Ok rows) (Err CountMismatch) in
     let a = bind_ok (or_refusal (fitted_list t metadata.schema) SchemaMismatch)
@@ -66,9 +66,9 @@ pub rows_found : (bytes : List ℕ) (t : Tree) (rows : List Row) → IsWithinLim
     → rows_at bytes t ≡ Ok rows → IsFile bytes t rows × KeepsLimits bytes rows
 unfolding rows_at
 rows_found bytes t rows limits h e =
-    let a = bind_ok (frame_of bytes) (λ parts. metadata_at parts.1 >>= rows_of parts.0 t) rows e in
+    let a = bind_ok (frame_of bytes) (λ parts. metadata_at parts.1 >>= footer_rows parts.0 t) rows e in
     let f = frame_found bytes a.0.0 a.0.1 h a.1 in
-    let b = bind_ok (metadata_at a.0.1) (rows_of a.0.0 t) rows a.2 in
+    let b = bind_ok (metadata_at a.0.1) (footer_rows a.0.0 t) rows a.2 in
     let m = metadata_found a.0.1 b.0 f.footer_fits b.1 in
     let k = table_found a.0.0 t b.0 rows f.front_fits limits.sound b.2 in
     let file : IsFile bytes t rows = record {

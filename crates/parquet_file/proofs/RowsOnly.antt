@@ -14,7 +14,7 @@ use Rattle.parquet_schema.specs.FileTree.{FileField, FileFields, IsSchemaList, f
 use Rattle.parquet_schema.specs.Fitting.{fitted, fitted_list}
 use Rattle.parquet_schema.proofs.Callers.{list_read}
 use Rattle.parquet_file.specs.File.{AreGroups, IsFile, KeepsLimits}
-use Rattle.parquet_file.specs.Reading.{rows_at, rows_of}
+use Rattle.parquet_file.specs.Reading.{rows_at, footer_rows}
 use Rattle.parquet_file.proofs.ColumnsSuit.{AreRows}
 use Rattle.parquet_file.proofs.FittedShapes.{depth_fits}
 use Rattle.parquet_file.proofs.GroupRows.{groups_again}
@@ -44,8 +44,8 @@ list_again t fs es shape limits list fits =
 table_again : (given : List ℕ) (t : Tree) (metadata : FileMetaData) (fs : FileFields) (shape : Shape) (rows : List Row)
     → IsWithinLimits t → IsSchemaList fs metadata.schema → fitted t (group fs) ≡ Some shape
     → AreGroups given t shape metadata.row_groups rows → metadata.num_rows ≡ length rows → AreRows t rows
-    → rows_of given t metadata ≡ Ok rows
-unfolding rows_of
+    → footer_rows given t metadata ≡ Ok rows
+unfolding footer_rows
 table_again given t metadata fs shape rows limits list fits groups counted are =
     rw (
       list_again t fs metadata.schema shape limits list fits,
@@ -54,7 +54,7 @@ table_again given t metadata fs shape rows limits list fits groups counted are =
     ) refl
 
 file_again : (bytes : List ℕ) (t : Tree) (rows : List Row) → IsWithinLimits t → (f : IsFile bytes t rows)
-    → rows_of (magic ++ f.pages) t f.metadata ≡ Ok rows
+    → footer_rows (magic ++ f.pages) t f.metadata ≡ Ok rows
 file_again bytes t rows limits f =
     table_again (magic ++ f.pages) t f.metadata f.columns f.shape rows limits f.listed f.table f.groups f.counted
     (record { conform = f.conform; texts = f.texts })
@@ -96,5 +96,5 @@ rows_one bytes t rows others limits f g =
     (subst (λ (b : List ℕ). FooterSays b f.metadata) frame.1 f.says) g.says in
     let one = file_again bytes t rows limits f in
     let two = file_again bytes t others limits g in
-    let read : rows_of (magic ++ f.pages) t f.metadata ≡ Ok others = rw (frame.0, metadata) two in
+    let read : footer_rows (magic ++ f.pages) t f.metadata ≡ Ok others = rw (frame.0, metadata) two in
     ok_is {E = FileFault} rows others (sym one ∙ read)

@@ -17,7 +17,7 @@ use Rattle.schema_tree.specs.Tree.{Tree}
 use Rattle.shred.specs.Shape.{shape_of}
 use Rattle.parquet_footer.specs.Frame.{framed, magic}
 use Rattle.parquet_footer.specs.Metadata.{RowGroup, group_of}
-use Rattle.parquet_footer.specs.Outcome.{Gives}
+use Rattle.parquet_footer.specs.Outcome.{FileGives}
 use Rattle.parquet_footer.specs.declared.fault.FileError.{FileError}
 use Rattle.parquet_footer.specs.declared.fault.FileFault.{FileFault}
 use Rattle.parquet_footer.specs.declared.fault.FileFault.TheVariants.{TooLarge}
@@ -165,7 +165,7 @@ file_is_written cols rows bytes limits supported conform texts e =
 pub answer_is_file : (cols : tree.Fields) (rows : List Row) (r : Result (Vec ℕ Global) FileError)
     → IsWithinLimits (tree.struct cols) → unsupported (tree.struct cols) ≡ None
     → All (Conforms (tree.struct cols)) rows → All (λ row. has_texts row ≡ true) rows
-    → Gives (λ bytes. bytes.items) r (written_file (tree.struct cols) rows)
+    → FileGives (λ bytes. bytes.items) r (written_file (tree.struct cols) rows)
     → IfOk r (λ bytes. IsFile bytes.items (tree.struct cols) rows × KeepsLimits bytes.items rows)
 answer_is_file cols rows (Ok bytes) limits supported conform texts e =
     file_is_written cols rows bytes.items limits supported conform texts e

@@ -65,8 +65,8 @@ abbrev pub claimed_rows : List RowGroup → ℕ
 claimed_rows [] = 0
 claimed_rows (group ∷ groups) = group.num_rows + claimed_rows groups
 
-unfoldable pub rows_of : List ℕ → Tree → FileMetaData → Result (List Row) FileFault
-rows_of given t metadata = do
+unfoldable pub footer_rows : List ℕ → Tree → FileMetaData → Result (List Row) FileFault
+footer_rows given t metadata = do
   shape ← or_refusal (fitted_list t metadata.schema) SchemaMismatch
   rows ← rows_of_groups given t shape metadata.row_groups
   if length rows == metadata.num_rows then Ok rows else Err CountMismatch
@@ -76,7 +76,7 @@ unfoldable pub rows_at : List ℕ → Tree → Result (List Row) FileFault
 rows_at bytes t = do
   parts ← frame_of bytes
   metadata ← metadata_at parts.1
-  rows_of parts.0 t metadata
+  footer_rows parts.0 t metadata
 
 -- ---- a part of the rows
 

@@ -9,7 +9,7 @@ ghost use Rattle.shred.specs.Columns as columns;
 ghost use Rattle.shred.specs.Parts.{fronts, parts_of, rests, rows_part, ArePlain};
 ghost use Rattle.shred.specs.Views.{part_views, shape_view};
 ghost use Rattle.shred.specs.Ways.{highest, ways};
-ghost use Rattle.parquet_footer.specs.Outcome.{Gives};
+ghost use Rattle.parquet_footer.specs.Outcome.{FileGives};
 ghost use Rattle.parquet_footer.specs.declared.fault.FileFault.TheVariants.{SchemaMismatch};
 ghost use Rattle.parquet_pages.specs.Outcome.{FindsWhere};
 ghost use Rattle.parquet_schema.specs.Leaves.{LeafIn};
@@ -133,7 +133,7 @@ fn rows_of_parts(
     ensures { (most : ℕ) (given : List columns.Column)
         → part_views parts.items ≡ parts_of first most (map highest (ways (shape_view shape.now))) given
         → AreEven (shape_view shape.now) given → All ArePlain given → row_count given < 2 ^ 64
-        → Gives (λ rows. row_views rows.items) result
+        → FileGives (λ rows. row_views rows.items) result
         (refused_as (λ fault. SchemaMismatch) (rows_part first most (assembled (shape_view shape.now) given))) }
 {
     match assemble_part(alloc, shape, first, parts) {

@@ -5,11 +5,11 @@ ghost use Rattle.row_core.specs.Rows.{Row};
 ghost use Rattle.row_core.specs.Views.{row_views};
 ghost use Rattle.schema_tree.specs.Schema.{tree_of};
 ghost use Rattle.parquet_footer.specs.Frame.{frame_of};
-ghost use Rattle.parquet_footer.specs.Outcome.{Gives};
+ghost use Rattle.parquet_footer.specs.Outcome.{FileGives};
 ghost use Rattle.parquet_footer.specs.Views.{footer_view};
 ghost use Rattle.parquet_file.specs.File.{IsFile, KeepsLimits};
 ghost use Rattle.parquet_file.specs.Outcome.{FindsRows, GivesRows, RefusesRows};
-ghost use Rattle.parquet_file.specs.Reading.{part_among, part_at, part_read, rows_at, rows_of};
+ghost use Rattle.parquet_file.specs.Reading.{part_among, part_at, part_read, rows_at, footer_rows};
 ghost use Rattle.parquet_file.specs.Views.{file_part_view};
 
 use crate::error::RowsError;
@@ -114,7 +114,7 @@ fn part_in<A: Allocator, H: Allocator + Copy>(
 }
 
 /// A part of the rows that a footer says stand in the bytes before it.
-#[tactic(auto, unfolding(crate::specs::Reading::rows_of))]
+#[tactic(auto, unfolding(crate::specs::Reading::footer_rows))]
 fn part_by_footer<A: Allocator, B: Allocator>(
     alloc: Global,
     schema: &Schema<A>,
@@ -123,7 +123,7 @@ fn part_by_footer<A: Allocator, B: Allocator>(
     first: u64,
     most: u64,
 ) -> Result<FilePart, FileError>
-    ensures { Gives file_part_view result (part_read first most (rows_of bytes.now (tree_of schema.now) (footer_view footer.now))) }
+    ensures { FileGives file_part_view result (part_read first most (footer_rows bytes.now (tree_of schema.now) (footer_view footer.now))) }
 {
     let file = fit(alloc, schema, &footer.schema)?;
     if !claims_add_up(&footer.row_groups, footer.num_rows) {

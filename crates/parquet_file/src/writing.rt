@@ -15,7 +15,7 @@ ghost use Rattle.shred.specs.Columns.{column};
 ghost use Rattle.shred.specs.Views.{way_view, way_views};
 ghost use Rattle.shred.specs.Ways.{highest as highest_level};
 ghost use Rattle.parquet_footer.specs.Frame.{magic};
-ghost use Rattle.parquet_footer.specs.Outcome.{Gives};
+ghost use Rattle.parquet_footer.specs.Outcome.{FileGives};
 ghost use Rattle.parquet_schema.specs.Views.{leaf_view, leaf_views};
 ghost use Rattle.parquet_file.specs.File.{IsFile, KeepsLimits};
 ghost use Rattle.page_writing.specs.Outcome.{Writes};
@@ -59,7 +59,7 @@ pub fn write_file<A: Allocator>(
     ensures no_other { IfOk result (λ bytes. (others : List Row) → IsFile bytes.items (tree_of schema.now) others
         → others ≡ row_views rows.now) }
     // Which bytes they are, and when there are none.
-    ensures exact { Gives (λ bytes. bytes.items) result (written_file (tree_of schema.now) (row_views rows.now)) }
+    ensures exact { FileGives (λ bytes. bytes.items) result (written_file (tree_of schema.now) (row_views rows.now)) }
 {
     file_of(alloc, schema, rows)
 }
@@ -73,7 +73,7 @@ fn file_of<A: Allocator>(
 ) -> Result<Vec<u8>, FileError>
     requires supported { unsupported (tree_of schema.now) ≡ None }
     requires conform { All (Conforms (tree_of schema.now)) (row_views rows.now) }
-    ensures exact { Gives (λ bytes. bytes.items) result (written_file (tree_of schema.now) (row_views rows.now)) }
+    ensures exact { FileGives (λ bytes. bytes.items) result (written_file (tree_of schema.now) (row_views rows.now)) }
 {
     if rows.len() as u64 > MAX_FILE_ROWS || !are_short_named(schema.fields()) {
         return Err(FileFault::TooLarge.into());

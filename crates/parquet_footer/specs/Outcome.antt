@@ -14,8 +14,8 @@ says errors.Memory = says_nothing
 says (errors.Fault fault) = refuses fault
 
 -- the value, seen by view, or the fault
-abbrev pub Gives : {X A : Type 0} → (X → A) → Result X FileError → Result A FileFault → Type 0
-Gives view answered read = outcomes.Gives says view answered read
+abbrev pub FileGives : {X A : Type 0} → (X → A) → Result X FileError → Result A FileFault → Type 0
+FileGives view answered read = outcomes.Gives says view answered read
 
 -- This was read, seen by view, or memory ran out.
 abbrev pub Finds : {X A : Type 0} → (X → A) → A → Result X FileError → Type 0

@@ -14,7 +14,7 @@ use Rattle.lake_bytes.specs.Outcome.{IsSaid}
 use Rattle.parquet_footer.specs.declared.fault.FileFault.{FileFault}
 use Rattle.parquet_footer.specs.declared.fault.FileError.{FileError}
 use Rattle.parquet_footer.specs.declared.fault.FileError.TheVariants as errors
-pub use Rattle.parquet_footer.specs.Outcome.{says, Gives, Finds}
+pub use Rattle.parquet_footer.specs.Outcome.{says, FileGives, Finds}
 
 -- a value of which this is so, or the fault
 abbrev pub GivesWhere : {X A : Type 0} → (X → A → Type 0) → Result X FileError → Result A FileFault → Type 0

@@ -4,7 +4,7 @@ ghost use Rattle.std.specs.Prelude.{◌≡◌, ◌≤◌, length, IfOk};
 ghost use Rattle.lake_bytes.specs.Reading.{IsReading};
 ghost use Rattle.thrift_core.specs.View.{view};
 ghost use Rattle.parquet_pages.specs.Headers.{level_encoding_of, data_page_of, dictionary_page_of, content_of, header_of};
-ghost use Rattle.parquet_pages.specs.Outcome.{Gives};
+ghost use Rattle.parquet_pages.specs.Outcome.{FileGives};
 ghost use Rattle.parquet_pages.specs.Reading.{header_at};
 ghost use Rattle.parquet_pages.specs.Views.{content_view, header_view};
 ghost use Rattle.parquet_footer.specs.declared.fault.FileFault.TheVariants.{BadPage};
@@ -63,7 +63,7 @@ pub fn read_header(
     bytes: &[u8],
     has_levels: bool,
 ) -> Result<(PageHeader, &[u8]), FileError>
-    ensures exact { Gives (λ x. (header_view x.0, x.1.now)) result (header_at has_levels bytes.now) }
+    ensures exact { FileGives (λ x. (header_view x.0, x.1.now)) result (header_at has_levels bytes.now) }
     ensures behind { IfOk result (λ x. length x.1.now ≤ length bytes.now) }
 {
     let mut cursor = Cursor::new(bytes);

@@ -14,7 +14,7 @@ use Rattle.shred.specs.Views.{shape_view, field_view as shape_field_view, field_
 use Rattle.shred.specs.declared.shapes.ShapeField.{ShapeField, out-ShapeField}
 use Rattle.shred.specs.declared.shapes.Shape.{the_lemmas as shape_lemmas}
 use Rattle.shred.specs.declared.shapes.Shape.TheVariants as shape_variants
-use Rattle.parquet_schema.specs.Leaves.{LeafIn, behind, field_leaves, flag_of, leaf_inside, leaves_in, leaves_of_fields}
+use Rattle.parquet_schema.specs.Leaves.{LeafIn, leaves_under, field_leaves, flag_of, leaf_inside, leaves_in, leaves_of_fields}
 
 -- the leaves of fields and their shapes
 abbrev pub each_leaves : {A : Type 0} → List (Field A) → List ShapeField → List LeafIn
@@ -32,20 +32,20 @@ no_leaves (f ∷ fs) (s ∷ ss) (inl e) = absurd (omega (arith, e))
 no_leaves (f ∷ fs) (s ∷ ss) (inr e) = absurd (omega (arith, e))
 
 -- the leaves of one more field are put
-pub one_put : (names names_now : List (List ℕ)) (flags flags_now : List Bool) (before now total first others all : List LeafIn) → names_now ≡ names → flags_now ≡ flags → all ≡ first ++ others → now ≡ before ++ behind names_now flags_now first
-    → before ++ behind names flags all ≡ total → now ++ behind names flags others ≡ total
+pub one_put : (names names_now : List (List ℕ)) (flags flags_now : List Bool) (before now total first others all : List LeafIn) → names_now ≡ names → flags_now ≡ flags → all ≡ first ++ others → now ≡ before ++ leaves_under names_now flags_now first
+    → before ++ leaves_under names flags all ≡ total → now ++ leaves_under names flags others ≡ total
 one_put names names_now flags flags_now before now total first others all same_names same_flags is put so_far =
-    let split : behind names flags all ≡ behind names flags first ++ behind names flags others = ap (behind names flags) is ∙ map-append _ first others in
-    let more : now ≡ before ++ behind names flags first = put ∙ rw (same_names, same_flags) refl in
-    rw more (append_assoc before (behind names flags first) (behind names flags others)) ∙ (ap (λ ls. before ++ ls) (sym split) ∙ so_far)
+    let split : leaves_under names flags all ≡ leaves_under names flags first ++ leaves_under names flags others = ap (leaves_under names flags) is ∙ map-append _ first others in
+    let more : now ≡ before ++ leaves_under names flags first = put ∙ rw (same_names, same_flags) refl in
+    rw more (append_assoc before (leaves_under names flags first) (leaves_under names flags others)) ∙ (ap (λ ls. before ++ ls) (sym split) ∙ so_far)
 
 -- all are put
-pub all_put : (names : List (List ℕ)) (flags : List Bool) (now total left : List LeafIn) → left ≡ [] → now ++ behind names flags left ≡ total → now ≡ total
-all_put names flags now total left none so_far = sym (append-nil now) ∙ (ap (λ ls. now ++ behind names flags ls) (sym none) ∙ so_far)
+pub all_put : (names : List (List ℕ)) (flags : List Bool) (now total left : List LeafIn) → left ≡ [] → now ++ leaves_under names flags left ≡ total → now ≡ total
+all_put names flags now total left none so_far = sym (append-nil now) ∙ (ap (λ ls. now ++ leaves_under names flags ls) (sym none) ∙ so_far)
 
 -- the leaves below a field, seen from above the field
 pub under_field : (names names_now : List (List ℕ)) (flags flags_now : List Bool) (name : List ℕ) (optional nullable : Bool) → names_now ≡ names ++ name ∷ [] → flags_now ≡ flags ++ flag_of optional nullable
-    → (ls : List LeafIn) → behind names_now flags_now ls ≡ behind names flags (map (leaf_inside name optional nullable) ls)
+    → (ls : List LeafIn) → leaves_under names_now flags_now ls ≡ leaves_under names flags (map (leaf_inside name optional nullable) ls)
 under_field names names_now flags flags_now name optional nullable longer more [] = refl
 under_field names names_now flags flags_now name optional nullable longer more (l ∷ ls) =
     let way : names_now ++ l.names ≡ names ++ (name ∷ l.names) = ap (λ a. a ++ l.names) longer ∙ append_assoc names (name ∷ []) l.names in
@@ -54,7 +54,7 @@ under_field names names_now flags flags_now name optional nullable longer more (
     λ i. record { names = way i; leaf_type = l.leaf_type; nullable = levels i } ∷ others i
 
 -- the leaves of a whole table
-pub from_above : (names : List (List ℕ)) (flags : List Bool) → names ≡ [] → flags ≡ [] → (ls : List LeafIn) → behind names flags ls ≡ ls
+pub from_above : (names : List (List ℕ)) (flags : List Bool) → names ≡ [] → flags ≡ [] → (ls : List LeafIn) → leaves_under names flags ls ≡ ls
 from_above names flags top none [] = refl
 from_above names flags top none (l ∷ ls) =
     let way : names ++ l.names ≡ l.names = ap (λ a. a ++ l.names) top in
@@ -102,7 +102,7 @@ name_put f way now name e is = ap (map (λ (n : Bor (List ℕ)). n.now)) e ∙ (
 
 -- the leaves of a field are put
 pub field_put : {A : Type 0} (f : Field A) (s : ShapeField) (names names_now : List (List ℕ)) (flags flags_now : List Bool) (before now : List LeafIn) → names_now ≡ names ++ (column_view f).name ∷ [] → flags_now ≡ flags ++ flag_of (shape_field_view s).optional (column_view f).nullable
-    → now ≡ before ++ behind names_now flags_now (leaves_in (type_view (out-Field A f).data_type) (shape_view (out-ShapeField s).shape)) → now ≡ before ++ behind names flags (field_leaves (column_view f) (shape_field_view s))
+    → now ≡ before ++ leaves_under names_now flags_now (leaves_in (type_view (out-Field A f).data_type) (shape_view (out-ShapeField s).shape)) → now ≡ before ++ leaves_under names flags (field_leaves (column_view f) (shape_field_view s))
 field_put f s names names_now flags flags_now before now longer more put =
     put ∙ ap (λ ls. before ++ ls) (rw (type_seen f, shape_seen s) (under_field names names_now flags flags_now (column_view f).name (shape_field_view s).optional (column_view f).nullable longer more (leaves_in (column_view f).data_type (shape_field_view s).shape)))
 

@@ -42,5 +42,5 @@ abbrev pub field_leaves : tree.Column → shapes.Field → List LeafIn
 field_leaves c f = map (leaf_inside c.name f.optional c.nullable) (leaves_in c.data_type f.shape)
 
 -- the leaves as they are seen from the beginning of a way
-abbrev pub behind : List (List ℕ) → List Bool → List LeafIn → List LeafIn
-behind names nullable leaves = map (λ l. record { names = names ++ l.names; leaf_type = l.leaf_type; nullable = nullable ++ l.nullable }) leaves
+abbrev pub leaves_under : List (List ℕ) → List Bool → List LeafIn → List LeafIn
+leaves_under names nullable leaves = map (λ l. record { names = names ++ l.names; leaf_type = l.leaf_type; nullable = nullable ++ l.nullable }) leaves

@@ -6,7 +6,7 @@ ghost use Rattle.schema_tree.specs.Tree.{fields_of as tree_fields};
 ghost use Rattle.schema_tree.specs.View.{view as type_view, field_view as column_view, field_views as column_views};
 ghost use Rattle.shred.specs.Shape.{fields_of as shape_fields};
 ghost use Rattle.shred.specs.Views.{shape_view, field_view as shape_field_view, field_views as shape_field_views};
-ghost use Rattle.parquet_schema.specs.Leaves.{behind, field_leaves, leaves_in, leaves_of_fields};
+ghost use Rattle.parquet_schema.specs.Leaves.{leaves_under, field_leaves, leaves_in, leaves_of_fields};
 ghost use Rattle.parquet_schema.specs.Views.{leaf_views, way_names};
 
 use parquet_pages::LeafType;
@@ -76,7 +76,7 @@ fn put_fields<'a, A: Allocator>(
     leaves: &mut Vec<FileLeaf>,
 ) -> Result<(), AllocError>
     ensures put { OnOk result (leaf_views leaves.new.items
-        ≡ leaf_views leaves.old.items ++ behind (way_names way.old) way.old.nullable.items
+        ≡ leaf_views leaves.old.items ++ leaves_under (way_names way.old) way.old.nullable.items
         (leaves_of_fields (tree_fields (column_views fields.now)) (shape_fields (shape_field_views shapes.now)))) }
     ensures way { OnOk result ((way_names way.new ≡ way_names way.old)
         × (way.new.nullable.items ≡ way.old.nullable.items)) }
@@ -97,7 +97,7 @@ fn put_field<'a, A: Allocator>(
     leaves: &mut Vec<FileLeaf>,
 ) -> Result<(), AllocError>
     ensures put { OnOk result (leaf_views leaves.new.items
-        ≡ leaf_views leaves.old.items ++ behind (way_names way.old) way.old.nullable.items
+        ≡ leaf_views leaves.old.items ++ leaves_under (way_names way.old) way.old.nullable.items
         (field_leaves (column_view field.now) (shape_field_view shape.now))) }
     ensures way { OnOk result ((way_names way.new ≡ way_names way.old)
         × (way.new.nullable.items ≡ way.old.nullable.items)) }
@@ -124,7 +124,7 @@ fn put_leaves<'a, A: Allocator>(
     leaves: &mut Vec<FileLeaf>,
 ) -> Result<(), AllocError>
     ensures put { OnOk result (leaf_views leaves.new.items
-        ≡ leaf_views leaves.old.items ++ behind (way_names way.old) way.old.nullable.items
+        ≡ leaf_views leaves.old.items ++ leaves_under (way_names way.old) way.old.nullable.items
         (leaves_in (type_view node.now) (shape_view shape.now))) }
     ensures way { OnOk result ((way_names way.new ≡ way_names way.old)
         × (way.new.nullable.items ≡ way.old.nullable.items)) }

@@ -15,9 +15,9 @@ abbrev pub Fails : {Y : Type 0} → FieldError → Option Y → Type 0
 Fails Malformed said = said ≡ None
 Fails Memory said = Unit {0}
 
-abbrev pub Gives : {X Y : Type 0} → (X → Y) → Result X FieldError → Option Y → Type 0
-Gives view (Ok x) said = said ≡ Some (view x)
-Gives view (Err e) said = Fails e said
+abbrev pub LineGives : {X Y : Type 0} → (X → Y) → Result X FieldError → Option Y → Type 0
+LineGives view (Ok x) said = said ≡ Some (view x)
+LineGives view (Err e) said = Fails e said
 
 -- a space
 abbrev pub is_space : ℕ → Bool

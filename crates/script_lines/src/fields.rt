@@ -1,7 +1,7 @@
 // The fields of a line: words, numbers, and arrays.
 ghost use Rattle.std.specs.Prelude.{◌≡◌, option_map};
 ghost use Rattle.json_text.specs.View.{items_view};
-ghost use Rattle.script_lines.specs.Fields.{Gives, word_and_rest, number_of, number_between, moment_of, max_of, tries_of, array_of};
+ghost use Rattle.script_lines.specs.Fields.{LineGives, word_and_rest, number_of, number_between, moment_of, max_of, tries_of, array_of};
 
 use json::Scratch;
 use json_text::{TextError, Value, value_in};
@@ -72,7 +72,7 @@ pub fn array_of<'a>(
     text: &'a str,
     scratch: &'a mut Scratch,
 ) -> Result<Vec<Value<'a>>, FieldError>
-    ensures { Gives (λ v. items_view v.items) result (array_of text.now) }
+    ensures { LineGives (λ v. items_view v.items) result (array_of text.now) }
 {
     match value_in(alloc, text, scratch) {
         Ok(Value::Array(items)) => Ok(items),

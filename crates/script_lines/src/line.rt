@@ -1,6 +1,6 @@
 // The lines of a script, and the reader of one line.
 ghost use Rattle.std.specs.Prelude.{◌≡◌, option_map};
-ghost use Rattle.script_lines.specs.Fields.{Gives};
+ghost use Rattle.script_lines.specs.Fields.{LineGives};
 ghost use Rattle.script_lines.specs.Lines.{task_view, statement_view, append_head, append_from, close_from, tail_from, task_from, bare_task, task_of, create_from, start_from, step_from, foreign_from, bare_statement, counted_from, plain_from, statement_from, statement_of};
 
 use crate::fields::{FieldError, array_of, max_of, moment_of, number_of, tries_of, word_and_rest};
@@ -116,7 +116,7 @@ fn append_from<'a>(
     text: &'a str,
     scratch: &'a mut Scratch,
 ) -> Result<Job<'a>, FieldError>
-    ensures { Gives task_view result (append_from text.now) }
+    ensures { LineGives task_view result (append_from text.now) }
 {
     let (application, number, at, rows) = append_head(text).ok_or(FieldError::Malformed)?;
     let rows = JsonRows::Values(array_of(alloc, rows, scratch)?);
@@ -152,7 +152,7 @@ fn task_from<'a>(
     text: &'a str,
     scratch: &'a mut Scratch,
 ) -> Result<Job<'a>, FieldError>
-    ensures { Gives task_view result (task_from verb text.now) }
+    ensures { LineGives task_view result (task_from verb text.now) }
 {
     match verb {
         Verb::Append => append_from(alloc, text, scratch),
@@ -177,7 +177,7 @@ fn task_of<'a>(
     text: &'a str,
     scratch: &'a mut Scratch,
 ) -> Result<Job<'a>, FieldError>
-    ensures { Gives task_view result (task_of text.now) }
+    ensures { LineGives task_view result (task_of text.now) }
 {
     match word_and_rest(text) {
         Some((word, rest)) => {
@@ -207,7 +207,7 @@ fn start_from<'a>(
     text: &'a str,
     scratch: &'a mut Scratch,
 ) -> Result<Line<'a>, FieldError>
-    ensures { Gives statement_view result (start_from text.now) }
+    ensures { LineGives statement_view result (start_from text.now) }
 {
     let (actor, job) = word_and_rest(text).ok_or(FieldError::Malformed)?;
     let job = task_of(alloc, job, scratch)?;
@@ -287,7 +287,7 @@ fn line_from<'a>(
     text: &'a str,
     scratch: &'a mut Scratch,
 ) -> Result<Line<'a>, FieldError>
-    ensures { Gives statement_view result (statement_from verb text.now) }
+    ensures { LineGives statement_view result (statement_from verb text.now) }
 {
     match verb {
         Verb::Append | Verb::Close | Verb::Tail => {
@@ -300,12 +300,12 @@ fn line_from<'a>(
 
 /// Reads the text of a line that is neither blank nor a comment.
 #[tactic(auto, unfolding(crate::specs::Lines::statement_of))]
-pub fn line_of<'a>(
+pub fn parse_line<'a>(
     alloc: Global,
     text: &'a str,
     scratch: &'a mut Scratch,
 ) -> Result<Line<'a>, FieldError>
-    ensures { Gives statement_view result (statement_of text.now) }
+    ensures { LineGives statement_view result (statement_of text.now) }
 {
     match word_and_rest(text) {
         Some((word, rest)) => {

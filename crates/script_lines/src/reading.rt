@@ -4,7 +4,7 @@ ghost use Rattle.delta_actions.specs.Commit.{is_blank};
 ghost use Rattle.script_lines.specs.Lines.{text_of, reading_of, reading_view};
 
 use crate::fields::FieldError;
-use crate::line::{Line, line_of};
+use crate::line::{Line, parse_line};
 use json::Scratch;
 use std::alloc::{AllocError, Global};
 use std::str;
@@ -54,7 +54,7 @@ pub fn reading_of<'a>(
     let Some(text) = text_of(bytes) else {
         return Ok(Reading::Bad);
     };
-    match line_of(alloc, text, scratch) {
+    match parse_line(alloc, text, scratch) {
         Ok(line) => Ok(Reading::Asks(line)),
         Err(FieldError::Malformed) => Ok(Reading::Bad),
         Err(FieldError::Memory) => Err(AllocError),

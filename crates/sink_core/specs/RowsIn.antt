@@ -8,18 +8,18 @@ use Rattle.row_core.specs.Rows.{Row}
 use Rattle.row_core.specs.Unsupported.{unsupported}
 use Rattle.schema_tree.specs.Fault.{Path}
 use Rattle.schema_tree.specs.Tree.{Tree}
-use Rattle.sink_core.specs.Refusals.{Refusal, bad_row}
+use Rattle.sink_core.specs.Refusals.{AppendRefusal, bad_row}
 
-abbrev pub unless_unsupported : Option Path → Result (Unit {0}) Refusal
+abbrev pub unless_unsupported : Option Path → Result (Unit {0}) AppendRefusal
 unless_unsupported None = Ok tt
 unless_unsupported (Some path) = Err (bad_row 0 (faults.unsupported path))
 
 -- A column without rows is told before any row is looked at.
-abbrev pub takes_rows : Tree → Result (Unit {0}) Refusal
+abbrev pub takes_rows : Tree → Result (Unit {0}) AppendRefusal
 takes_rows schema = unless_unsupported (unsupported schema)
 
 -- the rows, of which the first has that index; or the first row that is wrong
-unfoldable pub rows_from : ℕ → Tree → Items → Result (List Row) Refusal
+unfoldable pub rows_from : ℕ → Tree → Items → Result (List Row) AppendRefusal
 rows_from index schema no_items = Ok []
 rows_from index schema (item d ds) = do
   first ← refused_as (bad_row index) (row_of schema d)

@@ -15,9 +15,9 @@ use Rattle.delta_replay.specs.Support.{Unsupported, checkpointable, readable}
 use Rattle.delta_replay.specs.Whole.{IsWhole}
 use Rattle.schema_tree.specs.Tree.{Tree}
 use Rattle.table_log.specs.Counts.{commit_count}
-use Rattle.table_log.specs.Restoring.{AreAlike, AreCheckpointsSound, IsSoundCheckpoint, RestoresWell, seen}
+use Rattle.table_log.specs.Restoring.{AreAlike, AreCheckpointsSound, IsSoundCheckpoint, RestoresWell, replayed}
 use Rattle.table_log.specs.Versions.{commits_in, log_of, versions_from}
-use Rattle.table_log.proofs.Callers.{own_checkpoint, same_values, seen_alike, sound_with, whole_log}
+use Rattle.table_log.proofs.Callers.{own_checkpoint, same_values, replayed_alike, sound_with, whole_log}
 use Rattle.snapshot_core.specs.Faults.{Reason, bad_log, checked, readable_log, says, unsupported}
 use Rattle.snapshot_core.specs.Taking.{IsNewestCheckpoint, IsRefusal, IsTableId, IsTooLarge, PutsCheckpoint}
 use Rattle.snapshot_core.specs.Telling.{TellsLists, TellsSnapshot}
@@ -91,20 +91,20 @@ module _ (log other : List (List Action)) (same : (key : Key) → at key log ≡
 -- the commits of a log that is read
 pub record IsReadWhole (objects : Objects) (log : List (List Action)) : Type 0 where
   pub commits : List (List Action)
-  pub read : seen false objects ≡ Ok commits
+  pub read : replayed false objects ≡ Ok commits
   pub same : (key : Key) → at key log ≡ at key commits
 
 by_whole : (objects : Objects) (log : List (List Action)) (whole : Result (List (List Action)) ℕ) → log_of objects ≡ whole → AreAlike (Ok log) whole → IsReadWhole objects log
 by_whole objects log (Ok commits) is alike = record { commits = commits; read = is; same = alike }
 by_whole objects log (Err version) is alike = absurd alike
 
-module _ (restore : Bool) (objects : Objects) (well : RestoresWell restore objects) where
+module _ (use_checkpoints : Bool) (objects : Objects) (well : RestoresWell use_checkpoints objects) where
   -- a log that is read is read whole too
-  read_whole : (log : List (List Action)) → seen restore objects ≡ Ok log → IsReadWhole objects log
-  read_whole log read = by_whole objects log (log_of objects) refl (subst (λ (r : Result (List (List Action)) ℕ). AreAlike r (log_of objects)) read (seen_alike restore objects well))
+  read_whole : (log : List (List Action)) → replayed use_checkpoints objects ≡ Ok log → IsReadWhole objects log
+  read_whole log read = by_whole objects log (log_of objects) refl (subst (λ (r : Result (List (List Action)) ℕ). AreAlike r (log_of objects)) read (replayed_alike use_checkpoints objects well))
 
   -- A checkpoint that is put is that of the whole log.
-  pub puts_alike : (version : ℕ) (name bytes : List ℕ) → PutsCheckpoint restore objects version name bytes → PutsCheckpoint false objects version name bytes
+  pub puts_alike : (version : ℕ) (name bytes : List ℕ) → PutsCheckpoint use_checkpoints objects version name bytes → PutsCheckpoint false objects version name bytes
   puts_alike version name bytes puts =
       let whole = read_whole puts.commits puts.read in
       let values = same_values puts.commits whole.commits whole.same in
@@ -121,7 +121,7 @@ module _ (restore : Bool) (objects : Objects) (well : RestoresWell restore objec
       }
 
   -- So is one that is too large.
-  large_alike : IsTooLarge restore objects → IsTooLarge false objects
+  large_alike : IsTooLarge use_checkpoints objects → IsTooLarge false objects
   large_alike large =
       let whole = read_whole large.commits large.read in
       let values = same_values large.commits whole.commits whole.same in
@@ -136,7 +136,7 @@ module _ (restore : Bool) (objects : Objects) (well : RestoresWell restore objec
       }
 
   -- What a snapshot tells, the whole log leaves.
-  pub tells_alike : (text : List ℕ) → TellsSnapshot restore objects text → TellsSnapshot false objects text
+  pub tells_alike : (text : List ℕ) → TellsSnapshot use_checkpoints objects text → TellsSnapshot false objects text
   tells_alike text tells =
       let whole = read_whole tells.commits tells.read in
       let values = same_values tells.commits whole.commits whole.same in
@@ -183,23 +183,23 @@ module _ {X : Type 0} (tests : List (List Action) → Result X Unsupported) (tes
   refused_alike (Err version) (Ok log) alike reason is = absurd alike
   refused_alike (Err version) (Err other) alike reason is = rw (← alike) is
 
-module _ (restore : Bool) (objects : Objects) (well : RestoresWell restore objects) where
+module _ (use_checkpoints : Bool) (objects : Objects) (well : RestoresWell use_checkpoints objects) where
   -- what a checkpoint is refused for, the whole log says
-  checked_alike : AreRefusedAlike (checked restore objects) (checked false objects)
-  checked_alike = refused_alike checkpointable (λ log other same. (same_values log other same).checkpointed) (seen restore objects) (log_of objects) (seen_alike restore objects well)
+  checked_alike : AreRefusedAlike (checked use_checkpoints objects) (checked false objects)
+  checked_alike = refused_alike checkpointable (λ log other same. (same_values log other same).checkpointed) (replayed use_checkpoints objects) (log_of objects) (replayed_alike use_checkpoints objects well)
 
   -- A checkpoint that isn't put is refused for what the whole log says.
-  pub refusal_alike : (fault : SnapshotFault) → IsRefusal restore fault objects → IsRefusal false fault objects
-  refusal_alike faults.TooLarge refusal = large_alike restore objects well refusal
+  pub refusal_alike : (fault : SnapshotFault) → IsRefusal use_checkpoints fault objects → IsRefusal false fault objects
+  refusal_alike faults.TooLarge refusal = large_alike use_checkpoints objects well refusal
   refusal_alike (faults.BadLog version) refusal = said_alike (faults.BadLog version) _ _ checked_alike refusal
   refusal_alike (faults.Unsupported why) refusal = said_alike (faults.Unsupported why) _ _ checked_alike refusal
   refusal_alike faults.Lost refusal = tt
   refusal_alike faults.Memory refusal = tt
 
   -- So is a snapshot that isn't told.
-  pub unread_alike : (fault : SnapshotFault) → IsSaid (says fault) (readable_log restore objects) → IsSaid (says fault) (readable_log false objects)
+  pub unread_alike : (fault : SnapshotFault) → IsSaid (says fault) (readable_log use_checkpoints objects) → IsSaid (says fault) (readable_log false objects)
   unread_alike fault said =
-      said_alike fault _ _ (refused_alike readable (λ log other same. (same_values log other same).read) (seen restore objects) (log_of objects) (seen_alike restore objects well)) said
+      said_alike fault _ _ (refused_alike readable (λ log other same. (same_values log other same).read) (replayed use_checkpoints objects) (log_of objects) (replayed_alike use_checkpoints objects well)) said
 
 -- ---- a put keeps checkpoints sound
 

@@ -10,7 +10,7 @@ use Rattle.delta_replay.specs.Support as supports
 use Rattle.delta_replay.specs.Support.{Unsupported, checkpointable, readable}
 use Rattle.delta_replay.specs.declared.support.SupportError.{SupportError}
 use Rattle.delta_replay.specs.declared.support.SupportError.TheVariants as errors
-use Rattle.table_log.specs.Restoring.{seen}
+use Rattle.table_log.specs.Restoring.{replayed}
 use Rattle.table_log.specs.declared.fault.LogFault.{LogFault}
 use Rattle.table_log.specs.declared.fault.LogFault.TheVariants as logs
 use Rattle.snapshot_core.specs.declared.fault.SnapshotFault.{SnapshotFault}
@@ -25,16 +25,16 @@ pub data Reason : Type 0 where
 
 -- The commits that a log is seen as whose checkpoint is put, or the first reason why it isn't: the first version that has
 -- no commit that can be read, and what the table has or lacks.
-abbrev pub checked : (restore : Bool) → Objects → Result (List (List Action)) Reason
-checked restore objects = do
-  commits ← refused_as bad_log (seen restore objects)
+abbrev pub checked : (use_checkpoints : Bool) → Objects → Result (List (List Action)) Reason
+checked use_checkpoints objects = do
+  commits ← refused_as bad_log (replayed use_checkpoints objects)
   fine ← refused_as unsupported (checkpointable commits)
   Ok commits
 
 -- the same of a log whose table is read
-abbrev pub readable_log : (restore : Bool) → Objects → Result (List (List Action)) Reason
-readable_log restore objects = do
-  commits ← refused_as bad_log (seen restore objects)
+abbrev pub readable_log : (use_checkpoints : Bool) → Objects → Result (List (List Action)) Reason
+readable_log use_checkpoints objects = do
+  commits ← refused_as bad_log (replayed use_checkpoints objects)
   schema ← refused_as unsupported (readable commits)
   Ok commits
 

@@ -10,7 +10,7 @@ use Rattle.delta_replay.specs.Support.{checkpointable, meta_data_of}
 use Rattle.delta_checkpoint.specs.Checkpoints.{IsCheckpoint}
 use Rattle.delta_checkpoint.specs.Names.{IsCheckpointName, checkpoint_name}
 use Rattle.table_log.specs.Counts.{commit_count}
-use Rattle.table_log.specs.Restoring.{seen}
+use Rattle.table_log.specs.Restoring.{replayed}
 use Rattle.snapshot_core.specs.Faults.{checked, says}
 use Rattle.snapshot_core.specs.declared.fault.SnapshotFault.{SnapshotFault}
 use Rattle.snapshot_core.specs.declared.fault.SnapshotFault.TheVariants as faults
@@ -34,9 +34,9 @@ pub record IsNewestCheckpoint (objects : Objects) (log : List (List Action)) (ve
 
 -- What is put over these objects: the checkpoint of the newest version, if it may be put and isn't too large, under the
 -- name of that version for the table's id.
-pub record PutsCheckpoint (restore : Bool) (objects : Objects) (version : ℕ) (name bytes : List ℕ) : Type 0 where
+pub record PutsCheckpoint (use_checkpoints : Bool) (objects : Objects) (version : ℕ) (name bytes : List ℕ) : Type 0 where
   pub commits : List (List Action)
-  pub read : seen restore objects ≡ Ok commits
+  pub read : replayed use_checkpoints objects ≡ Ok commits
   pub supported : checkpointable commits ≡ Ok tt
   pub id : List ℕ
   pub of_table : IsTableId commits id
@@ -47,28 +47,28 @@ pub record PutsCheckpoint (restore : Bool) (objects : Objects) (version : ℕ) (
   pub found : IsCheckpointName version name
 
 -- The newest version's checkpoint was put: it stands where none of its name stood, and no other object changed.
-pub record HasPut (restore : Bool) (version : ℕ) (old new : Objects) : Type 0 where
+pub record HasPut (use_checkpoints : Bool) (version : ℕ) (old new : Objects) : Type 0 where
   pub name : List ℕ
   pub bytes : List ℕ
-  pub puts : PutsCheckpoint restore old version name bytes
+  pub puts : PutsCheckpoint use_checkpoints old version name bytes
   pub put : new ≡ with_object old name bytes
 
 -- The put of the newest version's checkpoint was lost: it may have taken effect, or may do so later, or never.
-pub record LosesPut (restore : Bool) (old new : Objects × Flight) : Type 0 where
+pub record LosesPut (use_checkpoints : Bool) (old new : Objects × Flight) : Type 0 where
   pub version : ℕ
   pub name : List ℕ
   pub bytes : List ℕ
-  pub puts : PutsCheckpoint restore old.0 version name bytes
+  pub puts : PutsCheckpoint use_checkpoints old.0 version name bytes
   pub put : MayHaveLanded name bytes old new
 
 -- a call was lost: before the put, or the put
-abbrev pub MayHavePut : (restore : Bool) → Objects × Flight → Objects × Flight → Type 0
-MayHavePut restore old new = IsUntouched old new ⊎ LosesPut restore old new
+abbrev pub MayHavePutCheckpoint : (use_checkpoints : Bool) → Objects × Flight → Objects × Flight → Type 0
+MayHavePutCheckpoint use_checkpoints old new = IsUntouched old new ⊎ LosesPut use_checkpoints old new
 
 -- The checkpoint of the newest version may be put, but passes 64 MiB.
-pub record IsTooLarge (restore : Bool) (objects : Objects) : Type 0 where
+pub record IsTooLarge (use_checkpoints : Bool) (objects : Objects) : Type 0 where
   pub commits : List (List Action)
-  pub read : seen restore objects ≡ Ok commits
+  pub read : replayed use_checkpoints objects ≡ Ok commits
   pub supported : checkpointable commits ≡ Ok tt
   pub version : ℕ
   pub bytes : List ℕ
@@ -76,6 +76,6 @@ pub record IsTooLarge (restore : Bool) (objects : Objects) : Type 0 where
   pub large : most_bytes < length bytes
 
 -- What a fault says stands in the log: why it has no checkpoint that may be put, or that it is too large.
-abbrev pub IsRefusal : (restore : Bool) → SnapshotFault → Objects → Type 0
-IsRefusal restore faults.TooLarge objects = IsTooLarge restore objects
-IsRefusal restore fault objects = IsSaid (says fault) (checked restore objects)
+abbrev pub IsRefusal : (use_checkpoints : Bool) → SnapshotFault → Objects → Type 0
+IsRefusal use_checkpoints faults.TooLarge objects = IsTooLarge use_checkpoints objects
+IsRefusal use_checkpoints fault objects = IsSaid (says fault) (checked use_checkpoints objects)

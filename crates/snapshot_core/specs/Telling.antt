@@ -11,39 +11,36 @@ use Rattle.delta_replay.specs.Keys.{file_of, number_of}
 use Rattle.delta_replay.specs.Lists.{ListsClosed, ListsEach}
 use Rattle.delta_replay.specs.Support.{protocol_of, readable}
 use Rattle.table_log.specs.Counts.{commit_count}
-use Rattle.table_log.specs.Restoring.{seen}
+use Rattle.table_log.specs.Restoring.{replayed}
 use Rattle.table_log.specs.SchemaTexts.{IsPrinted}
-
--- a line is ended by a newline
-abbrev pub line_of : List ℕ → List ℕ
-line_of text = text ++ 10 ∷ []
+use Rattle.lake_bytes.specs.Lines.{with_newline}
 
 -- an application's id, as JSON
 abbrev pub id_text : List ℕ → List ℕ
 id_text application = compact_text (string application)
 
 abbrev pub version_line : ℕ → List ℕ
-version_line version = line_of (codes "version " ++ decimal version)
+version_line version = with_newline (codes "version " ++ decimal version)
 
 -- the versions of a reader and of a writer
 abbrev pub protocol_line : ProtocolAction → List ℕ
-protocol_line p = line_of (codes "protocol " ++ (decimal p.min_reader_version ++ (32 ∷ [] ++ decimal p.min_writer_version)))
+protocol_line p = with_newline (codes "protocol " ++ (decimal p.min_reader_version ++ (32 ∷ [] ++ decimal p.min_writer_version)))
 
 -- the text that the schema is printed as
 abbrev pub schema_line : List ℕ → List ℕ
-schema_line text = line_of (codes "schema " ++ text)
+schema_line text = with_newline (codes "schema " ++ text)
 
 -- an application and the number that it has come to
 abbrev pub number_line : TxnAction → List ℕ
-number_line t = line_of (codes "app " ++ (id_text t.app_id ++ (32 ∷ [] ++ decimal t.version)))
+number_line t = with_newline (codes "app " ++ (id_text t.app_id ++ (32 ∷ [] ++ decimal t.version)))
 
 -- an application whose stream is closed
 abbrev pub closed_line : (application : List ℕ) → List ℕ
-closed_line application = line_of (codes "closed " ++ id_text application)
+closed_line application = with_newline (codes "closed " ++ id_text application)
 
 -- a file by its path, as the log has it, and its size
 abbrev pub path_line : (path : List ℕ) (size : ℕ) → List ℕ
-path_line path size = line_of (codes "file " ++ (path ++ (32 ∷ [] ++ decimal size)))
+path_line path size = with_newline (codes "file " ++ (path ++ (32 ∷ [] ++ decimal size)))
 
 abbrev pub file_line : AddAction → List ℕ
 file_line a = path_line a.path.text a.size
@@ -65,9 +62,9 @@ pub record TellsLists (log : List (List Action)) (front text : List ℕ) : Type 
 
 -- The text tells what a log leaves whose table is read: its newest version, the protocol and the schema, and then the
 -- applications' numbers, the closed streams and the files.
-pub record TellsSnapshot (restore : Bool) (objects : Objects) (text : List ℕ) : Type 0 where
+pub record TellsSnapshot (use_checkpoints : Bool) (objects : Objects) (text : List ℕ) : Type 0 where
   pub commits : List (List Action)
-  pub read : seen restore objects ≡ Ok commits
+  pub read : replayed use_checkpoints objects ≡ Ok commits
   pub schema : Tree
   pub supported : readable commits ≡ Ok schema
   pub version : ℕ

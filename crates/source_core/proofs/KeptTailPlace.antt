@@ -14,7 +14,7 @@ use Rattle.table_model.specs.Reads.{placed_rows, placed_files, placed_from, is_b
 use Rattle.table_model.specs.declared.reading.Offset.{Offset}
 use Rattle.table_store.specs.Groups.{new_files}
 use Rattle.source_core.specs.Tailing as tails
-use Rattle.source_core.specs.Tailing.{LogFile, rows_of, numbered}
+use Rattle.source_core.specs.Tailing.{LogFile, file_rows, numbered}
 use Rattle.source_core.proofs.LogFiles.{files_from}
 use Rattle.source_core.proofs.KeptTailWalk.{Found, file_of, rows_in, AreFound}
 
@@ -25,7 +25,7 @@ abbrev pub AreFilesFound : Objects → (schema : Tree) → List Path → List (L
 AreFilesFound objects schema [] [] = Unit {0}
 AreFilesFound objects schema [] (rows ∷ files) = ⊥
 AreFilesFound objects schema (path ∷ paths) [] = ⊥
-AreFilesFound objects schema (path ∷ paths) (rows ∷ files) = ((version file : ℕ) → rows_of objects schema (record { version = version; file = file; path = path }) ≡ Ok rows)
+AreFilesFound objects schema (path ∷ paths) (rows ∷ files) = ((version file : ℕ) → file_rows objects schema (record { version = version; file = file; path = path }) ≡ Ok rows)
     × AreFilesFound objects schema paths files
 
 -- a commit brings the files of its entry
@@ -88,7 +88,7 @@ pub record Behind (objects : Objects) (schema : Tree) (place : Offset) (all_file
 
 module _ (objects : Objects) (schema : Tree) (place : Offset) where
   -- one more file in front
-  behind_first : (f : Found) (files : List LogFile) (rows : List (Offset × Row)) → IsPast place f.version f.file → rows_of objects schema (file_of f) ≡ Ok f.rows
+  behind_first : (f : Found) (files : List LogFile) (rows : List (Offset × Row)) → IsPast place f.version f.file → file_rows objects schema (file_of f) ≡ Ok f.rows
       → Behind objects schema place files rows → Behind objects schema place (file_of f ∷ files) (placed_rows f.version f.file 0 f.rows ++ rows)
   behind_first f files rows past reads later =
       let here = placed_rows f.version f.file 0 f.rows in

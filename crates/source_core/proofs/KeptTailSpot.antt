@@ -14,7 +14,7 @@ use Rattle.table_model.specs.Table.{Entry, files_of}
 use Rattle.table_model.specs.Reads.{placed_rows, placed_files, placed_from, is_in_files, is_offset_from}
 use Rattle.table_model.specs.declared.reading.Offset.{Offset}
 use Rattle.table_store.specs.Groups.{new_files}
-use Rattle.source_core.specs.Tailing.{LogFile, Refusal, rows_of, numbered, unless_no_file, bad_place}
+use Rattle.source_core.specs.Tailing.{LogFile, ReadRefusal, file_rows, numbered, unless_no_file, bad_place}
 use Rattle.source_core.proofs.LogFiles.{files_from, commit_at}
 use Rattle.source_core.proofs.KeptTailWalk.{Found, file_of, rows_in, AreFound, AreWithin, within_none}
 use Rattle.source_core.proofs.KeptTailPlace.{AreFilesFound, AreEntriesFound, is_ahead, stands_before, Behind, files_behind, log_behind, Passed, file_passed, version_passed, file_here, rows_before}
@@ -38,7 +38,7 @@ pub record ShortIn (objects : Objects) (schema : Tree) (place : Offset) (all_fil
 
 -- what two tests say of a place, that of the table and that of the log: a read can begin there, or the version has no
 -- such file, or the file has no such row
-pub data SpotIn (objects : Objects) (schema : Tree) (place : Offset) (is : Bool) (test : Result (Unit {0}) Refusal) (files : List LogFile) (rows : List (Offset × Row)) : Type 0 where
+pub data SpotIn (objects : Objects) (schema : Tree) (place : Offset) (is : Bool) (test : Result (Unit {0}) ReadRefusal) (files : List LogFile) (rows : List (Offset × Row)) : Type 0 where
   stands : is ≡ true → test ≡ Ok tt → AheadIn objects schema place files rows → SpotIn objects schema place is test files rows
   no_file : is ≡ false → test ≡ Err (bad_place place.version) → SpotIn objects schema place is test files rows
   no_row : is ≡ false → test ≡ Ok tt → ShortIn objects schema place files → SpotIn objects schema place is test files rows
@@ -95,7 +95,7 @@ module _ (objects : Objects) (schema : Tree) (place : Offset) where
       rw count (drop-append-add before rows (length others))
 
   -- the tests say the same with passed files in front
-  spot_on : (is : Bool) (test : Result (Unit {0}) Refusal) (before files : List LogFile) (rows_of_before rows : List (Offset × Row)) → Passed place before rows_of_before
+  spot_on : (is : Bool) (test : Result (Unit {0}) ReadRefusal) (before files : List LogFile) (rows_of_before rows : List (Offset × Row)) → Passed place before rows_of_before
       → SpotIn objects schema place is test files rows → SpotIn objects schema place is test (before ++ files) (rows_of_before ++ rows)
   spot_on is test before files rows_of_before rows passed (stands begins file ahead) = stands begins file (record {
     founds = ahead.founds;
@@ -126,7 +126,7 @@ module _ (objects : Objects) (schema : Tree) (place : Offset) where
     rows = rw (late.none_before, none) late.rows;
   }
 
-  module _ (f : Found) (files : List LogFile) (rows : List (Offset × Row)) (at : place.version ≡ f.version) (here : place.file ≡ f.file) (reads : rows_of objects schema (file_of f) ≡ Ok f.rows)
+  module _ (f : Found) (files : List LogFile) (rows : List (Offset × Row)) (at : place.version ≡ f.version) (here : place.file ≡ f.file) (reads : file_rows objects schema (file_of f) ≡ Ok f.rows)
       (late : Behind objects schema place files rows) where
     -- the file is the first one ahead
     first_ahead : filter (is_ahead place) (file_of f ∷ files) ≡ map file_of (f ∷ late.founds)
@@ -159,7 +159,7 @@ module _ (objects : Objects) (schema : Tree) (place : Offset) where
     }
 
     -- the tests in the file of the place
-    spot_in_file : (test : Result (Unit {0}) Refusal) → test ≡ Ok tt
+    spot_in_file : (test : Result (Unit {0}) ReadRefusal) → test ≡ Ok tt
         → SpotIn objects schema place (leb place.row (length f.rows)) test (file_of f ∷ files) (placed_rows f.version f.file 0 f.rows ++ rows)
     spot_in_file test is =
         elim (cases_Bool (leb place.row (length f.rows))) [

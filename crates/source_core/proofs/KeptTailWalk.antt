@@ -14,7 +14,7 @@ use Rattle.table_model.specs.Reads as reads
 use Rattle.table_model.specs.Table.{last}
 use Rattle.table_model.specs.declared.reading.Offset.{Offset}
 use Rattle.table_model.proofs.Callers.{past}
-use Rattle.source_core.specs.Tailing.{LogFile, Refusal, Handed, data_file, rows_of, bad_place, behind, is_done, hand}
+use Rattle.source_core.specs.Tailing.{LogFile, ReadRefusal, ReadRows, data_file, file_rows, bad_place, offset_behind_rows, is_done, hand}
 
 -- ---- rows with their places
 
@@ -56,7 +56,7 @@ behind_all next [] = next
 behind_all next (p ∷ ps) = behind_all (past p.0) ps
 
 -- only the last row counts
-pub behind_last : (next : Offset) (ps : List (Offset × Row)) → behind_all next ps ≡ reads.behind next (last ps)
+pub behind_last : (next : Offset) (ps : List (Offset × Row)) → behind_all next ps ≡ reads.offset_behind next (last ps)
 behind_last next [] = refl
 behind_last next (p ∷ []) = refl
 behind_last next (p ∷ q ∷ ps) = behind_last next (q ∷ ps)
@@ -95,7 +95,7 @@ rows_in (f ∷ fs) = placed_rows f.version f.file 0 f.rows ++ rows_in fs
 -- each file reads as its rows
 abbrev pub AreFound : Objects → (schema : Tree) → List Found → Type 0
 AreFound objects schema [] = Unit {0}
-AreFound objects schema (f ∷ fs) = (rows_of objects schema (file_of f) ≡ Ok f.rows) × AreFound objects schema fs
+AreFound objects schema (f ∷ fs) = (file_rows objects schema (file_of f) ≡ Ok f.rows) × AreFound objects schema fs
 
 -- so many rows are in the first file
 abbrev pub AreWithin : ℕ → List Found → Type 0
@@ -103,21 +103,21 @@ AreWithin skip [] = skip ≡ 0
 AreWithin skip (f ∷ fs) = skip ≤ length f.rows
 
 -- behind a part of a file
-behind_part : (f : Found) (skip : ℕ) (part : List Row) (next : Offset) → behind (file_of f) skip part next ≡ behind_all next (placed_rows f.version f.file skip part)
+behind_part : (f : Found) (skip : ℕ) (part : List Row) (next : Offset) → offset_behind_rows (file_of f) skip part next ≡ behind_all next (placed_rows f.version f.file skip part)
 behind_part f skip [] next = refl
 behind_part f skip (z ∷ part) next =
     let on : suc skip + length part ≡ skip + suc (length part) = omega arith in
     sym (behind_from f.version f.file (suc skip) part ∙ ap (λ (n : ℕ). record { version = f.version; file = f.file; row = n }) on)
 
 -- What is said is rows behind `rows`, at most so many of those ahead, and where the next read begins.
-pub record Goes (end : Offset) (most : ℕ) (rows : List Row) (next : Offset) (ahead : List (Offset × Row)) (said : Result Handed Refusal) : Type 0 where
-  pub handed : Handed
+pub record Goes (end : Offset) (most : ℕ) (rows : List Row) (next : Offset) (ahead : List (Offset × Row)) (said : Result ReadRows ReadRefusal) : Type 0 where
+  pub handed : ReadRows
   pub said_is : said ≡ Ok handed
   pub rows_are : handed.rows ≡ rows ++ map (λ p. p.1) (take most ahead)
   pub onward : handed.next ≡ (if length (take most ahead) == most then behind_all next (take most ahead) else end)
 
 -- nothing more is to be handed out
-done_here : (end : Offset) (most skip : ℕ) (rows : List Row) (next : Offset) (ahead : List (Offset × Row)) (said : Result Handed Refusal) → is_done most skip ≡ true → said ≡ Ok (record { rows = rows; next = next })
+done_here : (end : Offset) (most skip : ℕ) (rows : List Row) (next : Offset) (ahead : List (Offset × Row)) (said : Result ReadRows ReadRefusal) → is_done most skip ≡ true → said ≡ Ok (record { rows = rows; next = next })
     → Goes end most rows next ahead said
 done_here end most skip rows next ahead said done is =
     let none : most ≡ 0 = eqb-true most 0 (and_parts (eqb most 0) (eqb skip 0) done).0 in
@@ -129,7 +129,7 @@ done_here end most skip rows next ahead said done is =
     }
 
 -- no file is left
-at_end : (end : Offset) (most : ℕ) (rows : List Row) (next : Offset) (said : Result Handed Refusal) → said ≡ Ok (record { rows = rows; next = if is_done most 0 then next else end }) → Goes end most rows next [] said
+at_end : (end : Offset) (most : ℕ) (rows : List Row) (next : Offset) (said : Result ReadRows ReadRefusal) → said ≡ Ok (record { rows = rows; next = if is_done most 0 then next else end }) → Goes end most rows next [] said
 at_end end zero rows next said is = record {
   handed = record { rows = rows; next = next };
   said_is = is;
@@ -165,8 +165,8 @@ ahead_in f fs most skip within =
     ∙ take-append most here (rows_in fs) ∙ rw (first, count) refl
 
 -- what goes on behind a part of the first file
-goes_on : (end : Offset) (f : Found) (fs : List Found) (most skip : ℕ) (rows : List Row) (next : Offset) (said : Result Handed Refusal) → skip ≤ length f.rows
-    → Goes end (most - length (take most (drop skip f.rows))) (rows ++ take most (drop skip f.rows)) (behind (file_of f) skip (take most (drop skip f.rows)) next) (rows_in fs) said
+goes_on : (end : Offset) (f : Found) (fs : List Found) (most skip : ℕ) (rows : List Row) (next : Offset) (said : Result ReadRows ReadRefusal) → skip ≤ length f.rows
+    → Goes end (most - length (take most (drop skip f.rows))) (rows ++ take most (drop skip f.rows)) (offset_behind_rows (file_of f) skip (take most (drop skip f.rows)) next) (rows_in fs) said
     → Goes end most rows next (drop skip (rows_in (f ∷ fs))) said
 goes_on end f fs most skip rows next said within later =
     let part = take most (drop skip f.rows) in
@@ -178,7 +178,7 @@ goes_on end f fs most skip rows next said within later =
     let many : length (first ++ more) ≡ length part + length more = length-append first more ∙ rw (length-placed f.version f.file skip part) refl in
     let few : length part ≤ most = omega (arith, length-take most (drop skip f.rows)) in
     let test : eqb (length more) (most - length part) ≡ eqb (length (first ++ more)) most = same_test (length more) (most - length part) (length (first ++ more)) most (λ e. omega arith) (λ e. omega arith) in
-    let to : behind_all (behind (file_of f) skip part next) more ≡ behind_all next (first ++ more) = rw (behind_part f skip part next) (sym (behind_both next first more)) in
+    let to : behind_all (offset_behind_rows (file_of f) skip part next) more ≡ behind_all next (first ++ more) = rw (behind_part f skip part next) (sym (behind_both next first more)) in
     record {
       handed = later.handed;
       said_is = later.said_is;
@@ -203,9 +203,9 @@ module _ (objects : Objects) (schema : Tree) (end : Offset) where
         | inr on ↦
             let part = take most (drop skip f.rows) in
             let enough = le-ltb (length f.rows) skip within in
-            let step : hand objects schema end most skip rows next (map data_file (file_of f ∷ map file_of fs)) ≡ hand objects schema end (most - length part) 0 (rows ++ part) (behind (file_of f) skip part next) (map data_file (map file_of fs)) =
+            let step : hand objects schema end most skip rows next (map data_file (file_of f ∷ map file_of fs)) ≡ hand objects schema end (most - length part) 0 (rows ++ part) (offset_behind_rows (file_of f) skip part next) (map data_file (map file_of fs)) =
             rw (on, found.0, enough) refl in
-            rw step (goes_on end f fs most skip rows next _ within (walked fs (most - length part) 0 (rows ++ part) (behind (file_of f) skip part next) found.1 (within_none fs)))
+            rw step (goes_on end f fs most skip rows next _ within (walked fs (most - length part) 0 (rows ++ part) (offset_behind_rows (file_of f) skip part next) found.1 (within_none fs)))
       ]
 
   -- a first file that has fewer rows than are to be passed over is the answer

@@ -12,7 +12,7 @@ use Rattle.delta_replay.specs.Support.{readable}
 use Rattle.schema_tree.specs.Tree.{Tree}
 use Rattle.store_core.specs.Objects.{Objects}
 use Rattle.table_log.specs.FromCheckpoints.{no_start}
-use Rattle.table_log.specs.InForce.{Told, in_force, told_at}
+use Rattle.table_log.specs.InForce.{SchemaText, in_force, schema_text_at}
 use Rattle.table_log.specs.Reads.{first_from, first_standing, front, removes_rows}
 use Rattle.table_log.specs.Versions.{commit}
 use Rattle.table_model.specs.declared.reading.Offset.{Offset}
@@ -69,7 +69,7 @@ filter-files place (file ∷ files) =
       | inr before ↦ rw (before, filter-files place files) refl
     ]
 
-module _ (told : Told) (place : Offset) where
+module _ (told : SchemaText) (place : Offset) where
   -- nothing is wrong with a commit without a metadata
   no_fault : (version : ℕ) (actions : List Action) → removes_rows actions ≡ false → last (filter_map meta_data_in actions) ≡ None → fault_of told place version (commit actions) ≡ None
   no_fault version actions kept none = rw (kept, none, and-false (nat_lt place.version version)) refl
@@ -89,7 +89,7 @@ module _ (told : Told) (place : Offset) where
       rw (no_first_fault actions keeps.0.0, later_items 1 commits keeps.0.1 keeps.1) (sym (map-append data_file (numbered 0 0 (new_files actions)) (files_from 1 commits)))
 
 -- a read meets the files from that of its place on
-pub plain_items : (told : Told) (place : Offset) (commits : List (List Action)) → KeepsRows commits → items_at told place (map commit commits) ≡ map data_file (files_at place commits)
+pub plain_items : (told : SchemaText) (place : Offset) (commits : List (List Action)) → KeepsRows commits → items_at told place (map commit commits) ≡ map data_file (files_at place commits)
 plain_items told place commits keeps =
     ap (λ (items : List Item). filter (λ item. not (item_before place item)) items) (all_items told place commits keeps) ∙ filter-files place (files_from 0 commits)
 
@@ -128,7 +128,7 @@ pub plain_unremoved : (place : Offset) (commits : List (List Action)) → Remove
 plain_unremoved place commits kept = rw (plain_kept place.version commits kept, and-false (not (place.file == 0 && place.row == 0))) refl
 
 -- What is handed out of commits that keep what was there: rows of their files alone.
-pub plain_handed : (objects : Objects) (told : Told) (commits : List (List Action)) (max : ℕ) (place : Offset) → KeepsRows commits → handed_by objects told (map commit commits) max place
+pub plain_handed : (objects : Objects) (told : SchemaText) (commits : List (List Action)) (max : ℕ) (place : Offset) → KeepsRows commits → handed_by objects told (map commit commits) max place
     ≡ (unless_beyond place (length commits) >>= λ within. unless_no_file place (length (new_files (commit_at place.version commits))) >>= λ file.
     hand objects told.schema (record { version = length commits; file = 0; row = 0 }) max place.row [] place (map data_file (files_at place commits)))
 unfolding handed_by
@@ -137,17 +137,17 @@ plain_handed objects told commits max place keeps =
 
 -- ---- the schema in force
 
-none_told : (commits : List (List Action)) → TellNone commits → (n : ℕ) → filter_map told_at (take n (map commit commits)) ≡ []
+none_told : (commits : List (List Action)) → TellNone commits → (n : ℕ) → filter_map schema_text_at (take n (map commit commits)) ≡ []
 none_told commits none zero = refl
 none_told [] none (suc n) = refl
 none_told (actions ∷ commits) none (suc n) = rw none.0 (none_told commits none.1 n)
 
 -- the first commit's, where no later one has a metadata
-pub first_in_force : (told : Told) (version : ℕ) (actions : List Action) (commits : List (List Action)) → told_at (commit actions) ≡ Some told → TellNone commits → in_force version (map commit (actions ∷ commits)) ≡ Some told
+pub first_in_force : (told : SchemaText) (version : ℕ) (actions : List Action) (commits : List (List Action)) → schema_text_at (commit actions) ≡ Some told → TellNone commits → in_force version (map commit (actions ∷ commits)) ≡ Some told
 first_in_force told version actions commits tells none = rw (tells, none_told commits none version) refl
 
 -- So a read goes by the first commit's schema, where the table is read.
-pub plain_schema_for : (told : Told) (schema : Tree) (place : Offset) (actions : List Action) (commits : List (List Action)) → readable (actions ∷ commits) ≡ Ok schema → told_at (commit actions) ≡ Some told → TellNone commits
+pub plain_schema_for : (told : SchemaText) (schema : Tree) (place : Offset) (actions : List Action) (commits : List (List Action)) → readable (actions ∷ commits) ≡ Ok schema → schema_text_at (commit actions) ≡ Some told → TellNone commits
     → schema_for no_start (map commit (actions ∷ commits)) place ≡ Ok told
 unfolding schema_for
 plain_schema_for told schema place actions commits reads tells none = rw (plain_front commits, reads, tells, none_told commits none place.version) refl

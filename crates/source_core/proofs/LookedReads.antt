@@ -5,12 +5,12 @@ use Rattle.std.proofs.lemmas.Bool.{le-ltb, lt-ltb}
 use Rattle.delta_actions.specs.Kinds.{Path}
 use Rattle.store_core.specs.Objects.{Objects}
 use Rattle.table_log.specs.FromCheckpoints.{from_version}
-use Rattle.table_log.specs.InForce.{Told}
+use Rattle.table_log.specs.InForce.{SchemaText}
 use Rattle.table_log.specs.Reads.{first_from}
 use Rattle.table_log.specs.Versions.{Version, missing, unreadable, commit}
 use Rattle.table_log.proofs.Callers.{length-from_version}
 use Rattle.table_model.specs.declared.reading.Offset.{Offset}
-use Rattle.source_core.specs.Tailing.{Item, Refusal, data_file, fault_of, handed_by, items_from, items_in, numbered, paths_in, unless_gone}
+use Rattle.source_core.specs.Tailing.{Item, ReadRefusal, data_file, fault_of, handed_by, items_from, items_in, numbered, paths_in, unless_gone}
 use Rattle.source_core.proofs.ItemLemmas.{fault_passed, kept, kept_both}
 
 -- what stands at a place's version
@@ -47,11 +47,11 @@ files_passed place version file [] below = refl
 files_passed place version file (path ∷ paths) below = rw (lt-ltb version place.version below) (files_passed place version (suc file) paths below)
 
 -- and so are all its items
-items_passed : (place : Offset) (version : ℕ) (fault : Option Refusal) (paths : List Path) → version < place.version → kept place (items_in version fault paths) ≡ []
+items_passed : (place : Offset) (version : ℕ) (fault : Option ReadRefusal) (paths : List Path) → version < place.version → kept place (items_in version fault paths) ≡ []
 items_passed place version (Some refusal) paths below = fault_passed place version refusal paths below
 items_passed place version None paths below = files_passed place version 0 paths below
 
-module _ (told : Told) (place : Offset) where
+module _ (told : SchemaText) (place : Offset) where
   first_passed : (version : ℕ) (found : Version) (others : List Item) → version < place.version → kept place (items_in version (fault_of told place version found) (paths_in found) ++ others) ≡ kept place others
   first_passed version found others below =
       kept_both place (items_in version (fault_of told place version found) (paths_in found)) others
@@ -65,7 +65,7 @@ module _ (told : Told) (place : Offset) where
       ∙ (items_alike n (suc from) more (omega (arith, short)) ∙ sym (first_passed from found (items_from told place (suc from) more) (omega (arith, short))))
 
 -- What is handed out is the same.
-pub handed_alike : (objects : Objects) (told : Told) (n : ℕ) (versions : List Version) (max : ℕ) (place : Offset) → n ≤ place.version → handed_by objects told (from_version n versions) max place ≡ handed_by objects told versions max place
+pub handed_alike : (objects : Objects) (told : SchemaText) (n : ℕ) (versions : List Version) (max : ℕ) (place : Offset) → n ≤ place.version → handed_by objects told (from_version n versions) max place ≡ handed_by objects told versions max place
 unfolding handed_by
 handed_alike objects told n versions max place le =
     rw (length-from_version n versions, gone_alike place n 0 0 versions (omega arith) (omega (arith, le)), got_alike n place.version versions le, items_alike told place n 0 versions (omega (arith, le))) refl

@@ -11,7 +11,7 @@ use Rattle.delta_replay.specs.Keys.{Key, at, last}
 use Rattle.delta_replay.specs.Support.{meta_data_of, readable}
 use Rattle.delta_replay.proofs.NewestTold.{meta_data_grows}
 use Rattle.table_log.specs.FromCheckpoints.{from_version, front_behind}
-use Rattle.table_log.specs.InForce.{Told, first, in_force, in_force_from, told_at, told_of}
+use Rattle.table_log.specs.InForce.{SchemaText, first, in_force, in_force_from, schema_text_at, schema_text_of}
 use Rattle.table_log.specs.Reads.{front}
 use Rattle.table_log.specs.Restoring.{Restored}
 use Rattle.table_log.specs.Versions.{Version, missing, commit}
@@ -79,20 +79,20 @@ drop_within (suc n) (found ∷ versions) others le = drop_within n versions othe
 -- ---- the newest schema that is told
 
 -- the last that these versions tell
-abbrev last_in : List Version → Option Told
-last_in versions = last (filter_map told_at versions)
+abbrev last_in : List Version → Option SchemaText
+last_in versions = last (filter_map schema_text_at versions)
 
-last_first : (found : Version) (more : List Version) → last_in (found ∷ more) ≡ option_or (last_in more) (told_at found)
-last_first found more = sym (or_none (last_in (found ∷ more))) ∙ (last_told told_at found more None ∙ ap (option_or (last_in more)) (or_none (told_at found)))
+last_first : (found : Version) (more : List Version) → last_in (found ∷ more) ≡ option_or (last_in more) (schema_text_at found)
+last_first found more = sym (or_none (last_in (found ∷ more))) ∙ (last_told schema_text_at found more None ∙ ap (option_or (last_in more)) (or_none (schema_text_at found)))
 
 last_both : (versions others : List Version) → last_in (versions ++ others) ≡ option_or (last_in others) (last_in versions)
 last_both [] others = sym (or_none (last_in others))
 last_both (found ∷ versions) others =
     last_first found (versions ++ others)
-    ∙ (ap (λ (o : Option Told). option_or o (told_at found)) (last_both versions others)
-    ∙ (or_regroup (last_in others) (last_in versions) (told_at found) ∙ ap (option_or (last_in others)) (sym (last_first found versions))))
+    ∙ (ap (λ (o : Option SchemaText). option_or o (schema_text_at found)) (last_both versions others)
+    ∙ (or_regroup (last_in others) (last_in versions) (schema_text_at found) ∙ ap (option_or (last_in others)) (sym (last_first found versions))))
 
-or_same : (told : Option Told) → option_or told told ≡ told
+or_same : (told : Option SchemaText) → option_or told told ≡ told
 or_same None = refl
 or_same (Some told) = refl
 
@@ -102,79 +102,79 @@ last_alike zero versions = or_same (last_in versions)
 last_alike (suc n) [] = refl
 last_alike (suc n) (found ∷ more) =
     ap (option_or (last_in (from_version n more))) (last_first found more)
-    ∙ (sym (or_regroup (last_in (from_version n more)) (last_in more) (told_at found))
-    ∙ (ap (λ (o : Option Told). option_or o (told_at found)) (last_alike n more) ∙ sym (last_first found more)))
+    ∙ (sym (or_regroup (last_in (from_version n more)) (last_in more) (schema_text_at found))
+    ∙ (ap (λ (o : Option SchemaText). option_or o (schema_text_at found)) (last_alike n more) ∙ sym (last_first found more)))
 
 -- ---- the newest metadata of some commits
 
 -- one commit more: where the newest metadata can be read, its schema is the last that is told
-one_told : (before : List (List Action)) (actions : List Action) → ((told : Told) → told_of (meta_data_of before) ≡ Some told → last_in (map commit before) ≡ Some told)
-    → (told : Told) → told_of (meta_data_of (before ++ actions ∷ [])) ≡ Some told → last_in (map commit (before ++ actions ∷ [])) ≡ Some told
+one_told : (before : List (List Action)) (actions : List Action) → ((told : SchemaText) → schema_text_of (meta_data_of before) ≡ Some told → last_in (map commit before) ≡ Some told)
+    → (told : SchemaText) → schema_text_of (meta_data_of (before ++ actions ∷ [])) ≡ Some told → last_in (map commit (before ++ actions ∷ [])) ≡ Some told
 one_told before actions so_far told is =
-    by_newest (last (filter_map meta_data_in actions)) refl (ap told_of (sym (meta_data_grows before actions ∙ newest_is meta_data_in (meta_data_of before) actions)) ∙ is)
+    by_newest (last (filter_map meta_data_in actions)) refl (ap schema_text_of (sym (meta_data_grows before actions ∙ newest_is meta_data_in (meta_data_of before) actions)) ∙ is)
   where
     both : last_in (map commit (before ++ actions ∷ [])) ≡ option_or (last_in (commit actions ∷ [])) (last_in (map commit before))
     both = ap last_in (map-append commit before (actions ∷ [])) ∙ last_both (map commit before) (commit actions ∷ [])
 
-    own : last_in (commit actions ∷ []) ≡ told_of (last (filter_map meta_data_in actions))
+    own : last_in (commit actions ∷ []) ≡ schema_text_of (last (filter_map meta_data_in actions))
     own = last_first (commit actions) []
 
-    by_newest : (newest : Option MetaDataAction) → last (filter_map meta_data_in actions) ≡ newest → told_of (option_or (last (filter_map meta_data_in actions)) (meta_data_of before)) ≡ Some told
+    by_newest : (newest : Option MetaDataAction) → last (filter_map meta_data_in actions) ≡ newest → schema_text_of (option_or (last (filter_map meta_data_in actions)) (meta_data_of before)) ≡ Some told
         → last_in (map commit (before ++ actions ∷ [])) ≡ Some told
     by_newest None found reads =
-        both ∙ (ap (λ (o : Option Told). option_or o (last_in (map commit before))) (own ∙ ap told_of found)
-        ∙ so_far told (ap (λ (o : Option MetaDataAction). told_of (option_or o (meta_data_of before))) (sym found) ∙ reads))
+        both ∙ (ap (λ (o : Option SchemaText). option_or o (last_in (map commit before))) (own ∙ ap schema_text_of found)
+        ∙ so_far told (ap (λ (o : Option MetaDataAction). schema_text_of (option_or o (meta_data_of before))) (sym found) ∙ reads))
     by_newest (Some m) found reads =
-        both ∙ ap (λ (o : Option Told). option_or o (last_in (map commit before))) (own ∙ (ap told_of found ∙ (ap (λ (o : Option MetaDataAction). told_of (option_or o (meta_data_of before))) (sym found) ∙ reads)))
+        both ∙ ap (λ (o : Option SchemaText). option_or o (last_in (map commit before))) (own ∙ (ap schema_text_of found ∙ (ap (λ (o : Option MetaDataAction). schema_text_of (option_or o (meta_data_of before))) (sym found) ∙ reads)))
 
-more_told : (before commits : List (List Action)) → ((told : Told) → told_of (meta_data_of before) ≡ Some told → last_in (map commit before) ≡ Some told)
-    → (told : Told) → told_of (meta_data_of (before ++ commits)) ≡ Some told → last_in (map commit (before ++ commits)) ≡ Some told
+more_told : (before commits : List (List Action)) → ((told : SchemaText) → schema_text_of (meta_data_of before) ≡ Some told → last_in (map commit before) ≡ Some told)
+    → (told : SchemaText) → schema_text_of (meta_data_of (before ++ commits)) ≡ Some told → last_in (map commit (before ++ commits)) ≡ Some told
 more_told before [] so_far told is =
-    ap (λ (all : List (List Action)). last_in (map commit all)) (append-nil before) ∙ so_far told (ap (λ (all : List (List Action)). told_of (meta_data_of all)) (sym (append-nil before)) ∙ is)
+    ap (λ (all : List (List Action)). last_in (map commit all)) (append-nil before) ∙ so_far told (ap (λ (all : List (List Action)). schema_text_of (meta_data_of all)) (sym (append-nil before)) ∙ is)
 more_told before (actions ∷ commits) so_far told is =
     let whole : (before ++ actions ∷ []) ++ commits ≡ before ++ actions ∷ commits = append_assoc before (actions ∷ []) commits in
     ap (λ (all : List (List Action)). last_in (map commit all)) (sym whole)
-    ∙ more_told (before ++ actions ∷ []) commits (one_told before actions so_far) told (ap (λ (all : List (List Action)). told_of (meta_data_of all)) whole ∙ is)
+    ∙ more_told (before ++ actions ∷ []) commits (one_told before actions so_far) told (ap (λ (all : List (List Action)). schema_text_of (meta_data_of all)) whole ∙ is)
 
-newest_told : (commits : List (List Action)) (told : Told) → told_of (meta_data_of commits) ≡ Some told → last_in (map commit commits) ≡ Some told
+newest_told : (commits : List (List Action)) (told : SchemaText) → schema_text_of (meta_data_of commits) ≡ Some told → last_in (map commit commits) ≡ Some told
 newest_told commits told is = more_told [] commits (λ told is. absurd cc) told is
 
 -- ---- the schema in force
 
 -- where one is told, none counts that is told elsewhere
-some_first : (found : Option Told) (told : Told) (one other : Option Told) → option_or (option_or found (Some told)) one ≡ option_or (option_or found (Some told)) other
+some_first : (found : Option SchemaText) (told : SchemaText) (one other : Option SchemaText) → option_or (option_or found (Some told)) one ≡ option_or (option_or found (Some told)) other
 some_first None told one other = refl
 some_first (Some own) told one other = refl
 
 -- where some version tells a schema, one is in force
-some_told : (versions others : List Version) (told more : Told) → last_in (versions ++ others) ≡ Some told
-    → option_or (option_or (option_or (last_in versions) None) (first (filter_map told_at others))) (Some more) ≡ option_or (option_or (last_in versions) None) (first (filter_map told_at others))
+some_told : (versions others : List Version) (told more : SchemaText) → last_in (versions ++ others) ≡ Some told
+    → option_or (option_or (option_or (last_in versions) None) (first (filter_map schema_text_at others))) (Some more) ≡ option_or (option_or (last_in versions) None) (first (filter_map schema_text_at others))
 some_told versions others told more is = by_last (last_in versions) refl
   where
-    by_first : (tell : List Told) → last tell ≡ Some told → option_or (first tell) (Some more) ≡ first tell
+    by_first : (tell : List SchemaText) → last tell ≡ Some told → option_or (first tell) (Some more) ≡ first tell
     by_first [] none = absurd cc
     by_first (own ∷ tell) some = refl
 
-    by_last : (found : Option Told) → last_in versions ≡ found → option_or (option_or (option_or found None) (first (filter_map told_at others))) (Some more) ≡ option_or (option_or found None) (first (filter_map told_at others))
+    by_last : (found : Option SchemaText) → last_in versions ≡ found → option_or (option_or (option_or found None) (first (filter_map schema_text_at others))) (Some more) ≡ option_or (option_or found None) (first (filter_map schema_text_at others))
     by_last (Some own) e = refl
     by_last None e =
         let later : last_in others ≡ Some told = sym (or_none (last_in others)) ∙ (ap (option_or (last_in others)) (sym e) ∙ (sym (last_both versions others) ∙ is)) in
-        by_first (filter_map told_at others) later
+        by_first (filter_map schema_text_at others) later
 
 -- and it is found among those, whatever follows
-first_enough : (versions others behind : List Version) (told : Told) → last_in (versions ++ others) ≡ Some told
-    → option_or (option_or (last_in versions) None) (first (filter_map told_at others)) ≡ option_or (option_or (last_in versions) None) (first (filter_map told_at (others ++ behind)))
+first_enough : (versions others behind : List Version) (told : SchemaText) → last_in (versions ++ others) ≡ Some told
+    → option_or (option_or (last_in versions) None) (first (filter_map schema_text_at others)) ≡ option_or (option_or (last_in versions) None) (first (filter_map schema_text_at (others ++ behind)))
 first_enough versions others behind told is = by_last (last_in versions) refl
   where
-    by_first : (tell : List Told) → filter_map told_at others ≡ tell → last tell ≡ Some told → first (filter_map told_at others) ≡ first (filter_map told_at (others ++ behind))
+    by_first : (tell : List SchemaText) → filter_map schema_text_at others ≡ tell → last tell ≡ Some told → first (filter_map schema_text_at others) ≡ first (filter_map schema_text_at (others ++ behind))
     by_first [] e none = absurd cc
-    by_first (own ∷ tell) e some = ap first e ∙ sym (ap first (filter_map-append told_at others behind ∙ ap (λ (tell : List Told). tell ++ filter_map told_at behind) e))
+    by_first (own ∷ tell) e some = ap first e ∙ sym (ap first (filter_map-append schema_text_at others behind ∙ ap (λ (tell : List SchemaText). tell ++ filter_map schema_text_at behind) e))
 
-    by_last : (found : Option Told) → last_in versions ≡ found → option_or (option_or found None) (first (filter_map told_at others)) ≡ option_or (option_or found None) (first (filter_map told_at (others ++ behind)))
+    by_last : (found : Option SchemaText) → last_in versions ≡ found → option_or (option_or found None) (first (filter_map schema_text_at others)) ≡ option_or (option_or found None) (first (filter_map schema_text_at (others ++ behind)))
     by_last (Some own) e = refl
     by_last None e =
         let later : last_in others ≡ Some told = sym (or_none (last_in others)) ∙ (ap (option_or (last_in others)) (sym e) ∙ (sym (last_both versions others) ∙ is)) in
-        by_first (filter_map told_at others) refl later
+        by_first (filter_map schema_text_at others) refl later
 
 module _ (r : Restored) (commits : List (List Action)) (behind : List Version) (long : length commits ≡ suc r.version) (same : (key : Key) → at key (r.actions ∷ []) ≡ at key commits) where
   abbrev versions : List Version
@@ -184,13 +184,13 @@ module _ (r : Restored) (commits : List (List Action)) (behind : List Version) (
   as_many = length-map commits commit ∙ long
 
   -- what the checkpoint tells is the newest that the commits tell
-  own_told : (told : Told) → told_at (commit r.actions) ≡ Some told → last_in (map commit commits) ≡ Some told
+  own_told : (told : SchemaText) → schema_text_at (commit r.actions) ≡ Some told → last_in (map commit commits) ≡ Some told
   own_told told is =
-      let one : told_of (meta_data_of commits) ≡ told_at (commit r.actions) = ap told_of (sym (same_values (r.actions ∷ []) commits same).metadata ∙ meta_data_in_one r.actions) in
+      let one : schema_text_of (meta_data_of commits) ≡ schema_text_at (commit r.actions) = ap schema_text_of (sym (same_values (r.actions ∷ []) commits same).metadata ∙ meta_data_in_one r.actions) in
       newest_told commits told (one ∙ is)
 
   -- behind a checkpoint of the version or an earlier one
-  pub force_later : (version n : ℕ) (told : Told) → told_at (commit r.actions) ≡ Some told → r.version ≤ version → n ≤ suc r.version → in_force_from (Some told) version (from_version n versions) ≡ in_force version versions
+  pub force_later : (version n : ℕ) (told : SchemaText) → schema_text_at (commit r.actions) ≡ Some told → r.version ≤ version → n ≤ suc r.version → in_force_from (Some told) version (from_version n versions) ≡ in_force version versions
   force_later version n told is le short =
       let own = own_told told is in
       let many = as_many in
@@ -206,14 +206,14 @@ module _ (r : Restored) (commits : List (List Action)) (behind : List Version) (
       ap (option_or (last_in (from_version n (map commit commits)))) (sym own) ∙ (last_alike n (map commit commits) ∙ own) in
       let seen : option_or (last_in (take (suc version) (from_version n versions))) (Some told) ≡ option_or (last_in rest) (Some told) =
       ap (λ (found : List Version). option_or (last_in found) (Some told)) left
-      ∙ (ap (λ (o : Option Told). option_or o (Some told)) (last_both (from_version n (map commit commits)) rest)
+      ∙ (ap (λ (o : Option SchemaText). option_or o (Some told)) (last_both (from_version n (map commit commits)) rest)
       ∙ (or_regroup (last_in rest) (last_in (from_version n (map commit commits))) (Some told) ∙ ap (option_or (last_in rest)) part)) in
       let whole : option_or (last_in (take (suc version) versions)) None ≡ option_or (last_in rest) (Some told) = or_none (last_in (take (suc version) versions)) ∙ all in
-      ap (λ (o : Option Told). option_or o (first (filter_map told_at (drop (suc version) (from_version n versions))))) seen
-      ∙ (some_first (last_in rest) told _ _ ∙ sym (ap (λ (o : Option Told). option_or o (first (filter_map told_at (drop (suc version) versions)))) whole))
+      ap (λ (o : Option SchemaText). option_or o (first (filter_map schema_text_at (drop (suc version) (from_version n versions))))) seen
+      ∙ (some_first (last_in rest) told _ _ ∙ sym (ap (λ (o : Option SchemaText). option_or o (first (filter_map schema_text_at (drop (suc version) versions)))) whole))
 
   -- in front of one of a later version
-  pub force_earlier : (version : ℕ) (told : Told) → told_at (commit r.actions) ≡ Some told → version < r.version → option_or (in_force version (take (suc r.version) versions)) (Some told) ≡ in_force version versions
+  pub force_earlier : (version : ℕ) (told : SchemaText) → schema_text_at (commit r.actions) ≡ Some told → version < r.version → option_or (in_force version (take (suc r.version) versions)) (Some told) ≡ in_force version versions
   force_earlier version told is lt =
       let many = as_many in
       let up : take (suc r.version) versions ≡ map commit commits = ap (λ (m : ℕ). take m versions) (sym many) ∙ take_front (map commit commits) behind in
@@ -226,8 +226,8 @@ module _ (r : Restored) (commits : List (List Action)) (behind : List Version) (
       ap (λ (found : List Version). option_or (in_force version found) (Some told)) up
       ∙ (some_told here later told told tells
       ∙ (first_enough here later behind told tells
-      ∙ sym (ap (λ (found : List Version). option_or (option_or (last_in found) None) (first (filter_map told_at (drop (suc version) versions)))) front
-      ∙ ap (λ (found : List Version). option_or (option_or (last_in here) None) (first (filter_map told_at found))) others)))
+      ∙ sym (ap (λ (found : List Version). option_or (option_or (last_in found) None) (first (filter_map schema_text_at (drop (suc version) versions)))) front
+      ∙ ap (λ (found : List Version). option_or (option_or (last_in here) None) (first (filter_map schema_text_at found))) others)))
 
   -- The table is read alike, where no version behind the checkpoint is left out.
   pub front_alike : (n : ℕ) → n ≤ suc r.version → readable (front_behind (Some r) (from_version n versions)) ≡ readable (front versions)

@@ -12,14 +12,14 @@ use Rattle.lake_bytes.specs.Results.{◌>>=◌, or_refusal}
 use Rattle.store_core.specs.Objects.{Objects, names_of}
 use Rattle.table_log.specs.Counts.{commit_count}
 use Rattle.table_log.specs.FromCheckpoints.{CheckpointSchema, Start, first_behind, first_read, first_schema, from_version, front_behind, in_force_at, later_schema, looked_at, newest_schema, no_start, schema_below, schema_by, schema_upto, start_at}
-use Rattle.table_log.specs.InForce.{Told, in_force, in_force_from}
+use Rattle.table_log.specs.InForce.{SchemaText, in_force, in_force_from}
 use Rattle.table_log.specs.Reads.{front}
 use Rattle.table_log.specs.Restoring.{HasSoundCheckpoints, Restored, RestoresWell, checkpoint_in, restored}
 use Rattle.table_log.specs.Versions.{Version, missing, unreadable, commit, commits_in, version_at, versions_from, versions_of}
 use Rattle.table_log.proofs.Callers.{IsCheckpointFound, SchemaParts, commit_is, found_parts, last_found, newest_found, read_parts, schema_parts, versions_long}
 use Rattle.table_model.specs.declared.reading.Offset.{Offset}
 use Rattle.source_core.specs.Offsets.{offset_of}
-use Rattle.source_core.specs.Tailing.{Handed, Refusal, bad_offset, handed_by, handed_text, read_by, schema_at, schema_for, tailed, versions_at}
+use Rattle.source_core.specs.Tailing.{ReadRows, ReadRefusal, bad_offset, handed_by, handed_text, read_by, schema_at, schema_for, tailed, versions_at}
 use Rattle.source_core.proofs.LookedReads.{handed_alike}
 use Rattle.source_core.proofs.LookedSchemas.{force_earlier, force_later, front_alike, none_alike}
 
@@ -180,14 +180,14 @@ module _ (objects : Objects) (version : ℕ) where
           let short = first_told newest s in
           let at = own.version in
           rw e
-          (ap (λ (told : Option Told). in_force_from told version (from_version n all)) own.reads
+          (ap (λ (told : Option SchemaText). in_force_from told version (from_version n all)) own.reads
           ∙ (ap (λ (versions : List Version). in_force_from (Some own.told) version (from_version n versions)) is.whole
           ∙ (force_later one.r is.commits is.behind is.long is.same version n own.told own.tells (grind (arith, nat_tests, e, at)) (omega (arith, short, at))
           ∙ sym (ap (in_force version) is.whole))))
       by_order false e =
           let at = own.version in
           rw (first_all newest s e, e)
-          (ap (λ (told : Option Told). option_or (in_force version (take (suc s.version) all)) told) own.reads
+          (ap (λ (told : Option SchemaText). option_or (in_force version (take (suc s.version) all)) told) own.reads
           ∙ (ap (λ (v : ℕ). option_or (in_force version (take (suc v) all)) (Some own.told)) at
           ∙ (ap (λ (versions : List Version). option_or (in_force version (take (suc one.r.version) versions)) (Some own.told)) is.whole
           ∙ (force_earlier one.r is.commits is.behind is.long is.same version own.told own.tells (grind (arith, nat_tests, e, at))
@@ -201,35 +201,35 @@ same_schema objects place start newest schema =
     rw (none_alike (first_read place.version start) (versions_of objects), same_front objects place.version start.newest start.schema newest, same_force objects place.version start.newest start.schema schema) refl
 
 -- what follows is the same, where it is for each that was read
-onward : {A B : Type 0} (read : Result A Refusal) (f g : A → Result B Refusal) → ((x : A) → f x ≡ g x) → (read >>= f) ≡ (read >>= g)
+onward : {A B : Type 0} (read : Result A ReadRefusal) (f g : A → Result B ReadRefusal) → ((x : A) → f x ≡ g x) → (read >>= f) ≡ (read >>= g)
 onward (Ok x) f g same = same x
 onward (Err refusal) f g same = refl
 
 module _ (objects : Objects) (well : HasSoundCheckpoints objects) (place : Offset) where
   -- the schema, and then the rows
-  both_alike : {B : Type 0} (max : ℕ) (f : Told → Handed → Result B Refusal) → (schema_at true objects place >>= λ told. handed_by objects told (versions_at true objects place) max place >>= f told)
+  both_alike : {B : Type 0} (max : ℕ) (f : SchemaText → ReadRows → Result B ReadRefusal) → (schema_at true objects place >>= λ told. handed_by objects told (versions_at true objects place) max place >>= f told)
       ≡ (schema_at false objects place >>= λ told. handed_by objects told (versions_at false objects place) max place >>= f told)
   both_alike max f =
-      ap (λ (read : Result Told Refusal). read >>= λ told. handed_by objects told (versions_at true objects place) max place >>= f told)
+      ap (λ (read : Result SchemaText ReadRefusal). read >>= λ told. handed_by objects told (versions_at true objects place) max place >>= f told)
       (same_schema objects place (start_at place.version objects) (sound_newest objects well) (sound_start objects well place.version))
       ∙ onward (schema_at false objects place) _ _
-      (λ told. ap (λ (handed : Result Handed Refusal). handed >>= f told)
+      (λ told. ap (λ (handed : Result ReadRows ReadRefusal). handed >>= f told)
       (handed_alike objects told (first_read place.version (start_at place.version objects)) (versions_of objects) max place (first_before place.version (start_at place.version objects))))
 
   rows_alike : (max : ℕ) → read_by true objects max place ≡ read_by false objects max place
   rows_alike max =
-      ap (λ (read : Result Told Refusal). read >>= λ told. handed_by objects told (versions_at true objects place) max place)
+      ap (λ (read : Result SchemaText ReadRefusal). read >>= λ told. handed_by objects told (versions_at true objects place) max place)
       (same_schema objects place (start_at place.version objects) (sound_newest objects well) (sound_start objects well place.version))
       ∙ onward (schema_at false objects place) _ _
       (λ told. handed_alike objects told (first_read place.version (start_at place.version objects)) (versions_of objects) max place (first_before place.version (start_at place.version objects)))
 
 -- Where checkpoints are sound, a read from one on hands out the same.
-pub read_alike : (restore : Bool) (objects : Objects) → RestoresWell restore objects → (max : ℕ) (place : Offset) → read_by restore objects max place ≡ read_by false objects max place
+pub read_alike : (use_checkpoints : Bool) (objects : Objects) → RestoresWell use_checkpoints objects → (max : ℕ) (place : Offset) → read_by use_checkpoints objects max place ≡ read_by false objects max place
 read_alike false objects well max place = refl
 read_alike true objects well max place = rows_alike objects (well refl) place max
 
 -- And it tells the same.
-pub tailed_alike : (restore : Bool) (objects : Objects) → RestoresWell restore objects → (max : ℕ) (offset : List ℕ) → tailed restore objects max offset ≡ tailed false objects max offset
+pub tailed_alike : (use_checkpoints : Bool) (objects : Objects) → RestoresWell use_checkpoints objects → (max : ℕ) (offset : List ℕ) → tailed use_checkpoints objects max offset ≡ tailed false objects max offset
 unfolding tailed
 tailed_alike false objects well max offset = refl
 tailed_alike true objects well max offset =

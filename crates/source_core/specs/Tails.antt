@@ -7,15 +7,15 @@ use Rattle.table_model.specs.Resumed.{beginning}
 use Rattle.row_core.specs.Rows.{Row}
 use Rattle.table_model.specs.Table.{Entry, rows}
 use Rattle.table_model.specs.declared.reading.Offset.{Offset}
-use Rattle.source_core.specs.Tailing.{Refusal, Handed, read_by}
+use Rattle.source_core.specs.Tailing.{ReadRefusal, ReadRows, read_by}
 
 -- the rows of an answer: a read that is refused hands out none
-abbrev pub rows_handed : Result Handed Refusal → List Row
+abbrev pub rows_handed : Result ReadRows ReadRefusal → List Row
 rows_handed (Ok handed) = handed.rows
 rows_handed (Err refusal) = []
 
 -- where the next read begins: a read that is refused leaves its offset
-abbrev pub offset_after : Offset → Result Handed Refusal → Offset
+abbrev pub offset_after : Offset → Result ReadRows ReadRefusal → Offset
 offset_after offset (Ok handed) = handed.next
 offset_after offset (Err refusal) = offset
 

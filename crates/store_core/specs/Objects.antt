@@ -1,5 +1,5 @@
 -- What stands in a store: a finite map from names to bytes, kept as its entries in rising order of the names' bytes.
-use Rattle.std.specs.Prelude.{ℕ, List, Option, is_some, if◌then◌else◌}
+use Rattle.std.specs.Prelude.{ℕ, List, Option, is_some, if◌then◌else◌, ◌≡◌, Some}
 use Rattle.std.specs.declared.cmp.Ordering.{Ordering}
 use Rattle.std.specs.Ordering.{nat_cmp}
 use Rattle.std.specs.Str.{bytes_eq}
@@ -32,3 +32,7 @@ IsInOrder objects = IsStrictlySortedBy name_order (names_of objects)
 unfoldable pub with_object : Objects → List ℕ → List ℕ → Objects
 with_object objects name bytes =
     if is_some (object_at objects name) then objects else insert_entry name_order objects name bytes
+
+-- what stands in the one stands in the other, under its name and with its bytes
+abbrev pub HasObjectsOf : (objects more : Objects) → Type 0
+HasObjectsOf objects more = (name bytes : List ℕ) → object_at objects name ≡ Some bytes → object_at more name ≡ Some bytes

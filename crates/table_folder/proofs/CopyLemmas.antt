@@ -5,11 +5,11 @@ use Rattle.std.specs.List.{list_any}
 use Rattle.std.proofs.lemmas.List.Elements.{All-head, All-tail}
 use Rattle.std.proofs.lemmas.List.Folds.{list_any-append}
 use Rattle.std.proofs.lemmas.Slice.Eq.{bytes_eq-Decides}
-use Rattle.store_core.specs.Objects.{Objects, IsInOrder, object_at, names_of, with_object}
+use Rattle.store_core.specs.Objects.{Objects, IsInOrder, object_at, names_of, with_object, HasObjectsOf}
 use Rattle.store_core.specs.ObjectLaws.{object_at-with_object_same, object_at-with_object_other, IsInOrder-with_object, same_objects}
 use Rattle.table_folder.specs.Kinds.{is_data, is_commit, is_checkpoint}
 use Rattle.table_folder.specs.Orders.{IsInOrder-none}
-use Rattle.table_folder.specs.Copies.{AreAbsent, HasAll, not_loaded, to_save, saved_at, with_found, with_copy, with_copies}
+use Rattle.table_folder.specs.Copies.{AreAbsent, not_loaded, to_save, saved_at, with_found, with_copy, with_copies}
 
 -- what stood, or else what is copied there
 abbrev pub first_of : Option (List ℕ) → Option (List ℕ) → Option (List ℕ)
@@ -179,7 +179,7 @@ either None (Some bytes) has = refl
 either (Some bytes) stored has = sym (has bytes refl)
 
 -- once the store's new objects are saved, the folder holds all of the store, where the store has all that the folder had
-pub all_saved : (held stored : Objects) → IsInOrder held → IsInOrder stored → HasAll stored held → with_copies stored held (to_save (names_of held) (names_of stored)) ≡ stored
+pub all_saved : (held stored : Objects) → IsInOrder held → IsInOrder stored → HasObjectsOf held stored → with_copies stored held (to_save (names_of held) (names_of stored)) ≡ stored
 all_saved held stored order stored_order has =
     same_objects (with_copies stored held (to_save (names_of held) (names_of stored))) stored (IsInOrder-with_copies stored held (to_save (names_of held) (names_of stored)) order) stored_order
     (λ name. object_at-with_copies stored held (to_save (names_of held) (names_of stored)) name

@@ -46,7 +46,3 @@ MayHaveSaved stored name old new = ((object_at old name ≡ None) × (new ≡ wi
 -- what stands under a name once these names are saved: under each of them what the store has
 abbrev pub saved_at : Objects → List (List ℕ) → Objects → List ℕ → Option (List ℕ)
 saved_at stored names held name = cond (list_any (bytes_eq name) names) (object_at stored name) (object_at held name)
-
--- all that stands in the one stands in the other, with the same bytes
-abbrev pub HasAll : (more less : Objects) → Type 0
-HasAll more less = (name bytes : List ℕ) → object_at less name ≡ Some bytes → object_at more name ≡ Some bytes

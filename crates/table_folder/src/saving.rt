@@ -3,8 +3,8 @@ ghost use Rattle.std.specs.Prelude.{◌≡◌, ◌++◌, ℕ, List, None, Some, 
 ghost use Rattle.std.specs.BTreeSet.{contains_text};
 ghost use Rattle.std.specs.List.{list_any};
 ghost use Rattle.store_core.specs.Calls.{IsUntouched};
-ghost use Rattle.store_core.specs.Objects.{names_of, object_at};
-ghost use Rattle.table_folder.specs.Copies.{AreAbsent, HasAll, HasSavedFront, MayHaveSaved, new_names, saved_at, with_copies, with_copy};
+ghost use Rattle.store_core.specs.Objects.{names_of, object_at, HasObjectsOf};
+ghost use Rattle.table_folder.specs.Copies.{AreAbsent, HasSavedFront, MayHaveSaved, new_names, saved_at, with_copies, with_copy};
 ghost use Rattle.table_folder.specs.Faults.{CountsLost, CountsSave, FailsWhereStood, IsNotSaved, SaveFailsAmong, SaveFailsAt};
 ghost use Rattle.table_folder.specs.Kinds.{is_checkpoint, is_commit, is_data, is_of};
 
@@ -38,7 +38,7 @@ pub fn save<F: Folder, S: Store>(
     // Where the folder's own names were loaded, and the store has all that the folder has, all of the store is in the
     // folder then, and nothing else.
     ensures same { F.is_steady folder.old → map string_bytes loaded.now ≡ names_of (F.objects folder.old)
-        → HasAll (S.objects store.old) (F.objects folder.old) → OnOk result (F.objects folder.new ≡ S.objects store.old) }
+        → HasObjectsOf (F.objects folder.old) (S.objects store.old) → OnOk result (F.objects folder.new ≡ S.objects store.old) }
     ensures store { IsUntouched (S.objects store.old, S.in_flight store.old) (S.objects store.new, S.in_flight store.new) }
 
     ensures named { SaveFailsAmong (new_names loaded.now (S.objects store.old)) result }

@@ -9,10 +9,10 @@ use Rattle.std.proofs.lemmas.List.{append-nil}
 use Rattle.std.proofs.lemmas.List.Elements.{All-contains, All-contains_itself, All-filter, Contains-append_cases, Contains-append_left, Contains-push, filter_passes}
 use Rattle.row_core.specs.Rows.{Row, same_rows}
 use Rattle.table_model.specs.Table.{Batch, Entry, creation, group, close, closes_of, batches, batches_by, numbers_by, last, last_batch, is_closed}
-use Rattle.table_model.specs.Appends.{appended, appended_new, appended_behind, with_batch, closing, with_close, Tells, TellsClose}
+use Rattle.table_model.specs.Appends.{appended, appended_new, appended_behind, with_batch, closing, with_close, TellsAppend, TellsClose}
 use Rattle.table_model.specs.Lawful.{NoCreation, BeginsWithCreation, Rises, IsWellGrouped, IsLawful}
-use Rattle.table_model.specs.declared.table.Appended.{Appended}
-use Rattle.table_model.specs.declared.table.Appended.TheVariants.{Committed, Already, Stale, Differs, StreamClosed}
+use Rattle.table_model.specs.declared.table.AppendAnswer.{AppendAnswer}
+use Rattle.table_model.specs.declared.table.AppendAnswer.TheVariants.{Committed, Already, Stale, Differs, StreamClosed}
 use Rattle.table_model.specs.declared.table.Closing.{Closing}
 use Rattle.table_model.specs.declared.table.Closing.TheVariants.{Closed, AlreadyClosed}
 use Rattle.row_core.proofs.Callers.{same_rows-is}
@@ -82,14 +82,14 @@ close_stands application entries shut = any_is application (flat_map closes_of e
 
 -- ---- what an append tells
 
-new_tells : (b : Batch) (entries : List Entry) → IsAbove b.number (last (numbers_by b.application entries)) → Tells (appended_new b entries) b (with_batch (appended_new b entries) b entries)
+new_tells : (b : Batch) (entries : List Entry) → IsAbove b.number (last (numbers_by b.application entries)) → TellsAppend (appended_new b entries) b (with_batch (appended_new b entries) b entries)
 new_tells b entries above =
     elim (cases_Bool (is_closed b.application entries)) [
       | inl shut ↦ rw shut (close_stands b.application entries shut, λ lawful. all_below (numbers_by b.application entries) b.number (lawful.rises b.application) above)
       | inr fresh ↦ rw fresh (group (b ∷ []), at_the_end entries (group (b ∷ [])), (0, omega arith, refl))
     ]
 
-behind_tells : (b : Batch) (entries : List Entry) (before : Option Batch) → last_batch b.application entries ≡ before → Tells (appended_behind b entries before) b (with_batch (appended_behind b entries before) b entries)
+behind_tells : (b : Batch) (entries : List Entry) (before : Option Batch) → last_batch b.application entries ≡ before → TellsAppend (appended_behind b entries before) b (with_batch (appended_behind b entries before) b entries)
 behind_tells b entries None is = new_tells b entries (rw (last_number b.application entries, is) tt)
 behind_tells b entries (Some before) is =
     let found = last_stands b.application entries before is in
@@ -115,7 +115,7 @@ behind_tells b entries (Some before) is =
       ]
     ]
 
-pub append_tells : (b : Batch) (entries : List Entry) → Tells (appended b entries) b (with_batch (appended b entries) b entries)
+pub append_tells : (b : Batch) (entries : List Entry) → TellsAppend (appended b entries) b (with_batch (appended b entries) b entries)
 append_tells b entries = behind_tells b entries (last_batch b.application entries) refl
 
 pub close_tells : (application : List ℕ) (entries : List Entry) → TellsClose (closing application entries) application (with_close application entries)
@@ -152,7 +152,7 @@ behind_version b version entries (Some before) e =
     ]
 
 pub next_batch : (b : Batch) (version : ℕ) (entries : List Entry) → appended b entries ≡ Committed version → (version ≡ length entries) × (with_batch (appended b entries) b entries ≡ entries ++ group (b ∷ []) ∷ [])
-next_batch b version entries e = (behind_version b version entries (last_batch b.application entries) e, ap (λ (a : Appended). with_batch a b entries) e)
+next_batch b version entries e = (behind_version b version entries (last_batch b.application entries) e, ap (λ (a : AppendAnswer). with_batch a b entries) e)
 
 pub next_close : (application : List ℕ) (version : ℕ) (entries : List Entry) → closing application entries ≡ Closed version → (version ≡ length entries) × (with_close application entries ≡ entries ++ close application ∷ [])
 next_close application version entries e =
@@ -216,7 +216,7 @@ still_below b entries more stands below lawful =
     let same : numbers_by b.application (entries ++ more) ≡ numbers_by b.application entries = numbers_by-append b.application entries more ∙ rw none (append-nil (numbers_by b.application entries)) in
     subst (λ (ns : List ℕ). All (λ n. n < b.number) ns) (sym same) (below (lawful-front entries more lawful))
 
-pub append_lasts : (answer : Appended) (b : Batch) (entries more : List Entry) → Tells answer b entries → Tells answer b (entries ++ more)
+pub append_lasts : (answer : AppendAnswer) (b : Batch) (entries more : List Entry) → TellsAppend answer b entries → TellsAppend answer b (entries ++ more)
 append_lasts (Committed version) b entries more told = (told.0, at_the_front entries more version told.0 told.1, told.2)
 append_lasts (Already number) b entries more told = (told.0, batch_lasts b entries more told.1)
 append_lasts (Stale number) b entries more told = (told.0, told.1, batch_lasts (record b { number = number; rows = told.1 }) entries more told.2)

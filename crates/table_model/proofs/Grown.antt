@@ -7,7 +7,7 @@ use Rattle.std.proofs.lemmas.List.{append-nil}
 use Rattle.std.proofs.lemmas.List.Concat.{flat_map-append}
 use Rattle.std.proofs.lemmas.List.Elements.{filter-append}
 use Rattle.row_core.specs.Rows.{Row}
-use Rattle.table_model.specs.Table.{Entry, files_of, rows_of, rows}
+use Rattle.table_model.specs.Table.{Entry, files_of, entry_rows, rows}
 use Rattle.table_model.specs.Reads.{handed, placed_files, placed_from, placed, is_before, position, is_in_files, is_offset_from, is_offset, is_beyond, end, part, next_offset, read}
 use Rattle.table_model.specs.Resumed.{beginning}
 use Rattle.table_model.specs.declared.reading.Offset.{Offset}
@@ -16,7 +16,7 @@ use Rattle.table_model.proofs.Places.{Reaches, rises_from, rises_lower, none_bef
 -- ---- the rows of joined entries
 
 pub rows-append : (entries more : List Entry) → rows (entries ++ more) ≡ rows entries ++ rows more
-rows-append entries more = flat_map-append rows_of entries more
+rows-append entries more = flat_map-append entry_rows entries more
 
 placed_from-append : (version to : ℕ) (entries more : List Entry) → to ≡ version + length entries → placed_from version (entries ++ more) ≡ placed_from version entries ++ placed_from to more
 placed_from-append version to [] more at = let here : to ≡ version = omega arith in ap (λ (n : ℕ). placed_from n more) (sym here)

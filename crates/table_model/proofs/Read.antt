@@ -5,7 +5,7 @@ use Rattle.std.proofs.lemmas.List.{take-append-drop, length-take, length-map, ta
 use Rattle.std.proofs.lemmas.List.Filters.{length-filter_both}
 use Rattle.row_core.specs.Rows.{Row}
 use Rattle.table_model.specs.Table.{Entry, rows, last}
-use Rattle.table_model.specs.Reads.{handed, beyond, bad_place, placed, is_before, position, is_offset, is_beyond, end, behind, part, next_offset, read}
+use Rattle.table_model.specs.Reads.{handed, beyond, bad_place, placed, is_before, position, is_offset, is_beyond, end, offset_behind, part, next_offset, read}
 use Rattle.table_model.specs.declared.reading.Offset.{Offset}
 use Rattle.table_model.proofs.Batches.{last_none, last_some}
 use Rattle.table_model.proofs.Places.{past, position_past, position_end, rows-placed, past_is_offset, end_is_offset}
@@ -72,7 +72,7 @@ cut_at_last max offset entries front p is =
 same_behind : (max to : ℕ) (offset : Offset) (entries : List Entry) → to - position offset entries ≡ max → take max (drop (position offset entries) (rows entries)) ≡ take (to - position offset entries) (drop (position offset entries) (rows entries))
 same_behind max to offset entries e = ap (λ (n : ℕ). take n (drop (position offset entries) (rows entries))) (sym e)
 
-full_part : (max : ℕ) (offset : Offset) (entries : List Entry) (o : Option (Offset × Row)) → is_offset offset entries ≡ true → length (part max offset entries) ≡ max → last (part max offset entries) ≡ o → Between max offset (behind offset o) entries
+full_part : (max : ℕ) (offset : Offset) (entries : List Entry) (o : Option (Offset × Row)) → is_offset offset entries ≡ true → length (part max offset entries) ≡ max → last (part max offset entries) ≡ o → Between max offset (offset_behind offset o) entries
 full_part max offset entries None good full e =
     let none : part max offset entries ≡ [] = last_none (part max offset entries) e in
     let no : length (part max offset entries) ≡ 0 = ap (λ (ps : List (Offset × Row)). length ps) none in

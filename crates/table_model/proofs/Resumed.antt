@@ -6,7 +6,7 @@ use Rattle.std.proofs.lemmas.List.Sums.{sum_by-cons}
 use Rattle.row_core.specs.Rows.{Row}
 use Rattle.table_model.specs.Table.{Entry, rows}
 use Rattle.table_model.specs.Reads.{Answer, handed, beyond, bad_place, position, is_offset, end, read, IsPart}
-use Rattle.table_model.specs.Resumed.{Handed, rows_of, next_after, with_earlier, reads_on, HandOut, growth, beginning}
+use Rattle.table_model.specs.Resumed.{ResumedReads, answer_rows, next_after, with_earlier, reads_on, HandOut, growth, beginning}
 use Rattle.table_model.specs.declared.reading.Offset.{Offset}
 use Rattle.table_model.proofs.Places.{position_end}
 use Rattle.table_model.proofs.Read.{length-rows, as_many}
@@ -26,14 +26,14 @@ final_grows (r ∷ later) offset entries =
 abbrev limits : List (ℕ × List Entry) → ℕ
 limits reads = sum_by (λ r. r.0) reads
 
-pub final_grows_any : (reads : List (ℕ × List Entry)) (offset : Offset) (entries : List Entry) (all : Handed) → HandOut reads offset entries all → all.final ≡ entries ++ growth reads
-final_grows_any [] offset entries all is = ap (λ (h : Handed). h.final) is ∙ sym (append-nil entries)
+pub final_grows_any : (reads : List (ℕ × List Entry)) (offset : Offset) (entries : List Entry) (all : ResumedReads) → HandOut reads offset entries all → all.final ≡ entries ++ growth reads
+final_grows_any [] offset entries all is = ap (λ (h : ResumedReads). h.final) is ∙ sym (append-nil entries)
 final_grows_any (r ∷ later) offset entries all h =
-    ap (λ (k : Handed). k.final) h.5 ∙ final_grows_any later h.1 (entries ++ r.1) h.2 h.4 ∙ append_assoc entries r.1 (growth later)
+    ap (λ (k : ResumedReads). k.final) h.5 ∙ final_grows_any later h.1 (entries ++ r.1) h.2 h.4 ∙ append_assoc entries r.1 (growth later)
 
-pub handed_out : (reads : List (ℕ × List Entry)) (offset : Offset) (entries : List Entry) (all : Handed) → is_offset offset entries ≡ true → HandOut reads offset entries all
+pub handed_out : (reads : List (ℕ × List Entry)) (offset : Offset) (entries : List Entry) (all : ResumedReads) → is_offset offset entries ≡ true → HandOut reads offset entries all
     → IsPart (sum_by (λ r. r.0) reads) offset all.out all.next all.final
-handed_out [] offset entries all good is = subst (λ (h : Handed). IsPart 0 offset h.out h.next h.final) (sym is) (no_part 0 offset entries good)
+handed_out [] offset entries all good is = subst (λ (h : ResumedReads). IsPart 0 offset h.out h.next h.final) (sym is) (no_part 0 offset entries good)
 handed_out (r ∷ later) offset entries all good h =
     let table = entries ++ r.1 in
     let rest = h.2 in
@@ -42,18 +42,18 @@ handed_out (r ∷ later) offset entries all good h =
     subst (λ (es : List Entry). IsPart (limits later) h.1 rest.out rest.next es) grown (handed_out later h.1 table rest h.3.ends h.4) in
     let both : IsPart (r.0 + limits later) offset (h.0 ++ rest.out) rest.next rest.final =
     subst (λ (es : List Entry). IsPart (r.0 + limits later) offset (h.0 ++ rest.out) rest.next es) (sym grown) (parts_join r.0 (limits later) offset h.1 rest.next table (growth later) h.0 rest.out h.3 others) in
-    subst (λ (k : Handed). IsPart (limits (r ∷ later)) offset k.out k.next k.final) (sym h.5)
+    subst (λ (k : ResumedReads). IsPart (limits (r ∷ later)) offset k.out k.next k.final) (sym h.5)
     (subst (λ (n : ℕ). IsPart n offset (h.0 ++ rest.out) rest.next rest.final) (sym (sum_by-cons (λ (x : ℕ × List Entry). x.0) r later)) both)
 
-pub any_from_beginning : (reads : List (ℕ × List Entry)) (entries : List Entry) (all : Handed) → HandOut reads beginning entries all → all.out ≡ take (position all.next all.final) (rows all.final)
+pub any_from_beginning : (reads : List (ℕ × List Entry)) (entries : List Entry) (all : ResumedReads) → HandOut reads beginning entries all → all.out ≡ take (position all.next all.final) (rows all.final)
 any_from_beginning reads entries all h = front_of_rows (limits reads) all.next all.final all.out (handed_out reads beginning entries all (beginning_is_offset entries) h)
 
 -- ---- the function's reads are such reads
 
 one_read : (max : ℕ) (offset : Offset) (table : List Entry) (later : List (ℕ × List Entry)) (answer : Answer) → is_offset offset table ≡ true → read max offset table ≡ answer
     → ((p : Offset) → is_offset p table ≡ true → HandOut later p table (reads_on later p table))
-    → (out : List Row) × (next : Offset) × (rest : Handed) × IsPart max offset out next table × HandOut later next table rest
-    × (with_earlier (rows_of answer) (reads_on later (next_after offset answer) table) ≡ with_earlier out rest)
+    → (out : List Row) × (next : Offset) × (rest : ResumedReads) × IsPart max offset out next table × HandOut later next table rest
+    × (with_earlier (answer_rows answer) (reads_on later (next_after offset answer) table) ≡ with_earlier out rest)
 one_read max offset table later (handed out next) good is others =
     let part = read_is_part max offset next table out is in (out, next, reads_on later next table, part, others next part.ends, refl)
 one_read max offset table later (beyond next) good is others = ([], offset, reads_on later offset table, no_part max offset table good, others offset good, refl)
@@ -114,9 +114,9 @@ reads_on-append (r ∷ later) more offset entries =
     let answer = read r.0 offset table in
     let so_far = reads_on later (next_after offset answer) table in
     let rest = reads_on more so_far.next so_far.final in
-    let joined : (rows_of answer ++ (so_far.out ++ rest.out)) ≡ ((rows_of answer ++ so_far.out) ++ rest.out) = sym (append_assoc (rows_of answer) so_far.out rest.out) in
-    let front : Handed → Handed = λ h. with_earlier (rows_of answer) h in
-    let with : List Row → Handed = λ rs. record { out = rs; next = rest.next; final = rest.final } in
+    let joined : (answer_rows answer ++ (so_far.out ++ rest.out)) ≡ ((answer_rows answer ++ so_far.out) ++ rest.out) = sym (append_assoc (answer_rows answer) so_far.out rest.out) in
+    let front : ResumedReads → ResumedReads = λ h. with_earlier (answer_rows answer) h in
+    let with : List Row → ResumedReads = λ rs. record { out = rs; next = rest.next; final = rest.final } in
     ap front (reads_on-append later more (next_after offset answer) table) ∙ ap with joined
 
 -- a last read that had less to hand out than it was asked for
@@ -128,8 +128,8 @@ all_after_short earlier max more entries out next is short =
     let table = so_far.final ++ more in
     let h = reads_on (earlier ++ (max, more) ∷ []) beginning entries in
     let joined = reads_on-append earlier ((max, more) ∷ []) beginning entries in
-    let ends : h.next ≡ next = ap (λ (k : Handed). k.next) joined ∙ ap (λ (a : Answer). next_after so_far.next a) is in
-    let grown : h.final ≡ table = ap (λ (k : Handed). k.final) joined in
+    let ends : h.next ≡ next = ap (λ (k : ResumedReads). k.next) joined ∙ ap (λ (a : Answer). next_after so_far.next a) is in
+    let grown : h.final ≡ table = ap (λ (k : ResumedReads). k.final) joined in
     let last : position next table ≡ length (rows table) = elim (as_many max so_far.next next table out is) [
       | inl full ↦ absurd (omega (arith, full, short))
       | inr done ↦ done

@@ -2,10 +2,10 @@
 
 ghost use Rattle.std.specs.Prelude.{◌≡◌, ℕ, List, [], ◌∷◌, ◌++◌, length, Contains};
 ghost use Rattle.table_model.specs.Table.{Batch, Entry, group, close, batches};
-ghost use Rattle.table_model.specs.Appends.{appended, with_batch, closing, with_close, Tells, TellsClose};
+ghost use Rattle.table_model.specs.Appends.{appended, with_batch, closing, with_close, TellsAppend, TellsClose};
 ghost use Rattle.table_model.specs.Lawful.{IsLawful};
-ghost use Rattle.table_model.specs.declared.table.Appended.{Appended};
-ghost use Rattle.table_model.specs.declared.table.Appended.TheVariants.{Committed};
+ghost use Rattle.table_model.specs.declared.table.AppendAnswer.{AppendAnswer};
+ghost use Rattle.table_model.specs.declared.table.AppendAnswer.TheVariants.{Committed};
 ghost use Rattle.table_model.specs.declared.table.Closing.{Closing};
 ghost use Rattle.table_model.specs.declared.table.Closing.TheVariants.{Closed};
 
@@ -15,7 +15,7 @@ ghost use Rattle.table_model.specs.declared.table.Closing.TheVariants.{Closed};
 /// and where the stream was closed its close stands, and each number of the application is below the batch's if the
 /// table is lawful.
 pub fn answers_are_facts()
-    ensures append { (b : Batch) (entries : List Entry) → Tells (appended b entries) b (with_batch (appended b entries) b entries) }
+    ensures append { (b : Batch) (entries : List Entry) → TellsAppend (appended b entries) b (with_batch (appended b entries) b entries) }
     ensures close { (application : List ℕ) (entries : List Entry) → TellsClose (closing application entries) application (with_close application entries) }
 {}
 
@@ -29,7 +29,7 @@ pub fn a_commit_is_the_next_version()
 
 /// What was told once stays true in each table that the table grows to, and a batch that stands stays.
 pub fn facts_last()
-    ensures append { (answer : Appended) (b : Batch) (entries more : List Entry) → Tells answer b entries → Tells answer b (entries ++ more) }
+    ensures append { (answer : AppendAnswer) (b : Batch) (entries more : List Entry) → TellsAppend answer b entries → TellsAppend answer b (entries ++ more) }
     ensures close { (answer : Closing) (application : List ℕ) (entries more : List Entry) → TellsClose answer application entries → TellsClose answer application (entries ++ more) }
     ensures stands { (b : Batch) (entries more : List Entry) → Contains (batches entries) b → Contains (batches (entries ++ more)) b }
 {}

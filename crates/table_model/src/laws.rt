@@ -9,7 +9,7 @@ ghost use Rattle.table_model.specs.Reads.{read, handed, position, is_offset, end
 ghost use Rattle.table_model.specs.Resumed.{reads_on, growth, beginning};
 ghost use Rattle.table_model.specs.Lawful.{IsLawful};
 ghost use Rattle.table_model.specs.declared.reading.Offset.{Offset};
-ghost use Rattle.table_model.specs.declared.table.Appended.TheVariants.{Already};
+ghost use Rattle.table_model.specs.declared.table.AppendAnswer.TheVariants.{Already};
 
 /// A table that was just created is lawful.
 pub fn a_new_table_is_lawful()

@@ -27,4 +27,4 @@ pub use parts::{
     a_read_is_a_part, any_reader_hands_out_the_log, parts_that_follow_are_one,
 };
 pub use reading::{Answer, Offset};
-pub use table::{Appended, Batch, Closing, Entry, Table};
+pub use table::{AppendAnswer, Batch, Closing, Entry, Table};

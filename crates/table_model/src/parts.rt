@@ -4,7 +4,7 @@ ghost use Rattle.std.specs.Prelude.{◌≡◌, ◌⊎◌, ℕ, ◌+◌, ◌<◌,
 ghost use Rattle.row_core.specs.Rows.{Row};
 ghost use Rattle.table_model.specs.Table.{Entry, rows};
 ghost use Rattle.table_model.specs.Reads.{read, handed, position, is_offset, end, IsPart, MayEnd};
-ghost use Rattle.table_model.specs.Resumed.{Handed, HandOut, reads_on, growth, beginning};
+ghost use Rattle.table_model.specs.Resumed.{ResumedReads, HandOut, reads_on, growth, beginning};
 ghost use Rattle.table_model.specs.declared.reading.Offset.{Offset};
 
 /// What a read hands out is a part of the table: `max` rows, or all up to the log's end.
@@ -45,10 +45,10 @@ pub fn a_part_from_the_beginning_is_a_front()
 /// final table, and from the beginning its first rows: each once, in the order of the log, whichever reader it is and
 /// whatever ends its reads. The reads of the function are such reads.
 pub fn any_reader_hands_out_the_log()
-    ensures final_table { (reads : List (ℕ × List Entry)) (offset : Offset) (entries : List Entry) (all : Handed) → HandOut reads offset entries all → all.final ≡ entries ++ growth reads }
-    ensures part { (reads : List (ℕ × List Entry)) (offset : Offset) (entries : List Entry) (all : Handed) → is_offset offset entries ≡ true → HandOut reads offset entries all
+    ensures final_table { (reads : List (ℕ × List Entry)) (offset : Offset) (entries : List Entry) (all : ResumedReads) → HandOut reads offset entries all → all.final ≡ entries ++ growth reads }
+    ensures part { (reads : List (ℕ × List Entry)) (offset : Offset) (entries : List Entry) (all : ResumedReads) → is_offset offset entries ≡ true → HandOut reads offset entries all
         → IsPart (sum_by (λ r. r.0) reads) offset all.out all.next all.final }
-    ensures from_beginning { (reads : List (ℕ × List Entry)) (entries : List Entry) (all : Handed) → HandOut reads beginning entries all
+    ensures from_beginning { (reads : List (ℕ × List Entry)) (entries : List Entry) (all : ResumedReads) → HandOut reads beginning entries all
         → all.out ≡ take (position all.next all.final) (rows all.final) }
     ensures function { (reads : List (ℕ × List Entry)) (offset : Offset) (entries : List Entry) → is_offset offset entries ≡ true → HandOut reads offset entries (reads_on reads offset entries) }
 {}

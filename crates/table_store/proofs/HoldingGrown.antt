@@ -1,11 +1,10 @@
 -- The table of a store with more objects begins with the table of the store before.
 use Rattle.std.proofs.Common.{◌≡◌, ℕ, suc, true, List, [], ◌∷◌, ◌++◌, refl, sym, ap₂, subst, arith}
-use Rattle.store_core.specs.Objects.{Objects}
+use Rattle.store_core.specs.Objects.{Objects, HasObjectsOf}
 use Rattle.delta_actions.specs.Action as actions
 use Rattle.delta_actions.specs.Names.{commit_name}
 use Rattle.table_store.specs.Schema.{Schema}
 use Rattle.table_store.specs.Commits.{without_commit_info, StandFor}
-use Rattle.table_store.specs.Growth.{HasObjectsOf}
 use Rattle.table_store.specs.Holds.{HoldsFrom, Holds}
 use Rattle.table_model.specs.Lawful.{BeginsWithCreation}
 use Rattle.table_model.specs.Reads.{is_offset, position}

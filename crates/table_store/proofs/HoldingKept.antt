@@ -1,10 +1,9 @@
 -- What stands in a store stands in one that has its objects and maybe more.
 use Rattle.std.proofs.Common.{ℕ, List, [], ◌∷◌}
 use Rattle.std.specs.List.{AllByRecursion}
-use Rattle.store_core.specs.Objects.{Objects}
+use Rattle.store_core.specs.Objects.{Objects, HasObjectsOf}
 use Rattle.delta_actions.specs.Names.{data_file_name}
 use Rattle.table_store.specs.Schema.{Schema}
-use Rattle.table_store.specs.Growth.{HasObjectsOf}
 use Rattle.table_store.specs.Holds.{Stands, FileStands, FilesStand}
 use Rattle.table_model.specs.Table.{Batch, Entry, batches_of}
 

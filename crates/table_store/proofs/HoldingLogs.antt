@@ -17,7 +17,7 @@ use Rattle.table_store.specs.Commits.{without_commit_info, StandFor}
 use Rattle.table_store.specs.Holds.{Stands, FileStands, FilesStand, HoldsFrom, Holds}
 use Rattle.table_store.specs.Groups.{numbers, added, new_file, new_files, AreFilesOf}
 use Rattle.table_store.specs.Logs.{LogFrom, IsLog, AreBatchesOf, AreBatches, AreRowsOf, AreRows}
-use Rattle.table_model.specs.Table.{Batch, Entry, creation, group, close, batches_of, rows_of, batches, rows}
+use Rattle.table_model.specs.Table.{Batch, Entry, creation, group, close, batches_of, entry_rows, batches, rows}
 use Rattle.table_store.proofs.HoldingEnds.{none_at_end, LogFrom-first}
 use Rattle.table_store.proofs.HoldingOne.{named, one_object, one_file, one_commit}
 
@@ -93,22 +93,22 @@ new_files-added (action ∷ made) all = new_file-front (add_in action) (added ma
 
 -- Files of batches in order, which stand, have the rows of these batches in front.
 AreRowsOf-named : (objects : Objects) (schema : Schema) (bs : List Batch) (files : List AddAction) (paths : List Path) (behind : List Row) → AreFilesOf (map named bs) files
-    → AllByRecursion (FileStands objects schema) bs → AreRowsOf objects schema paths behind → AreRowsOf objects schema (paths_of files ++ paths) (rows_of (group bs) ++ behind)
+    → AllByRecursion (FileStands objects schema) bs → AreRowsOf objects schema paths behind → AreRowsOf objects schema (paths_of files ++ paths) (entry_rows (group bs) ++ behind)
 AreRowsOf-named objects schema [] [] paths behind are stand told = told
 AreRowsOf-named objects schema [] (file ∷ files) paths behind are stand told = absurd are
 AreRowsOf-named objects schema (b ∷ bs) [] paths behind are stand told = absurd are
 AreRowsOf-named objects schema (b ∷ bs) (file ∷ files) paths behind are stand told =
     let first : Stands objects file.path.key (λ bytes. IsFileOf schema bytes b.rows) = rw are.0 stand.0 in
-    (b.rows, rows_of (group bs) ++ behind, first, AreRowsOf-named objects schema bs files paths behind are.2 stand.1 told, append_assoc b.rows (rows_of (group bs)) behind)
+    (b.rows, entry_rows (group bs) ++ behind, first, AreRowsOf-named objects schema bs files paths behind are.2 stand.1 told, append_assoc b.rows (entry_rows (group bs)) behind)
 
 -- The actions of an entry in front tell of its rows in front.
 AreRowsOf-entry : (objects : Objects) (schema : Schema) (entry : Entry) (behind : List Row) (beside : List actions.Action) (paths : List Path) → StandFor schema entry beside
-    → FilesStand objects schema entry → AreRowsOf objects schema paths behind → AreRowsOf objects schema (new_files beside ++ paths) (rows_of entry ++ behind)
+    → FilesStand objects schema entry → AreRowsOf objects schema paths behind → AreRowsOf objects schema (new_files beside ++ paths) (entry_rows entry ++ behind)
 AreRowsOf-entry objects schema creation behind beside paths stand files told = rw stand.actions told
 AreRowsOf-entry objects schema (group bs) behind beside paths stand files told =
     let new : new_files beside ≡ paths_of (added beside) = new_files-added beside (AreFilesOf-new (numbers beside) (added beside) stand.files) in
     let are : AreFilesOf (map named bs) (added beside) = subst (λ (ns : List (List ℕ × ℕ)). AreFilesOf ns (added beside)) stand.numbered stand.files in
-    subst (λ (ps : List Path). AreRowsOf objects schema (ps ++ paths) (rows_of (group bs) ++ behind)) (sym new) (AreRowsOf-named objects schema bs (added beside) paths behind are files told)
+    subst (λ (ps : List Path). AreRowsOf objects schema (ps ++ paths) (entry_rows (group bs) ++ behind)) (sym new) (AreRowsOf-named objects schema bs (added beside) paths behind are files told)
 AreRowsOf-entry objects schema (close application) behind beside paths stand files told = rw stand.actions told
 
 -- ---- the log of the table

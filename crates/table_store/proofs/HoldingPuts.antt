@@ -1,11 +1,10 @@
 -- What a put leaves of the table that a store holds.
 use Rattle.std.proofs.Common.{◌≡◌, ◌≢◌, ℕ, suc, ◌+◌, List, [], ◌∷◌, ◌++◌, length, None, Some, sym, subst, ◌∙◌, refl, arith}
-use Rattle.store_core.specs.Objects.{Objects, object_at, with_object}
+use Rattle.store_core.specs.Objects.{Objects, object_at, with_object, HasObjectsOf}
 use Rattle.store_core.specs.ObjectLaws.{object_at-with_object_same, object_at-with_object_other, object_at-with_object_kept}
 use Rattle.delta_actions.specs.Names.{commit_name, data_file_name}
 use Rattle.table_store.specs.Schema.{Schema}
 use Rattle.table_store.specs.Commits.{IsCommitOf}
-use Rattle.table_store.specs.Growth.{HasObjectsOf}
 use Rattle.table_store.specs.Holds.{EndsAt, Stands, FilesStand, HoldsFrom}
 use Rattle.table_model.specs.Table.{Entry}
 use Rattle.table_store.proofs.HoldingKept.{Stands-kept, FilesStand-kept}

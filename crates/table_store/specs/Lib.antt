@@ -1,7 +1,6 @@
 pub mod Commits
 pub mod Found
 pub mod Groups
-pub mod Growth
 pub mod Holds
 pub mod LawfulLogs
 pub mod Logs

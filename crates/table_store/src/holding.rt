@@ -1,12 +1,11 @@
 //! Laws of stores and the tables that they hold, each a function with an empty body whose contract is the law.
 
 ghost use Rattle.std.specs.Prelude.{◌≡◌, ◌≢◌, ◌<◌, ◌^◌, ℕ, suc, List, [], ◌∷◌, ◌++◌, length, true, IsUtf8};
-ghost use Rattle.store_core.specs.Objects.{Objects, with_object};
+ghost use Rattle.store_core.specs.Objects.{Objects, with_object, HasObjectsOf};
 ghost use Rattle.delta_actions.specs.Action as actions;
 ghost use Rattle.delta_actions.specs.Names.{commit_name, data_file_name};
 ghost use Rattle.table_store.specs.Schema.{Schema};
 ghost use Rattle.table_store.specs.Commits.{IsCommitOf};
-ghost use Rattle.table_store.specs.Growth.{HasObjectsOf};
 ghost use Rattle.table_store.specs.Holds.{EndsAt, Holds, FilesStand, IsLawfulStore};
 ghost use Rattle.table_model.specs.Lawful.{BeginsWithCreation, IsLawful};
 ghost use Rattle.table_store.specs.Logs.{IsLog, AreBatches, AreRows};

@@ -5,7 +5,7 @@ use Rattle.lake_bytes.specs.Reading.{ReadsFront}
 use Rattle.lake_bytes.specs.Varint.{IsBytes}
 use Rattle.thrift_core.specs.Tree.{Tree, depth, nodes}
 use Rattle.thrift_core.specs.Spelling.{Spells, SpellsStruct}
-use Rattle.thrift_core.specs.Reading.{Gives, value_ahead, struct_at}
+use Rattle.thrift_core.specs.Reading.{ThriftGives, value_ahead, struct_at}
 use Rattle.thrift_core.specs.View.{view}
 use Rattle.thrift_core.specs.declared.fault.ReadError.{ReadError}
 use Rattle.thrift_core.specs.declared.source.Source.{Source}
@@ -16,12 +16,12 @@ use Rattle.thrift_core.proofs.Found.{struct_at_found}
 use Rattle.thrift_core.proofs.AgainHeaders.{at}
 use Rattle.thrift_core.proofs.Again.{value_ahead_again, struct_at_again}
 
-pub is_found : {A : Type 0} (old : List ℕ) (result : Result (TValue A) ReadError) (new : List ℕ) → IsBytes old → Gives view (struct_at old) old result new → IfOk result (λ tree. ReadsFront SpellsStruct old (view tree) new)
+pub is_found : {A : Type 0} (old : List ℕ) (result : Result (TValue A) ReadError) (new : List ℕ) → IsBytes old → ThriftGives view (struct_at old) old result new → IfOk result (λ tree. ReadsFront SpellsStruct old (view tree) new)
 is_found old (Ok tree) new fits e = let f = struct_at_found old (view tree) new fits e in record { front = f.front; spelled = f.spelled; split = f.split }
 is_found old (Err e) new fits h = tt
 
-pub is_read : {A : Type 0} (old : List ℕ) (result : Result (TValue A) ReadError) (new : List ℕ) → Gives view (struct_at old) old result new → (front rest : List ℕ) (t : Tree) → SpellsStruct front t → old ≡ front ++ rest → Gives view (Ok (t, rest)) old result new
-is_read old result new e front rest t spelled is = subst (λ r. Gives view r old result new) (ap struct_at is ∙ struct_at_again front t rest spelled) e
+pub is_read : {A : Type 0} (old : List ℕ) (result : Result (TValue A) ReadError) (new : List ℕ) → ThriftGives view (struct_at old) old result new → (front rest : List ℕ) (t : Tree) → SpellsStruct front t → old ≡ front ++ rest → ThriftGives view (Ok (t, rest)) old result new
+is_read old result new e front rest t spelled is = subst (λ r. ThriftGives view r old result new) (ap struct_at is ∙ struct_at_again front t rest spelled) e
 
 -- no two fronts of the same bytes spell values of one type
 pub one_tree : (type : WireType) (a b x y : List ℕ) (s t : Tree) → Spells type a s → Spells type b t → a ++ x ≡ b ++ y → (a ≡ b) × (s ≡ t) × (x ≡ y)

@@ -200,6 +200,6 @@ struct_at bytes = do
   Ok (read.0, read.1.cursor)
 
 -- What a function returned, seen by view, and the bytes that are left are what reading gives, unless memory ran out. A refusal leaves all bytes.
-abbrev pub Gives : {X A : Type 0} → (X → A) → Result (A × List ℕ) ThriftFault → List ℕ → Result X ReadError → List ℕ → Type 0
-Gives view read old (Ok x) new = read ≡ Ok (view x, new)
-Gives view read old (Err e) new = IsSaid (says e) read × (new ≡ old)
+abbrev pub ThriftGives : {X A : Type 0} → (X → A) → Result (A × List ℕ) ThriftFault → List ℕ → Result X ReadError → List ℕ → Type 0
+ThriftGives view read old (Ok x) new = read ≡ Ok (view x, new)
+ThriftGives view read old (Err e) new = IsSaid (says e) read × (new ≡ old)

@@ -5,7 +5,7 @@ ghost use Rattle.lake_bytes.specs.Reading.{ReadsFront};
 ghost use Rattle.lake_bytes.specs.Varint.{IsBytes};
 ghost use Rattle.thrift_core.specs.Tree.{Tree};
 ghost use Rattle.thrift_core.specs.Spelling.{SpellsStruct};
-ghost use Rattle.thrift_core.specs.Reading.{Reads, ReadsExactly, Gives, struct_at, boolean_ahead, byte_number_ahead, integer_ahead, double_ahead, binary_ahead, flag_ahead, value_ahead, repeated, entry_ahead, field_ahead, fields_ahead, list_ahead, map_ahead, struct_ahead};
+ghost use Rattle.thrift_core.specs.Reading.{Reads, ReadsExactly, ThriftGives, struct_at, boolean_ahead, byte_number_ahead, integer_ahead, double_ahead, binary_ahead, flag_ahead, value_ahead, repeated, entry_ahead, field_ahead, fields_ahead, list_ahead, map_ahead, struct_ahead};
 ghost use Rattle.thrift_core.specs.View.{view, views, entry_view, entry_views, field_views};
 
 use crate::fault::{ReadError, ThriftFault};
@@ -40,10 +40,10 @@ pub fn read_struct<A: Allocator + Copy>(
     ensures found { IfOk result (λ tree. ReadsFront SpellsStruct cursor.old (view tree) cursor.new) }
     // A tree that a front of the bytes spells is read, unless memory runs out.
     ensures only { (front rest : List ℕ) (t : Tree) → SpellsStruct front t → cursor.old ≡ front ++ rest
-        → Gives view (Ok (t, rest)) cursor.old result cursor.new }
+        → ThriftGives view (Ok (t, rest)) cursor.old result cursor.new }
     ensures unchanged { OnErr result (cursor.new ≡ cursor.old) }
     // Which fault it is: the first one, as reading from the left meets it.
-    ensures exact { Gives view (struct_at cursor.old) cursor.old result cursor.new }
+    ensures exact { ThriftGives view (struct_at cursor.old) cursor.old result cursor.new }
 {
     next_struct(alloc, cursor)
 }
@@ -54,7 +54,7 @@ fn next_struct<A: Allocator + Copy>(
     alloc: A,
     cursor: &mut Cursor<'_>,
 ) -> Result<TValue<A>, ReadError>
-    ensures exact { Gives view (struct_at cursor.old) cursor.old result cursor.new }
+    ensures exact { ThriftGives view (struct_at cursor.old) cursor.old result cursor.new }
     ensures bytes { IsBytes cursor.old }
 {
     let left = cursor.left();

@@ -15,4 +15,4 @@ pub returns-clause-saved : goal.returns-clause-saved
 returns-clause-saved c objects after new statement files order within put front = saved objects after new statement files order within put front
 
 pub returns-clause-restores : goal.returns-clause-restores
-returns-clause-restores c objects files restore well = restores objects files restore well
+returns-clause-restores c objects files use_checkpoints well = restores objects files use_checkpoints well

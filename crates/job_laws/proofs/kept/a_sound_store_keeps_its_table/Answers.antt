@@ -1,4 +1,4 @@
-use Rattle.lake_script.proofs.KeptStep.{beside}
+use Rattle.lake_script.proofs.KeptPlan.{beside}
 use Rattle.job_laws.proofs.KeptLaws.{sound_kept}
 use Rattle.job_laws.proofs.kept.a_sound_store_keeps_its_table.Goals as goal
 

@@ -14,7 +14,7 @@ returns-in-Some-clause-failed g c = λ steady restores.
 pub returns-in-Some-clause-sound : goal.returns-in-Some-clause-sound
 returns-in-Some-clause-sound g c = λ steady bytes sound.
     stays_sound (work_view c.args.command.job) _ (statement_view c.in-Some.line) _ _ bytes (found_asked c.in_ok-line.field-0 c.in-Some.line _ _ c.in-Some.is c.in_ok-line.ensures.asked) sound
-    (c.execute_in.ensures.puts steady (sound_restores c.args.command.restore _ sound))
+    (c.execute_in.ensures.puts steady (sound_restores c.args.command.use_checkpoints _ sound))
 
 pub returns-in-Some-clause-puts : goal.returns-in-Some-clause-puts
 returns-in-Some-clause-puts g c = λ steady restores.

@@ -1,12 +1,12 @@
 use Rattle.std.proofs.Common.{rules, sym, ◌∙◌}
 use Rattle.lake_script.specs.Tables.{nothing}
 use Rattle.lake_script.proofs.Callers.{well_of_empty}
-use Rattle.lake_command.proofs.ScriptLemmas.{by_table_of, no_job, over_of, script_of_run, short_of_run, told_of_run}
+use Rattle.lake_command.proofs.ScriptLemmas.{by_table_of, no_job, over_of, script_of_run, short_of_run, output_of_run}
 use Rattle.lake_command.proofs.commands.command.Goals as goal
 
 pub returns-in-Ok-Script-clause-told : goal.returns-in-Ok-Script-clause-told
 returns-in-Ok-Script-clause-told g c = λ command spells fine whole.
-    told_of_run c.run-outcome.result.end _ _ _ _ _ (λ refused. fine (c.ended.ensures ∙ refused)) (c.run-outcome.ensures.told (search rules) (well_of_empty _ _ (search rules)) (sym c.short.ensures ∙ whole)) (search rules)
+    output_of_run c.run-outcome.result.end _ _ _ _ _ (λ refused. fine (c.ended.ensures ∙ refused)) (c.run-outcome.ensures.told (search rules) (well_of_empty _ _ (search rules)) (sym c.short.ensures ∙ whole)) (search rules)
 
 pub returns-in-Ok-Script-clause-tables : goal.returns-in-Ok-Script-clause-tables
 returns-in-Ok-Script-clause-tables g c = λ command spells fine whole.

@@ -7,7 +7,7 @@ use Rattle.table_folder.specs.Loads.{loaded}
 use Rattle.table_folder.specs.Copies.{HasSavedFront, to_save, with_copies}
 use Rattle.script_lines.specs.Lines.{statement_view}
 use Rattle.lake_script.specs.ReplyView.{reply_text}
-use Rattle.lake_script.specs.declared.reply.Reply.{Reply}
+use Rattle.lake_script.specs.declared.reply.LineReply.{LineReply}
 use Rattle.lake_command.specs.Failures.{NamesPut}
 use Rattle.lake_command.specs.Folders.{file_names}
 use Rattle.lake_command.specs.declared.failure.Failure.{Failure}
@@ -19,7 +19,7 @@ returns-in-Some-clause-told g c = λ steady restores.
     let same = c.in_ok-store.ensures.untouched steady in
     let on = c.in_ok-store.ensures.steady steady in
     told_early (g.F.Folder.objects c.args.folder.now) (g.F.Folder.objects c.load_log.new.folder) (g.F.Folder.objects c.load_until_read.new.folder) (statement_view c.args.line) c.in_ok-reply.field-0 c.in-Some.reply same (c.in_ok-reply.ensures.untouched on) c.in-Some.is
-    (c.in_ok-reply.ensures.read on (subst (RestoresWell c.args.restore) (sym same) restores) (c.in_ok-files.ensures.untouched ∙ c.in_ok-store.ensures.loaded steady ∙ ap (loaded []) (sym same)))
+    (c.in_ok-reply.ensures.read on (subst (RestoresWell c.args.use_checkpoints) (sym same) restores) (c.in_ok-files.ensures.untouched ∙ c.in_ok-store.ensures.loaded steady ∙ ap (loaded []) (sym same)))
 
 pub returns-clause-told : goal.returns-clause-told
 returns-clause-told g c = λ steady restores.
@@ -31,11 +31,11 @@ returns-clause-told g c = λ steady restores.
     let on = c.in_ok-store.ensures.steady steady in
     let first = c.in_ok-files.ensures.untouched in
     let loaded_all = loaded_for old mid (stored_objects c.files_for.new.store) (stored_objects c.in_ok-store.store) start statement (file_names c.in_ok-files.files.items) (file_names c.deref.result.now) same (c.in_ok-store.ensures.loaded steady) first c.in_ok-files.ensures.within (ap file_names c.deref.ensures.value)
-    (λ begun. c.in_ok-reply.ensures.loaded on (subst (RestoresWell c.args.restore) (sym same) restores) begun (ap Ok c.in_default.is)) in
+    (λ begun. c.in_ok-reply.ensures.loaded on (subst (RestoresWell c.args.use_checkpoints) (sym same) restores) begun (ap Ok c.in_default.is)) in
     let kept = c.in_ok-loaded.ensures.untouched.0 in
     let is = subst (IsLoadedFor old statement) (sym kept) loaded_all in
     let names = ap (map string_bytes) c.deref-2.ensures.value ∙ c.in_ok-loaded.ensures.names ∙ ap names_of (sym kept) in
-    let well = loaded_well c.args.restore old _ statement is restores in
+    let well = loaded_well c.args.use_checkpoints old _ statement is restores in
     let unchanged : g.F.Folder.objects c.load_until_read.new.folder ≡ old = c.in_ok-reply.ensures.untouched on ∙ same in
     let going = c.in_ok-reply.ensures.steady on in
     let end = stored_objects c.execute-reply.new.store in
@@ -54,11 +54,11 @@ returns-clause-puts g c = λ steady restores.
     let on = c.in_ok-store.ensures.steady steady in
     let first = c.in_ok-files.ensures.untouched in
     let loaded_all = loaded_for old mid (stored_objects c.files_for.new.store) (stored_objects c.in_ok-store.store) start statement (file_names c.in_ok-files.files.items) (file_names c.deref.result.now) same (c.in_ok-store.ensures.loaded steady) first c.in_ok-files.ensures.within (ap file_names c.deref.ensures.value)
-    (λ begun. c.in_ok-reply.ensures.loaded on (subst (RestoresWell c.args.restore) (sym same) restores) begun (ap Ok c.in_default.is)) in
+    (λ begun. c.in_ok-reply.ensures.loaded on (subst (RestoresWell c.args.use_checkpoints) (sym same) restores) begun (ap Ok c.in_default.is)) in
     let kept = c.in_ok-loaded.ensures.untouched.0 in
     let is = subst (IsLoadedFor old statement) (sym kept) loaded_all in
     let names = ap (map string_bytes) c.deref-2.ensures.value ∙ c.in_ok-loaded.ensures.names ∙ ap names_of (sym kept) in
-    let well = loaded_well c.args.restore old _ statement is restores in
+    let well = loaded_well c.args.use_checkpoints old _ statement is restores in
     let unchanged : g.F.Folder.objects c.load_until_read.new.folder ≡ old = c.in_ok-reply.ensures.untouched on ∙ same in
     let going = c.in_ok-reply.ensures.steady on in
     let end = stored_objects c.execute-reply.new.store in
@@ -77,11 +77,11 @@ returns-in_err-save-clause-puts g c = λ steady restores.
     let on = c.in_ok-store.ensures.steady steady in
     let first = c.in_ok-files.ensures.untouched in
     let loaded_all = loaded_for old mid (stored_objects c.files_for.new.store) (stored_objects c.in_ok-store.store) start statement (file_names c.in_ok-files.files.items) (file_names c.deref.result.now) same (c.in_ok-store.ensures.loaded steady) first c.in_ok-files.ensures.within (ap file_names c.deref.ensures.value)
-    (λ begun. c.in_ok-reply.ensures.loaded on (subst (RestoresWell c.args.restore) (sym same) restores) begun (ap Ok c.in_default.is)) in
+    (λ begun. c.in_ok-reply.ensures.loaded on (subst (RestoresWell c.args.use_checkpoints) (sym same) restores) begun (ap Ok c.in_default.is)) in
     let kept = c.in_ok-loaded.ensures.untouched.0 in
     let is = subst (IsLoadedFor old statement) (sym kept) loaded_all in
     let names = ap (map string_bytes) c.deref-2.ensures.value ∙ c.in_ok-loaded.ensures.names ∙ ap names_of (sym kept) in
-    let well = loaded_well c.args.restore old _ statement is restores in
+    let well = loaded_well c.args.use_checkpoints old _ statement is restores in
     let unchanged : g.F.Folder.objects c.load_until_read.new.folder ≡ old = c.in_ok-reply.ensures.untouched on ∙ same in
     let going = c.in_ok-reply.ensures.steady on in
     let end = stored_objects c.execute-reply.new.store in
@@ -100,16 +100,16 @@ returns-in_err-save-clause-named g c = λ steady restores.
     let on = c.in_ok-store.ensures.steady steady in
     let first = c.in_ok-files.ensures.untouched in
     let loaded_all = loaded_for old mid (stored_objects c.files_for.new.store) (stored_objects c.in_ok-store.store) start statement (file_names c.in_ok-files.files.items) (file_names c.deref.result.now) same (c.in_ok-store.ensures.loaded steady) first c.in_ok-files.ensures.within (ap file_names c.deref.ensures.value)
-    (λ begun. c.in_ok-reply.ensures.loaded on (subst (RestoresWell c.args.restore) (sym same) restores) begun (ap Ok c.in_default.is)) in
+    (λ begun. c.in_ok-reply.ensures.loaded on (subst (RestoresWell c.args.use_checkpoints) (sym same) restores) begun (ap Ok c.in_default.is)) in
     let kept = c.in_ok-loaded.ensures.untouched.0 in
     let is = subst (IsLoadedFor old statement) (sym kept) loaded_all in
     let names = ap (map string_bytes) c.deref-2.ensures.value ∙ c.in_ok-loaded.ensures.names ∙ ap names_of (sym kept) in
-    let well = loaded_well c.args.restore old _ statement is restores in
+    let well = loaded_well c.args.use_checkpoints old _ statement is restores in
     let unchanged : g.F.Folder.objects c.load_until_read.new.folder ≡ old = c.in_ok-reply.ensures.untouched on ∙ same in
     let going = c.in_ok-reply.ensures.steady on in
     let end = stored_objects c.execute-reply.new.store in
     let listed = map string_bytes c.deref-2.result.now in
-    subst (λ (r : Result Reply Failure). IfErr r (λ failure. NamesPut failure statement old)) (sym (fails_as c.from_residual-in_err-save.result c.in_err-save.field-0.0 c.from_residual-in_err-save.ensures.1))
+    subst (λ (r : Result LineReply Failure). IfErr r (λ failure. NamesPut failure statement old)) (sym (fails_as c.from_residual-in_err-save.result c.in_err-save.field-0.0 c.from_residual-in_err-save.ensures.1))
     (named_put c.in_err-save.field-0.0 old _ end statement listed (g.met.F.Folder.in_order c.args.folder.now) is names (c.execute-reply.ensures.grows tt well) c.in_err-save.ensures.named)
 
 pub returns-in_err-save-clause-alone : goal.returns-in_err-save-clause-alone
@@ -125,8 +125,8 @@ returns-in_err-save-clause-kept g c = λ steady name bytes stands.
     let on = c.in_ok-store.ensures.steady steady in
     c.in_err-save.ensures.kept (c.in_ok-reply.ensures.steady on) name bytes (ap (λ (o : Objects). object_at o name) (c.in_ok-reply.ensures.untouched on ∙ c.in_ok-store.ensures.untouched steady) ∙ stands)
 
-pub execute-reply-requires-clause-known : goal.execute-reply-requires-clause-known
-execute-reply-requires-clause-known g c = c.new.ensures (stored_objects c.list.new.self)
+pub execute-reply-requires-clause-cache : goal.execute-reply-requires-clause-cache
+execute-reply-requires-clause-cache g c = c.new.ensures (stored_objects c.list.new.self)
 
 pub returns-clause-kept : goal.returns-clause-kept
 returns-clause-kept g c = λ steady name bytes stands.

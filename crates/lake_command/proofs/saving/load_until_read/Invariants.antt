@@ -10,6 +10,6 @@ invariant-loop-file g l = record {
   same : g.F.Folder.is_steady l.fn.folder → g.F.Folder.objects l.folder ≡ g.F.Folder.objects l.fn.folder;
   steady : g.F.Folder.is_steady l.fn.folder → g.F.Folder.is_steady l.folder;
   counts : g.F.Folder.fault_count l.folder ≡ g.F.Folder.fault_count l.fn.folder;
-  held : g.F.Folder.is_steady l.fn.folder → RestoresWell l.restore (g.F.Folder.objects l.fn.folder) → stored_objects l.fn.store ≡ loaded [] (g.F.Folder.objects l.fn.folder)
+  held : g.F.Folder.is_steady l.fn.folder → RestoresWell l.use_checkpoints (g.F.Folder.objects l.fn.folder) → stored_objects l.fn.store ≡ loaded [] (g.F.Folder.objects l.fn.folder)
       → stored_objects l.store ≡ loaded (file_names (take l.file-index l.files)) (g.F.Folder.objects l.fn.folder);
 }

@@ -25,7 +25,7 @@ loop-rest-init g c = record {
   restores = λ reliable every sound. sound;
   found = refl;
   unbroken = refl;
-  known = c.new-known.ensures (g.S.Store.objects c.args.store.now);
+  cache = c.new-cache.ensures (g.S.Store.objects c.args.store.now);
   counted = search rules;
 }
 
@@ -94,7 +94,7 @@ loop-rest-preserved g c =
       restores = λ reliable every sound. c.in_ok-answer.ensures.restores (c.loop-rest.invariant.reliable reliable) every (c.loop-rest.invariant.restores reliable every sound);
       found = sym (first_bad_next _ _ _ goes_on) ∙ (ap (first_bad_from c.loop-rest.number) (sym here) ∙ c.loop-rest.invariant.found);
       unbroken = c.in_ok-answer.ensures.unbroken ∙ c.loop-rest.invariant.unbroken;
-      known = c.in_ok-answer.ensures.known;
+      cache = c.in_ok-answer.ensures.cache;
       counted =
           let more = lines_at_most-after c.in-Some.text.now c.first_line.result.1 c.first_line.ensures.shorter in
           let fits = rw c.in-Some.is at c.loop-rest.invariant.counted in

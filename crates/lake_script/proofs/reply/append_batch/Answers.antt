@@ -5,7 +5,7 @@ use Rattle.json_text.specs.Rows.{rows_data}
 use Rattle.sink_core.specs.Appending.{with_append, MayAppend, MayHoldFile, PutsWell}
 use Rattle.sink_core.specs.Puts.{IsSaidBy}
 use Rattle.sink_core.specs.Refusals.{refusal_view, says}
-use Rattle.sink_core.proofs.Callers.{appended_alike, settled_alike}
+use Rattle.sink_core.proofs.Callers.{appended_alike, append_plan_alike}
 use Rattle.lake_script.proofs.RestoredLemmas.{append_executed, append_refusal_executed, append_refusal_told, has_append, kept_memory}
 use Rattle.lake_script.proofs.RunsLemmas.{append_short}
 use Rattle.lake_script.proofs.reply.append_batch.Goals as goal
@@ -15,8 +15,8 @@ returns-in-Ok-clause-told g c = λ reliable well.
     let objects = g.S.Store.objects c.args.store.now in
     let after = g.S.Store.objects c.append.new.store in
     let items = rows_data c.args.rows.now in
-    let said = appended_alike c.args.restore objects well c.args.application.now c.args.number c.args.at items in
-    let step = settled_alike c.args.restore objects well c.args.application.now c.args.number c.args.at items in
+    let said = appended_alike c.args.use_checkpoints objects well c.args.application.now c.args.number c.args.at items in
+    let step = append_plan_alike c.args.use_checkpoints objects well c.args.application.now c.args.number c.args.at items in
     has_append objects c.args.application.now c.args.number c.args.at items after (c.in-Ok.ensures.left reliable (λ wrong. cc) ∙ ap (with_append objects) step) c.in-Ok.answer (sym said ∙ c.in-Ok.ensures.told reliable)
 
 pub returns-in-Ok-clause-whole : goal.returns-in-Ok-clause-whole
@@ -25,8 +25,8 @@ returns-in-Ok-clause-whole g c = λ reliable well enough.
     let after = g.S.Store.objects c.append.new.store in
     let application = c.args.application.now in
     let items = rows_data c.args.rows.now in
-    let said = appended_alike c.args.restore objects well application c.args.number c.args.at items in
-    let step = settled_alike c.args.restore objects well application c.args.number c.args.at items in
+    let said = appended_alike c.args.use_checkpoints objects well application c.args.number c.args.at items in
+    let step = append_plan_alike c.args.use_checkpoints objects well application c.args.number c.args.at items in
     let text : IsUtf8 application = search rules in
     let made = subst (PutsWell application c.args.number c.args.at) step (c.in-Ok.ensures.well_put reliable (λ wrong. cc)) in
     append_executed objects application c.args.number c.args.at items after (c.in-Ok.ensures.left reliable (λ wrong. cc) ∙ ap (with_append objects) step) text made c.in-Ok.answer (sym said ∙ c.in-Ok.ensures.told reliable)
@@ -35,7 +35,7 @@ pub returns-in-Ok-clause-grows : goal.returns-in-Ok-clause-grows
 returns-in-Ok-clause-grows g c = λ reliable well.
     let objects = g.S.Store.objects c.args.store.now in
     let application = c.args.application.now in
-    let step = settled_alike c.args.restore objects well application c.args.number c.args.at (rows_data c.args.rows.now) in
+    let step = append_plan_alike c.args.use_checkpoints objects well application c.args.number c.args.at (rows_data c.args.rows.now) in
     let text : IsUtf8 application = search rules in
     (text, subst (λ step. MayAppend application c.args.number c.args.at step objects (g.S.Store.objects c.append.new.store)) step c.in-Ok.ensures.grows)
 
@@ -46,8 +46,8 @@ returns-in-Err-clause-told g c = λ reliable well.
     let application = c.args.application.now in
     let items = rows_data c.args.rows.now in
     let fault = c.in-Err.fault in
-    let said = appended_alike c.args.restore objects well application c.args.number c.args.at items in
-    let step = settled_alike c.args.restore objects well application c.args.number c.args.at items in
+    let said = appended_alike c.args.use_checkpoints objects well application c.args.number c.args.at items in
+    let step = append_plan_alike c.args.use_checkpoints objects well application c.args.number c.args.at items in
     append_refusal_told objects application c.args.number c.args.at items after fault
     (subst (IsSaid (says (refusal_view fault))) said (c.in-Err.ensures.told reliable))
     (λ other. c.in-Err.ensures.left reliable (λ wrong. other cc) ∙ ap (with_append objects) step)
@@ -61,8 +61,8 @@ returns-in-Err-clause-whole g c = λ reliable well enough.
     let application = c.args.application.now in
     let items = rows_data c.args.rows.now in
     let fault = c.in-Err.fault in
-    let said = appended_alike c.args.restore objects well application c.args.number c.args.at items in
-    let step = settled_alike c.args.restore objects well application c.args.number c.args.at items in
+    let said = appended_alike c.args.use_checkpoints objects well application c.args.number c.args.at items in
+    let step = append_plan_alike c.args.use_checkpoints objects well application c.args.number c.args.at items in
     let text : IsUtf8 application = search rules in
     let made = subst (PutsWell application c.args.number c.args.at) step (c.in-Err.ensures.well_put reliable (λ wrong. kept_memory fault enough cc)) in
     append_refusal_executed objects application c.args.number c.args.at items after (c.in-Err.ensures.left reliable (λ wrong. kept_memory fault enough cc) ∙ ap (with_append objects) step) text made fault
@@ -72,7 +72,7 @@ pub returns-in-Err-clause-grows : goal.returns-in-Err-clause-grows
 returns-in-Err-clause-grows g c = λ reliable well.
     let objects = g.S.Store.objects c.args.store.now in
     let application = c.args.application.now in
-    let step = settled_alike c.args.restore objects well application c.args.number c.args.at (rows_data c.args.rows.now) in
+    let step = append_plan_alike c.args.use_checkpoints objects well application c.args.number c.args.at (rows_data c.args.rows.now) in
     let text : IsUtf8 application = search rules in
     (text, subst (λ step. MayAppend application c.args.number c.args.at step objects (g.S.Store.objects c.append.new.store)) step c.in-Err.ensures.grows)
 
@@ -81,5 +81,5 @@ returns-in-Err-clause-short g c = λ well short.
     let objects = g.S.Store.objects c.args.store.now in
     let application = c.args.application.now in
     let items = rows_data c.args.rows.now in
-    let step = settled_alike c.args.restore objects well application c.args.number c.args.at items in
+    let step = append_plan_alike c.args.use_checkpoints objects well application c.args.number c.args.at items in
     append_short c.in-Err.fault objects application c.args.number c.args.at items short (subst (λ step. IsSaidBy step c.in-Err.fault) step c.in-Err.ensures.refusals)

@@ -38,8 +38,8 @@ returns-in-Snapshot-clause-whole g c = λ reliable well enough. rw c.in-Snapshot
 pub returns-in-Job-clause-short : goal.returns-in-Job-clause-short
 returns-in-Job-clause-short g c = λ well short. rw c.in-Job.is (c.execute_job.ensures.short well short)
 
-pub returns-in-Create-clause-known : goal.returns-in-Create-clause-known
-returns-in-Create-clause-known g c = c.forget.ensures (g.S.Store.objects c.create_table.new.store)
+pub returns-in-Create-clause-cache : goal.returns-in-Create-clause-cache
+returns-in-Create-clause-cache g c = c.forget.ensures (g.S.Store.objects c.create_table.new.store)
 
-pub returns-in-Foreign-clause-known : goal.returns-in-Foreign-clause-known
-returns-in-Foreign-clause-known g c = c.forget-in-Foreign.ensures (g.S.Store.objects c.put_foreign.new.store)
+pub returns-in-Foreign-clause-cache : goal.returns-in-Foreign-clause-cache
+returns-in-Foreign-clause-cache g c = c.forget-in-Foreign.ensures (g.S.Store.objects c.put_foreign.new.store)

@@ -4,7 +4,7 @@ use Rattle.script_lines.specs.Lines.{checkpoint, task}
 use Rattle.lake_script.specs.ReplyView.{reply_text}
 use Rattle.lake_script.specs.Runs.{Executes}
 use Rattle.lake_script.specs.Sound.{IsExecuted}
-use Rattle.lake_script.specs.declared.reply.Reply.TheVariants.{NoSnapshot}
+use Rattle.lake_script.specs.declared.reply.LineReply.TheVariants.{NoSnapshot}
 use Rattle.lake_script.proofs.CheckpointLemmas.{has_executed, put_executed, refusal_executed, refusal_short, refusal_told}
 use Rattle.snapshot_core.proofs.Callers.{puts_alike, refusal_alike}
 use Rattle.lake_script.proofs.reply.take_checkpoint.Goals as goal
@@ -14,14 +14,14 @@ returns-in-Ok-clause-told g c = λ reliable well.
     let objects = g.S.Store.objects c.args.store.now in
     let after = g.S.Store.objects c.checkpoint.new.store in
     let put = c.in-Ok.ensures.put in
-    let puts = puts_alike c.args.restore objects well c.in-Ok.version put.name put.bytes put.puts in
+    let puts = puts_alike c.args.use_checkpoints objects well c.in-Ok.version put.name put.bytes put.puts in
     has_executed objects (task checkpoint) _ after (put_executed objects c.in-Ok.version put.name put.bytes puts after put.put)
 
 pub returns-in-Ok-clause-whole : goal.returns-in-Ok-clause-whole
 returns-in-Ok-clause-whole g c = λ reliable well enough.
     let objects = g.S.Store.objects c.args.store.now in
     let put = c.in-Ok.ensures.put in
-    let puts = puts_alike c.args.restore objects well c.in-Ok.version put.name put.bytes put.puts in
+    let puts = puts_alike c.args.use_checkpoints objects well c.in-Ok.version put.name put.bytes put.puts in
     put_executed objects c.in-Ok.version put.name put.bytes puts (g.S.Store.objects c.checkpoint.new.store) put.put
 
 pub returns-in-Ok-clause-grows : goal.returns-in-Ok-clause-grows
@@ -33,7 +33,7 @@ returns-in-Ok-clause-grows g c = λ reliable well.
       record {
         name = put.name;
         bytes = put.bytes;
-        puts = puts_alike c.args.restore objects well c.in-Ok.version put.name put.bytes put.puts;
+        puts = puts_alike c.args.use_checkpoints objects well c.in-Ok.version put.name put.bytes put.puts;
         put = put.put;
       },
     )
@@ -43,14 +43,14 @@ returns-in-Err-clause-told g c = λ reliable well.
     let objects = g.S.Store.objects c.args.store.now in
     let fault = c.in-Err.fault in
     let untouched = c.in-Err.ensures.untouched (c.in-Err.ensures.never_lost reliable) in
-    subst (λ (after : Objects). Executes objects (task checkpoint) (reply_text (NoSnapshot fault)) after) (sym untouched) (refusal_told objects fault (refusal_alike c.args.restore objects well fault c.in-Err.ensures.refused) (λ lost. c.in-Err.ensures.never_lost reliable (ap Err lost)))
+    subst (λ (after : Objects). Executes objects (task checkpoint) (reply_text (NoSnapshot fault)) after) (sym untouched) (refusal_told objects fault (refusal_alike c.args.use_checkpoints objects well fault c.in-Err.ensures.refused) (λ lost. c.in-Err.ensures.never_lost reliable (ap Err lost)))
 
 pub returns-in-Err-clause-whole : goal.returns-in-Err-clause-whole
 returns-in-Err-clause-whole g c = λ reliable well enough.
     let objects = g.S.Store.objects c.args.store.now in
     let fault = c.in-Err.fault in
     let untouched = c.in-Err.ensures.untouched (c.in-Err.ensures.never_lost reliable) in
-    subst (λ (after : Objects). IsExecuted objects (task checkpoint) (reply_text (NoSnapshot fault)) after) (sym untouched) (refusal_executed objects fault (refusal_alike c.args.restore objects well fault c.in-Err.ensures.refused) enough (λ lost. c.in-Err.ensures.never_lost reliable (ap Err lost)))
+    subst (λ (after : Objects). IsExecuted objects (task checkpoint) (reply_text (NoSnapshot fault)) after) (sym untouched) (refusal_executed objects fault (refusal_alike c.args.use_checkpoints objects well fault c.in-Err.ensures.refused) enough (λ lost. c.in-Err.ensures.never_lost reliable (ap Err lost)))
 
 pub returns-in-Err-clause-grows : goal.returns-in-Err-clause-grows
 returns-in-Err-clause-grows g c = λ reliable well. inl (c.in-Err.ensures.untouched (c.in-Err.ensures.never_lost reliable))
@@ -58,4 +58,4 @@ returns-in-Err-clause-grows g c = λ reliable well. inl (c.in-Err.ensures.untouc
 pub returns-in-Err-clause-short : goal.returns-in-Err-clause-short
 returns-in-Err-clause-short g c = λ well short.
     let objects = g.S.Store.objects c.args.store.now in
-    refusal_short objects c.in-Err.fault (refusal_alike c.args.restore objects well c.in-Err.fault c.in-Err.ensures.refused) short
+    refusal_short objects c.in-Err.fault (refusal_alike c.args.use_checkpoints objects well c.in-Err.fault c.in-Err.ensures.refused) short

@@ -4,7 +4,7 @@ use Rattle.script_lines.specs.Lines.{snapshot}
 use Rattle.lake_script.specs.ReplyView.{reply_text}
 use Rattle.lake_script.specs.Runs.{Executes}
 use Rattle.lake_script.specs.Sound.{IsExecuted}
-use Rattle.lake_script.specs.declared.reply.Reply.TheVariants.{NoSnapshot}
+use Rattle.lake_script.specs.declared.reply.LineReply.TheVariants.{NoSnapshot}
 use Rattle.lake_script.proofs.CheckpointLemmas.{has_executed, snapshot_executed, unread_executed, unread_short, unread_told}
 use Rattle.snapshot_core.proofs.Callers.{tells_alike, unread_alike}
 use Rattle.lake_script.proofs.reply.tell_snapshot.Goals as goal
@@ -13,31 +13,31 @@ pub returns-in-Ok-clause-told : goal.returns-in-Ok-clause-told
 returns-in-Ok-clause-told g c = λ reliable well.
     let objects = g.S.Store.objects c.args.store.now in
     let text = c.in-Ok.text.items in
-    let tells = tells_alike c.args.restore objects well text c.in-Ok.ensures.told in
+    let tells = tells_alike c.args.use_checkpoints objects well text c.in-Ok.ensures.told in
     subst (λ (after : Objects). Executes objects snapshot text after) (sym c.in-Ok.ensures.untouched) (has_executed objects snapshot text objects (snapshot_executed objects text tells))
 
 pub returns-in-Ok-clause-whole : goal.returns-in-Ok-clause-whole
 returns-in-Ok-clause-whole g c = λ reliable well enough.
     let objects = g.S.Store.objects c.args.store.now in
     let text = c.in-Ok.text.items in
-    let tells = tells_alike c.args.restore objects well text c.in-Ok.ensures.told in
+    let tells = tells_alike c.args.use_checkpoints objects well text c.in-Ok.ensures.told in
     subst (λ (after : Objects). IsExecuted objects snapshot text after) (sym c.in-Ok.ensures.untouched) (snapshot_executed objects text tells)
 
 pub returns-in-Err-clause-told : goal.returns-in-Err-clause-told
 returns-in-Err-clause-told g c = λ reliable well.
     let objects = g.S.Store.objects c.args.store.now in
     let fault = c.in-Err.fault in
-    let said = unread_alike c.args.restore objects well fault c.in-Err.ensures.refused in
+    let said = unread_alike c.args.use_checkpoints objects well fault c.in-Err.ensures.refused in
     subst (λ (after : Objects). Executes objects snapshot (reply_text (NoSnapshot fault)) after) (sym c.in-Err.ensures.untouched) (unread_told objects fault said (λ lost. c.in-Err.ensures.never_lost reliable (ap Err lost)))
 
 pub returns-in-Err-clause-whole : goal.returns-in-Err-clause-whole
 returns-in-Err-clause-whole g c = λ reliable well enough.
     let objects = g.S.Store.objects c.args.store.now in
     let fault = c.in-Err.fault in
-    let said = unread_alike c.args.restore objects well fault c.in-Err.ensures.refused in
+    let said = unread_alike c.args.use_checkpoints objects well fault c.in-Err.ensures.refused in
     subst (λ (after : Objects). IsExecuted objects snapshot (reply_text (NoSnapshot fault)) after) (sym c.in-Err.ensures.untouched) (unread_executed objects fault said enough (λ lost. c.in-Err.ensures.never_lost reliable (ap Err lost)))
 
 pub returns-in-Err-clause-wants : goal.returns-in-Err-clause-wants
 returns-in-Err-clause-wants g c = λ well short.
     let objects = g.S.Store.objects c.args.store.now in
-    unread_short objects c.in-Err.fault (unread_alike c.args.restore objects well c.in-Err.fault c.in-Err.ensures.refused) short
+    unread_short objects c.in-Err.fault (unread_alike c.args.use_checkpoints objects well c.in-Err.fault c.in-Err.ensures.refused) short

@@ -8,22 +8,22 @@ use Rattle.lake_words.proofs.reading.command_in.Goals as goal
 
 pub returns-in-Some-job_in : goal.returns-in-Some-job_in
 returns-in-Some-job_in c =
-    let flag = c.get_flag-restore.ensures in
+    let flag = c.get_flag-use_checkpoints.ensures in
     let found = found_of c.in-Some.matches.now in
     let rows = rows_of found in
-    let is_flag = subst (λ t. IsFlag t c.get_flag-restore.result) (one_text-rows found (codes "no-checkpoint")) (flag.none, flag.value, flag.other) in
-    let restore = not c.get_flag-restore.result in
+    let is_flag = subst (λ t. IsFlag t c.get_flag-use_checkpoints.result) (one_text-rows found (codes "no-checkpoint")) (flag.none, flag.value, flag.other) in
+    let use_checkpoints = not c.get_flag-use_checkpoints.result in
     let sub_is : subcommand_rows_of c.args.matches.now ≡ Some (c.in-Some.name.now, rows) = both_known _ _ c.in-Some.name.now rows c.in-Some.ensures.name c.in-Some.ensures.rows in
-    asks_for _ c.in-Some.name.now rows c.get_flag-restore.result _ sub_is is_flag
-    (ap (λ text. table text restore (work_view c.in-Some-job_in.job)) c.text_in.ensures ∙ ap (λ o. option_map_or (λ work. table (text_in (codes "DIR") rows) restore work) o (script restore)) c.in-Some-job_in.ensures)
+    asks_for _ c.in-Some.name.now rows c.get_flag-use_checkpoints.result _ sub_is is_flag
+    (ap (λ text. table text use_checkpoints (work_view c.in-Some-job_in.job)) c.text_in.ensures ∙ ap (λ o. option_map_or (λ work. table (text_in (codes "DIR") rows) use_checkpoints work) o (script use_checkpoints)) c.in-Some-job_in.ensures)
 
 pub returns-in-None : goal.returns-in-None
 returns-in-None c =
-    let flag = c.get_flag-restore.ensures in
+    let flag = c.get_flag-use_checkpoints.ensures in
     let found = found_of c.in-Some.matches.now in
     let rows = rows_of found in
-    let is_flag = subst (λ t. IsFlag t c.get_flag-restore.result) (one_text-rows found (codes "no-checkpoint")) (flag.none, flag.value, flag.other) in
-    let restore = not c.get_flag-restore.result in
+    let is_flag = subst (λ t. IsFlag t c.get_flag-use_checkpoints.result) (one_text-rows found (codes "no-checkpoint")) (flag.none, flag.value, flag.other) in
+    let use_checkpoints = not c.get_flag-use_checkpoints.result in
     let sub_is : subcommand_rows_of c.args.matches.now ≡ Some (c.in-Some.name.now, rows) = both_known _ _ c.in-Some.name.now rows c.in-Some.ensures.name c.in-Some.ensures.rows in
-    asks_for _ c.in-Some.name.now rows c.get_flag-restore.result _ sub_is is_flag
-    (ap (λ o. option_map_or (λ work. table (text_in (codes "DIR") rows) restore work) o (script restore)) c.in-None.ensures)
+    asks_for _ c.in-Some.name.now rows c.get_flag-use_checkpoints.result _ sub_is is_flag
+    (ap (λ o. option_map_or (λ work. table (text_in (codes "DIR") rows) use_checkpoints work) o (script use_checkpoints)) c.in-None.ensures)

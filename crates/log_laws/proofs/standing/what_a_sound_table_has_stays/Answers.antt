@@ -1,5 +1,5 @@
 use Rattle.std.proofs.Common.{◌≡◌, List, true, Some, Contains, slice_get, subst, sym}
-use Rattle.table_model.specs.Appends.{Tells, TellsClose}
+use Rattle.table_model.specs.Appends.{TellsAppend, TellsClose}
 use Rattle.table_model.specs.Lawful.{IsLawful}
 use Rattle.table_model.specs.Table.{Entry, batches, is_closed}
 use Rattle.table_model.proofs.Callers.{append_lasts, at_the_front, batch_lasts, close_lasts}
@@ -20,7 +20,7 @@ returns-clause-closed c = λ objects more schema other entries others applicatio
 
 pub returns-clause-append : goal.returns-clause-append
 returns-clause-append c = λ objects more schema other entries others answer b sound grown holds held told.
-    table_has objects more schema other entries others (Tells answer b) sound.table grown holds held (λ later. append_lasts answer b entries later told)
+    table_has objects more schema other entries others (TellsAppend answer b) sound.table grown holds held (λ later. append_lasts answer b entries later told)
 
 pub returns-clause-close : goal.returns-clause-close
 returns-clause-close c = λ objects more schema other entries others answer application sound grown holds held told.

@@ -12,7 +12,7 @@ use Rattle.parquet_footer.specs.Views.{footer_view}
 use Rattle.parquet_footer.specs.declared.fault.FileFault.TheVariants.{CountMismatch}
 use Rattle.parquet_schema.specs.Fitting.{fitted_list}
 use Rattle.parquet_schema.specs.Views.{leaf_views}
-use Rattle.parquet_file.specs.Reading.{RowsPart, claimed_rows, part_among, part_read, rows_of, rows_of_groups}
+use Rattle.parquet_file.specs.Reading.{RowsPart, claimed_rows, part_among, part_read, footer_rows, rows_of_groups}
 use Rattle.parquet_file.proofs.CodeGroups.{groups_many, rows_by_claims, rows_fail}
 use Rattle.parquet_file.proofs.CodeLeaves.{list_leaf_there, list_leaves}
 use Rattle.parquet_file.proofs.rows.part_by_footer.Goals as goal
@@ -30,7 +30,7 @@ returns-then-not-claims_add_up g c =
     let differ : eqb (claimed_rows metadata.row_groups) metadata.num_rows ≡ false = search rules in
     let read = c.in_ok-test_groups.ensures t leaves in
     let seen : rows_of_groups bytes t shape metadata.row_groups ≡ Ok read.0 = rw (← c.deref-then-not-claims_add_up.ensures.value) read.1 in
-    let answer : rows_of bytes t metadata ≡ Err CountMismatch = rows_by_claims bytes t metadata shape read.0 fit some seen ∙ rw differ refl in
+    let answer : footer_rows bytes t metadata ≡ Err CountMismatch = rows_by_claims bytes t metadata shape read.0 fit some seen ∙ rw differ refl in
     rw (c.into.ensures, answer) refl
 
 pub returns-in_err-test_groups : goal.returns-in_err-test_groups
@@ -46,7 +46,7 @@ returns-in_err-test_groups g c =
     let p = err_from_is_err_and c.from_residual-in_err-test_groups.result c.from_residual-in_err-test_groups.ensures.1 in
     let read = rows_of_groups bytes t shape metadata.row_groups in
     let said : IsSaid (says e) read = rw (← c.deref-then-not-claims_add_up.ensures.value) (c.in_err-test_groups.ensures t leaves) in
-    rw (p.1, p.2) (said_too (says e) read (part_read c.args.first c.args.most (rows_of bytes t metadata)) (λ fault is. rw (rows_fail bytes t metadata shape fault fit is) refl) said)
+    rw (p.1, p.2) (said_too (says e) read (part_read c.args.first c.args.most (footer_rows bytes t metadata)) (λ fault is. rw (rows_fail bytes t metadata shape fault fit is) refl) said)
 
 pub returns-in_err-add_groups : goal.returns-in_err-add_groups
 returns-in_err-add_groups g c =
@@ -61,7 +61,7 @@ returns-in_err-add_groups g c =
     let p = err_from_is_err_and c.from_residual-in_err-add_groups.result c.from_residual-in_err-add_groups.ensures.1 in
     let read = rows_of_groups bytes t shape metadata.row_groups in
     let said : IsSaid (says e) read = rw (← c.deref-3.ensures.value) (c.in_err-add_groups.ensures t leaves) in
-    rw (p.1, p.2) (said_too (says e) read (part_read c.args.first c.args.most (rows_of bytes t metadata)) (λ fault is. rw (rows_fail bytes t metadata shape fault fit is) refl) said)
+    rw (p.1, p.2) (said_too (says e) read (part_read c.args.first c.args.most (footer_rows bytes t metadata)) (λ fault is. rw (rows_fail bytes t metadata shape fault fit is) refl) said)
 
 pub returns : goal.returns
 returns g c =
@@ -78,6 +78,6 @@ returns g c =
     let seen : rows_of_groups bytes t shape metadata.row_groups ≡ Ok read.0 = rw (← c.deref-3.ensures.value) read.1 in
     let kept : row_views c.add_groups.new.rows.items ≡ part_of c.args.first c.args.most read.0 = read.2 ∙ ap (λ rows. row_views rows ++ part_of c.args.first c.args.most read.0) c.new-rows.ensures.items in
     let many : length read.0 ≡ metadata.num_rows = groups_many bytes t shape metadata.row_groups read.0 some seen ∙ eqb-true (claimed_rows metadata.row_groups) metadata.num_rows agree in
-    let answer : rows_of bytes t metadata ≡ Ok read.0 = rows_by_claims bytes t metadata shape read.0 fit some seen ∙ rw agree refl in
+    let answer : footer_rows bytes t metadata ≡ Ok read.0 = rows_by_claims bytes t metadata shape read.0 fit some seen ∙ rw agree refl in
     let part : part_among c.args.first c.args.most read.0 ≡ record { rows = row_views c.add_groups.new.rows.items; total = metadata.num_rows } = rw (kept, many) refl in
     rw answer (ap (λ (p : RowsPart). Ok p) part)

@@ -13,7 +13,7 @@ use Rattle.parquet_footer.specs.declared.fault.FileFault.{FileFault}
 use Rattle.parquet_file.specs.Reading.{rows_at}
 use Rattle.parquet_file.specs.Writing.{written_file}
 use Rattle.table_model.specs.Appends.{appended}
-use Rattle.table_model.specs.declared.table.Appended.TheVariants.{Committed, StreamClosed}
+use Rattle.table_model.specs.declared.table.AppendAnswer.TheVariants.{Committed, StreamClosed}
 use Rattle.table_model.specs.Lawful.{IsLawful}
 use Rattle.delta_actions.specs.Names.{data_file_name, greatest_version}
 use Rattle.delta_actions.specs.Names as names
@@ -23,8 +23,8 @@ use Rattle.row_core.proofs.Callers.{same_rows-is}
 use Rattle.table_model.specs.Table as model
 use Rattle.table_model.specs.Table.{Entry, group, is_closed, last_batch}
 use Rattle.table_store.proofs.Callers.{commit_name-data_file_name}
-use Rattle.sink_core.specs.Appending.{Batch, Step, puts, stands, checked, file_name, greatest_number, is_repeat, is_same, unless_other, where_same, file_or_refusal, batch_of, fitting, new_step, step_of, settled, with_append, with_file_alone, IsWellMade, PutsWell}
-use Rattle.sink_core.specs.Refusals.{Refusal, stale, differs}
+use Rattle.sink_core.specs.Appending.{EncodedBatch, AppendPlan, puts, stands, checked, file_name, greatest_number, is_repeat, is_same, unless_other, where_same, file_or_refusal, batch_of, put_plan, new_plan, plan_of, append_plan, with_append, with_file_alone, IsWellMade, PutsWell}
+use Rattle.sink_core.specs.Refusals.{AppendRefusal, stale, differs}
 use Rattle.lake_bytes.specs.Results.{◌>>=◌, refused_if}
 use Rattle.sink_core.specs.RowsIn.{rows_from, takes_rows}
 use Rattle.lake_script.specs.Keeps.{AreFiles, IsReadableFile, FileKept, HasNoOther, IsKept, Keeps, KeepsBeside}
@@ -102,18 +102,18 @@ files_commit objects schema version bytes files application number found utf8 sm
 -- ---- an append over a table that is kept
 
 -- a store stays, whether the file that an append puts stands alone or with its commit
-abbrev pub GoesOn : (most : ℕ) → Objects → Result Step Refusal → Type 0
+abbrev pub GoesOn : (most : ℕ) → Objects → Result AppendPlan AppendRefusal → Type 0
 GoesOn most objects step = Stays most (with_file_alone objects step) × Stays most (with_append objects step)
 
 module _ (objects : Objects) (schema : Tree) (entries : List Entry) (kept : IsKept objects schema entries) (files : AreFiles objects schema) (most : ℕ) (up : length entries ≤ most)
     (application : List ℕ) (number at : ℕ) (utf8 : IsUtf8 application) (fits : number ≤ greatest_number) (rows : List Row) where
   -- the batch that is put with this file
-  abbrev made : (file : List ℕ) → Batch
+  abbrev made : (file : List ℕ) → EncodedBatch
   made file = made_with (length entries) schema rows application number at file
 
   -- what is done where the number is the application's last one again, or not
-  abbrev behind : Result Bool Refusal → Result Step Refusal
-  behind repeats = (repeats >>= λ repeats. goes_on (is_closed application entries) repeats >>= λ open_. Ok (asked (length entries) schema rows repeats)) >>= step_of objects application number at
+  abbrev behind : Result Bool AppendRefusal → Result AppendPlan AppendRefusal
+  behind repeats = (repeats >>= λ repeats. goes_on (is_closed application entries) repeats >>= λ open_. Ok (asked (length entries) schema rows repeats)) >>= plan_of objects application number at
 
   -- where nothing is put, the table is kept
   unchanged : Stays (suc most) objects
@@ -165,31 +165,31 @@ module _ (objects : Objects) (schema : Tree) (entries : List Entry) (kept : IsKe
       ]
 
   -- what is done for a new number
-  new_goes_on : appended (handed_in application number rows) entries ≡ Committed (length entries) → PutsWell application number at (new_step objects (asked (length entries) schema rows false) application number at)
-      → GoesOn (suc most) objects (new_step objects (asked (length entries) schema rows false) application number at)
+  new_goes_on : appended (handed_in application number rows) entries ≡ Committed (length entries) → PutsWell application number at (new_plan objects (asked (length entries) schema rows false) application number at)
+      → GoesOn (suc most) objects (new_plan objects (asked (length entries) schema rows false) application number at)
   unfolding batch_of
   new_goes_on new well = by_file (written_file schema rows) well
     where
-      by_fit : (file : List ℕ) (fit : Result (Unit {0}) Refusal) → unless_other schema rows (file_name application number) (object_at objects (file_name application number)) ≡ fit
+      by_fit : (file : List ℕ) (fit : Result (Unit {0}) AppendRefusal) → unless_other schema rows (file_name application number) (object_at objects (file_name application number)) ≡ fit
           → PutsWell application number at (fit >>= λ fits. Ok (puts (made file)))
           → GoesOn (suc most) objects (fit >>= λ fits. Ok (puts (made file)))
       by_fit file (Err why) is well = (unchanged, unchanged)
       by_fit file (Ok fits) is well = put_goes_on file new is well
 
-      by_file : (written : Result (List ℕ) FileFault) → PutsWell application number at ((file_or_refusal written >>= λ file. Ok (made file)) >>= fitting objects)
-          → GoesOn (suc most) objects ((file_or_refusal written >>= λ file. Ok (made file)) >>= fitting objects)
+      by_file : (written : Result (List ℕ) FileFault) → PutsWell application number at ((file_or_refusal written >>= λ file. Ok (made file)) >>= put_plan objects)
+          → GoesOn (suc most) objects ((file_or_refusal written >>= λ file. Ok (made file)) >>= put_plan objects)
       by_file (Err fault) well = (unchanged, unchanged)
       by_file (Ok file) well = by_fit file (unless_other schema rows (file_name application number) (object_at objects (file_name application number))) refl well
 
   -- the same where the stream may be closed
   open_goes_on : (closed : Bool) → appended (handed_in application number rows) entries ≡ cond closed StreamClosed (Committed (length entries))
-      → PutsWell application number at ((goes_on closed false >>= λ open_. Ok (asked (length entries) schema rows false)) >>= step_of objects application number at)
-      → GoesOn (suc most) objects ((goes_on closed false >>= λ open_. Ok (asked (length entries) schema rows false)) >>= step_of objects application number at)
+      → PutsWell application number at ((goes_on closed false >>= λ open_. Ok (asked (length entries) schema rows false)) >>= plan_of objects application number at)
+      → GoesOn (suc most) objects ((goes_on closed false >>= λ open_. Ok (asked (length entries) schema rows false)) >>= plan_of objects application number at)
   open_goes_on true new well = (unchanged, unchanged)
   open_goes_on false new well = new_goes_on new well
 
   -- for the last number again nothing is put
-  again_goes_on : (same : Result (Unit {0}) Refusal) → GoesOn (suc most) objects (same >>= λ same. Ok stands)
+  again_goes_on : (same : Result (Unit {0}) AppendRefusal) → GoesOn (suc most) objects (same >>= λ same. Ok stands)
   again_goes_on (Ok same) = (unchanged, unchanged)
   again_goes_on (Err why) = (unchanged, unchanged)
 
@@ -209,7 +209,7 @@ module _ (objects : Objects) (schema : Tree) (entries : List Entry) (kept : IsKe
 
 -- An append over a table that is kept leaves one that is kept, however far it comes.
 pub append_goes_on : (objects : Objects) (schema : Tree) (entries : List Entry) → IsKept objects schema entries → AreFiles objects schema → (most : ℕ) → length entries ≤ most
-    → (application : List ℕ) (number at : ℕ) (items : Items) → IsUtf8 application → PutsWell application number at (settled false objects application number at items) → GoesOn (suc most) objects (settled false objects application number at items)
+    → (application : List ℕ) (number at : ℕ) (items : Items) → IsUtf8 application → PutsWell application number at (append_plan false objects application number at items) → GoesOn (suc most) objects (append_plan false objects application number at items)
 append_goes_on objects schema entries kept files most up application number at items utf8 well =
     let is = step_is objects schema entries application number at items utf8 kept in
     rw is (by_tests (checked application number (items_len items)) (has_key_inside (codes "delta.invariants") schema) (takes_rows schema) refl (rw is at well))
@@ -217,13 +217,13 @@ append_goes_on objects schema entries kept files most up application number at i
     same : GoesOn (suc most) objects (Ok stands)
     same = let still = keeps schema entries kept files (omega (arith, up)) in (still, still)
 
-    by_read : (read : Result (List Row) Refusal) → number ≤ greatest_number → PutsWell application number at (step_with objects entries application number at schema read)
+    by_read : (read : Result (List Row) AppendRefusal) → number ≤ greatest_number → PutsWell application number at (step_with objects entries application number at schema read)
         → GoesOn (suc most) objects (step_with objects entries application number at schema read)
     by_read (Err why) small well = same
     by_read (Ok rows) small well =
         behind_goes_on objects schema entries kept files most up application number at utf8 small rows (last_batch application entries) refl well
 
-    by_tests : (fine : Result (Unit {0}) Refusal) (barred : Bool) (takes : Result (Unit {0}) Refusal) → checked application number (items_len items) ≡ fine
+    by_tests : (fine : Result (Unit {0}) AppendRefusal) (barred : Bool) (takes : Result (Unit {0}) AppendRefusal) → checked application number (items_len items) ≡ fine
         → PutsWell application number at (step_behind objects schema entries application number at items fine barred takes) → GoesOn (suc most) objects (step_behind objects schema entries application number at items fine barred takes)
     by_tests (Err why) barred takes is well = same
     by_tests (Ok passed) true takes is well = same

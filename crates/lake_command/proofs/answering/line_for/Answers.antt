@@ -4,8 +4,8 @@ use Rattle.json_text.specs.Rows.{text_data}
 use Rattle.json_lines.specs.Rows.{input_lines, object_of}
 use Rattle.script_lines.specs.Lines.{append, create, task}
 use Rattle.lake_command.proofs.FolderLemmas.{rows_are}
-use Rattle.lake_command.proofs.answering.line_of.Goals as goal
-use Rattle.lake_command.proofs.answering.line_of.Goals.{in-Create+in_ok-moment-in-Create, in-Append+in_ok-at-in-Append+in_ok-text-in-Append+in_ok-rows-in-Append, in-Tail, in-Checkpoint, in-Snapshot, in-History}
+use Rattle.lake_command.proofs.answering.line_for.Goals as goal
+use Rattle.lake_command.proofs.answering.line_for.Goals.{in-Create+in_ok-moment-in-Create, in-Append+in_ok-at-in-Append+in_ok-text-in-Append+in_ok-rows-in-Append, in-Tail, in-Checkpoint, in-Snapshot, in-History}
 
 pub returns-clause-asked : goal.returns-clause-asked
 returns-clause-asked g c = elim c.match-job.branch [
