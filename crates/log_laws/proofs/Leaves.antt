@@ -163,6 +163,7 @@ module _ (use_checkpoints : Bool) (objects : Objects) (sound : IsSoundStore obje
     seen_closed application text = (same_values commits whole.0 whole.2).closed application ∙ closed_left objects schema entries holds whole.0 application text whole.1
 
     pub seen_read : readable commits ≡ Ok schema
+    unfolding whole seen_leaves
     seen_read = (same_values commits whole.0 whole.2).read ∙ by_log whole.0 (seen_leaves commits is).1 whole.1
       where
         by_log : (log : List (List actions.Action)) → log_of objects ≡ Ok log → IsLog objects log → readable log ≡ Ok schema
