@@ -1,3 +1,4 @@
+mod Admits
 mod Beside
 pub mod Callers
 mod Checkpoints

@@ -2,10 +2,14 @@
 //! laws, each a function with an empty body whose contract is the law. The product calls no code of this crate.
 #![tactic(auto)]
 
+mod admitting;
 mod landing;
 mod leaving;
 mod standing;
 
+pub use admitting::{
+    a_creation_is_admissible, an_empty_store_is_sound, the_next_entry_is_admissible,
+};
 pub use landing::{
     a_data_file_lands, a_sound_checkpoint_lands, a_sound_checkpoint_stays_sound,
     an_admissible_commit_lands, an_admissible_commit_stays_admissible,

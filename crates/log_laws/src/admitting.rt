@@ -1,0 +1,36 @@
+//! Laws of which commits may be put next, where the versions before them stand.
+
+ghost use Rattle.std.specs.Prelude.{◌≡◌, ◌≤◌, ℕ, List, [], ◌∷◌, length, false};
+ghost use Rattle.store_core.specs.Objects.{Objects};
+ghost use Rattle.delta_actions.specs.Names.{greatest_version};
+ghost use Rattle.table_model.specs.Appends.{appended};
+ghost use Rattle.table_model.specs.Lawful.{IsLawful};
+ghost use Rattle.table_model.specs.Table.{Batch, Entry, creation, group, close, is_closed};
+ghost use Rattle.table_model.specs.declared.table.AppendAnswer.TheVariants.{Committed};
+ghost use Rattle.table_store.specs.Commits.{IsCommitOf};
+ghost use Rattle.table_store.specs.Holds.{FileStands, HoldsFirst};
+ghost use Rattle.table_store.specs.Schema.{Schema};
+ghost use Rattle.table_store.specs.Sound.{IsAdmissible};
+ghost use Rattle.log_laws.specs.Sound.{IsSoundStore};
+
+/// A store of nothing is sound.
+pub fn an_empty_store_is_sound()
+    ensures { IsSoundStore [] }
+{}
+
+/// A creation is admissible as the first commit of every store.
+pub fn a_creation_is_admissible()
+    ensures { (objects : Objects) (schema : Schema) (bytes : List ℕ) → IsCommitOf schema creation bytes → IsAdmissible objects 0 bytes }
+{}
+
+/// Behind the versions of a lawful table, of which the creation is one, these commits are admissible at the version that
+/// comes next, if a commit can have it: that of a batch which the table takes, whose file stands, and that of a stream's
+/// close which isn't closed. The name of the version may be taken meanwhile, and versions behind it too.
+pub fn the_next_entry_is_admissible()
+    ensures batch { (objects : Objects) (schema : Schema) (first : Entry) (entries : List Entry) (b : Batch) (bytes : List ℕ) → HoldsFirst objects schema 0 (first ∷ entries) → IsLawful (first ∷ entries)
+        → length (first ∷ entries) ≤ greatest_version → appended b (first ∷ entries) ≡ Committed (length (first ∷ entries)) → IsCommitOf schema (group (b ∷ [])) bytes → FileStands objects schema b
+        → IsAdmissible objects (length (first ∷ entries)) bytes }
+    ensures closed { (objects : Objects) (schema : Schema) (first : Entry) (entries : List Entry) (application bytes : List ℕ) → HoldsFirst objects schema 0 (first ∷ entries) → IsLawful (first ∷ entries)
+        → length (first ∷ entries) ≤ greatest_version → is_closed application (first ∷ entries) ≡ false → IsCommitOf schema (close application) bytes
+        → IsAdmissible objects (length (first ∷ entries)) bytes }
+{}
