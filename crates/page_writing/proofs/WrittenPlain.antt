@@ -1,5 +1,5 @@
 -- The sizes of values that are written in PLAIN.
-use Rattle.std.proofs.Common.{◌≡◌, ◌≢◌, ℕ, zero, suc, ◌+◌, ◌/◌, ◌<◌, ◌≤◌, List, [], ◌∷◌, ◌++◌, length, drop, map, get_or, refl, sym, ap, ◌∙◌, append_assoc, arith}
+use Rattle.std.proofs.Common.{◌≡◌, ◌≢◌, ℕ, zero, suc, ◌+◌, ◌/◌, ◌<◌, ◌≤◌, List, [], ◌∷◌, ◌++◌, length, drop, map, get_or, refl, sym, ap, ◌∙◌, append_assoc, add-one, arith}
 use Rattle.std.specs.List.{flat_map}
 use Rattle.std.proofs.lemmas.List.{length-append}
 use Rattle.lake_bytes.proofs.Callers.{length-low_bytes}
@@ -34,7 +34,7 @@ value_within ByteArray values i v other lt = part_within (value_bytes ByteArray)
 -- ---- one value more
 
 next_value : {X : Type 0} (xs : List X) (i : ℕ) (x : X) → i < length xs → get_or xs i x ≡ x
-    → drop i xs ≡ x ∷ drop (i + 1) xs
+    → drop i xs ≡ x ∷ drop (suc i) xs
 next_value [] i x lt same = absurd (omega arith)
 next_value (first ∷ xs) zero x lt same = ap (λ y. y ∷ xs) same
 next_value (first ∷ xs) (suc i) x lt same = next_value xs i x (omega arith) same
@@ -54,5 +54,5 @@ value_written type f xs i x old new total other lt same new_is so_far =
     let left = plain_bytes type (map f (drop (i + 1) xs)) in
     ap (λ (t : List ℕ). t ++ left) new_is ∙ append_assoc old (value_bytes type (f x)) left
     ∙ ap (λ (t : List ℕ). old ++ t) (sym (plain_value type (f x) (map f (drop (i + 1) xs)) other)
-    ∙ ap (λ ys. plain_bytes type (map f ys)) (sym (next_value xs i x lt same)))
+    ∙ ap (λ ys. plain_bytes type (map f ys)) (sym (next_value xs i x lt same ∙ ap (λ n. x ∷ drop n xs) (sym (add-one i)))))
     ∙ so_far

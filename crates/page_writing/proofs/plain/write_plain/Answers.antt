@@ -1,8 +1,9 @@
 use Rattle.std.proofs.Common.{◌≡◌, ◌<◌, length, get_or, map, arith, sym, ap, ◌∙◌}
 use Rattle.std.proofs.lemmas.List.{get_or-map, length-map}
+use Rattle.std.proofs.lemmas.Result.{err_from_is_err_and}
 use Rattle.shred.specs.Views.{borrowed_value}
 use Rattle.page_writing.specs.Writing.{value_bytes}
-use Rattle.page_writing.proofs.Kept.{keeps_more}
+use Rattle.page_writing.proofs.Kept.{keeps_each, keeps_more}
 use Rattle.page_writing.proofs.WrittenPlain.{value_within, value_written}
 use Rattle.page_writing.proofs.plain.write_plain.Goals as goal
 
@@ -29,3 +30,11 @@ loop-value-preserved c = record {
   keeps = keeps_more c.args.out.now.items c.loop-value.out.items c.write_value.new.out.items _
       c.loop-value.invariant.keeps c.in_ok-write_value.ensures.ok;
 }
+
+pub returns-in_err-write_value : goal.returns-in_err-write_value
+returns-in_err-write_value c =
+    let p = err_from_is_err_and c.from_residual.result c.from_residual.ensures.1 in
+    rw p.1 (record {
+      ok = tt;
+      keeps = keeps_each c.args.out.now.items c.loop-value.out.items c.write_value.new.out.items c.loop-value.invariant.keeps c.in_err-write_value.ensures.keeps;
+    })
