@@ -13,7 +13,7 @@ use Rattle.lake_script.specs.Keeps.{Keeps}
 use Rattle.lake_script.specs.Tables.{State, entries_of}
 use Rattle.lake_script.specs.Told.{expected_from, ArePrintedLines}
 use Rattle.script_lines.specs.Splitting.{is_newline}
-use Rattle.lake_script.proofs.KeptRuns.{told_on, told_in_front, told_with_objects, left_on, left_is_short}
+use Rattle.lake_script.proofs.KeptRuns.{told_on, told_in_front, told_with_objects, left_on}
 use Rattle.lake_script.proofs.KeptScripts.{lines_told, kept_held, kept_reads_out}
 
 -- a text has one line more than newlines

@@ -4,6 +4,9 @@ use Rattle.std.specs.Io.KnownBytes.{Consumes, Appends, Keeps, append_known}
 use Rattle.std.proofs.Math.Seq.{take-length}
 use Rattle.std.proofs.lemmas.List.{take-append-drop}
 use Rattle.lake_script.specs.Streams.{StandsIn}
+use Rattle.lake_script.specs.Told.{Finishes}
+use Rattle.lake_script.specs.declared.engine.End.{End}
+use Rattle.lake_script.specs.declared.engine.End.TheVariants.{Done, BadLine, NotRead, NotWritten}
 
 -- what is known is as long as what was taken of it
 pub length-consumed : (old new : Option (List ℕ)) (text : List ℕ) (n : ℕ) → Consumes old new text → n ≤ length text → IfSome old (λ known. n ≤ length known)
@@ -83,3 +86,12 @@ stands_in_whole (Some xs) None new later whole t s = absurd t.added
 stands_in_whole (Some xs) (Some ys) None later whole t s = absurd s
 stands_in_whole (Some xs) (Some ys) (Some zs) later whole t s =
     (s.0 ++ later, sym (append_assoc zs s.0 later) ∙ (ap (λ u. u ++ later) (s.1 ∙ append-nil ys ∙ t.added) ∙ (append_assoc xs t.front later ∙ ap (λ u. xs ++ u) t.joins)))
+
+-- What holds of a text where a run finishes holds of the text that was to be read, where that is the one.
+pub finishes_with : (end : End) (known : Option (List ℕ)) (text : List ℕ) (P : List ℕ → Type 0) → IfSome known (λ all. text ≡ all) → Finishes end (λ bad. P text) → Finishes end (λ bad. IfSome known P)
+finishes_with NotRead known text P is holds = tt
+finishes_with NotWritten known text P is holds = tt
+finishes_with Done None text P is holds = tt
+finishes_with Done (Some all) text P is holds = subst P is holds
+finishes_with (BadLine number) None text P is holds = tt
+finishes_with (BadLine number) (Some all) text P is holds = subst P is holds
