@@ -41,10 +41,11 @@ pub fn written(alloc: Global, names: &Names, text: &str) -> Result<Vec<u8>, Refu
 /// The struct that the bytes are, written again as a [`SAMPLE`]. They are misspelled where it can't be.
 fn written_struct(alloc: Global, bytes: &[u8]) -> Result<Vec<u8>, Refusal> {
     let tree = read_struct(alloc, &mut Cursor::new(bytes))?;
-    if !is_writable(&tree, &SAMPLE) {
+    let form = &SAMPLE;
+    if !is_writable(&tree, form) {
         return Err(Refusal::BadSpelling);
     }
-    Ok(write_struct(alloc, &tree, &SAMPLE)?)
+    Ok(write_struct(alloc, &tree, form)?)
 }
 
 /// A struct with a field of each type that is written.
