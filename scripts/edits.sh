@@ -3,7 +3,8 @@
 #
 # Beside the must-fail edits that the gate tries (must-fail/NAME.edit), each crate has wrong bodies in the same notation that
 # were tried once (must-fail/NAME.md). This makes edits of those of the crates named, on a copy of the checkout, and has the
-# prover try them: to be run when a contract that refuses them changes. It begins with what earlier checks on this machine kept.
+# prover try them: to be run when a contract that refuses them changes. The copy has what checks and the gate left in out/: run
+# it where `rt ci` has passed, or the crates below are proved anew first, which takes long.
 #
 # It tells for each one of four things: it is refused; it is refused only because a proof file names what it took away, or by
 # a limit of the prover, which says little of the contract ('shows little'); it is still proved; or it can't be applied or
@@ -20,8 +21,8 @@ copy="$(mktemp -d)"
 trap 'rm -rf "$copy"' EXIT
 trap 'exit 130' INT TERM
 
-# The copy has the sources alone, and of the edits just those to try.
-tar -c --exclude=./crates/*/out --exclude=./.git . | tar -x -C "$copy"
+# The copy has of the edits just those to try.
+tar -c --exclude=./.git . | tar -x -C "$copy"
 rm -f "$copy"/crates/*/must-fail/*.edit
 for crate in "$@"; do
     if [ ! -d "crates/$crate" ]; then
