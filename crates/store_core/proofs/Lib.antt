@@ -1,2 +1,4 @@
 mod Answers
+mod FlightLemmas
+mod NameLemmas
 mod Trees

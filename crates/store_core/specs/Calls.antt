@@ -1,14 +1,14 @@
 -- What a call of a store tells and leaves, also of a store that loses calls.
 -- Of a store two things are told: its objects, and its puts in flight. A put in flight was sent, its answer was lost,
 -- and it may take effect later, between two calls.
-use Rattle.std.specs.Prelude.{◌≡◌, ◌<◌, ◌-◌, ◌^◌, ◌⊎◌, ◌++◌, ◌∷◌, [], ℕ, List, Option, None, Some, IsSome, Result, Ok, Err}
+use Rattle.std.specs.Prelude.{◌≡◌, ◌<◌, ◌+◌, ◌-◌, ◌^◌, ◌⊎◌, ◌++◌, ◌∷◌, [], ℕ, List, Option, None, Some, IsSome, Result, Ok, Err}
 use Rattle.store_core.specs.Objects.{Objects, with_object}
 use Rattle.store_core.specs.declared.store.Put.{Put}
 use Rattle.store_core.specs.declared.store.Put.TheVariants.{Created, Exists}
 use Rattle.store_core.specs.declared.fault.StoreFault.{StoreFault}
 use Rattle.store_core.specs.declared.fault.StoreFault.TheVariants.{Lost, Memory}
 
--- the puts in flight, in the order in which they were sent: names with bytes
+-- the puts in flight: names with bytes, each as often as it was sent
 abbrev pub Flight : Type 0
 Flight = List (List ℕ × List ℕ)
 
@@ -27,9 +27,9 @@ StandsAfter Exists bytes found = IsSome found
 abbrev pub HasLanded : List ℕ → List ℕ → Objects × Flight → Objects × Flight → Type 0
 HasLanded name bytes old new = (new.0 ≡ with_object old.0 name bytes) × (new.1 ≡ old.1)
 
--- the put is in flight: it may take effect later
+-- the put is in flight: it may take effect later. It stands somewhere among those that were, which stay
 abbrev pub GoesInFlight : List ℕ → List ℕ → Objects × Flight → Objects × Flight → Type 0
-GoesInFlight name bytes old new = (new.0 ≡ old.0) × (new.1 ≡ old.1 ++ (name, bytes) ∷ [])
+GoesInFlight name bytes old new = (new.0 ≡ old.0) × ((front back : Flight) × (old.1 ≡ front ++ back) × (new.1 ≡ front ++ (name, bytes) ∷ back))
 
 -- nothing changed, so a put that left this never lands
 abbrev pub IsUntouched : Objects × Flight → Objects × Flight → Type 0
@@ -48,3 +48,13 @@ abbrev pub CountsFault : {X : Type 0} → Result X StoreFault → ℕ → ℕ �
 CountsFault (Ok x) old new = new ≡ old
 CountsFault (Err Lost) old new = HasRisen old new
 CountsFault (Err Memory) old new = new ≡ old
+
+-- a count of faults rose by one. At the greatest number it stays
+abbrev pub RisesByOne : ℕ → ℕ → Type 0
+RisesByOne old new = (new ≡ old + 1) ⊎ ((old ≡ 2 ^ 64 - 1) × (new ≡ old))
+
+-- the count of faults rises by one in a call that is lost, and in no other
+abbrev pub CountsOne : {X : Type 0} → Result X StoreFault → ℕ → ℕ → Type 0
+CountsOne (Ok x) old new = new ≡ old
+CountsOne (Err Lost) old new = RisesByOne old new
+CountsOne (Err Memory) old new = new ≡ old

@@ -2,13 +2,15 @@
 //!
 //! `Store` is what a table's folder is to the code above: it lists names, gets an object's bytes, and puts an object
 //! under a name that isn't there yet, as the Delta protocol asks of a log's commits (PROTOCOL.md, "Delta Log Entries").
-//! Its contract holds of a store that loses calls too. `MemoryStore` is a store that loses none.
+//! Its contract holds of a store that loses calls too. `MemoryStore` is a store that loses none, and `Flaky` one over
+//! another that loses, delays and repeats calls as it is told to.
 #![tactic(auto)]
 
 mod fault;
 mod flaky;
 mod laws;
 mod memory;
+mod naming;
 mod store;
 
 pub use fault::StoreFault;
@@ -19,4 +21,5 @@ pub use laws::{
     the_same_under_each_name_is_the_same, what_stands_stays,
 };
 pub use memory::MemoryStore;
+pub use naming::{has_version, is_commit};
 pub use store::{Put, Store};

@@ -1,18 +1,9 @@
 -- What a table's file is for, by its name (Delta PROTOCOL.md, "Delta Log Entries" and "Checkpoints").
-use Rattle.std.specs.Prelude.{ℕ, List, Bool, ◌&&◌, not, take, drop, length, nat_le, nat_eq, codes, bytes_eq}
-use Rattle.std.specs.List.{list_all, starts_with, ends_with}
-use Rattle.std.specs.Char.{is_ascii_digit}
+use Rattle.std.specs.Prelude.{ℕ, List, Bool, ◌&&◌, not, drop, nat_eq, codes}
+use Rattle.std.specs.List.{starts_with, ends_with}
+unfoldable pub use Rattle.store_core.specs.Names.{has_version, is_commit}
 use Rattle.table_folder.specs.declared.kind.FileKind.{FileKind}
 use Rattle.table_folder.specs.declared.kind.FileKind.TheVariants.{Data, Commit, Checkpoint}
-
--- in the log's folder, and begins with twenty digits
-unfoldable pub has_version : List ℕ → Bool
-has_version name =
-    nat_le 31 (length name) && starts_with nat_eq name (codes "_delta_log/") && list_all is_ascii_digit (take 20 (drop 11 name))
-
--- a commit: nothing but `.json` follows the digits
-unfoldable pub is_commit : List ℕ → Bool
-is_commit name = has_version name && bytes_eq (drop 31 name) (codes ".json")
 
 -- a checkpoint: what follows the digits begins with `.checkpoint.` and ends with `.json`
 unfoldable pub is_checkpoint : List ℕ → Bool

@@ -1,16 +1,16 @@
 -- What becomes of the creates of a folder in memory, of which one may fail.
 use Rattle.std.specs.Prelude.{zero, suc}
-use Rattle.store_core.specs.declared.flaky.Turn.{Turn}
-use Rattle.store_core.specs.declared.flaky.Turn.TheVariants.{Pass, LoseRequest, LoseAnswer}
+use Rattle.table_folder.specs.declared.memory.CreateTurn.{CreateTurn}
+use Rattle.table_folder.specs.declared.memory.CreateTurn.TheVariants.{Pass, FailBefore, FailAfter}
 use Rattle.table_folder.specs.declared.memory.Stop.{Stop}
 use Rattle.table_folder.specs.declared.memory.Stop.TheVariants.{Never, Before, After}
 
 -- what becomes of the next create
-abbrev pub stop_turn : Stop → Turn
+abbrev pub stop_turn : Stop → CreateTurn
 stop_turn Never = Pass
-stop_turn (Before zero) = LoseRequest
+stop_turn (Before zero) = FailBefore
 stop_turn (Before (suc creates)) = Pass
-stop_turn (After zero) = LoseAnswer
+stop_turn (After zero) = FailAfter
 stop_turn (After (suc creates)) = Pass
 
 -- what is left of it then

@@ -22,7 +22,7 @@ pub use fault::{FolderFault, LoadFault, SaveFault};
 pub use folder::Folder;
 pub use kind::{FileKind, kind_of};
 pub use loading::{load, load_files, load_log};
-pub use memory::{MemoryFolder, Stop};
+pub use memory::{CreateTurn, MemoryFolder, Stop};
 pub use naming::is_table_name;
 pub use reason::Reason;
 pub use saving::save;

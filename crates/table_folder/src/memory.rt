@@ -8,7 +8,7 @@ ghost use Rattle.table_folder.specs.Stops.{stop_turn, later_stop};
 
 use crate::{Folder, FolderFault, Reason};
 use std::alloc::Global;
-use store_core::{MemoryStore, Put, Store, Turn};
+use store_core::{MemoryStore, Put, Store};
 
 /// Which create of a folder in memory fails. It is one: those after it take effect.
 #[derive(Clone, Copy, Debug, PartialEq, Eq)]
@@ -19,6 +19,17 @@ pub enum Stop {
     Before(u64),
     /// The one after so many others, once it has taken effect.
     After(u64),
+}
+
+/// What becomes of one create.
+#[derive(Clone, Copy, Debug, PartialEq, Eq)]
+pub enum CreateTurn {
+    /// It takes effect, and its answer comes.
+    Pass,
+    /// It fails before it takes effect.
+    FailBefore,
+    /// It takes effect, and fails then.
+    FailAfter,
 }
 
 /// A folder in memory, whose files are the objects of a store. A create that fails is counted.
@@ -48,16 +59,16 @@ impl MemoryFolder {
     }
 
     // What becomes of the next create.
-    fn next_turn(&mut self) -> Turn
+    fn next_turn(&mut self) -> CreateTurn
         ensures turn { result ≡ stop_turn self.old.stop }
         ensures left { self.new ≡ record self.old { stop = later_stop self.old.stop } }
     {
         let (turn, stop) = match self.stop {
-            Stop::Never => (Turn::Pass, Stop::Never),
-            Stop::Before(0) => (Turn::LoseRequest, Stop::Never),
-            Stop::Before(creates) => (Turn::Pass, Stop::Before(creates - 1)),
-            Stop::After(0) => (Turn::LoseAnswer, Stop::Never),
-            Stop::After(creates) => (Turn::Pass, Stop::After(creates - 1)),
+            Stop::Never => (CreateTurn::Pass, Stop::Never),
+            Stop::Before(0) => (CreateTurn::FailBefore, Stop::Never),
+            Stop::Before(creates) => (CreateTurn::Pass, Stop::Before(creates - 1)),
+            Stop::After(0) => (CreateTurn::FailAfter, Stop::Never),
+            Stop::After(creates) => (CreateTurn::Pass, Stop::After(creates - 1)),
         };
         self.stop = stop;
         turn
@@ -100,10 +111,10 @@ impl Folder for MemoryFolder {
     /// Copies the name and moves the bytes. It is the stop that says whether it fails, before it takes effect or after,
     /// and each create that memory suffices for is one of those that the stop counts.
     fn create(&mut self, name: &str, bytes: Vec<u8>) -> Result<Put, FolderFault>
-        ensures passes { stop_turn self.old.stop ≡ Turn.Pass → IsFailed result → ⊥ }
-        ensures before { stop_turn self.old.stop ≡ Turn.LoseRequest
+        ensures passes { stop_turn self.old.stop ≡ CreateTurn.Pass → IsFailed result → ⊥ }
+        ensures before { stop_turn self.old.stop ≡ CreateTurn.FailBefore
             → IsErr result × (stored_objects self.new.store ≡ stored_objects self.old.store) }
-        ensures after { stop_turn self.old.stop ≡ Turn.LoseAnswer → IsErr result × (IsFailed result
+        ensures after { stop_turn self.old.stop ≡ CreateTurn.FailAfter → IsErr result × (IsFailed result
             → stored_objects self.new.store ≡ with_object (stored_objects self.old.store) name.now bytes.items) }
         ensures left { (IsErrOf result FolderFault.Memory → ⊥) → self.new.stop ≡ later_stop self.old.stop }
         ensures told { IfOk result (λ put. put ≡ put_told (object_at (stored_objects self.old.store) name.now)) }
@@ -123,12 +134,12 @@ impl Folder for MemoryFolder {
             reason: Reason::Other,
         };
         match self.next_turn() {
-            Turn::Pass => put_in(&mut self.store, name, bytes),
-            Turn::LoseRequest => {
+            CreateTurn::Pass => put_in(&mut self.store, name, bytes),
+            CreateTurn::FailBefore => {
                 self.fail();
                 Err(refused)
             }
-            Turn::LoseAnswer => {
+            CreateTurn::FailAfter => {
                 put_in(&mut self.store, name, bytes)?;
                 self.fail();
                 Err(refused)
