@@ -1,0 +1,3 @@
+mod Bearing
+mod MoreCalls
+mod Stores

@@ -1,0 +1,4 @@
+pub mod Names
+pub mod Sessions
+pub mod Stores
+pub mod Talks
