@@ -4,6 +4,7 @@ pub mod Callers
 mod Checkpoints
 mod EmptyStores
 mod Fronts
+mod GoesOn
 mod Growth
 mod Lands
 mod Leaves

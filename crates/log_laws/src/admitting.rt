@@ -1,14 +1,17 @@
 //! Laws of which commits may be put next, where the versions before them stand.
 
-ghost use Rattle.std.specs.Prelude.{◌≡◌, ◌≤◌, ℕ, List, [], ◌∷◌, length, false};
-ghost use Rattle.store_core.specs.Objects.{Objects};
-ghost use Rattle.delta_actions.specs.Names.{greatest_version};
+ghost use Rattle.std.specs.Prelude.{◌≡◌, ◌≤◌, ℕ, suc, List, [], ◌∷◌, length, false, Some};
+ghost use Rattle.store_core.specs.Objects.{Objects, object_at};
+ghost use Rattle.delta_actions.specs.Action.{Action};
+ghost use Rattle.delta_actions.specs.Commit.{IsCommit};
+ghost use Rattle.delta_actions.specs.Names.{commit_name, greatest_version};
 ghost use Rattle.table_model.specs.Appends.{appended};
 ghost use Rattle.table_model.specs.Lawful.{IsLawful};
 ghost use Rattle.table_model.specs.Table.{Batch, Entry, creation, group, close, is_closed};
 ghost use Rattle.table_model.specs.declared.table.AppendAnswer.TheVariants.{Committed};
 ghost use Rattle.table_store.specs.Commits.{IsCommitOf};
-ghost use Rattle.table_store.specs.Holds.{FileStands, HoldsFirst};
+ghost use Rattle.table_store.specs.Conflicts.{Candidate, Conflicts, ReadsItsOwn};
+ghost use Rattle.table_store.specs.Holds.{FileStands, HoldsFirst, IsLawfulStore};
 ghost use Rattle.table_store.specs.Schema.{Schema};
 ghost use Rattle.table_store.specs.Sound.{IsAdmissible};
 ghost use Rattle.log_laws.specs.Sound.{IsSoundStore};
@@ -33,4 +36,13 @@ pub fn the_next_entry_is_admissible()
     ensures closed { (objects : Objects) (schema : Schema) (first : Entry) (entries : List Entry) (application bytes : List ℕ) → HoldsFirst objects schema 0 (first ∷ entries) → IsLawful (first ∷ entries)
         → length (first ∷ entries) ≤ greatest_version → is_closed application (first ∷ entries) ≡ false → IsCommitOf schema (close application) bytes
         → IsAdmissible objects (length (first ∷ entries)) bytes }
+{}
+
+/// The rules of conflicts are sound: in a lawful store, where the bytes of a candidate may be put at a version, whose
+/// commit stands already and doesn't conflict with the candidate, they may be put at the version behind it, if a commit
+/// can have it. So an append goes on behind batches and closes of other applications, and a close behind batches of any.
+pub fn a_candidate_without_conflict_goes_on()
+    ensures { (objects : Objects) (version : ℕ) (bytes won : List ℕ) (candidate : Candidate) (winner : List Action) → IsLawfulStore objects → IsAdmissible objects version bytes → IsCommit bytes candidate.actions
+        → ReadsItsOwn candidate → object_at objects (commit_name version) ≡ Some won → IsCommit won winner → (Conflicts candidate winner → ⊥) → suc version ≤ greatest_version
+        → IsAdmissible objects (suc version) bytes }
 {}

@@ -8,7 +8,8 @@ mod leaving;
 mod standing;
 
 pub use admitting::{
-    a_creation_is_admissible, an_empty_store_is_sound, the_next_entry_is_admissible,
+    a_candidate_without_conflict_goes_on, a_creation_is_admissible, an_empty_store_is_sound,
+    the_next_entry_is_admissible,
 };
 pub use landing::{
     a_data_file_lands, a_sound_checkpoint_lands, a_sound_checkpoint_stays_sound,

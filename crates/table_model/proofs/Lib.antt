@@ -1,4 +1,5 @@
 pub mod Batches
+pub mod Between
 pub mod Facts
 pub mod Grown
 pub mod Handed

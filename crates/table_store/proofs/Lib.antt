@@ -1,4 +1,5 @@
 pub mod ActionLemmas
+pub mod ConflictLemmas
 pub mod GroupLemmas
 pub mod HeldLemmas
 pub mod HoldingEnds

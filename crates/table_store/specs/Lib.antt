@@ -1,4 +1,5 @@
 pub mod Commits
+pub mod Conflicts
 pub mod Found
 pub mod Groups
 pub mod Holds
