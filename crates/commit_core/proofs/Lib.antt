@@ -1,6 +1,8 @@
 pub mod CloseLemmas
 pub mod CommitLemmas
+pub mod ConflictLemmas
 pub mod CreationLemmas
+pub mod CreationTalks
 pub mod HistoryLemmas
 pub mod PieceLemmas
 pub mod PutLemmas

@@ -7,33 +7,16 @@ use Rattle.lake_bytes.specs.Varint.{IsBytes}
 use Rattle.delta_actions.specs.Names as names
 use Rattle.delta_actions.specs.Names.{greatest_version}
 use Rattle.table_log.specs.Names.{commit_name}
-use Rattle.table_model.specs.Table.{creation}
-use Rattle.table_store.specs.Commits.{IsCommitOf}
-use Rattle.table_store.specs.Sound.{IsAdmissible, IsSound}
+use Rattle.table_store.specs.Sound.{IsSound}
 use Rattle.table_store.proofs.SoundLemmas.{sound_commit, sound_data_file}
-use Rattle.commit_core.specs.Commits.{creation as created}
-use Rattle.commit_core.specs.Creating.{CreatesWell, IsWellCreated, MayCreate, CreateRefusal, commit_from, with_creation}
+use Rattle.commit_core.specs.Creating.{CreatesWell, MayCreate, CreateRefusal, commit_from, with_creation}
 use Rattle.sink_core.specs.Appending.{EncodedBatch, IsWellMade, MayAppend, PutsWell, AppendPlan, is_past, puts, append_plan, stands, with_append, with_file, with_file_alone}
 use Rattle.sink_core.specs.Refusals as sink
-use Rattle.table_model.proofs.Callers.{new_is_lawful}
+use Rattle.commit_core.proofs.CreationTalks.{admissible_creation}
 use Rattle.job_laws.proofs.Admissible.{admissible}
 use Rattle.job_laws.proofs.Requests.{PutsBatch, puts_batch}
 
 -- ---- a creation
-
--- the commit of a creation is one
-commit_created : (at : ℕ) (schema bytes : List ℕ) (well : IsWellCreated at schema bytes) → IsCommitOf well.read creation bytes
-unfolding created
-commit_created at schema bytes well = record {
-  actions = created well.id at well.text;
-  commit = well.commit;
-  stand = record { metadata = _; actions = refl; schema_string = well.printed.readable; unpartitioned = refl; parquet = refl; unconfigured = refl; unnamed = (refl, refl) };
-}
-
--- so it is admissible as the first
-admissible_creation : (objects : Objects) (at : ℕ) (schema bytes : List ℕ) → IsWellCreated at schema bytes → IsAdmissible objects 0 bytes
-admissible_creation objects at schema bytes well =
-    record { schema = well.read; entries = []; entry = creation; stand = tt; at = refl; fits = omega arith; commit = commit_created at schema bytes well; files = tt; lawful = new_is_lawful }
 
 -- what a creation puts leaves a sound store sound
 creation_sound : (objects : Objects) (at : ℕ) (schema : List ℕ) (commit : Result (List ℕ) CreateRefusal) → CreatesWell at schema commit → IsSound objects → IsSound (with_creation objects commit)
