@@ -52,7 +52,7 @@ impl Case {
         Ok(Case {
             name: String::from_str(alloc, name)?,
             script: Vec::new(alloc),
-            store: Flaky::new(MemoryStore::new(alloc), Vec::new(alloc)),
+            store: Flaky::new(alloc, MemoryStore::new(alloc), Vec::new(alloc)),
             runs: Vec::new(alloc),
             folder: None,
             is_plain: false,

@@ -1,0 +1,78 @@
+//! The lines of a case.
+
+use crate::failure::Failure;
+use crate::faults::{add_turns, turn_of};
+use crate::telling::{tell_creation, tell_faults, tell_landed, tell_object, tell_reply};
+use commit_core::CreateSession;
+use session_core::{Request, ask, drive};
+use std::alloc::Global;
+use store_core::{Flaky, MemoryStore};
+
+/// Does what a line says, and adds how it ended:
+///
+/// - `turns KIND ..`: the calls behind those whose turns are told already meet these turns, each `pass`, `lost` (the
+///   request is), `mute` (the answer is lost), `late` or `twice`; past them every call passes;
+/// - `arm KIND`: the next put of a commit's name meets this turn;
+/// - `list`, `get NAME`, `put NAME TEXT` and `commit V TEXT`: one call by `ask`, the bytes being the text as it stands;
+/// - `create ID AT SCHEMA`: a `CreateSession` is driven to its end, with the moment in milliseconds, below 2^63;
+/// - `land K`: the put in flight of that number, from 0, takes effect;
+/// - `faults`: how many calls were lost;
+/// - `object NAME`: what stands under a name in the store below, without a call of the store above.
+pub fn tell_line(
+    alloc: Global,
+    store: &mut Flaky<MemoryStore>,
+    line: &str,
+    out: &mut Vec<u8>,
+) -> Result<(), Failure> {
+    let (word, rest) = line.split_once(' ').unwrap_or((line, ""));
+    match word {
+        "turns" => add_turns(alloc, store, rest),
+        "arm" => {
+            store.arm(turn_of(rest)?);
+            Ok(())
+        }
+        "create" => create(alloc, store, rest, out),
+        "land" => tell_landed(store.land(rest.parse()?), out),
+        "faults" if rest.is_empty() => tell_faults(store, out),
+        "object" => tell_object(store, rest, out),
+        _ => tell_reply(ask(alloc, store, request_of(alloc, word, rest)?), out),
+    }
+}
+
+// The call that a line asks for.
+fn request_of(alloc: Global, word: &str, rest: &str) -> Result<Request, Failure> {
+    match word {
+        "list" if rest.is_empty() => Ok(Request::List),
+        "get" => Ok(Request::Get(String::from_str(alloc, rest)?)),
+        "put" => {
+            let (name, text) = rest.split_once(' ').ok_or(Failure::Misspelled)?;
+            let name = String::from_str(alloc, name)?;
+            Ok(Request::PutFile(name, text.as_bytes().to_vec(alloc)?))
+        }
+        "commit" => {
+            let (version, text) = rest.split_once(' ').ok_or(Failure::Misspelled)?;
+            let version = version.parse()?;
+            Ok(Request::PutCommit(version, text.as_bytes().to_vec(alloc)?))
+        }
+        _ => Err(Failure::Misspelled),
+    }
+}
+
+// Drives the creation of a table, and adds how it ended.
+fn create(
+    alloc: Global,
+    store: &mut Flaky<MemoryStore>,
+    text: &str,
+    out: &mut Vec<u8>,
+) -> Result<(), Failure> {
+    let (id, rest) = text.split_once(' ').ok_or(Failure::Misspelled)?;
+    let (at, schema) = rest.split_once(' ').ok_or(Failure::Misspelled)?;
+    let at: u64 = at.parse()?;
+    if at >= 1 << 63 {
+        return Err(Failure::Misspelled);
+    }
+    let id = String::from_str(alloc, id)?;
+    let schema = String::from_str(alloc, schema)?;
+    let mut session = CreateSession::new(alloc, id, at, schema);
+    tell_creation(drive(alloc, store, &mut session), out)
+}

@@ -1,0 +1,30 @@
+//! A program that reads calls of a store which stand on standard input as cases, and prints how each ends.
+//!
+//! A line `case NAME` begins a case, with a store in which nothing stands, and prints `== NAME`. Each other line is a call
+//! of that store, what becomes of calls, or a question (`calls.rt` lists them). Blank lines and those that begin with `#`
+//! are passed over.
+#![tactic(auto)]
+
+mod calls;
+mod cases;
+mod failure;
+mod faults;
+mod telling;
+
+use std::io;
+use std::io::{Read, Write};
+use std::process::ExitCode;
+
+fn main(rt: HostRuntime) -> io::Result<ExitCode> {
+    let text = io::read_to_string(rt.alloc(), rt.stdin())?;
+    let mut told = Vec::new(rt.alloc());
+    let ended = cases::tell_cases(rt.alloc(), text.as_str(), &mut told);
+    rt.stdout().write_all(&told)?;
+    match ended {
+        Ok(()) => Ok(ExitCode::SUCCESS),
+        Err(failure) => {
+            eprintln!(rt; "{failure}")?;
+            Ok(ExitCode::FAILURE)
+        }
+    }
+}
