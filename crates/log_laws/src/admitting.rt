@@ -38,9 +38,9 @@ pub fn the_next_entry_is_admissible()
         → IsAdmissible objects (length (first ∷ entries)) bytes }
 {}
 
-/// The rules of conflicts are sound: in a lawful store, where the bytes of a candidate may be put at a version, whose
-/// commit stands already and doesn't conflict with the candidate, they may be put at the version behind it, if a commit
-/// can have it. So an append goes on behind batches and closes of other applications, and a close behind batches of any.
+/// The rules of conflicts are sound: in a lawful store, where the bytes of a candidate that reads the close of each
+/// application that it has a `txn` of may be put at a version, whose commit stands already and doesn't conflict with the
+/// candidate, they may be put at the version behind it, if a commit can have it.
 pub fn a_candidate_without_conflict_goes_on()
     ensures { (objects : Objects) (version : ℕ) (bytes won : List ℕ) (candidate : Candidate) (winner : List Action) → IsLawfulStore objects → IsAdmissible objects version bytes → IsCommit bytes candidate.actions
         → ReadsItsOwn candidate → object_at objects (commit_name version) ≡ Some won → IsCommit won winner → (Conflicts candidate winner → ⊥) → suc version ≤ greatest_version
