@@ -1,10 +1,16 @@
+pub mod CandidateLemmas
 pub mod CloseLemmas
 pub mod CommitLemmas
+pub mod ConflictFound
 pub mod ConflictLemmas
+pub mod CreatedLaws
 pub mod CreationLemmas
 pub mod CreationTalks
 pub mod HistoryLemmas
+pub mod OtherStreams
 pub mod PieceLemmas
 pub mod PutLemmas
+pub mod RaceLaws
+pub mod RaceLemmas
 pub mod AnswerLemmas
 pub mod Callers

@@ -1,4 +1,6 @@
+pub mod Candidates
 pub mod Commits
+pub mod CommitSessions
 pub mod Conflicts
 pub mod CreateSessions
 pub mod Creating

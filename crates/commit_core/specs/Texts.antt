@@ -1,5 +1,5 @@
 -- How refusals are told, and the texts of those of a table's creation.
-use Rattle.std.specs.Prelude.{ℕ, List, [], ◌∷◌, ◌++◌, codes}
+use Rattle.std.specs.Prelude.{ℕ, List, ◌++◌, codes}
 use Rattle.schema_tree.specs.Fault.{fault_of}
 use Rattle.schema_tree.specs.FaultTexts.{text_of}
 use Rattle.commit_core.specs.Creating.{CreateRefusal, table_exists, bad_schema, bad_id, lost, too_large}

@@ -1,9 +1,14 @@
-//! What is done to a table's log: its creation, as a session and over a store, what each version holds, and which commits
-//! conflict.
+//! What is done to a table's log: its creation, as a session and over a store, the puts of a commit as a session, what each
+//! version holds, and which commits conflict.
 #![tactic(auto)]
 
 mod candidate;
+mod commit_fault;
+mod commit_laws;
+mod commit_session;
+mod commit_state;
 mod conflict_kind;
+mod conflict_laws;
 mod conflicting;
 mod create_laws;
 mod create_session;
@@ -14,7 +19,11 @@ mod new_table;
 mod versions;
 
 pub use candidate::Candidate;
+pub use commit_fault::CommitFault;
+pub use commit_laws::what_a_commit_may;
+pub use commit_state::{CommitOutcome, CommitSession, CommitStage};
 pub use conflict_kind::Conflict;
+pub use conflict_laws::{a_candidate_reads_its_own, other_streams_do_not_conflict};
 pub use conflicting::conflict;
 pub use create_laws::{a_creation_over_one_store, what_a_creation_may};
 pub use create_state::{CreateSession, CreateStage};

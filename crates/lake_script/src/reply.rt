@@ -201,7 +201,14 @@ fn read<S: Store>(
 }
 
 // The reply to a line that puts a checkpoint.
-fn take_checkpoint<S: Store>(alloc: Global, store: &mut S, use_checkpoints: bool) -> LineReply
+fn take_checkpoint<S: Store>(
+    alloc: Global,
+    store: &mut S,
+    use_checkpoints: bool,
+    cache: &mut LogCache,
+) -> LineReply
+    requires { IsCacheOf (S.objects store.old) cache.old }
+    ensures cache { IsCacheOf (S.objects store.new) cache.new }
     ensures told { S.is_reliable store.old → RestoresWell use_checkpoints (S.objects store.old) → Executes (S.objects store.old) (task checkpoint) (reply_text result) (S.objects store.new) }
     ensures whole { S.is_reliable store.old → RestoresWell use_checkpoints (S.objects store.old) → is_short result ≡ false → IsExecuted (S.objects store.old) (task checkpoint) (reply_text result) (S.objects store.new) }
     ensures grows { S.is_reliable store.old → RestoresWell use_checkpoints (S.objects store.old) → MayPut (S.objects store.old) (task checkpoint) (S.objects store.new) }
@@ -210,14 +217,21 @@ fn take_checkpoint<S: Store>(alloc: Global, store: &mut S, use_checkpoints: bool
     ensures lost { says_lost result ≡ true → HasRisen (S.fault_count store.old) (S.fault_count store.new) }
     ensures counted { says_lost result ≡ false → S.fault_count store.new ≡ S.fault_count store.old }
 {
-    match checkpoint(alloc, store, use_checkpoints) {
+    match checkpoint(alloc, store, use_checkpoints, &mut cache.loaded) {
         Ok(version) => LineReply::Checkpointed(version),
         Err(fault) => LineReply::NoSnapshot(fault),
     }
 }
 
 // The reply to a line that asks for the snapshot.
-fn tell_snapshot<S: Store>(alloc: Global, store: &mut S, use_checkpoints: bool) -> LineReply
+fn tell_snapshot<S: Store>(
+    alloc: Global,
+    store: &mut S,
+    use_checkpoints: bool,
+    cache: &mut LogCache,
+) -> LineReply
+    requires { IsCacheOf (S.objects store.old) cache.old }
+    ensures cache { IsCacheOf (S.objects store.old) cache.new }
     ensures told { S.is_reliable store.old → RestoresWell use_checkpoints (S.objects store.old) → Executes (S.objects store.old) snapshot (reply_text result) (S.objects store.new) }
     ensures whole { S.is_reliable store.old → RestoresWell use_checkpoints (S.objects store.old) → is_short result ≡ false → IsExecuted (S.objects store.old) snapshot (reply_text result) (S.objects store.new) }
     ensures wants { RestoresWell use_checkpoints (S.objects store.old) → is_short result ≡ true → reply_text result ≡ no_room_to_tell }
@@ -226,7 +240,7 @@ fn tell_snapshot<S: Store>(alloc: Global, store: &mut S, use_checkpoints: bool) 
     ensures lost { says_lost result ≡ true → HasRisen (S.fault_count store.old) (S.fault_count store.new) }
     ensures counted { says_lost result ≡ false → S.fault_count store.new ≡ S.fault_count store.old }
 {
-    match snapshot_core::snapshot(alloc, store, use_checkpoints) {
+    match snapshot_core::snapshot(alloc, store, use_checkpoints, &mut cache.loaded) {
         Ok(text) => LineReply::Bytes(text),
         Err(fault) => LineReply::NoSnapshot(fault),
     }
@@ -341,10 +355,7 @@ fn execute_job<S: Store>(
             cache,
         ),
         Job::Tail { max, offset } => read(alloc, store, max, offset, use_checkpoints, cache),
-        Job::Checkpoint => {
-            forget(alloc, cache);
-            take_checkpoint(alloc, store, use_checkpoints)
-        }
+        Job::Checkpoint => take_checkpoint(alloc, store, use_checkpoints, cache),
         Job::Close { .. } => LineReply::Refused(Fault::NotYet),
     }
 }
@@ -383,7 +394,7 @@ pub fn execute<S: Store>(
             create_table(alloc, store, id, at, schema)
         }
         Line::Job(job) => execute_job(alloc, job, store, use_checkpoints, cache),
-        Line::Snapshot => tell_snapshot(alloc, store, use_checkpoints),
+        Line::Snapshot => tell_snapshot(alloc, store, use_checkpoints, cache),
         Line::History => tell_history(alloc, store),
         Line::Show { version } => show(alloc, store, version),
         Line::Hex { name } => show_in_hex(alloc, store, name),

@@ -22,7 +22,7 @@ use Rattle.table_store.proofs.LawfulLogLemmas.{AreMadeFor, made_for}
 use Rattle.log_laws.specs.Sound.{IsSoundStore}
 use Rattle.log_laws.proofs.Growth.{lawful_table, sound_table}
 use Rattle.log_laws.proofs.LogCloses.{log_closed, log_open}
-use Rattle.log_laws.proofs.LogEntries.{held_first, made_length, made_of, some_commits, sound_count}
+use Rattle.log_laws.proofs.LogEntries.{are_made, held_first, made_length, made_of, some_commits, sound_count}
 use Rattle.log_laws.proofs.LogNumbers.{log_last}
 use Rattle.log_laws.proofs.LogSchema.{log_readable, one_writable}
 
@@ -73,6 +73,19 @@ module _ (objects : Objects) (sound : IsSound objects) where
           let both = sym (log_whole first made log) ∙ read in
           let same : first ∷ made ≡ commits = cc in
           subst (IsLog objects) same log
+
+  -- One that isn't read has no version.
+  pub log_none : (version : ℕ) → log_of objects ≡ Err version → (version ≡ 0) × (commit_count objects ≡ 0)
+  log_none version read = by_made (made_of objects sound.schema 0 sound.entries (held_first objects sound.schema 0 sound.entries sound.holds)) (stand_as_log objects sound.schema 0 sound.entries sound.holds) (made_length objects sound.schema sound.entries _ (are_made objects sound.schema 0 sound.entries (held_first objects sound.schema 0 sound.entries sound.holds)))
+    where
+      by_made : (made : List (List actions.Action)) → IsLog objects made → length made ≡ length sound.entries → (version ≡ 0) × (commit_count objects ≡ 0)
+      by_made [] log long =
+          let both : ◌≡◌ {A = Result (List (List actions.Action)) ℕ} (Err 0) (Err version) = sym (log_empty log) ∙ read in
+          let same : 0 ≡ version = cc in
+          (sym same, sound_count objects sound ∙ sym long)
+      by_made (first ∷ made) log long =
+          let wrong : ◌≡◌ {A = Result (List (List actions.Action)) ℕ} (Ok (first ∷ made)) (Err version) = sym (log_whole first made log) ∙ read in
+          absurd cc
 
 -- ---- what a log leaves
 

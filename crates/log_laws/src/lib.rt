@@ -5,6 +5,7 @@
 mod admitting;
 mod landing;
 mod leaving;
+mod loads;
 mod standing;
 
 pub use admitting::{
@@ -19,4 +20,5 @@ pub use leaving::{
     a_checkpoint_leaves_what_its_log_leaves, a_checkpoint_stands_for_the_first_commits,
     a_sound_log_is_read, a_sound_log_leaves_its_table, the_first_commits_leave_the_first_entries,
 };
+pub use loads::what_a_load_may;
 pub use standing::{a_sound_table_grows_at_its_end, what_a_sound_table_has_stays};

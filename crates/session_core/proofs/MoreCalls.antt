@@ -39,7 +39,7 @@ counted_one (told_put put) old new is = ((λ e. absurd cc), (λ e. is))
 counted_one told_lost old new is = ((λ e. is), (λ e. absurd cc))
 counted_one told_memory old new is = ((λ e. absurd cc), (λ e. is))
 
-lost_more : (talk : Talk) (asked : Asked) (told : Told) → has_lost (talk ++ (asked, told) ∷ []) ≡ (has_lost talk || is_lost told)
+pub lost_more : (talk : Talk) (asked : Asked) (told : Told) → has_lost (talk ++ (asked, told) ∷ []) ≡ (has_lost talk || is_lost told)
 lost_more [] asked told = refl_or (is_lost told)
   where
     refl_or : (b : Bool) → (b || false) ≡ (false || b)

@@ -1,7 +1,7 @@
 -- Where a session goes with an answer, and what became of one that was driven over a store.
-use Rattle.std.specs.Prelude.{◌≡◌, ◌<◌, ◌≤◌, ℕ, ◌+◌, List, [], ◌∷◌, ◌++◌, length, Bool, true, false, Option, Some}
+use Rattle.std.specs.Prelude.{◌≡◌, ◌<◌, ◌≤◌, ℕ, ◌+◌, List, [], ◌∷◌, ◌++◌, length, Bool, true, false, Option, None, Some}
 use Rattle.session_core.specs.Stores.{State, Answers, MayAnswer, Talked}
-use Rattle.session_core.specs.Talks.{Asked, Told, Talk, Kind, asked_view, heard, kind_of, Bears, CountsTalk}
+use Rattle.session_core.specs.Talks.{Asked, Told, Talk, Kind, asked_view, heard, has_lost, is_lost, kind_of, Bears, CountsTalk}
 use Rattle.session_core.specs.declared.session.Step.{Step}
 use Rattle.session_core.specs.declared.session.Step.TheVariants.{Ask, Done}
 
@@ -15,6 +15,16 @@ abbrev pub Goes : {N O : Type 0} → (fits : N → Talk → Option Asked → Typ
 Goes fits asks ends new talk (Ask request) = fits new talk (Some (asked_view request)) × asks talk (asked_view request)
 Goes fits asks ends new talk (Done outcome) = ends talk outcome
 
+-- the answer that was just told, if one was, is that the call was lost
+abbrev pub hears_lost : Option Told → Bool
+hears_lost None = false
+hears_lost (Some told) = is_lost told
+
+-- It asks for more only where no call was just lost, and its outcome tells of a lost call just where one was: the last one.
+abbrev pub TellsLost : {O : Type 0} → (lost : O → Bool) → Option Told → Step O → Type 0
+TellsLost lost told (Ask request) = hears_lost told ≡ false
+TellsLost lost told (Done outcome) = lost outcome ≡ hears_lost told
+
 -- each call of a talk was one that is asked for behind those before it
 abbrev pub AllAsked : (asks : Talk → Asked → Type 0) → (before talk : Talk) → Type 0
 AllAsked asks before [] = Unit {0}
@@ -22,7 +32,7 @@ AllAsked asks before (call ∷ talk) = asks before call.0 × AllAsked asks (befo
 
 -- How a session was driven over a store: by some talk, which the store gave, in which it made just calls that its job asks for,
 -- and behind which the outcome is one that its job tells. The talk that it had before counts with it.
-pub record Drives {J O : Type 0} (asks : J → Talk → Asked → Type 0) (ends : J → Talk → O → Type 0) (is_reliable : Type 0) (job : J) (most : ℕ) (before : Talk) (outcome : O) (old new : State) (faults later : ℕ) : Type 0 where
+pub record Drives {J O : Type 0} (asks : J → Talk → Asked → Type 0) (ends : J → Talk → O → Type 0) (lost : O → Bool) (is_reliable : Type 0) (job : J) (most : ℕ) (before : Talk) (outcome : O) (old new : State) (faults later : ℕ) : Type 0 where
   pub talk : Talk
   -- a store answers so, also one that loses calls
   pub talked : Talked MayAnswer old talk new
@@ -33,6 +43,8 @@ pub record Drives {J O : Type 0} (asks : J → Talk → Asked → Type 0) (ends 
   -- what stood before bore the talk that went before, so what stands now bears all of it
   pub borne : Bears old.0 before → Bears new.0 (before ++ talk)
   pub counted : CountsTalk talk faults later
+  -- the outcome tells of a lost call just where one was lost
+  pub told : lost outcome ≡ has_lost talk
   pub few : length talk ≤ most
 
 -- So far a session was driven by this talk, up to an answer that it hasn't taken.
@@ -46,4 +58,6 @@ pub record IsDriven {N : Type 0} (fits : N → Talk → Option Asked → Type 0)
   pub exact : is_reliable → Talked Answers old talk now
   pub asked_for : AllAsked asks before talk
   pub counted : CountsTalk talk faults later
+  -- no call but the last one was lost
+  pub heard : has_lost talk ≡ hears_lost reply
   pub few : length talk + left session ≤ left first

@@ -14,8 +14,9 @@ mod session;
 pub use asking::{Reply, Request, ask};
 pub use driving::drive;
 pub use laws::{
-    a_store_answers_as_any_store_may, a_talk_is_borne, what_is_borne_stays_borne,
-    what_is_borne_twice_is_borne_at_once,
+    a_store_answers_as_any_store_may, a_talk_is_borne, what_a_longer_talk_shows,
+    what_grows_is_shown_as_it_was_listed, what_is_borne_stays_borne,
+    what_is_borne_twice_is_borne_at_once, what_is_read_is_shown,
 };
 pub use naming::commit_name;
 pub use session::{Session, Step};

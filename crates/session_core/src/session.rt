@@ -1,6 +1,6 @@
 //! What a session is to those who answer it.
 ghost use Rattle.std.specs.Prelude.{◌≡◌, ℕ, Bool, false, Option, option_map};
-ghost use Rattle.session_core.specs.Sessions.{Goes, Steps};
+ghost use Rattle.session_core.specs.Sessions.{Goes, Steps, TellsLost};
 ghost use Rattle.session_core.specs.Talks.{Asked, Kind, Talk, IsReplyTo, heard, told_view};
 
 use crate::{Reply, Request};
@@ -47,6 +47,9 @@ pub trait Session {
     /// What its job tells behind a talk.
     ghost ends: { Job → Talk → Self.Outcome → Type 0 };
 
+    /// The outcome tells that a call was lost.
+    ghost lost: { Self.Outcome → Bool };
+
     /// Whether the session has ended. It isn't asked for a step then. Takes no memory.
     fn is_done(&self) -> bool
         ensures { result ≡ done self.now };
@@ -58,5 +61,6 @@ pub trait Session {
         ensures steps { Steps awaits left done self.old self.new result }
         ensures goes { (talk : Talk) (asked : Option Asked) → fits self.old talk asked
             → Goes fits (asks (job self.old)) (ends (job self.old)) self.new (heard talk asked (option_map told_view reply)) result }
+        ensures told { TellsLost lost (option_map told_view reply) result }
         ensures same { job self.new ≡ job self.old };
 }

@@ -1,4 +1,4 @@
 pub mod Callers
+pub mod CheckpointTalks
 pub mod LogLemmas
-pub mod PutLemmas
 pub mod RestoredLaws

@@ -1,25 +1,20 @@
 -- What is put and told of a log that is read from sound checkpoints is what is put and told of it as a whole.
-use Rattle.std.proofs.Common.{◌≡◌, ◌∙◌, ℕ, suc, ◌-◌, Bool, false, true, List, ◌∷◌, Result, Ok, Err, refl, sym, ap, subst, arith}
+use Rattle.std.proofs.Common.{◌≡◌, ◌∙◌, ℕ, Bool, false, List, Result, Ok, Err, refl, sym, ap, subst}
 use Rattle.std.specs.Prelude.{option_to_list}
-use Rattle.std.specs.Cmp.Lexicographic.{slice_cmp}
-use Rattle.std.specs.Ordering.{nat_cmp}
-use Rattle.lake_bytes.specs.Outcome.{IsSaid, Said, refuses, says_nothing, never_comes}
+use Rattle.lake_bytes.specs.Outcome.{IsSaid}
 use Rattle.lake_bytes.specs.Results.{◌>>=◌, refused_as}
 use Rattle.store_core.specs.Objects.{Objects, with_object}
-use Rattle.delta_actions.specs.Action.{Action, checkpoint_metadata}
+use Rattle.delta_actions.specs.Action.{Action}
 use Rattle.delta_checkpoint.specs.Checkpoints.{IsCheckpoint}
 use Rattle.delta_replay.specs.All.{ListsAll}
 use Rattle.delta_replay.specs.Keys.{Key, at, the_meta_data, the_protocol}
 use Rattle.delta_replay.specs.Lists.{ListsClosed, ListsEach}
 use Rattle.delta_replay.specs.Support.{Unsupported, checkpointable, readable}
-use Rattle.delta_replay.specs.Whole.{IsWhole}
-use Rattle.schema_tree.specs.Tree.{Tree}
-use Rattle.table_log.specs.Counts.{commit_count}
 use Rattle.table_log.specs.Restoring.{AreAlike, AreCheckpointsSound, IsSoundCheckpoint, RestoresWell, replayed}
 use Rattle.table_log.specs.Versions.{commits_in, log_of, versions_from}
 use Rattle.table_log.proofs.Callers.{own_checkpoint, same_values, replayed_alike, sound_with, whole_log}
 use Rattle.snapshot_core.specs.Faults.{Reason, bad_log, checked, readable_log, says, unsupported}
-use Rattle.snapshot_core.specs.Taking.{IsNewestCheckpoint, IsRefusal, IsTableId, IsTooLarge, PutsCheckpoint}
+use Rattle.snapshot_core.specs.Taking.{IsNewestCheckpoint, IsRefusal, IsTooLarge, PutsCheckpoint}
 use Rattle.snapshot_core.specs.Telling.{TellsLists, TellsSnapshot}
 use Rattle.snapshot_core.specs.declared.fault.SnapshotFault.{SnapshotFault}
 use Rattle.snapshot_core.specs.declared.fault.SnapshotFault.TheVariants as faults

@@ -1,3 +1,4 @@
+pub mod CheckpointSessions
 pub mod Faults
 pub mod FaultTexts
 pub mod Taking

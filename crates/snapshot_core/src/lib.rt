@@ -1,11 +1,14 @@
 //! The checkpoint of a table's newest version, put into its store, and what its log leaves, told as text.
 #![tactic(auto)]
 
+mod checkpoint_session;
 mod checkpointing;
 mod fault;
 mod lines;
+mod making;
 mod telling;
 
+pub use checkpoint_session::{CheckpointSession, CheckpointStage, Checkpointed};
 pub use checkpointing::checkpoint;
 pub use fault::SnapshotFault;
 pub use telling::snapshot;

@@ -25,6 +25,3 @@ returns-in-Tail-clause-told g c = λ reliable well.
     rw c.in-Tail.is
     (read_executed (g.S.Store.objects c.args.store.now) (g.S.Store.objects c.read.new.store) c.in-Tail.max c.in-Tail.offset.now (reply_text c.read.result) (is_short c.read.result)
     (c.read.ensures.told reliable well) c.read.ensures.wants c.read.ensures.untouched)
-
-pub returns-in-Checkpoint-clause-cache : goal.returns-in-Checkpoint-clause-cache
-returns-in-Checkpoint-clause-cache g c = c.forget.ensures (g.S.Store.objects c.take_checkpoint.new.store)

@@ -7,6 +7,7 @@ use Rattle.lake_script.specs.Sound.{IsExecuted}
 use Rattle.lake_script.specs.declared.reply.LineReply.TheVariants.{NoSnapshot}
 use Rattle.lake_script.proofs.CheckpointLemmas.{has_executed, put_executed, refusal_executed, refusal_short, refusal_told}
 use Rattle.snapshot_core.proofs.Callers.{puts_alike, refusal_alike}
+use Rattle.table_log.proofs.SoundKept.{past_grown}
 use Rattle.lake_script.proofs.reply.take_checkpoint.Goals as goal
 
 pub returns-in-Ok-clause-told : goal.returns-in-Ok-clause-told
@@ -59,3 +60,15 @@ pub returns-in-Err-clause-short : goal.returns-in-Err-clause-short
 returns-in-Err-clause-short g c = λ well short.
     let objects = g.S.Store.objects c.args.store.now in
     refusal_short objects c.in-Err.fault (refusal_alike c.args.use_checkpoints objects well c.in-Err.fault c.in-Err.ensures.refused) short
+
+pub returns-in-Ok-clause-cache : goal.returns-in-Ok-clause-cache
+returns-in-Ok-clause-cache g c = record {
+  loaded = c.in-Ok.ensures.cache;
+  log = past_grown (g.S.Store.objects c.args.store.now) (g.S.Store.objects c.checkpoint.new.store) c.in-Ok.ensures.grows c.args.cache.now.log c.requires.log;
+}
+
+pub returns-in-Err-clause-cache : goal.returns-in-Err-clause-cache
+returns-in-Err-clause-cache g c = record {
+  loaded = c.in-Err.ensures.cache;
+  log = past_grown (g.S.Store.objects c.args.store.now) (g.S.Store.objects c.checkpoint.new.store) c.in-Err.ensures.grows c.args.cache.now.log c.requires.log;
+}

@@ -1,9 +1,10 @@
-use Rattle.std.proofs.Common.{◌≡◌, ◌+◌, ◌≤◌, ◌<◌, [], ◌∷◌, ◌++◌, length, Option, Some, None, option_map, refl, sym, ap, subst, ◌∙◌, arith, append-nil, append_assoc, length-append}
+use Rattle.std.proofs.Common.{◌≡◌, ◌+◌, ◌≤◌, ◌<◌, [], ◌∷◌, ◌++◌, length, Option, Some, None, option_map, Bool, refl, sym, ap, subst, ◌∙◌, arith, append-nil, append_assoc, length-append}
+use Rattle.std.specs.Prelude.{◌||◌}
 use Rattle.session_core.specs.Sessions.{Drives}
 use Rattle.session_core.specs.Stores.{Answers, MayAnswer}
-use Rattle.session_core.specs.Talks.{Asked, Talk, Told, asked_view, told_view, heard}
+use Rattle.session_core.specs.Talks.{Asked, Talk, Told, asked_view, told_view, heard, is_lost}
 use Rattle.session_core.proofs.Bearing.{bears_both, bears_grows, talk_alone, talk_borne, talk_grows}
-use Rattle.session_core.proofs.MoreCalls.{asked_more, talked_more, counted_more}
+use Rattle.session_core.proofs.MoreCalls.{asked_more, talked_more, counted_more, lost_more}
 use Rattle.session_core.proofs.driving.drive.Goals as goal
 
 pub calls-init : goal.calls-init
@@ -22,6 +23,7 @@ calls-init g c = record {
     exact = λ reliable. refl;
     asked_for = tt;
     counted = ((λ e. absurd cc), (λ e. refl));
+    heard = refl;
     few = omega arith;
   };
 }
@@ -40,6 +42,7 @@ returns-in-Done-clause-driven g c = λ before fits.
           bears_both _ before i.talk (bears_grows _ _ before (talk_grows _ _ i.talk amid) borne) (talk_borne _ _ i.talk amid);
       ended = rw c.calls.invariant.job at (rw i.all at step);
       counted = i.counted;
+      told = c.in-Done.ensures.told ∙ sym i.heard;
       few = omega (arith, i.few);
     }
 
@@ -66,6 +69,7 @@ calls-preserved g c =
             exact = λ reliable. talked_more Answers _ _ _ i.talk asked told (i.exact reliable) (c.ask.ensures.exact (c.calls.invariant.reliable reliable));
             asked_for = asked_more (g.N.Session.asks (g.N.Session.job c.args.session.now)) before i.talk asked told i.asked_for (rw c.calls.invariant.job at (rw i.all at step.1));
             counted = counted_more i.talk asked told _ _ _ i.counted c.ask.ensures.counted;
+            heard = lost_more i.talk asked told ∙ ap (λ (b : Bool). b || is_lost told) (i.heard ∙ c.in-Ask.ensures.told);
             few = let longer = length-append i.talk ((asked, told) ∷ []) in omega (arith, i.few, steps.1, longer);
           };
     }
