@@ -1,5 +1,6 @@
 //! The lines of a case.
 
+use crate::conflicts::Contest;
 use crate::failure::Failure;
 use crate::faults::{add_turns, turn_of};
 use crate::telling::{tell_creation, tell_faults, tell_landed, tell_object, tell_reply};
@@ -17,10 +18,15 @@ use store_core::{Flaky, MemoryStore};
 /// - `create ID AT SCHEMA`: a `CreateSession` is driven to its end, with the moment in milliseconds, below 2^63;
 /// - `land K`: the put in flight of that number, from 0, takes effect;
 /// - `faults`: how many calls were lost;
-/// - `object NAME`: what stands under a name in the store below, without a call of the store above.
+/// - `object NAME`: what stands under a name in the store below, without a call of the store above;
+/// - `action JSON`: a line of the commit that is begun;
+/// - `candidate WORD ..`: the commit that is begun is the candidate, which reads what each word names besides its own, be it
+///   `application=ID` or `domain=NAME`;
+/// - `conflict`: what of the commit that is begun conflicts with the candidate.
 pub fn tell_line(
     alloc: Global,
     store: &mut Flaky<MemoryStore>,
+    contest: &mut Contest,
     line: &str,
     out: &mut Vec<u8>,
 ) -> Result<(), Failure> {
@@ -35,6 +41,9 @@ pub fn tell_line(
         "land" => tell_landed(store.land(rest.parse()?), out),
         "faults" if rest.is_empty() => tell_faults(store, out),
         "object" => tell_object(store, rest, out),
+        "action" => contest.add_action(rest),
+        "candidate" => contest.make_candidate(alloc, rest),
+        "conflict" if rest.is_empty() => contest.tell_conflict(alloc, out),
         _ => tell_reply(ask(alloc, store, request_of(alloc, word, rest)?), out),
     }
 }

@@ -1,6 +1,7 @@
 //! The cases of an input, one behind the other.
 
 use crate::calls::tell_line;
+use crate::conflicts::Contest;
 use crate::failure::Failure;
 use std::alloc::Global;
 use std::io::Write;
@@ -10,14 +11,16 @@ use store_core::{Flaky, MemoryStore};
 /// from 1, and has no effect.
 pub fn tell_cases(alloc: Global, text: &str, out: &mut Vec<u8>) -> Result<(), Failure> {
     let mut store = empty_store(alloc);
+    let mut contest = Contest::new(alloc);
     let mut number = 0u64;
     for line in text.split('\n') {
         number = number.saturating_add(1);
         if let Some(name) = line.strip_prefix("case ") {
             store = empty_store(alloc);
+            contest = Contest::new(alloc);
             writeln!(out, "== {name}")?;
         } else if !line.is_empty() && !line.starts_with('#') {
-            match tell_line(alloc, &mut store, line, out) {
+            match tell_line(alloc, &mut store, &mut contest, line, out) {
                 Err(Failure::Misspelled) => writeln!(out, "bad line {number}")?,
                 ended => ended?,
             }

@@ -1,12 +1,14 @@
-//! A program that reads calls of a store which stand on standard input as cases, and prints how each ends.
+//! A program that reads calls of a store which stand on standard input as cases, and prints how each ends; and which commits
+//! conflict with a candidate.
 //!
-//! A line `case NAME` begins a case, with a store in which nothing stands, and prints `== NAME`. Each other line is a call
-//! of that store, what becomes of calls, or a question (`calls.rt` lists them). Blank lines and those that begin with `#`
-//! are passed over.
+//! A line `case NAME` begins a case, with a store in which nothing stands and no candidate, and prints `== NAME`. Each other
+//! line is a call of that store, what becomes of calls, of a commit that is begun, or a question (`calls.rt` lists them).
+//! Blank lines and those that begin with `#` are passed over.
 #![tactic(auto)]
 
 mod calls;
 mod cases;
+mod conflicts;
 mod failure;
 mod faults;
 mod telling;
