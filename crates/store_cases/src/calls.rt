@@ -3,6 +3,7 @@
 use crate::conflicts::Contest;
 use crate::failure::Failure;
 use crate::faults::{add_turns, turn_of};
+use crate::races::race;
 use crate::telling::{tell_creation, tell_faults, tell_landed, tell_object, tell_reply};
 use commit_core::CreateSession;
 use session_core::{Request, ask, drive};
@@ -22,7 +23,9 @@ use store_core::{Flaky, MemoryStore};
 /// - `action JSON`: a line of the commit that is begun;
 /// - `candidate WORD ..`: the commit that is begun is the candidate, which reads what each word names besides its own, be it
 ///   `application=ID` or `domain=NAME`;
-/// - `conflict`: what of the commit that is begun conflicts with the candidate.
+/// - `conflict`: what of the commit that is begun conflicts with the candidate;
+/// - `race V TRIES`: a `CommitSession` of the candidate, whose bytes are its lines, is driven to its end: from version V on, at
+///   most so many versions. It tells how many winners were met.
 pub fn tell_line(
     alloc: Global,
     store: &mut Flaky<MemoryStore>,
@@ -44,6 +47,7 @@ pub fn tell_line(
         "action" => contest.add_action(rest),
         "candidate" => contest.make_candidate(alloc, rest),
         "conflict" if rest.is_empty() => contest.tell_conflict(alloc, out),
+        "race" => race(alloc, store, contest, rest, out),
         _ => tell_reply(ask(alloc, store, request_of(alloc, word, rest)?), out),
     }
 }

@@ -6,11 +6,18 @@ use delta_actions::{Action, ActionFault, read_commit};
 use std::alloc::Global;
 use std::io::Write;
 
+/// A commit that is to be put: its candidate, and its bytes.
+#[derive(Drop)]
+pub struct Contender {
+    pub candidate: Candidate,
+    pub bytes: Vec<u8>,
+}
+
 /// The lines of the commit that is begun, and the candidate that commits are compared with.
 #[derive(Drop)]
 pub struct Contest {
     lines: Vec<u8>,
-    candidate: Option<Candidate>,
+    contender: Option<Contender>,
 }
 
 impl Contest {
@@ -18,7 +25,7 @@ impl Contest {
     pub fn new(alloc: Global) -> Contest {
         Contest {
             lines: Vec::new(alloc),
-            candidate: None,
+            contender: None,
         }
     }
 
@@ -43,20 +50,27 @@ impl Contest {
                 return Err(Failure::Misspelled);
             }
         }
+        let bytes = self.lines.clone()?;
         let actions = take_actions(alloc, &mut self.lines)?;
-        self.candidate = Some(Candidate::new(alloc, actions, applications, domains)?);
+        let candidate = Candidate::new(alloc, actions, applications, domains)?;
+        self.contender = Some(Contender { candidate, bytes });
         Ok(())
     }
 
     /// Adds what of the commit that is begun conflicts with the candidate.
     pub fn tell_conflict(&mut self, alloc: Global, out: &mut Vec<u8>) -> Result<(), Failure> {
         let commit = take_actions(alloc, &mut self.lines)?;
-        let candidate = self.candidate.as_ref().ok_or(Failure::Misspelled)?;
-        match conflict(candidate, &commit) {
+        let contender = self.contender.as_ref().ok_or(Failure::Misspelled)?;
+        match conflict(&contender.candidate, &commit) {
             Some(found) => writeln!(out, "conflict {found}")?,
             None => writeln!(out, "no conflict")?,
         }
         Ok(())
+    }
+
+    /// The candidate with its bytes, which is none any more.
+    pub fn take_contender(&mut self) -> Option<Contender> {
+        self.contender.take()
     }
 }
 

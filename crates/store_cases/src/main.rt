@@ -1,5 +1,5 @@
-//! A program that reads calls of a store which stand on standard input as cases, and prints how each ends; and which commits
-//! conflict with a candidate.
+//! A program that reads calls of a store which stand on standard input as cases, and prints how each ends; which commits
+//! conflict with a candidate, and how the puts of a commit end.
 //!
 //! A line `case NAME` begins a case, with a store in which nothing stands and no candidate, and prints `== NAME`. Each other
 //! line is a call of that store, what becomes of calls, of a commit that is begun, or a question (`calls.rt` lists them).
@@ -11,6 +11,7 @@ mod cases;
 mod conflicts;
 mod failure;
 mod faults;
+mod races;
 mod telling;
 
 use std::io;
