@@ -18,9 +18,9 @@ mod fault;
 mod new_table;
 mod versions;
 
-pub use candidate::Candidate;
+pub use candidate::{Candidate, close_domain};
 pub use commit_fault::CommitFault;
-pub use commit_laws::what_a_commit_may;
+pub use commit_laws::{a_commit_asks_for_little, a_created_commit_is_told, what_a_commit_may};
 pub use commit_state::{CommitOutcome, CommitSession, CommitStage};
 pub use conflict_kind::Conflict;
 pub use conflict_laws::{a_candidate_reads_its_own, other_streams_do_not_conflict};
@@ -30,4 +30,5 @@ pub use create_state::{CreateSession, CreateStage};
 pub use fault::CreateFault;
 pub use new_table::create;
 pub use session_core::{Reply, Request, Session, Step};
+pub use table_log::{LoadSession, LoadStage};
 pub use versions::history;

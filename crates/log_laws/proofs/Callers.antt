@@ -1,6 +1,7 @@
 -- The lemmas that proofs of other crates may cite.
 pub use Rattle.log_laws.proofs.Beside.{no_checkpoint, sound_beside}
 pub use Rattle.log_laws.proofs.EmptyStores.{log_of_nothing, nothing_sound, versions_of_nothing}
+pub use Rattle.log_laws.proofs.LoadTalks.{HasFront, front_log}
 pub use Rattle.log_laws.proofs.LogCloses.{log_closed, log_open, says_so}
 pub use Rattle.log_laws.proofs.LogEntries.{IsLogOfEntries, held_first, made_length, some_commits, sound_count, sound_log}
 pub use Rattle.log_laws.proofs.LogNewest.{newest-cons, of_commit}

@@ -8,6 +8,7 @@ mod GoesOn
 mod Growth
 mod Lands
 mod Leaves
+mod LoadTalks
 mod LogCloses
 mod LogEntries
 mod LogNewest

@@ -1,12 +1,11 @@
 -- What talks show of stores.
 use Rattle.std.proofs.Common.{◌≡◌, ℕ, List, [], ◌∷◌, ◌++◌, Bool, true, false, cond, Option, Some, None, IsSome, map, refl, sym, ap, subst, ◌∙◌}
-use Rattle.std.specs.Prelude.{Contains, bytes_eq, ◌||◌}
-use Rattle.std.specs.List.{list_any}
+use Rattle.std.specs.Prelude.{Contains, bytes_eq}
 use Rattle.std.proofs.lemmas.Slice.Eq.{bytes_eq-Decides}
 use Rattle.store_core.specs.Calls.{IsUntouched}
 use Rattle.store_core.specs.Objects.{Objects, HasObjectsOf, names_of, object_at}
 use Rattle.store_core.specs.ObjectLaws.{listed_iff_stands}
-use Rattle.session_core.specs.Shown.{AllExact, AllReads, AllStand, IsExact, IsRead, IsShown, Shows, is_listing, lists}
+use Rattle.session_core.specs.Shown.{AllGets, AllReads, AllStand, IsExact, IsRead, Shows}
 use Rattle.session_core.specs.Stores.{State, MayAnswer, MayAnswerAmid, Talked}
 use Rattle.session_core.specs.Talks.{Asked, list_names, get_object, put_file, put_commit, Told, told_names, told_object, told_put, told_lost, told_memory, Talk, Bears, IsBorne}
 use Rattle.session_core.proofs.Bearing.{talk_grows}
@@ -31,60 +30,23 @@ exact_borne objects (get_object name) told_memory is = is
 exact_borne objects (put_file name bytes) told is = is
 exact_borne objects (put_commit version bytes) told is = is
 
-shown_exact : (again : Bool) (objects : Objects) (asked : Asked) (told : Told) → IsExact objects asked told → IsShown again objects asked told
-shown_exact true objects asked told is = exact_borne objects asked told is
-shown_exact false objects asked told is = is
+-- a store bears what is exact of it
+pub shows_bears : (objects : Objects) (talk : Talk) → Shows talk objects → Bears objects talk
+shows_bears objects [] is = tt
+shows_bears objects (call ∷ talk) is = (exact_borne objects call.0 call.1 is.0, shows_bears objects talk is.1)
 
-shown_borne : (again : Bool) (objects : Objects) (asked : Asked) (told : Told) → IsShown again objects asked told → IsBorne objects asked told
-shown_borne true objects asked told is = is
-shown_borne false objects asked told is = exact_borne objects asked told is
+-- one call more
+pub shows_more : (objects : Objects) (talk : Talk) (asked : Asked) (told : Told) → Shows (talk ++ (asked, told) ∷ []) objects → Shows talk objects × IsExact objects asked told
+shows_more objects [] asked told is = (tt, is.0)
+shows_more objects (call ∷ talk) asked told is =
+    let more = shows_more objects talk asked told is.1 in
+    ((is.0, more.0), more.1)
 
--- so a talk of exact answers shows the objects
-pub exact_shows : (objects : Objects) (talk : Talk) → AllExact talk objects → Shows talk objects
-exact_shows objects [] is = tt
-exact_shows objects (call ∷ talk) is = (shown_exact (lists talk) objects call.0 call.1 is.0, exact_shows objects talk is.1)
-
--- ---- talks behind one another
-
-or_false : (b : Bool) → (b || false) ≡ b
-or_false true = refl
-or_false false = refl
-
-or_true : (b : Bool) → (b || true) ≡ true
-or_true true = refl
-or_true false = refl
-
-or_assoc : (a b c : Bool) → ((a || b) || c) ≡ (a || (b || c))
-or_assoc true b c = refl
-or_assoc false b c = refl
-
-lists_behind : (talk more : Talk) → lists (talk ++ more) ≡ (lists talk || lists more)
-lists_behind [] more = refl
-lists_behind (call ∷ talk) more = ap (λ (b : Bool). is_listing call.0 || b) (lists_behind talk more) ∙ sym (or_assoc (is_listing call.0) (lists talk) (lists more))
-
--- behind what is borne the names are listed, and all answers from then on are exact
-pub shows_behind : (objects : Objects) (before talk : Talk) → Bears objects before → lists talk ≡ true → AllExact talk objects → Shows (before ++ talk) objects
-shows_behind objects [] talk borne listed is = exact_shows objects talk is
-shows_behind objects (call ∷ before) talk borne listed is =
-    let again : lists (before ++ talk) ≡ true = lists_behind before talk ∙ (ap (λ (b : Bool). lists before || b) listed ∙ or_true (lists before)) in
-    (subst (λ (b : Bool). IsShown b objects call.0 call.1) (sym again) borne.0, shows_behind objects before talk borne.1 listed is)
-
--- one get more
-lists_got : (talk : Talk) (name : List ℕ) (told : Told) → lists (talk ++ (get_object name, told) ∷ []) ≡ lists talk
-lists_got talk name told = lists_behind talk ((get_object name, told) ∷ []) ∙ or_false (lists talk)
-
-pub shows_got : (objects : Objects) (talk : Talk) (name : List ℕ) (told : Told) → Shows (talk ++ (get_object name, told) ∷ []) objects → Shows talk objects × IsExact objects (get_object name) told
-shows_got objects [] name told is = (tt, is.0)
-shows_got objects (call ∷ talk) name told is =
-    let more = shows_got objects talk name told is.1 in
-    ((subst (λ (b : Bool). IsShown b objects call.0 call.1) (lists_got talk name told) is.0, more.0), more.1)
-
--- the names listed once more
-pub shows_listed : (objects : Objects) (talk : Talk) (names : List (List ℕ)) → Shows (talk ++ (list_names, told_names names) ∷ []) objects → Bears objects talk × (names ≡ names_of objects)
-shows_listed objects [] names is = (tt, is.0)
-shows_listed objects (call ∷ talk) names is =
-    let more = shows_listed objects talk names is.1 in
-    ((shown_borne (lists (talk ++ (list_names, told_names names) ∷ [])) objects call.0 call.1 is.0, more.0), more.1)
+pub bears_more : (objects : Objects) (talk : Talk) (asked : Asked) (told : Told) → Bears objects (talk ++ (asked, told) ∷ []) → Bears objects talk × IsBorne objects asked told
+bears_more objects [] asked told is = (tt, is.0)
+bears_more objects (call ∷ talk) asked told is =
+    let more = bears_more objects talk asked told is.1 in
+    ((is.0, more.0), more.1)
 
 -- ---- lists and gets
 
@@ -123,11 +85,27 @@ reads_untouched old new (call ∷ talk) reads is =
     let more = reads_untouched is.0 new talk reads.1 is.2 in
     (more.0 ∙ one.0, more.1 ∙ one.1)
 
-pub reads_exact : (old new : State) (talk : Talk) → AllReads talk → Talked MayAnswer old talk new → AllExact talk old.0
-reads_exact old new [] reads is = tt
-reads_exact old new (call ∷ talk) reads is =
+pub reads_shown : (old new : State) (talk : Talk) → AllReads talk → Talked MayAnswer old talk new → Shows talk old.0
+reads_shown old new [] reads is = tt
+reads_shown old new (call ∷ talk) reads is =
     let one = read_untouched old is.0 call.0 call.1 reads.0 is.1 in
-    (read_exact old is.0 call.0 call.1 reads.0 is.1, subst (λ (o : Objects). AllExact talk o) one.0 (reads_exact is.0 new talk reads.1 is.2))
+    (read_exact old is.0 call.0 call.1 reads.0 is.1, subst (λ (o : Objects). Shows talk o) one.0 (reads_shown is.0 new talk reads.1 is.2))
+
+-- gets are reads
+pub gets_read : (talk : Talk) → AllGets talk → AllReads talk
+gets_read [] gets = tt
+gets_read ((list_names, told) ∷ talk) gets = absurd gets.0
+gets_read ((get_object name, told) ∷ talk) gets = (tt, gets_read talk gets.1)
+gets_read ((put_file name bytes, told) ∷ talk) gets = absurd gets.0
+gets_read ((put_commit version bytes, told) ∷ talk) gets = absurd gets.0
+
+-- the last call of a talk was answered from what the others left
+pub talked_last : (answers : State → Asked → Told → State → Type 0) (old new : State) (talk : Talk) (asked : Asked) (told : Told) → Talked answers old (talk ++ (asked, told) ∷ []) new
+    → (mid : State) × Talked answers old talk mid × answers mid asked told new
+talked_last answers old new [] asked told is = (old, refl, subst (λ (s : State). answers old asked told s) (sym is.2) is.1)
+talked_last answers old new (first ∷ talk) asked told is =
+    let more = talked_last answers is.0 new talk asked told is.2 in
+    (more.0, (is.0, is.1, more.1), more.2)
 
 -- ---- a talk that tells of a whole store
 
@@ -135,9 +113,13 @@ reads_exact old new (call ∷ talk) reads is =
 abbrev pub all_got : (objects names : Objects) → Talk
 all_got objects names = map (λ (e : List ℕ × List ℕ). (get_object e.0, told_object (object_at objects e.0))) names
 
-pub got_exact : (objects some : Objects) → AllExact (all_got objects some) objects
-got_exact objects [] = tt
-got_exact objects (e ∷ some) = (refl, got_exact objects some)
+got_shown : (objects some : Objects) → Shows (all_got objects some) objects
+got_shown objects [] = tt
+got_shown objects (e ∷ some) = (refl, got_shown objects some)
+
+-- a store bears the talk in which each of its objects is got
+pub got_borne : (objects : Objects) → Bears objects (all_got objects objects)
+got_borne objects = shows_bears objects (all_got objects objects) (got_shown objects objects)
 
 -- who bears it has them all
 got_has : (objects more some : Objects) (name bytes : List ℕ) → object_at objects name ≡ Some bytes → IsSome (object_at some name) → Bears more (all_got objects some) → object_at more name ≡ Some bytes
@@ -157,16 +139,6 @@ got_has objects more (e ∷ some) name bytes is stands borne = by_name (bytes_eq
 pub got_grown : (objects more : Objects) → Bears more (all_got objects objects) → HasObjectsOf objects more
 got_grown objects more borne name bytes is = got_has objects more objects name bytes is (rw is refl) borne
 
--- a store bears what is exact of it
-pub exact_bears : (objects : Objects) (talk : Talk) → AllExact talk objects → Bears objects talk
-exact_bears objects [] is = tt
-exact_bears objects (call ∷ talk) is = (exact_borne objects call.0 call.1 is.0, exact_bears objects talk is.1)
-
--- exact answers behind one another
-pub exact_both : (objects : Objects) (talk more : Talk) → AllExact talk objects → AllExact more objects → AllExact (talk ++ more) objects
-exact_both objects [] more is behind = behind
-exact_both objects (call ∷ talk) more is behind = (is.0, exact_both objects talk more is.1 behind)
-
 -- ---- a store that grows
 
 -- what stood when the names were listed is got as it stood
@@ -181,7 +153,7 @@ got_amid listed old new name (told_object found) has stands is = by_listed (obje
     by_listed None e some = cc
     by_listed (Some bytes) e some = is.3.0 ∙ (is.1 name bytes (has name bytes e) ∙ sym e)
 
-gets_amid : (listed : Objects) (old new : State) (gets : Talk) → HasObjectsOf listed old.0 → AllStand gets listed → Talked MayAnswerAmid old gets new → AllExact gets listed
+gets_amid : (listed : Objects) (old new : State) (gets : Talk) → HasObjectsOf listed old.0 → AllStand gets listed → Talked MayAnswerAmid old gets new → Shows gets listed
 gets_amid listed old new [] has stand is = tt
 gets_amid listed old new ((list_names, told) ∷ gets) has stand is = absurd stand.0
 gets_amid listed old new ((put_file name bytes, told) ∷ gets) has stand is = absurd stand.0
@@ -190,6 +162,6 @@ gets_amid listed old new ((get_object name, told) ∷ gets) has stand is =
     let grown = talk_grows old is.0 ((get_object name, told) ∷ []) (is.0, is.1, refl) in
     (got_amid listed old is.0 name told has stand.0 is.1, gets_amid listed is.0 new gets (λ other bytes stood. grown other bytes (has other bytes stood)) stand.1 is.2)
 
-pub shows_amid : (listed : Objects) (old new : State) (before gets : Talk) (names : List (List ℕ)) → Bears listed before → names ≡ names_of listed → HasObjectsOf listed old.0 → AllStand gets listed → Talked MayAnswerAmid old gets new
-    → Shows (before ++ (list_names, told_names names) ∷ gets) listed
-shows_amid listed old new before gets names borne is has stand talked = shows_behind listed before ((list_names, told_names names) ∷ gets) borne refl (is, gets_amid listed old new gets has stand talked)
+pub shows_amid : (listed : Objects) (old new : State) (gets : Talk) (names : List (List ℕ)) → names ≡ names_of listed → HasObjectsOf listed old.0 → AllStand gets listed → Talked MayAnswerAmid old gets new
+    → Shows ((list_names, told_names names) ∷ gets) listed
+shows_amid listed old new gets names is has stand talked = (is, gets_amid listed old new gets has stand talked)

@@ -1,5 +1,4 @@
 pub mod Names
-pub mod Puts
 pub mod Sessions
 pub mod Shown
 pub mod Stores

@@ -30,33 +30,35 @@ abbrev pub AllAsked : (asks : Talk → Asked → Type 0) → (before talk : Talk
 AllAsked asks before [] = Unit {0}
 AllAsked asks before (call ∷ talk) = asks before call.0 × AllAsked asks (before ++ call ∷ []) talk
 
--- How a session was driven over a store: by some talk, which the store gave, in which it made just calls that its job asks for,
--- and behind which the outcome is one that its job tells. The talk that it had before counts with it.
-pub record Drives {J O : Type 0} (asks : J → Talk → Asked → Type 0) (ends : J → Talk → O → Type 0) (lost : O → Bool) (is_reliable : Type 0) (job : J) (most : ℕ) (before : Talk) (outcome : O) (old new : State) (faults later : ℕ) : Type 0 where
+-- How a session was driven over a store: by some talk of its own, which the store gave, in which it made just calls that its job
+-- asks for, and behind which the outcome is one that its job tells. What was known before it was told in the talk that goes
+-- before.
+pub record Drives {J O : Type 0} (asks : J → (before talk : Talk) → Asked → Type 0) (ends : J → (before talk : Talk) → O → Type 0) (lost : O → Bool) (is_reliable : Type 0) (job : J) (most : ℕ) (before : Talk) (outcome : O) (old new : State) (faults later : ℕ) : Type 0 where
   pub talk : Talk
   -- a store answers so, also one that loses calls
   pub talked : Talked MayAnswer old talk new
   -- one that loses none answers exactly so
   pub exact : is_reliable → Talked Answers old talk new
-  pub asked : AllAsked (asks job) before talk
-  pub ended : ends job (before ++ talk) outcome
-  -- what stood before bore the talk that went before, so what stands now bears all of it
-  pub borne : Bears old.0 before → Bears new.0 (before ++ talk)
+  pub asked : AllAsked (asks job before) [] talk
+  pub ended : ends job before talk outcome
+  -- what stands now bears the talk, and what went before it, where what stood then bore that
+  pub borne : Bears new.0 talk
+  pub still_borne : Bears old.0 before → Bears new.0 before
   pub counted : CountsTalk talk faults later
   -- the outcome tells of a lost call just where one was lost
   pub told : lost outcome ≡ has_lost talk
   pub few : length talk ≤ most
 
 -- So far a session was driven by this talk, up to an answer that it hasn't taken.
-pub record IsDriven {N : Type 0} (fits : N → Talk → Option Asked → Type 0) (left : N → ℕ) (asks : Talk → Asked → Type 0) (is_reliable : Type 0) (first session : N) (before : Talk) (reply : Option Told) (old now : State) (faults later : ℕ) : Type 0 where
+pub record IsDriven {N : Type 0} (fits : N → Talk → Option Asked → Type 0) (left : N → ℕ) (asks : Talk → Asked → Type 0) (is_reliable : Type 0) (first session : N) (reply : Option Told) (old now : State) (faults later : ℕ) : Type 0 where
   pub talk : Talk
   pub taken : Talk
   pub asked : Option Asked
   pub fit : fits session taken asked
-  pub all : heard taken asked reply ≡ before ++ talk
+  pub all : heard taken asked reply ≡ talk
   pub talked : Talked MayAnswer old talk now
   pub exact : is_reliable → Talked Answers old talk now
-  pub asked_for : AllAsked asks before talk
+  pub asked_for : AllAsked asks [] talk
   pub counted : CountsTalk talk faults later
   -- no call but the last one was lost
   pub heard : has_lost talk ≡ hears_lost reply

@@ -1,5 +1,5 @@
 //! The loop that drives a session over a store.
-ghost use Rattle.std.specs.Prelude.{◌≡◌, true, false, None};
+ghost use Rattle.std.specs.Prelude.{◌≡◌, [], true, false, None};
 ghost use Rattle.session_core.specs.Sessions.{Drives};
 ghost use Rattle.session_core.specs.Talks.{Talk};
 
@@ -16,7 +16,7 @@ use store_core::Store;
 pub fn drive<S: Store, N: Session>(alloc: Global, store: &mut S, session: &mut N) -> N::Outcome
     requires new { N.awaits session.old ≡ None }
     requires unended { N.done session.old ≡ false }
-    ensures driven { (before : Talk) → N.fits session.old before None
+    ensures driven { (before : Talk) → N.fits before session.old [] None
         → Drives N.asks N.ends N.lost (S.is_reliable store.old) (N.job session.old) (N.left session.old) before result
         (S.objects store.old, S.in_flight store.old) (S.objects store.new, S.in_flight store.new)
         (S.fault_count store.old) (S.fault_count store.new) }

@@ -1,10 +1,10 @@
 //! Laws of talks and stores. Each is a function that does nothing, whose contract is the law.
-ghost use Rattle.std.specs.Prelude.{◌≡◌, ◌++◌, ◌∷◌, [], ℕ, List, true};
+ghost use Rattle.std.specs.Prelude.{◌≡◌, ◌++◌, ◌∷◌, [], ℕ, List};
 ghost use Rattle.store_core.specs.Calls.{IsUntouched};
 ghost use Rattle.store_core.specs.Objects.{Objects, HasObjectsOf, names_of};
-ghost use Rattle.session_core.specs.Shown.{AllExact, AllReads, AllStand, IsExact, Shows, lists};
+ghost use Rattle.session_core.specs.Shown.{AllReads, AllStand, IsExact, Shows};
 ghost use Rattle.session_core.specs.Stores.{Answers, MayAnswer, MayAnswerAmid, State, Talked};
-ghost use Rattle.session_core.specs.Talks.{Asked, Bears, IsBorne, Talk, Told, get_object, list_names, told_names};
+ghost use Rattle.session_core.specs.Talks.{Asked, Bears, IsBorne, Talk, Told, list_names, told_names};
 
 /// What the objects of a store bear, those of each store bear that has them all and maybe more: a talk stays borne while a
 /// store grows.
@@ -32,25 +32,21 @@ pub fn a_store_answers_as_any_store_may()
     ensures { (old new : State) (talk : Talk) → Talked Answers old talk new → Talked MayAnswer old talk new }
 {}
 
-/// Lists and gets change nothing, and what they are told of a store they show of it, with what it bore before.
+/// Lists and gets change nothing, and what they are told of a store they show of it. A store bears what is shown of it.
 pub fn what_is_read_is_shown()
     ensures untouched { (old new : State) (talk : Talk) → AllReads talk → Talked MayAnswer old talk new → IsUntouched old new }
-    ensures exact { (old new : State) (talk : Talk) → AllReads talk → Talked MayAnswer old talk new → AllExact talk old.0 }
-    ensures shown { (objects : Objects) (before talk : Talk) → Bears objects before → lists talk ≡ true → AllExact talk objects → Shows (before ++ talk) objects }
+    ensures shown { (old new : State) (talk : Talk) → AllReads talk → Talked MayAnswer old talk new → Shows talk old.0 }
+    ensures borne { (objects : Objects) (talk : Talk) → Shows talk objects → Bears objects talk }
 {}
 
-/// A talk that goes on with a get shows what it showed, and what was told of the name; one that lists the names shows that these
-/// stand, and of all that went before only what was found.
+/// A talk that goes on with a call shows what it showed, and what was told of that call.
 pub fn what_a_longer_talk_shows()
-    ensures got { (objects : Objects) (talk : Talk) (name : List ℕ) (told : Told) → Shows (talk ++ (get_object name, told) ∷ []) objects
-        → Shows talk objects × IsExact objects (get_object name) told }
-    ensures listed { (objects : Objects) (talk : Talk) (names : List (List ℕ)) → Shows (talk ++ (list_names, told_names names) ∷ []) objects
-        → Bears objects talk × (names ≡ names_of objects) }
+    ensures { (objects : Objects) (talk : Talk) (asked : Asked) (told : Told) → Shows (talk ++ (asked, told) ∷ []) objects → Shows talk objects × IsExact objects asked told }
 {}
 
 /// A store that grows, also by others' puts between the calls, is shown as it was when the names were listed, where what is got
 /// behind that stood then.
 pub fn what_grows_is_shown_as_it_was_listed()
-    ensures { (listed : Objects) (old new : State) (before gets : Talk) (names : List (List ℕ)) → Bears listed before → names ≡ names_of listed → HasObjectsOf listed old.0
-        → AllStand gets listed → Talked MayAnswerAmid old gets new → Shows (before ++ (list_names, told_names names) ∷ gets) listed }
+    ensures { (listed : Objects) (old new : State) (gets : Talk) (names : List (List ℕ)) → names ≡ names_of listed → HasObjectsOf listed old.0
+        → AllStand gets listed → Talked MayAnswerAmid old gets new → Shows ((list_names, told_names names) ∷ gets) listed }
 {}

@@ -17,7 +17,8 @@ pub enum Step<T> {
 /// A machine without input and output that makes calls of a store: it asks for one, is told what was answered, and goes on,
 /// until it has an outcome. Its contract speaks of its job and of its talk, the calls so far with what was told, and of no
 /// store: what it asks for and what it tells hold whoever answers, and however much time and how many others there are
-/// between two calls.
+/// between two calls. A session may begin with something that is known of the store from calls of others; the talk in which
+/// these were made goes before its own, and no call of it counts as one of its own.
 pub trait Session {
     ghost use Rattle.session_core.specs.Talks.{Asked, Kind, Talk};
 
@@ -32,8 +33,9 @@ pub trait Session {
     /// The kind of the call that waits for an answer. Before the first call none does.
     ghost awaits: { Self → Option Kind };
 
-    /// A session where it is now may have had this talk, and wait for an answer to this call. No store stands in it.
-    ghost fits: { Self → Talk → Option Asked → Type 0 };
+    /// Behind what was known before it began, a session where it is now may have had this talk of its own, and wait for an
+    /// answer to this call. No store stands in it.
+    ghost fits: { (before : Talk) → Self → Talk → Option Asked → Type 0 };
 
     /// How many calls it still makes at most.
     ghost left: { Self → ℕ };
@@ -41,11 +43,11 @@ pub trait Session {
     /// The session has ended.
     ghost done: { Self → Bool };
 
-    /// What its job asks for behind a talk.
-    ghost asks: { Job → Talk → Asked → Type 0 };
+    /// What its job asks for behind a talk of its own, and behind what was known before it.
+    ghost asks: { Job → (before talk : Talk) → Asked → Type 0 };
 
-    /// What its job tells behind a talk.
-    ghost ends: { Job → Talk → Self.Outcome → Type 0 };
+    /// What its job tells behind a talk of its own, and behind what was known before it.
+    ghost ends: { Job → (before talk : Talk) → Self.Outcome → Type 0 };
 
     /// The outcome tells that a call was lost.
     ghost lost: { Self.Outcome → Bool };
@@ -59,8 +61,8 @@ pub trait Session {
         requires unended { done self.old ≡ false }
         requires answered { IsReplyTo (awaits self.old) (option_map told_view reply) }
         ensures steps { Steps awaits left done self.old self.new result }
-        ensures goes { (talk : Talk) (asked : Option Asked) → fits self.old talk asked
-            → Goes fits (asks (job self.old)) (ends (job self.old)) self.new (heard talk asked (option_map told_view reply)) result }
+        ensures goes { (before talk : Talk) (asked : Option Asked) → fits before self.old talk asked
+            → Goes (fits before) (asks (job self.old) before) (ends (job self.old) before) self.new (heard talk asked (option_map told_view reply)) result }
         ensures told { TellsLost lost (option_map told_view reply) result }
         ensures same { job self.new ≡ job self.old };
 }

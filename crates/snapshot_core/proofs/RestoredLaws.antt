@@ -54,8 +54,8 @@ module _ (log other : List (List Action)) (same : (key : Key) → at key log ≡
     all_tombstones = each_same _ _ _ _ lists.all_tombstones;
   }
 
-  -- a checkpoint of the one is one of the other
-  checkpoint_same : (bytes : List ℕ) (version : ℕ) → IsCheckpoint bytes version log → IsCheckpoint bytes version other
+  -- A checkpoint of the one is one of the other.
+  pub checkpoint_same : (bytes : List ℕ) (version : ℕ) → IsCheckpoint bytes version log → IsCheckpoint bytes version other
   checkpoint_same bytes version is = record {
     actions = is.actions;
     lines = is.lines;

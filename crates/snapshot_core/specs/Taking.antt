@@ -1,16 +1,20 @@
 -- What putting a checkpoint tells and leaves (Delta PROTOCOL.md, "Checkpoints").
-use Rattle.std.specs.Prelude.{◌≡◌, ◌≤◌, ◌<◌, ◌⊎◌, ◌∷◌, ℕ, suc, Bool, List, Some, Ok, length}
+use Rattle.std.specs.Prelude.{◌≡◌, ◌≤◌, ◌<◌, ◌⊎◌, ◌∷◌, ℕ, suc, Bool, List, Option, Some, Ok, Err, length}
 use Rattle.lake_bytes.specs.Outcome.{IsSaid}
 use Rattle.store_core.specs.Objects.{Objects, with_object}
 use Rattle.store_core.specs.Calls.{Flight, IsUntouched, MayHaveLanded}
 use Rattle.delta_actions.specs.Action.{Action, MetaDataAction, checkpoint_metadata}
 use Rattle.delta_actions.specs.Printing.{IsPrintedCommit}
 use Rattle.delta_replay.specs.All.{ListsAll}
-use Rattle.delta_replay.specs.Support.{checkpointable, meta_data_of}
+use Rattle.delta_replay.specs.Snapshots.{IsSnapshotOf}
+use Rattle.delta_replay.specs.Support.{checkpointable, fault_of, meta_data_of}
+use Rattle.delta_replay.specs.declared.kept.Snapshot.{Snapshot}
 use Rattle.delta_checkpoint.specs.Checkpoints.{IsCheckpoint}
 use Rattle.delta_checkpoint.specs.Names.{IsCheckpointName, checkpoint_name}
 use Rattle.table_log.specs.Counts.{commit_count}
-use Rattle.table_log.specs.Restoring.{replayed}
+use Rattle.table_log.specs.Loads.{IsFrom, IsFrontFrom, replayed_below}
+use Rattle.table_log.specs.Restoring.{Restored, replayed}
+use Rattle.table_log.specs.declared.loading.Loaded.{Loaded}
 use Rattle.snapshot_core.specs.Faults.{checked, says}
 use Rattle.snapshot_core.specs.declared.fault.SnapshotFault.{SnapshotFault}
 use Rattle.snapshot_core.specs.declared.fault.SnapshotFault.TheVariants as faults
@@ -46,6 +50,29 @@ pub record PutsCheckpoint (use_checkpoints : Bool) (objects : Objects) (version 
   -- by its name it is found
   pub found : IsCheckpointName version name
 
+-- The checkpoint of a version, where the commits up to it are seen as these: it may be put and isn't too large, and has the name
+-- of that version for the table's id.
+pub record IsCheckpointFor (commits : List (List Action)) (version : ℕ) (name bytes : List ℕ) : Type 0 where
+  pub supported : checkpointable commits ≡ Ok tt
+  pub id : List ℕ
+  pub of_table : IsTableId commits id
+  pub checkpoint : IsCheckpoint bytes version commits
+  pub ordered : (actions : List Action) × ListsAll commits actions × IsPrintedCommit bytes (checkpoint_metadata (record { version = version }) ∷ actions)
+  pub fits : length bytes ≤ most_bytes
+  pub named : name ≡ checkpoint_name version id
+  -- by its name it is found
+  pub found : IsCheckpointName version name
+
+-- What is put over objects in which these versions stand, and maybe later ones: the checkpoint of the last of them.
+pub record PutsFront (objects : Objects) (version : ℕ) (name bytes : List ℕ) : Type 0 where
+  pub r : Option Restored
+  pub from : Option (List ℕ)
+  pub checkpoint : IsFrom objects (suc version) from r
+  pub commits : List (List Action)
+  pub read : replayed_below (suc version) r objects ≡ Ok commits
+  pub within : version < commit_count objects
+  pub is : IsCheckpointFor commits version name bytes
+
 -- The newest version's checkpoint was put: it stands where none of its name stood, and no other object changed.
 pub record HasPut (use_checkpoints : Bool) (version : ℕ) (old new : Objects) : Type 0 where
   pub name : List ℕ
@@ -74,6 +101,41 @@ pub record IsTooLarge (use_checkpoints : Bool) (objects : Objects) : Type 0 wher
   pub bytes : List ℕ
   pub checkpoint : IsNewestCheckpoint objects commits version bytes
   pub large : most_bytes < length bytes
+
+-- These bytes are the checkpoint of a version, where the commits up to it are seen as these. It may be put, but passes 64 MiB.
+pub record IsLargeFor (commits : List (List Action)) (version : ℕ) (bytes : List ℕ) : Type 0 where
+  pub supported : checkpointable commits ≡ Ok tt
+  pub checkpoint : IsCheckpoint bytes version commits
+  pub ordered : (actions : List Action) × ListsAll commits actions × IsPrintedCommit bytes (checkpoint_metadata (record { version = version }) ∷ actions)
+  pub large : most_bytes < length bytes
+
+-- What a fault says of the commits of the versions below one: why they have no checkpoint that may be put, or that it is too
+-- large.
+abbrev pub IsRefusedFor : SnapshotFault → (next : ℕ) (commits : List (List Action)) → Type 0
+IsRefusedFor (faults.Unsupported why) next commits = checkpointable commits ≡ Err (fault_of why)
+IsRefusedFor faults.TooLarge next commits = (version : ℕ) × (bytes : List ℕ) × (suc version ≡ next) × IsLargeFor commits version bytes
+IsRefusedFor fault next commits = Unit {0}
+
+-- So it says over objects in which the versions below one stand, and maybe later ones.
+pub record RefusesFront (fault : SnapshotFault) (next : ℕ) (objects : Objects) : Type 0 where
+  pub r : Option Restored
+  pub from : Option (List ℕ)
+  pub checkpoint : IsFrom objects next from r
+  pub commits : List (List Action)
+  pub read : replayed_below next r objects ≡ Ok commits
+  pub within : next ≤ commit_count objects
+  pub refused : IsRefusedFor fault next commits
+
+-- Why no checkpoint is made of what was loaded: no version was, or what the commits are refused for.
+abbrev pub IsUnmade : SnapshotFault → Loaded → Type 0
+IsUnmade (faults.BadLog version) loaded = (version ≡ 0) × (loaded.next ≡ 0)
+IsUnmade fault loaded = (r : Option Restored) (objects : Objects) (front : IsFrontFrom r objects loaded) → IsRefusedFor fault loaded.next front.commits
+
+-- why the checkpoint of logs with this snapshot isn't put
+abbrev pub IsUnsupported : SnapshotFault → Snapshot → Type 0
+IsUnsupported (faults.Unsupported why) snapshot = (log : List (List Action)) → IsSnapshotOf log snapshot → checkpointable log ≡ Err (fault_of why)
+IsUnsupported faults.Memory snapshot = Unit {0}
+IsUnsupported fault snapshot = ⊥
 
 -- What a fault says stands in the log: why it has no checkpoint that may be put, or that it is too large.
 abbrev pub IsRefusal : (use_checkpoints : Bool) → SnapshotFault → Objects → Type 0

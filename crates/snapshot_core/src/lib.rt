@@ -1,6 +1,7 @@
 //! The checkpoint of a table's newest version, put into its store, and what its log leaves, told as text.
 #![tactic(auto)]
 
+mod checkpoint_laws;
 mod checkpoint_session;
 mod checkpointing;
 mod fault;
@@ -8,6 +9,7 @@ mod lines;
 mod making;
 mod telling;
 
+pub use checkpoint_laws::a_checkpoint_asks_for_little;
 pub use checkpoint_session::{CheckpointSession, CheckpointStage, Checkpointed};
 pub use checkpointing::checkpoint;
 pub use fault::SnapshotFault;

@@ -2,7 +2,7 @@ use Rattle.commit_core.proofs.CreatedLaws.{created_quiet, created_told}
 use Rattle.commit_core.proofs.commit_laws.a_created_commit_is_told.Goals as goal
 
 pub returns-clause-told : goal.returns-clause-told
-returns-clause-told c = λ job talk version bytes result ends. created_told job talk version bytes result ends
+returns-clause-told c = λ job before talk version bytes result ends. created_told job before talk version bytes result ends
 
 pub returns-clause-quiet : goal.returns-clause-quiet
-returns-clause-quiet c = λ job talk version bytes asked asks. created_quiet job talk version bytes asked asks
+returns-clause-quiet c = λ job before talk version bytes asked asks. created_quiet job before talk version bytes asked asks

@@ -5,4 +5,4 @@ pub returns-clause-asks : goal.returns-clause-asks
 returns-clause-asks c = may_ask
 
 pub returns-clause-tells : goal.returns-clause-tells
-returns-clause-tells c = may_tell
+returns-clause-tells c = λ objects job before talk. may_tell objects job talk
