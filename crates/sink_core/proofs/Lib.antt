@@ -1,5 +1,6 @@
 pub mod AppendLemmas
 pub mod Callers
+pub mod CloseCalls
 pub mod CommittedLemmas
 pub mod FileLemmas
 pub mod LogEnd
@@ -7,3 +8,5 @@ pub mod RefusalLemmas
 pub mod RequestLemmas
 pub mod RestoredAppends
 pub mod RowLemmas
+pub mod SinkLemmas
+pub mod WinnerLemmas

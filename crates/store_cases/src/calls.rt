@@ -1,5 +1,6 @@
 //! The lines of a case.
 
+use crate::closes::{Waiting, begin_close, step_close};
 use crate::conflicts::Contest;
 use crate::failure::Failure;
 use crate::faults::{add_turns, turn_of};
@@ -25,11 +26,15 @@ use store_core::{Flaky, MemoryStore};
 ///   `application=ID` or `domain=NAME`;
 /// - `conflict`: what of the commit that is begun conflicts with the candidate;
 /// - `race V TRIES`: a `CommitSession` of the candidate, whose bytes are its lines, is driven to its end: from version V on, at
-///   most so many versions. It tells how many winners were met.
+///   most so many versions. It tells how many winners were met;
+/// - `close APP AT TRIES`: the close of an application's stream is begun, at a moment in milliseconds, below 2^63, which tries at
+///   most so many versions. It tells what it asks for first;
+/// - `step`: the call that it asks for is made. It tells what it asks for next, or how it ended.
 pub fn tell_line(
     alloc: Global,
     store: &mut Flaky<MemoryStore>,
     contest: &mut Contest,
+    close: &mut Option<Waiting>,
     line: &str,
     out: &mut Vec<u8>,
 ) -> Result<(), Failure> {
@@ -48,6 +53,15 @@ pub fn tell_line(
         "candidate" => contest.make_candidate(alloc, rest),
         "conflict" if rest.is_empty() => contest.tell_conflict(alloc, out),
         "race" => race(alloc, store, contest, rest, out),
+        "close" => {
+            *close = begin_close(alloc, rest, out)?;
+            Ok(())
+        }
+        "step" if rest.is_empty() => {
+            let waiting = close.take().ok_or(Failure::Misspelled)?;
+            *close = step_close(alloc, store, waiting, out)?;
+            Ok(())
+        }
         _ => tell_reply(ask(alloc, store, request_of(alloc, word, rest)?), out),
     }
 }

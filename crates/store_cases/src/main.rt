@@ -1,13 +1,15 @@
 //! A program that reads calls of a store which stand on standard input as cases, and prints how each ends; which commits
-//! conflict with a candidate, and how the puts of a commit end.
+//! conflict with a candidate, how the puts of a commit end, and what the close of a stream asks for and tells.
 //!
 //! A line `case NAME` begins a case, with a store in which nothing stands and no candidate, and prints `== NAME`. Each other
-//! line is a call of that store, what becomes of calls, of a commit that is begun, or a question (`calls.rt` lists them).
+//! line is a call of that store, what becomes of calls, of a commit or a close that is begun, or a question (`calls.rt` lists
+//! them).
 //! Blank lines and those that begin with `#` are passed over.
 #![tactic(auto)]
 
 mod calls;
 mod cases;
+mod closes;
 mod conflicts;
 mod failure;
 mod faults;
