@@ -106,6 +106,8 @@ def script_line(command: Command, content: bytes) -> str:
     if command.name == "append":
         rows = ",".join(objects_in(content))
         return f"append {command.places[0]} {command.places[1]} {options['at']} [{rows}]"
+    if command.name == "close":
+        return f"close {command.places[0]} {options['at']}"
     if command.name == "tail":
         return f"tail {options['max']} {options['from']}"
     return command.name
@@ -129,7 +131,7 @@ class Folder:
         self.known.add(command.folder)
         if len(self.known) > 1 or command.folder.endswith("!"):
             return self.elsewhere(command, run)
-        if command.name in ("close", "load"):
+        if command.name == "load":
             return ["refused N1 NotYet", "status 1"]
         try:
             line = script_line(command, bytes(run.input))

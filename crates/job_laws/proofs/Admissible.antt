@@ -18,8 +18,10 @@ use Rattle.table_store.specs.Holds.{FileStands, HoldsFrom, Stands}
 use Rattle.table_store.specs.Schema.{Schema, IsFileOf}
 use Rattle.table_store.specs.Sound.{IsAdmissible, IsSound}
 use Rattle.table_store.proofs.HoldingPuts.{HoldsFrom-data_file}
-use Rattle.sink_core.specs.Appending.{EncodedBatch, IsWellMade, appending, is_repeat, is_same, unless_other, with_file}
-use Rattle.sink_core.specs.Refusals.{differs, stale}
+use Rattle.batch_core.specs.Committing.{appending}
+use Rattle.batch_core.specs.Requests.{is_repeat, is_same, unless_other}
+use Rattle.sink_core.specs.Appending.{EncodedBatch, IsWellMade, with_file}
+use Rattle.batch_core.specs.Refusals.{differs, stale}
 use Rattle.lake_bytes.specs.Varint.{IsBytes}
 use Rattle.table_store.proofs.LawfulLogLemmas.{AreMadeFor}
 use Rattle.log_laws.proofs.Callers.{IsLogOfEntries, held_first, lawful_with, log_last, log_open, one_writable, sound_count, sound_log}
@@ -69,7 +71,7 @@ module _ (objects : Objects) (application : List ℕ) (number at : ℕ) (batch :
   commit_made : (schema : Schema) → batch.name ≡ data_file_name application number → IsCommitOf schema (group (handed_in ∷ [])) batch.commit
   unfolding appending
   commit_made schema named = record {
-    actions = appending application number at batch.name (length batch.file) (length batch.rows);
+    actions = appending application number at batch.name well.size (length batch.rows);
     commit = well.commit;
     stand = record { only = refl; numbered = refl; files = (named, refl, tt) };
   }

@@ -4,10 +4,11 @@ use Rattle.std.specs.Prelude.{if◌then◌else◌}
 use Rattle.lake_bytes.specs.Results.{◌>>=◌, refused_if}
 use Rattle.serde_json.specs.Data.{Items}
 use Rattle.store_core.specs.Objects.{Objects, object_at}
-use Rattle.table_log.specs.Names.{commit_name}
-use Rattle.sink_core.specs.Appending.{EncodedBatch, IsWellMade, PutsWell, AppendRequest, AppendPlan, plan_answer, appended_by, batch_of, file_name, put_plan, is_past, new_plan, puts, repeated_plan, request_of, append_plan, stands, plan_of, unless_other, unless_there, where_same, with_append, with_file}
-use Rattle.sink_core.specs.Refusals.{AppendRefusal, too_large}
-use Rattle.sink_core.specs.declared.appending.Appended.TheVariants.{Already, Committed}
+use Rattle.batch_core.specs.Committing.{file_name}
+use Rattle.batch_core.specs.Requests.{SinkRequest, unless_other, where_same}
+use Rattle.sink_core.specs.Appending.{EncodedBatch, IsWellMade, PutsWell, AppendPlan, plan_answer, appended_by, batch_of, put_plan, is_past, new_plan, puts, repeated_plan, request_of, append_plan, stands, plan_of, with_append}
+use Rattle.batch_core.specs.Refusals.{SinkRefusal, too_large}
+use Rattle.sink_core.specs.declared.sink_state.SinkOutcome.TheVariants.{Already, Committed}
 use Rattle.job_laws.proofs.AppendedFile.{appended_same}
 use Rattle.job_laws.proofs.AppendedLog.{appended_request}
 use Rattle.job_laws.proofs.Requests.{both_done, given, passed, put_is}
@@ -15,26 +16,26 @@ use Rattle.job_laws.proofs.Requests.{both_done, given, passed, put_is}
 module _ (objects : Objects) (application : List ℕ) (number at : ℕ) (items : Items) where
   -- A new number's batch is put: its request, and the batch that fits.
   pub record IsNew (batch : EncodedBatch) : Type 0 where
-    pub request : AppendRequest
+    pub request : SinkRequest
     pub asked : request_of false objects application number items ≡ Ok request
     pub new : request.repeats ≡ false
-    pub made : batch_of request application number at ≡ Ok batch
+    pub made : batch_of (object_at objects (file_name application number)) request application number at ≡ Ok batch
     pub fits : put_plan objects batch ≡ Ok (puts batch)
 
   -- a batch that fits is the one that is put
   fits_is : (found batch : EncodedBatch) → put_plan objects found ≡ Ok (puts batch) → found ≡ batch
   fits_is found batch is =
       let a = both_done (unless_other found.schema found.rows found.name (object_at objects found.name)) (λ fits. Ok (puts found)) (puts batch) is in
-      put_is found batch (given {E = AppendRefusal} (puts found) (puts batch) a.2)
+      put_is found batch (given {E = SinkRefusal} (puts found) (puts batch) a.2)
 
-  by_repeats : (request : AppendRequest) (batch : EncodedBatch) → request_of false objects application number items ≡ Ok request → (repeats : Bool) → request.repeats ≡ repeats
+  by_repeats : (request : SinkRequest) (batch : EncodedBatch) → request_of false objects application number items ≡ Ok request → (repeats : Bool) → request.repeats ≡ repeats
       → (if repeats then repeated_plan objects request application number else new_plan objects request application number at) ≡ Ok (puts batch) → IsNew batch
   by_repeats request batch asked true again is =
       let a = both_done (where_same request.schema request.rows (file_name application number) (object_at objects (file_name application number))) (λ same. Ok stands) (puts batch) is in
-      let no : stands ≡ puts batch = given {E = AppendRefusal} stands (puts batch) a.2 in
+      let no : stands ≡ puts batch = given {E = SinkRefusal} stands (puts batch) a.2 in
       absurd cc
   by_repeats request batch asked false new is =
-      let a = both_done (batch_of request application number at) (put_plan objects) (puts batch) is in
+      let a = both_done (batch_of (object_at objects (file_name application number)) request application number at) (put_plan objects) (puts batch) is in
       let same : a.0 ≡ batch = fits_is a.0 batch a.2 in
       record {
         request = request;
@@ -45,37 +46,37 @@ module _ (objects : Objects) (application : List ℕ) (number at : ℕ) (items :
       }
 
   -- what is told as committed is put, and a commit may have its version
-  step_put : (version : ℕ) (step : AppendPlan) → append_plan false objects application number at items ≡ Ok step → plan_answer objects number step ≡ Ok (Committed version)
+  step_put : (version : ℕ) (step : AppendPlan) → append_plan false objects application number at items ≡ Ok step → plan_answer number step ≡ Ok (Committed version)
       → (batch : EncodedBatch) × (append_plan false objects application number at items ≡ Ok (puts batch)) × IsNew batch × (is_past batch.version ≡ false)
   step_put version stands is told = absurd cc
   step_put version (puts batch) is told =
       let a = both_done (request_of false objects application number items) (plan_of objects application number at) (puts batch) is in
-      let b = both_done (refused_if (is_past batch.version) too_large) (λ small. unless_there batch.version (object_at (with_file objects batch) (commit_name batch.version))) (Committed version) told in
+      let b = both_done (refused_if (is_past batch.version) too_large) (λ small. Ok (Committed batch.version)) (Committed version) told in
       (batch, is, by_repeats a.0 batch a.1 a.0.repeats refl a.2, passed (is_past batch.version) too_large b.0 b.1)
 
   pub committed_put : (version : ℕ) → appended_by false objects application number at items ≡ Ok (Committed version)
       → (batch : EncodedBatch) × (append_plan false objects application number at items ≡ Ok (puts batch)) × IsNew batch × (is_past batch.version ≡ false)
   committed_put version is =
-      let a = both_done (append_plan false objects application number at items) (plan_answer objects number) (Committed version) is in
+      let a = both_done (append_plan false objects application number at items) (plan_answer number) (Committed version) is in
       step_put version a.0 a.1 a.2
 
   -- behind the puts of a batch its append is settled: it stands
   batch_again : (later : ℕ) (batch : EncodedBatch) → IsNew batch → is_past batch.version ≡ false → IsWellMade application number at batch → append_plan false (with_append objects (Ok (puts batch))) application number later items ≡ Ok stands
   batch_again later batch is small well =
       let behind = with_append objects (Ok (puts batch)) in
-      let a = appended_request objects application number at items is.request batch is.asked is.new is.made small well in
-      let again : AppendRequest = record { version = a.0; schema = is.request.schema; rows = is.request.rows; repeats = true } in
-      ap (λ (r : Result AppendRequest AppendRefusal). r >>= plan_of behind application number later) a.1
-      ∙ appended_same objects application number at is.request again batch is.made well is.fits refl refl
+      let a = appended_request objects application number at items (object_at objects (file_name application number)) is.request batch is.asked is.new is.made small well in
+      let again : SinkRequest = record { version = a.0; schema = is.request.schema; rows = is.request.rows; repeats = true } in
+      ap (λ (r : Result SinkRequest SinkRefusal). r >>= plan_of behind application number later) a.1
+      ∙ appended_same objects application number at (object_at objects (file_name application number)) is.request again batch is.made well is.fits refl refl
 
   pub append_plan_again : (later version : ℕ) → PutsWell application number at (append_plan false objects application number at items) → appended_by false objects application number at items ≡ Ok (Committed version)
       → append_plan false (with_append objects (append_plan false objects application number at items)) application number later items ≡ Ok stands
   append_plan_again later version well told =
       let a = committed_put version told in
-      subst (λ (step : Result AppendPlan AppendRefusal). append_plan false (with_append objects step) application number later items ≡ Ok stands) (sym a.1)
+      subst (λ (step : Result AppendPlan SinkRefusal). append_plan false (with_append objects step) application number later items ≡ Ok stands) (sym a.1)
       (batch_again later a.0 a.2 a.3 (subst (PutsWell application number at) a.1 well))
 
   pub told_again : (later version : ℕ) → PutsWell application number at (append_plan false objects application number at items) → appended_by false objects application number at items ≡ Ok (Committed version)
       → appended_by false (with_append objects (append_plan false objects application number at items)) application number later items ≡ Ok (Already number)
   told_again later version well told =
-      ap (λ (step : Result AppendPlan AppendRefusal). step >>= plan_answer (with_append objects (append_plan false objects application number at items)) number) (append_plan_again later version well told)
+      ap (λ (step : Result AppendPlan SinkRefusal). step >>= plan_answer number) (append_plan_again later version well told)

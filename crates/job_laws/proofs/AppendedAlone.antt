@@ -1,20 +1,20 @@
 -- An append whose data file alone was saved is told the same when it is handed in again.
-use Rattle.std.proofs.Common.{◌≡◌, ◌∙◌, ℕ, Bool, true, false, List, [], Option, Result, Ok, refl, sym, ap, subst}
-use Rattle.std.specs.Prelude.{if◌then◌else◌}
-use Rattle.lake_bytes.specs.Results.{◌>>=◌, refused_if}
+use Rattle.std.proofs.Common.{◌≡◌, ◌∙◌, ℕ, Bool, true, false, List, [], Option, Some, Result, Ok, refl, sym, ap, subst}
+use Rattle.std.specs.Prelude.{if◌then◌else◌, unwrap_or}
+use Rattle.lake_bytes.specs.Results.{◌>>=◌}
 use Rattle.serde_json.specs.Data.{Items}
 use Rattle.store_core.specs.Objects.{Objects, IsInOrder, object_at, with_object}
-use Rattle.store_core.specs.ObjectLaws.{IsInOrder-with_object, object_at-with_object_other, same_objects}
+use Rattle.store_core.specs.ObjectLaws.{IsInOrder-with_object, object_at-with_object_other, object_at-with_object_same, same_objects}
 use Rattle.delta_actions.specs.Names.{data_file_name}
-use Rattle.table_log.specs.Names.{commit_name}
 use Rattle.table_folder.specs.Loads.{is_loaded, is_of_log, loaded}
-use Rattle.sink_core.specs.Appending.{EncodedBatch, IsWellMade, PutsWell, AppendRequest, AppendPlan, plan_answer, appended_by, put_plan, is_past, new_plan, puts, repeated_plan, request_of, append_plan, plan_of, unless_there, with_file, with_file_alone}
-use Rattle.sink_core.specs.Refusals.{AppendRefusal, too_large}
-use Rattle.sink_core.specs.declared.appending.Appended.TheVariants.{Committed}
+use Rattle.batch_core.specs.Committing.{file_name}
+use Rattle.batch_core.specs.Requests.{SinkRequest}
+use Rattle.sink_core.specs.Appending.{EncodedBatch, IsWellMade, PutsWell, AppendPlan, plan_answer, appended_by, batch_of, put_plan, new_plan, puts, repeated_plan, request_of, append_plan, plan_of, with_file, with_file_alone}
+use Rattle.batch_core.specs.Refusals.{SinkRefusal}
+use Rattle.sink_core.specs.declared.sink_state.SinkOutcome.TheVariants.{Committed}
 use Rattle.job_laws.proofs.Added.{two_names}
 use Rattle.job_laws.proofs.AppendedAgain.{IsNew, committed_put}
-use Rattle.job_laws.proofs.AppendedFile.{file_fits}
-use Rattle.job_laws.proofs.AppendedLog.{file_apart}
+use Rattle.job_laws.proofs.AppendedFile.{file_fits, file_named_so, made_beside}
 use Rattle.job_laws.proofs.Loaded.{loaded_at, loaded_in_order, loaded_not}
 use Rattle.job_laws.proofs.OwnSteps.{batch_own}
 use Rattle.job_laws.proofs.SameReads.{same_request}
@@ -47,23 +47,26 @@ request_beside objects name bytes application number items order not =
     ∙ same_request [] objects application number items
 
 module _ (objects : Objects) (application : List ℕ) (number at version : ℕ) (items : Items) (order : IsInOrder objects) where
+  -- it is made as before once its file stands
+  made_there : (batch : EncodedBatch) → (is : IsNew objects application number at items batch) → batch_of (object_at (with_file objects batch) (file_name application number)) is.request application number at ≡ Ok batch
+  made_there batch is =
+      let name = file_name application number in
+      let before = object_at objects name in
+      let own : batch.name ≡ name = file_named_so before is.request application number at batch is.made in
+      let there : object_at (with_file objects batch) name ≡ Some (unwrap_or before batch.file) =
+      subst (λ (n : List ℕ). object_at (with_file objects batch) n ≡ Some (unwrap_or (object_at objects n) batch.file)) own (object_at-with_object_same objects batch.name batch.file) in
+      ap (λ (found : Option (List ℕ)). batch_of found is.request application number at) there ∙ made_beside before is.request application number at batch is.made
+
   -- the batch is put again
   again : (batch : EncodedBatch) → IsNew objects application number at items batch → IsWellMade application number at batch → batch.name ≡ data_file_name application number
       → append_plan false (with_file objects batch) application number at items ≡ Ok (puts batch)
   again batch is well named =
       let beside = with_file objects batch in
       let outside : is_loaded [] batch.name ≡ false = ap (is_loaded []) named ∙ data_file_outside application number in
-      ap (λ (r : Result AppendRequest AppendRefusal). r >>= plan_of beside application number at) (request_beside objects batch.name batch.file application number items order outside ∙ is.asked)
+      ap (λ (r : Result SinkRequest SinkRefusal). r >>= plan_of beside application number at) (request_beside objects batch.name batch.file application number items order outside ∙ is.asked)
       ∙ ap (λ (repeats : Bool). if repeats then repeated_plan beside is.request application number else new_plan beside is.request application number at) is.new
-      ∙ ap (λ (b : Result EncodedBatch AppendRefusal). b >>= put_plan beside) is.made
+      ∙ ap (λ (b : Result EncodedBatch SinkRefusal). b >>= put_plan beside) (made_there batch is)
       ∙ file_fits objects batch application number at well is.fits
-
-  -- and it is answered as before
-  answered_again : (batch : EncodedBatch) → batch.name ≡ data_file_name application number → plan_answer objects number (puts batch) ≡ Ok (Committed version) → plan_answer (with_file objects batch) number (puts batch) ≡ Ok (Committed version)
-  answered_again batch named is =
-      ap (λ (found : Option (List ℕ)). refused_if (is_past batch.version) too_large >>= λ small. unless_there batch.version found)
-      (object_at-with_object_other (with_file objects batch) batch.name batch.file (commit_name batch.version) (file_apart application number batch.name named batch.version))
-      ∙ is
 
   pub told_alone : PutsWell application number at (append_plan false objects application number at items) → appended_by false objects application number at items ≡ Ok (Committed version)
       → appended_by false (with_file_alone objects (append_plan false objects application number at items)) application number at items ≡ Ok (Committed version)
@@ -72,9 +75,9 @@ module _ (objects : Objects) (application : List ℕ) (number at version : ℕ) 
       let batch = a.0 in
       let was = subst (PutsWell application number at) a.1 well in
       let named = batch_named batch a.2 in
-      let first : plan_answer objects number (puts batch) ≡ Ok (Committed version) = ap (λ (s : Result AppendPlan AppendRefusal). s >>= plan_answer objects number) (sym a.1) ∙ told in
-      subst (λ (s : Result AppendPlan AppendRefusal). appended_by false (with_file_alone objects s) application number at items ≡ Ok (Committed version)) (sym a.1)
-      (ap (λ (s : Result AppendPlan AppendRefusal). s >>= plan_answer (with_file objects batch) number) (again batch a.2 was named) ∙ answered_again batch named first)
+      let first : plan_answer number (puts batch) ≡ Ok (Committed version) = ap (λ (s : Result AppendPlan SinkRefusal). s >>= plan_answer number) (sym a.1) ∙ told in
+      subst (λ (s : Result AppendPlan SinkRefusal). appended_by false (with_file_alone objects s) application number at items ≡ Ok (Committed version)) (sym a.1)
+      (ap (λ (s : Result AppendPlan SinkRefusal). s >>= plan_answer number) (again batch a.2 was named) ∙ first)
     where
       batch_named : (batch : EncodedBatch) → IsNew objects application number at items batch → batch.name ≡ data_file_name application number
-      batch_named batch is = (batch_own is.request application number at batch is.made).name
+      batch_named batch is = (batch_own (object_at objects (file_name application number)) is.request application number at batch is.made).name

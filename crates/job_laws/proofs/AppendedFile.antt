@@ -1,39 +1,43 @@
 -- Behind an append its batch's file is found to have the batch's rows; where the file alone stands, the batch still fits.
 use Rattle.std.proofs.Common.{◌≡◌, ◌∙◌, ℕ, Bool, true, false, List, Option, Some, None, Result, Ok, Err, refl, sym, ap, subst}
-use Rattle.std.specs.Prelude.{if◌then◌else◌, not, unwrap_or}
+use Rattle.std.specs.Prelude.{if◌then◌else◌, length, not, unwrap_or}
 use Rattle.lake_bytes.specs.Results.{◌>>=◌, refused_if}
 use Rattle.schema_tree.specs.Tree.{Tree}
 use Rattle.store_core.specs.Objects.{Objects, object_at, with_object}
 use Rattle.store_core.specs.ObjectLaws.{object_at-with_object_kept, object_at-with_object_same}
 use Rattle.parquet_file.specs.Reading.{rows_at}
+use Rattle.parquet_file.specs.Writing.{written_file}
+use Rattle.commit_core.specs.Commits.{commit_text}
 use Rattle.parquet_file.proofs.Callers.{rows_only}
 use Rattle.row_core.specs.Rows.{Row}
 use Rattle.row_core.proofs.Callers.{same_rows-is}
 use Rattle.table_log.specs.Names.{commit_name}
-use Rattle.sink_core.specs.Appending.{EncodedBatch, IsWellMade, AppendRequest, AppendPlan, puts, stands, batch_of, file_name, put_plan, is_past, is_same, repeated_plan, unless_other, where_same, with_append, with_file}
-use Rattle.sink_core.specs.Refusals.{AppendRefusal, differs}
+use Rattle.batch_core.specs.Committing.{batch_actions, file_name}
+use Rattle.batch_core.specs.Requests.{SinkRequest, file_or_refusal, is_same, unless_other, where_same}
+use Rattle.sink_core.specs.Appending.{EncodedBatch, IsWellMade, AppendPlan, puts, stands, batch_of, size_behind, put_plan, is_past, repeated_plan, with_append, with_file}
+use Rattle.batch_core.specs.Refusals.{SinkRefusal, differs}
 
 -- ---- the batch
 
 -- a batch has its request's schema and rows, and its file's name is its application's and number's
-record IsBatchOf (request : AppendRequest) (application : List ℕ) (number : ℕ) (batch : EncodedBatch) : Type 0 where
+record IsBatchOf (request : SinkRequest) (application : List ℕ) (number : ℕ) (batch : EncodedBatch) : Type 0 where
   name : batch.name ≡ file_name application number
   schema : batch.schema ≡ request.schema
   rows : batch.rows ≡ request.rows
 
 -- what holds of each batch that is made in steps holds of the one that was
-of_made : (P : EncodedBatch → Type 0) (file : Result (List ℕ) AppendRefusal) (make : List ℕ → EncodedBatch) → ((bytes : List ℕ) → P (make bytes)) → (batch : EncodedBatch) → (file >>= λ bytes. Ok (make bytes)) ≡ Ok batch → P batch
+of_made : (P : EncodedBatch → Type 0) (file : Result (List ℕ) SinkRefusal) (make : List ℕ → EncodedBatch) → ((bytes : List ℕ) → P (make bytes)) → (batch : EncodedBatch) → (file >>= λ bytes. Ok (make bytes)) ≡ Ok batch → P batch
 of_made P (Err refusal) make all batch is = absurd cc
 of_made P (Ok bytes) make all batch is = let same : make bytes ≡ batch = cc in subst P same (all bytes)
 
-batch_is : (request : AppendRequest) (application : List ℕ) (number at : ℕ) (batch : EncodedBatch) → batch_of request application number at ≡ Ok batch → IsBatchOf request application number batch
+batch_is : (found : Option (List ℕ)) (request : SinkRequest) (application : List ℕ) (number at : ℕ) (batch : EncodedBatch) → batch_of found request application number at ≡ Ok batch → IsBatchOf request application number batch
 unfolding batch_of
-batch_is request application number at batch is = of_made (IsBatchOf request application number) _ _ (λ bytes. record { name = refl; schema = refl; rows = refl }) batch is
+batch_is found request application number at batch is = of_made (IsBatchOf request application number) _ _ (λ bytes. record { name = refl; schema = refl; rows = refl }) batch is
 
 -- ---- the file
 
 -- what isn't refused where a test fails passed it
-passes : (test : Bool) (why : AppendRefusal) (step : AppendPlan) → (refused_if (not test) why >>= λ fine. Ok step) ≡ Ok step → test ≡ true
+passes : (test : Bool) (why : SinkRefusal) (step : AppendPlan) → (refused_if (not test) why >>= λ fine. Ok step) ≡ Ok step → test ≡ true
 passes true why step is = refl
 passes false why step is = absurd cc
 
@@ -76,13 +80,46 @@ module _ (objects : Objects) (batch : EncodedBatch) (application : List ℕ) (nu
       ap (λ (found : Option (List ℕ)). where_same batch.schema batch.rows batch.name found >>= λ same. Ok stands) stands_behind
       ∙ ap (λ (test : Bool). refused_if (not test) (differs batch.name) >>= λ same. Ok stands) same_rows_there
 
+-- the size of the file that stands behind a put is that behind another put of the same
+size_stays : (file : List ℕ) (found : Option (List ℕ)) → size_behind file (Some (unwrap_or found file)) ≡ size_behind file found
+size_stays file None = refl
+size_stays file (Some old) = refl
+
+-- a batch is put under the name of its file
+pub file_named_so : (found : Option (List ℕ)) (request : SinkRequest) (application : List ℕ) (number at : ℕ) (batch : EncodedBatch) → batch_of found request application number at ≡ Ok batch → batch.name ≡ file_name application number
+file_named_so found request application number at batch is = (batch_is found request application number at batch is).name
+
+-- So a batch is made as before once its file stands.
+pub made_beside : (found : Option (List ℕ)) (request : SinkRequest) (application : List ℕ) (number at : ℕ) (batch : EncodedBatch) → batch_of found request application number at ≡ Ok batch
+    → batch_of (Some (unwrap_or found batch.file)) request application number at ≡ Ok batch
+unfolding batch_of
+made_beside found request application number at batch is = by_file (file_or_refusal (written_file request.schema request.rows)) is
+  where
+    made : (size : ℕ) → List ℕ → EncodedBatch
+    made size file = record {
+      version = request.version;
+      schema = request.schema;
+      rows = request.rows;
+      name = file_name application number;
+      file = file;
+      commit = commit_text (batch_actions application number at size (length request.rows));
+    }
+
+    by_file : (file : Result (List ℕ) SinkRefusal) → (file >>= λ bytes. Ok (made (size_behind bytes found) bytes)) ≡ Ok batch → (file >>= λ bytes. Ok (made (size_behind bytes (Some (unwrap_or found batch.file))) bytes)) ≡ Ok batch
+    by_file (Err refusal) told = absurd cc
+    by_file (Ok bytes) told =
+        let same : made (size_behind bytes found) bytes ≡ batch = cc in
+        let own : bytes ≡ batch.file = ap (λ (b : EncodedBatch). b.file) same in
+        let size : size_behind bytes (Some (unwrap_or found batch.file)) ≡ size_behind bytes found = ap (λ (f : List ℕ). size_behind bytes (Some (unwrap_or found f))) (sym own) ∙ size_stays bytes found in
+        ap (λ (n : ℕ). Ok (made n bytes)) size ∙ told
+
 -- Behind an append, a request for the same rows under the same number finds that its batch stands.
-pub appended_same : (objects : Objects) (application : List ℕ) (number at : ℕ) (request other : AppendRequest) (batch : EncodedBatch)
-    → batch_of request application number at ≡ Ok batch → IsWellMade application number at batch → put_plan objects batch ≡ Ok (puts batch)
+pub appended_same : (objects : Objects) (application : List ℕ) (number at : ℕ) (found : Option (List ℕ)) (request other : SinkRequest) (batch : EncodedBatch)
+    → batch_of found request application number at ≡ Ok batch → IsWellMade application number at batch → put_plan objects batch ≡ Ok (puts batch)
     → other.schema ≡ request.schema → other.rows ≡ request.rows
     → repeated_plan (with_append objects (Ok (puts batch))) other application number ≡ Ok stands
-appended_same objects application number at request other batch is made fits schema rows =
-    let own = batch_is request application number at batch is in
+appended_same objects application number at found request other batch is made fits schema rows =
+    let own = batch_is found request application number at batch is in
     let one : other.schema ≡ batch.schema = schema ∙ sym own.schema in
     let two : other.rows ≡ batch.rows = rows ∙ sym own.rows in
     let name : file_name application number ≡ batch.name = sym own.name in

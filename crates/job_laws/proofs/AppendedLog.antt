@@ -24,9 +24,11 @@ use Rattle.table_log.specs.Versions.{Version, missing, unreadable, commit, commi
 use Rattle.table_log.proofs.Callers.{count_is, of_commit as read_commit, or_none, or_regroup, stands_below}
 use Rattle.table_store.proofs.HoldingNames.{commit_name-data_file_name}
 use Rattle.table_store.proofs.NamesOnce.{commit_name-once}
-use Rattle.sink_core.specs.Appending.{EncodedBatch, IsWellMade, AppendRequest, appending, batch_of, checked, is_past, is_repeat, puts, request_behind, request_of, with_append, with_file}
-use Rattle.sink_core.specs.Refusals.{bad_log, read_only}
-use Rattle.sink_core.specs.RowsIn.{rows_from, takes_rows}
+use Rattle.batch_core.specs.Committing.{appending}
+use Rattle.batch_core.specs.Requests.{SinkRequest, checked, is_repeat, request_behind}
+use Rattle.sink_core.specs.Appending.{EncodedBatch, IsWellMade, batch_of, is_past, puts, request_of, with_append, with_file}
+use Rattle.batch_core.specs.Refusals.{bad_log, read_only}
+use Rattle.batch_core.specs.RowsIn.{rows_from, takes_rows}
 use Rattle.log_laws.proofs.Callers.{newest-cons, of_commit}
 use Rattle.job_laws.proofs.OwnSteps.{batch_own}
 use Rattle.job_laws.proofs.Requests.{IsTaken, batch_asked, behind_number, behind_rows, behind_schema, both_done, given, taken, told_done}
@@ -95,11 +97,11 @@ goes_to first next x is = ap (λ (r : Result _ _). r >>= next) is
 module _ (next later : ℕ) (commits more : List (List actions.Action)) (application : List ℕ) (number : ℕ) (items : Items)
     (written : writable more ≡ writable commits) (last : last_number application more ≡ Some number) where
   -- the request as one that repeats
-  abbrev again : AppendRequest → AppendRequest
+  abbrev again : SinkRequest → SinkRequest
   again request = record { version = later; schema = request.schema; rows = request.rows; repeats = true }
 
   -- the number is the last one, and so the request repeats
-  request_again : (request : AppendRequest) → IsTaken next commits application number items request → request_behind later more application number items ≡ Ok (again request)
+  request_again : (request : SinkRequest) → IsTaken next commits application number items request → request_behind later more application number items ≡ Ok (again request)
   unfolding request_behind
   request_again request taken =
       goes_to (refused_as read_only (writable more)) (behind_schema later more application number items) request.schema (ap (λ (r : Result Tree Unsupported). refused_as read_only r) (written ∙ taken.schema))
@@ -229,31 +231,31 @@ module _ (objects : Objects) (application : List ℕ) (number at : ℕ) (batch :
 
   -- the log has the batch's commit
   log_behind : batch.version ≡ commit_count objects → is_past batch.version ≡ false → batch.name ≡ data_file_name application number → (commits : List (List actions.Action)) → log_of objects ≡ Ok commits
-      → log_of behind ≡ Ok (commits ++ appending application number at batch.name (length batch.file) (length batch.rows) ∷ [])
+      → log_of behind ≡ Ok (commits ++ appending application number at batch.name well.size (length batch.rows) ∷ [])
   log_behind version small named commits is =
       ap log_of (whole_behind small)
-      ∙ subst (λ (v : ℕ). log_of (with_object (with_object objects batch.name batch.file) (commit_name v) batch.commit) ≡ Ok (commits ++ appending application number at batch.name (length batch.file) (length batch.rows) ∷ [])) (sym version)
-      (log_with objects batch.name batch.file batch.commit (file_apart application number batch.name named) (omega (arith, version, ltb-false greatest_version batch.version small)) (appending application number at batch.name (length batch.file) (length batch.rows)) well.commit commits is)
+      ∙ subst (λ (v : ℕ). log_of (with_object (with_object objects batch.name batch.file) (commit_name v) batch.commit) ≡ Ok (commits ++ appending application number at batch.name well.size (length batch.rows) ∷ [])) (sym version)
+      (log_with objects batch.name batch.file batch.commit (file_apart application number batch.name named) (omega (arith, version, ltb-false greatest_version batch.version small)) (appending application number at batch.name well.size (length batch.rows)) well.commit commits is)
 
 -- Behind an append, the same request is one that repeats.
-pub appended_request : (objects : Objects) (application : List ℕ) (number at : ℕ) (items : Items) (request : AppendRequest) (batch : EncodedBatch)
-    → request_of false objects application number items ≡ Ok request → request.repeats ≡ false → batch_of request application number at ≡ Ok batch → is_past batch.version ≡ false → IsWellMade application number at batch
+pub appended_request : (objects : Objects) (application : List ℕ) (number at : ℕ) (items : Items) (found : Option (List ℕ)) (request : SinkRequest) (batch : EncodedBatch)
+    → request_of false objects application number items ≡ Ok request → request.repeats ≡ false → batch_of found request application number at ≡ Ok batch → is_past batch.version ≡ false → IsWellMade application number at batch
     → (next : ℕ) × (request_of false (with_append objects (Ok (puts batch))) application number items ≡ Ok (record { version = next; schema = request.schema; rows = request.rows; repeats = true }))
 unfolding request_of
-appended_request objects application number at items request batch is new asks small well =
+appended_request objects application number at items found request batch is new asks small well =
     let after = with_append objects (Ok (puts batch)) in
     let a = both_done (checked application number (items_len items)) (λ fine. refused_as bad_log (replayed false objects) >>= λ commits. request_behind (commit_count objects) commits application number items) request is in
     let b = both_done (refused_as bad_log (replayed false objects)) (λ commits. request_behind (commit_count objects) commits application number items) request a.2 in
     let log : log_of objects ≡ Ok b.0 = told_done bad_log (replayed false objects) b.0 b.1 in
     let taken_is = taken (commit_count objects) b.0 application number items request b.2 in
-    let own = batch_own request application number at batch asks in
-    let version : batch.version ≡ commit_count objects = (batch_asked request application number at batch asks).version ∙ taken_is.version in
-    let made = appending application number at batch.name (length batch.file) (length batch.rows) in
+    let own = batch_own found request application number at batch asks in
+    let version : batch.version ≡ commit_count objects = (batch_asked found request application number at batch asks).version ∙ taken_is.version in
+    let made = appending application number at batch.name well.size (length batch.rows) in
     let more = b.0 ++ made ∷ [] in
     let log_more : log_of after ≡ Ok more = log_behind objects application number at batch well version small own.name b.0 log in
     let behind_more : request_behind (commit_count after) more application number items ≡ Ok (record { version = commit_count after; schema = request.schema; rows = request.rows; repeats = true }) =
-    request_again (commit_count objects) (commit_count after) b.0 more application number items (same_writable application number at batch.name (length batch.file) (length batch.rows) b.0)
-    (number_behind application number at batch.name (length batch.file) (length batch.rows) b.0) request taken_is in (
+    request_again (commit_count objects) (commit_count after) b.0 more application number items (same_writable application number at batch.name well.size (length batch.rows) b.0)
+    (number_behind application number at batch.name well.size (length batch.rows) b.0) request taken_is in (
       commit_count after,
       goes_to (checked application number (items_len items)) (λ fine. refused_as bad_log (replayed false after) >>= λ commits. request_behind (commit_count after) commits application number items) a.0 a.1
           ∙ goes_to (refused_as bad_log (replayed false after)) (λ commits. request_behind (commit_count after) commits application number items) more (ap (λ (r : Result (List (List actions.Action)) ℕ). refused_as bad_log r) log_more)

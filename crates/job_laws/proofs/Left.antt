@@ -15,9 +15,10 @@ use Rattle.commit_core.specs.Creating.{commit_from, with_creation}
 use Rattle.snapshot_core.specs.Faults.{checked}
 use Rattle.snapshot_core.specs.Taking.{most_bytes}
 use Rattle.sink_core.specs.Appending.{EncodedBatch, AppendPlan, puts, stands, is_past, append_plan, with_append, with_commit, with_file, with_file_alone}
-use Rattle.sink_core.specs.Refusals.{AppendRefusal}
+use Rattle.sink_core.specs.Closes.{close_plan, close_text, with_close}
+use Rattle.batch_core.specs.Refusals.{SinkRefusal}
 use Rattle.lake_script.specs.Checkpoints.{Checkpoint, NotPut, by_log, too_large, checkpoint_by, checkpoint_of, newest_version, with_checkpoint}
-use Rattle.script_lines.specs.Lines.{append, checkpoint, Statement, create, task, foreign}
+use Rattle.script_lines.specs.Lines.{append, checkpoint, close, Statement, create, task, foreign}
 use Rattle.lake_script.specs.Runs.{Executes, MayLeave}
 use Rattle.lake_script.specs.Told.{left_by_statement}
 use Rattle.job_laws.specs.Looking.{LooksWithin}
@@ -25,7 +26,7 @@ use Rattle.job_laws.specs.Saved.{with_added}
 use Rattle.job_laws.proofs.Added.{IsAlike, added_alike, alike_before, alike_put}
 use Rattle.job_laws.proofs.Loaded.{commit_loaded, log_loaded}
 use Rattle.job_laws.proofs.OwnSteps.{PutsOwn, own_append_plan}
-use Rattle.job_laws.proofs.SameReads.{same_append_plan}
+use Rattle.job_laws.proofs.SameReads.{same_append_plan, same_close_plan}
 use Rattle.job_laws.proofs.SameReplies.{same_checkpoint, same_printed, same_reply}
 use Rattle.lake_bytes.specs.Lines.{with_newline}
 
@@ -39,7 +40,7 @@ created_alike files objects (Err refusal) order = alike_before files objects ord
 -- ---- appends
 
 -- the file of a batch
-pub file_alike : (files : List (List ℕ)) (objects : Objects) (application : List ℕ) (number : ℕ) (step : Result AppendPlan AppendRefusal) → IsInOrder objects → is_loaded files (data_file_name application number) ≡ true → PutsOwn application number step
+pub file_alike : (files : List (List ℕ)) (objects : Objects) (application : List ℕ) (number : ℕ) (step : Result AppendPlan SinkRefusal) → IsInOrder objects → is_loaded files (data_file_name application number) ≡ true → PutsOwn application number step
     → IsAlike files objects (with_file_alone (loaded files objects) step) (with_file_alone objects step)
 file_alike files objects application number (Ok (puts batch)) order is own =
     alike_put files objects (loaded files objects) objects batch.name batch.file (ap (is_loaded files) own.name ∙ is) (alike_before files objects order)
@@ -56,12 +57,25 @@ commit_alike files objects one other batch alike = by_version (is_past batch.ver
     by_version false = alike_put files objects one other (commit_name batch.version) batch.commit (commit_loaded files batch.version) alike
 
 -- the file, and the commit
-pub append_alike : (files : List (List ℕ)) (objects : Objects) (application : List ℕ) (number : ℕ) (step : Result AppendPlan AppendRefusal) → IsInOrder objects → is_loaded files (data_file_name application number) ≡ true → PutsOwn application number step
+pub append_alike : (files : List (List ℕ)) (objects : Objects) (application : List ℕ) (number : ℕ) (step : Result AppendPlan SinkRefusal) → IsInOrder objects → is_loaded files (data_file_name application number) ≡ true → PutsOwn application number step
     → IsAlike files objects (with_append (loaded files objects) step) (with_append objects step)
 append_alike files objects application number (Ok (puts batch)) order is own =
     commit_alike files objects (with_file (loaded files objects) batch) (with_file objects batch) batch (file_alike files objects application number (Ok (puts batch)) order is own)
 append_alike files objects application number (Ok stands) order is own = alike_before files objects order
 append_alike files objects application number (Err refusal) order is own = alike_before files objects order
+
+-- ---- closes
+
+-- its commit, which is put where one may have its version
+pub close_alike : (files : List (List ℕ)) (objects : Objects) (application : List ℕ) (at : ℕ) (step : Result (Option ℕ) SinkRefusal) → IsInOrder objects → IsAlike files objects (with_close (loaded files objects) application at step) (with_close objects application at step)
+close_alike files objects application at (Ok (Some version)) order = by_version (is_past version)
+  where
+    by_version : (past : Bool)
+        → IsAlike files objects (if past then loaded files objects else with_object (loaded files objects) (commit_name version) (close_text application at)) (if past then objects else with_object objects (commit_name version) (close_text application at))
+    by_version true = alike_before files objects order
+    by_version false = alike_put files objects (loaded files objects) objects (commit_name version) (close_text application at) (commit_loaded files version) (alike_before files objects order)
+close_alike files objects application at (Ok None) order = alike_before files objects order
+close_alike files objects application at (Err refusal) order = alike_before files objects order
 
 -- ---- checkpoints
 
@@ -96,9 +110,12 @@ checkpoint_alike files objects bytes (Err why) order is = alike_before files obj
 left_alike : (objects : Objects) (statement : Statement) (files : List (List ℕ)) (printed : List ℕ) → IsInOrder objects → LooksWithin objects statement files → IsAlike files objects (left_by_statement (loaded files objects) statement printed) (left_by_statement objects statement printed)
 left_alike objects (create id at schema) files printed order within = created_alike files objects (commit_from id at schema printed) order
 left_alike objects (task (append application number at rows)) files printed order within =
-    subst (λ (step : Result AppendPlan AppendRefusal). IsAlike files objects (with_append (loaded files objects) step) (with_append objects (append_plan false objects application number at rows)))
+    subst (λ (step : Result AppendPlan SinkRefusal). IsAlike files objects (with_append (loaded files objects) step) (with_append objects (append_plan false objects application number at rows)))
     (sym (same_append_plan files objects application number at rows (within (data_file_name application number) refl)))
     (append_alike files objects application number (append_plan false objects application number at rows) order (within (data_file_name application number) refl) (own_append_plan false objects application number at rows))
+left_alike objects (task (close application at)) files printed order within =
+    subst (λ (step : Result (Option ℕ) SinkRefusal). IsAlike files objects (with_close (loaded files objects) application at step) (with_close objects application at (close_plan false objects application)))
+    (sym (same_close_plan files objects application)) (close_alike files objects application at (close_plan false objects application) order)
 left_alike objects (task checkpoint) files printed order within =
     subst (λ (made : Result Checkpoint NotPut). IsAlike files objects (with_checkpoint (loaded files objects) printed made) (with_checkpoint objects printed (checkpoint_by objects printed)))
     (sym (same_checkpoint files objects printed))

@@ -5,6 +5,7 @@ mod AppendedAlone
 mod AppendedFile
 mod AppendedLog
 pub mod Callers
+pub mod CloseSound
 mod Left
 mod Loaded
 mod LoadedItems

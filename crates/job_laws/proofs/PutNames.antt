@@ -12,15 +12,16 @@ use Rattle.table_folder.proofs.Callers.{list_any-names, list_any-to_save}
 use Rattle.table_log.specs.Names.{commit_name}
 use Rattle.commit_core.specs.Creating.{commit_from, with_creation}
 use Rattle.sink_core.specs.Appending.{MayAppend, AppendPlan, append_plan, with_append, with_file_alone}
-use Rattle.sink_core.specs.Refusals.{AppendRefusal}
+use Rattle.sink_core.specs.Closes.{MayClose, close_plan, with_close}
+use Rattle.batch_core.specs.Refusals.{SinkRefusal}
 use Rattle.lake_script.specs.Growth.{MayPut}
-use Rattle.script_lines.specs.Lines.{append, checkpoint, Statement, create, task, foreign}
+use Rattle.script_lines.specs.Lines.{append, checkpoint, close, Statement, create, task, foreign}
 use Rattle.job_laws.specs.Looking.{LooksWithin}
 use Rattle.job_laws.proofs.Added.{IsAlike, alike_before, alike_put}
-use Rattle.job_laws.proofs.Left.{append_alike, created_alike, file_alike}
+use Rattle.job_laws.proofs.Left.{append_alike, close_alike, created_alike, file_alike}
 use Rattle.job_laws.proofs.Loaded.{checkpoint_loaded, commit_loaded, found_loaded, loaded_at}
 use Rattle.job_laws.proofs.OwnSteps.{PutsOwn, own_append_plan}
-use Rattle.job_laws.proofs.SameReads.{same_append_plan}
+use Rattle.job_laws.proofs.SameReads.{same_append_plan, same_close_plan}
 use Rattle.job_laws.proofs.SavedFronts.{puts_too}
 use Rattle.job_laws.proofs.SavedNames.{not_both}
 use Rattle.lake_bytes.specs.Lines.{with_newline}
@@ -42,7 +43,7 @@ over_all files objects small after whole statement is put alike = record {
 }
 
 -- an append
-append_over_all : (files : List (List ℕ)) (objects after : Objects) (application : List ℕ) (number at : ℕ) (step : Result AppendPlan AppendRefusal) → IsInOrder objects → is_loaded files (data_file_name application number) ≡ true
+append_over_all : (files : List (List ℕ)) (objects after : Objects) (application : List ℕ) (number at : ℕ) (step : Result AppendPlan SinkRefusal) → IsInOrder objects → is_loaded files (data_file_name application number) ≡ true
     → PutsOwn application number step → MayAppend application number at step (loaded files objects) after
     → (whole : Objects) × MayAppend application number at step objects whole × IsAlike files objects after whole
 append_over_all files objects after application number at step order is own (inl same) =
@@ -52,6 +53,13 @@ append_over_all files objects after application number at step order is own (inr
 append_over_all files objects after application number at step order is own (inr (well, inr both)) =
     (with_append objects step, inr (well, inr refl), subst (λ (o : Objects). IsAlike files objects o (with_append objects step)) (sym both) (append_alike files objects application number step order is own))
 
+-- a close
+close_over_all : (files : List (List ℕ)) (objects after : Objects) (application : List ℕ) (at : ℕ) (step : Result (Option ℕ) SinkRefusal) → IsInOrder objects → MayClose application at step (loaded files objects) after
+    → (whole : Objects) × MayClose application at step objects whole × IsAlike files objects after whole
+close_over_all files objects after application at step order (inl same) = (objects, inl refl, subst (λ (o : Objects). IsAlike files objects o objects) (sym same) (alike_before files objects order))
+close_over_all files objects after application at step order (inr (well, whole)) =
+    (with_close objects application at step, inr (well, refl), subst (λ (o : Objects). IsAlike files objects o (with_close objects application at step)) (sym whole) (close_alike files objects application at step order))
+
 put_over_all : (objects after : Objects) (statement : Statement) (files : List (List ℕ)) → IsInOrder objects → LooksWithin objects statement files → MayPut (loaded files objects) statement after → IsPutOverAll files objects statement after
 put_over_all objects after (create id at schema) files order within (inl same) = over_all files objects (loaded files objects) after objects (create id at schema) same (inl refl) (alike_before files objects order)
 put_over_all objects after (create id at schema) files order within (inr (printed, put)) =
@@ -60,7 +68,11 @@ put_over_all objects after (create id at schema) files order within (inr (printe
 put_over_all objects after (task (append application number at items)) files order within put =
     let own = within (data_file_name application number) refl in
     let all = append_over_all files objects after application number at (append_plan false objects application number at items) order own (own_append_plan false objects application number at items)
-    (subst (λ (step : Result AppendPlan AppendRefusal). MayAppend application number at step (loaded files objects) after) (same_append_plan files objects application number at items own) put.1) in
+    (subst (λ (step : Result AppendPlan SinkRefusal). MayAppend application number at step (loaded files objects) after) (same_append_plan files objects application number at items own) put.1) in
+    record { whole = all.0; put = (put.0, all.1); alike = all.2 }
+put_over_all objects after (task (close application at)) files order within put =
+    let all = close_over_all files objects after application at (close_plan false objects application) order
+    (subst (λ (step : Result (Option ℕ) SinkRefusal). MayClose application at step (loaded files objects) after) (same_close_plan files objects application) put.1) in
     record { whole = all.0; put = (put.0, all.1); alike = all.2 }
 put_over_all objects after (task checkpoint) files order within (inl same) = over_all files objects (loaded files objects) after objects (task checkpoint) same (inl refl) (alike_before files objects order)
 put_over_all objects after (task checkpoint) files order within (inr (version, put)) =

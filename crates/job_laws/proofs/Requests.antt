@@ -1,5 +1,5 @@
 -- What an append that puts a batch found in the log, and what the batch is.
-use Rattle.std.proofs.Common.{◌≡◌, ℕ, ◌&&◌, Bool, true, false, not, List, length, Result, Ok, Err, refl, sym, ap, subst, ◌∙◌}
+use Rattle.std.proofs.Common.{◌≡◌, ℕ, ◌&&◌, Bool, true, false, not, List, length, Option, Result, Ok, Err, refl, sym, ap, subst, ◌∙◌}
 use Rattle.std.specs.Prelude.{if◌then◌else◌}
 use Rattle.lake_bytes.specs.Results.{◌>>=◌, refused_as, refused_if}
 use Rattle.serde_json.specs.Events.{items_len}
@@ -17,9 +17,11 @@ use Rattle.table_log.specs.Counts.{commit_count}
 use Rattle.table_log.specs.Restoring.{replayed}
 use Rattle.table_log.specs.Versions.{log_of}
 use Rattle.commit_core.specs.Commits.{commit_text}
-use Rattle.sink_core.specs.Appending.{EncodedBatch, AppendRequest, appending, batch_of, checked, file_name, file_or_refusal, put_plan, is_repeat, new_plan, puts, repeated_plan, request_behind, request_of, append_plan, stands, plan_of, unless_other, where_same}
-use Rattle.sink_core.specs.Refusals.{AppendRefusal, bad_log, read_only, stream_closed}
-use Rattle.sink_core.specs.RowsIn.{rows_from, takes_rows}
+use Rattle.batch_core.specs.Committing.{batch_actions, file_name}
+use Rattle.batch_core.specs.Requests.{SinkRequest, checked, file_or_refusal, is_repeat, request_behind, unless_other, where_same}
+use Rattle.sink_core.specs.Appending.{EncodedBatch, batch_of, size_behind, put_plan, new_plan, puts, repeated_plan, request_of, append_plan, stands, plan_of}
+use Rattle.batch_core.specs.Refusals.{SinkRefusal, bad_log, read_only, stream_closed}
+use Rattle.batch_core.specs.RowsIn.{rows_from, takes_rows}
 
 -- ---- steps that weren't refused
 
@@ -50,7 +52,7 @@ passed false why x is = refl
 
 -- A request that was taken: of a table that is written, with rows that it takes, for the next version, and with a number
 -- that isn't below the last.
-pub record IsTaken (next : ℕ) (commits : List (List actions.Action)) (application : List ℕ) (number : ℕ) (items : Items) (request : AppendRequest) : Type 0 where
+pub record IsTaken (next : ℕ) (commits : List (List actions.Action)) (application : List ℕ) (number : ℕ) (items : Items) (request : SinkRequest) : Type 0 where
   pub schema : writable commits ≡ Ok request.schema
   pub supported : takes_rows request.schema ≡ Ok tt
   pub rows : rows_from 0 request.schema items ≡ Ok request.rows
@@ -59,25 +61,25 @@ pub record IsTaken (next : ℕ) (commits : List (List actions.Action)) (applicat
   pub version : request.version ≡ next
 
 module _ (next : ℕ) (commits : List (List actions.Action)) (application : List ℕ) (number : ℕ) (items : Items) where
-  abbrev asked : Tree → List Row → Bool → AppendRequest
+  abbrev asked : Tree → List Row → Bool → SinkRequest
   asked schema rows repeats = record { version = next; schema = schema; rows = rows; repeats = repeats }
 
   -- the steps of a request, each behind the one before it
-  abbrev pub behind_number : Tree → List Row → Bool → Result AppendRequest AppendRefusal
+  abbrev pub behind_number : Tree → List Row → Bool → Result SinkRequest SinkRefusal
   behind_number schema rows repeats = refused_if (not repeats && is_closed application commits) stream_closed >>= λ goes_on. Ok (asked schema rows repeats)
 
-  abbrev pub behind_rows : Tree → List Row → Result AppendRequest AppendRefusal
+  abbrev pub behind_rows : Tree → List Row → Result SinkRequest SinkRefusal
   behind_rows schema rows = is_repeat number (last_number application commits) >>= behind_number schema rows
 
-  abbrev pub behind_schema : Tree → Result AppendRequest AppendRefusal
+  abbrev pub behind_schema : Tree → Result SinkRequest SinkRefusal
   behind_schema schema = takes_rows schema >>= λ supported. rows_from 0 schema items >>= behind_rows schema
 
   -- a request whose number was looked at
-  taken_with : (schema : Tree) (rows : List Row) (repeats : Bool) (request : AppendRequest) → writable commits ≡ Ok schema → takes_rows schema ≡ Ok tt → rows_from 0 schema items ≡ Ok rows
+  taken_with : (schema : Tree) (rows : List Row) (repeats : Bool) (request : SinkRequest) → writable commits ≡ Ok schema → takes_rows schema ≡ Ok tt → rows_from 0 schema items ≡ Ok rows
       → is_repeat number (last_number application commits) ≡ Ok repeats → behind_number schema rows repeats ≡ Ok request → IsTaken next commits application number items request
   taken_with schema rows repeats request written supported rows_are number_is is =
       let e = both_done (refused_if (not repeats && is_closed application commits) stream_closed) (λ goes_on. Ok (asked schema rows repeats)) request is in
-      let same : asked schema rows repeats ≡ request = given {E = AppendRefusal} (asked schema rows repeats) request e.2 in
+      let same : asked schema rows repeats ≡ request = given {E = SinkRefusal} (asked schema rows repeats) request e.2 in
       subst (IsTaken next commits application number items) same (record {
         schema = written;
         supported = supported;
@@ -88,7 +90,7 @@ module _ (next : ℕ) (commits : List (List actions.Action)) (application : List
       })
 
   -- the request behind the commits of a log
-  pub taken : (request : AppendRequest) → request_behind next commits application number items ≡ Ok request → IsTaken next commits application number items request
+  pub taken : (request : SinkRequest) → request_behind next commits application number items ≡ Ok request → IsTaken next commits application number items request
   unfolding request_behind
   taken request is =
       let a = both_done (refused_as read_only (writable commits)) behind_schema request is in
@@ -100,12 +102,12 @@ module _ (next : ℕ) (commits : List (List actions.Action)) (application : List
 -- ---- the batch
 
 -- a batch that a request asks for
-pub record IsRequestOfBatch (request : AppendRequest) (application : List ℕ) (number : ℕ) (batch : EncodedBatch) : Type 0 where
+pub record IsRequestOfBatch (request : SinkRequest) (application : List ℕ) (number : ℕ) (batch : EncodedBatch) : Type 0 where
   pub version : batch.version ≡ request.version
   schema : batch.schema ≡ request.schema
   name : batch.name ≡ data_file_name application number
 
-module _ (request : AppendRequest) (application : List ℕ) (number at : ℕ) where
+module _ (found : Option (List ℕ)) (request : SinkRequest) (application : List ℕ) (number at : ℕ) where
   -- the batch with this file
   abbrev made : List ℕ → EncodedBatch
   made file = record {
@@ -114,18 +116,18 @@ module _ (request : AppendRequest) (application : List ℕ) (number at : ℕ) wh
     rows = request.rows;
     name = file_name application number;
     file = file;
-    commit = commit_text (appending application number at (file_name application number) (length file) (length request.rows));
+    commit = commit_text (batch_actions application number at (size_behind file found) (length request.rows));
   }
 
-  abbrev with_bytes : List ℕ → Result EncodedBatch AppendRefusal
+  abbrev with_bytes : List ℕ → Result EncodedBatch SinkRefusal
   with_bytes file = Ok (made file)
 
   -- the batch of a request is one that it asks for
-  pub batch_asked : (batch : EncodedBatch) → batch_of request application number at ≡ Ok batch → IsRequestOfBatch request application number batch
+  pub batch_asked : (batch : EncodedBatch) → batch_of found request application number at ≡ Ok batch → IsRequestOfBatch request application number batch
   unfolding batch_of file_name
   batch_asked batch is =
       let a = both_done (file_or_refusal (written_file request.schema request.rows)) with_bytes batch is in
-      let same : made a.0 ≡ batch = given {E = AppendRefusal} (made a.0) batch a.2 in
+      let same : made a.0 ≡ batch = given {E = SinkRefusal} (made a.0) batch a.2 in
       subst (IsRequestOfBatch request application number) same (record { version = refl; schema = refl; name = refl })
 
 -- ---- the step
@@ -147,33 +149,34 @@ put_is batch other is = cc
 
 module _ (objects : Objects) (application : List ℕ) (number at : ℕ) (batch : EncodedBatch) where
   -- what a request asked that puts a batch: its number is new, and its batch fits
-  record NewPlan (request : AppendRequest) : Type 0 where
+  record NewPlan (request : SinkRequest) : Type 0 where
     new : request.repeats ≡ false
     asked : IsRequestOfBatch request application number batch
     fits : (fine : Unit {0}) × (unless_other batch.schema batch.rows batch.name (object_at objects batch.name) ≡ Ok fine)
 
-  by_repeats : (request : AppendRequest) (repeats : Bool) → request.repeats ≡ repeats
+  by_repeats : (request : SinkRequest) (repeats : Bool) → request.repeats ≡ repeats
       → (if repeats then repeated_plan objects request application number else new_plan objects request application number at) ≡ Ok (puts batch) → NewPlan request
   by_repeats request true again is =
       let a = both_done (where_same request.schema request.rows (file_name application number) (object_at objects (file_name application number))) (λ same. Ok stands) (puts batch) is in
-      let no : stands ≡ puts batch = given {E = AppendRefusal} stands (puts batch) a.2 in
+      let no : stands ≡ puts batch = given {E = SinkRefusal} stands (puts batch) a.2 in
       absurd cc
   by_repeats request false new is =
-      let a = both_done (batch_of request application number at) (put_plan objects) (puts batch) is in
+      let there = object_at objects (file_name application number) in
+      let a = both_done (batch_of there request application number at) (put_plan objects) (puts batch) is in
       let b = both_done (unless_other a.0.schema a.0.rows a.0.name (object_at objects a.0.name)) (λ fits. Ok (puts a.0)) (puts batch) a.2 in
-      let same : a.0 ≡ batch = put_is a.0 batch (given {E = AppendRefusal} (puts a.0) (puts batch) b.2) in
+      let same : a.0 ≡ batch = put_is a.0 batch (given {E = SinkRefusal} (puts a.0) (puts batch) b.2) in
       record {
         new = new;
-        asked = subst (IsRequestOfBatch request application number) same (batch_asked request application number at a.0 a.1);
+        asked = subst (IsRequestOfBatch request application number) same (batch_asked there request application number at a.0 a.1);
         fits = (b.0, subst (λ (found : EncodedBatch). unless_other found.schema found.rows found.name (object_at objects found.name) ≡ Ok b.0) same b.1);
       }
 
   -- what is done for a request
-  new_plan_of : (request : AppendRequest) → plan_of objects application number at request ≡ Ok (puts batch) → NewPlan request
+  new_plan_of : (request : SinkRequest) → plan_of objects application number at request ≡ Ok (puts batch) → NewPlan request
   new_plan_of request is = by_repeats request request.repeats refl is
 
   -- the parts of what was found
-  joined : (commits : List (List actions.Action)) (items : Items) (request : AppendRequest) → log_of objects ≡ Ok commits → IsTaken (commit_count objects) commits application number items request → NewPlan request → PutsBatch objects application number batch
+  joined : (commits : List (List actions.Action)) (items : Items) (request : SinkRequest) → log_of objects ≡ Ok commits → IsTaken (commit_count objects) commits application number items request → NewPlan request → PutsBatch objects application number batch
   joined commits items request log is step = record {
     commits = commits;
     log = log;

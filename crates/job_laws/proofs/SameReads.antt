@@ -1,12 +1,10 @@
 -- What lines are told of the log over the objects that are loaded is what they are told over all objects.
 use Rattle.std.proofs.Common.{◌≡◌, ◌∙◌, ℕ, Bool, true, false, List, Option, Result, Ok, Err, cond, refl, sym, ap}
-use Rattle.std.specs.Prelude.{bytes_eq, unwrap_or, None, Some}
-use Rattle.std.proofs.lemmas.Slice.Eq.{bytes_eq-Decides}
-use Rattle.lake_bytes.specs.Results.{◌>>=◌, or_refusal, refused_as, refused_if}
+use Rattle.std.specs.Prelude.{None, Some}
+use Rattle.lake_bytes.specs.Results.{◌>>=◌, or_refusal, refused_as}
 use Rattle.serde_json.specs.Events.{items_len}
 use Rattle.serde_json.specs.Data.{Items}
-use Rattle.store_core.specs.Objects.{Objects, object_at, with_object}
-use Rattle.store_core.specs.ObjectLaws.{object_at-with_object_other, object_at-with_object_same}
+use Rattle.store_core.specs.Objects.{Objects, object_at}
 use Rattle.delta_actions.specs.Action.{Action}
 use Rattle.delta_actions.specs.Names.{data_file_name}
 use Rattle.delta_replay.specs.Support.{checkpointable, readable}
@@ -20,8 +18,11 @@ use Rattle.commit_core.specs.Creating.{commit_from, created_by, unless_there}
 use Rattle.commit_core.specs.Histories.{history_in, history_of}
 use Rattle.snapshot_core.specs.Faults as faults
 use Rattle.sink_core.specs.Appending as appends
-use Rattle.sink_core.specs.Appending.{EncodedBatch, AppendRequest, AppendPlan, appended_by, plan_answer, batch_of, checked, file_name, file_or_refusal, put_plan, puts, request_behind, request_of, append_plan, stands, plan_of, unless_other, where_same}
-use Rattle.sink_core.specs.Refusals.{AppendRefusal, bad_log, too_large}
+use Rattle.batch_core.specs.Committing.{file_name}
+use Rattle.sink_core.specs.Closes.{close_answer, close_of, close_plan, closed_by, closing_version}
+use Rattle.batch_core.specs.Requests.{SinkRequest, checked, close_behind, named, request_behind, unless_other, where_same}
+use Rattle.sink_core.specs.Appending.{EncodedBatch, AppendPlan, appended_by, plan_answer, batch_of, put_plan, puts, request_of, append_plan, stands, plan_of}
+use Rattle.batch_core.specs.Refusals.{SinkRefusal, bad_log}
 use Rattle.source_core.specs.Offsets.{offset_of}
 use Rattle.source_core.specs.Tailing as tails
 use Rattle.source_core.specs.Tailing.{bad_offset, handed_by, handed_text, schema_at, tailed, versions_at}
@@ -58,15 +59,30 @@ same_request files objects application number items =
     ap (λ (log : Result (List (List Action)) ℕ). checked application number (items_len items) >>= λ fine. refused_as bad_log log >>= λ commits. request_behind (commit_count (loaded files objects)) commits application number items) (same_replayed files objects)
     ∙ ap (λ (next : ℕ). checked application number (items_len items) >>= λ fine. refused_as bad_log (replayed false objects) >>= λ commits. request_behind next commits application number items) (same_count files objects)
 
+-- what is asked of the table by a close
+same_close : (files : List (List ℕ)) (objects : Objects) (application : List ℕ) → close_of false (loaded files objects) application ≡ close_of false objects application
+unfolding close_of
+same_close files objects application =
+    ap (λ (log : Result (List (List Action)) ℕ). named application >>= λ fine. refused_as bad_log log >>= λ commits. close_behind (commit_count (loaded files objects)) commits application) (same_replayed files objects)
+    ∙ ap (λ (next : ℕ). named application >>= λ fine. refused_as bad_log (replayed false objects) >>= λ commits. close_behind next commits application) (same_count files objects)
+
+-- what a close does
+pub same_close_plan : (files : List (List ℕ)) (objects : Objects) (application : List ℕ) → close_plan false (loaded files objects) application ≡ close_plan false objects application
+same_close_plan files objects application = ap (λ (request : Result SinkRequest SinkRefusal). request >>= λ r. Ok (closing_version r)) (same_close files objects application)
+
+-- and what it answers
+pub same_closed : (files : List (List ℕ)) (objects : Objects) (application : List ℕ) → closed_by false (loaded files objects) application ≡ closed_by false objects application
+same_closed files objects application = ap (λ (plan : Result (Option ℕ) SinkRefusal). plan >>= close_answer) (same_close_plan files objects application)
+
 -- a batch that is made in steps has its name
-made_named : (name : List ℕ) (file : Result (List ℕ) AppendRefusal) (make : List ℕ → EncodedBatch) → ((bytes : List ℕ) → (make bytes).name ≡ name) → (batch : EncodedBatch) → (file >>= λ bytes. Ok (make bytes)) ≡ Ok batch → batch.name ≡ name
+made_named : (name : List ℕ) (file : Result (List ℕ) SinkRefusal) (make : List ℕ → EncodedBatch) → ((bytes : List ℕ) → (make bytes).name ≡ name) → (batch : EncodedBatch) → (file >>= λ bytes. Ok (make bytes)) ≡ Ok batch → batch.name ≡ name
 made_named name (Err refusal) make all batch is = cc
 made_named name (Ok bytes) make all batch is = let same : make bytes ≡ batch = cc in ap (λ b. b.name) (sym same) ∙ all bytes
 
 -- a batch is put under the name of its file
-batch_named : (request : AppendRequest) (application : List ℕ) (number at : ℕ) (batch : EncodedBatch) → batch_of request application number at ≡ Ok batch → batch.name ≡ file_name application number
+batch_named : (found : Option (List ℕ)) (request : SinkRequest) (application : List ℕ) (number at : ℕ) (batch : EncodedBatch) → batch_of found request application number at ≡ Ok batch → batch.name ≡ file_name application number
 unfolding batch_of
-batch_named request application number at batch is = made_named (file_name application number) _ _ (λ bytes. refl) batch is
+batch_named found request application number at batch is = made_named (file_name application number) _ _ (λ bytes. refl) batch is
 
 -- what is done for a request, which looks at the batch's file alone
 module _ (files : List (List ℕ)) (objects : Objects) (application : List ℕ) (number at : ℕ) (own : is_loaded files (data_file_name application number) ≡ true) where
@@ -80,55 +96,29 @@ module _ (files : List (List ℕ)) (objects : Objects) (application : List ℕ) 
       ap (λ (found : Option (List ℕ)). unless_other batch.schema batch.rows batch.name found >>= λ fits. Ok (puts batch))
       (ap (object_at (loaded files objects)) is ∙ same_file ∙ ap (object_at objects) (sym is))
 
-  same_plan : (request : AppendRequest) → plan_of (loaded files objects) application number at request ≡ plan_of objects application number at request
+  same_plan : (request : SinkRequest) → plan_of (loaded files objects) application number at request ≡ plan_of objects application number at request
   same_plan request = by_case request.repeats
     where
       by_case : (repeats : Bool) → cond repeats (appends.repeated_plan (loaded files objects) request application number) (appends.new_plan (loaded files objects) request application number at)
           ≡ cond repeats (appends.repeated_plan objects request application number) (appends.new_plan objects request application number at)
       by_case true = ap (λ (found : Option (List ℕ)). where_same request.schema request.rows (file_name application number) found >>= λ same. Ok stands) same_file
-      by_case false = same_after (batch_of request application number at) (put_plan (loaded files objects)) (put_plan objects) (λ batch is. same_put_plan batch (batch_named request application number at batch is))
+      by_case false =
+          let there = object_at objects (file_name application number) in
+          ap (λ (found : Option (List ℕ)). batch_of found request application number at >>= put_plan (loaded files objects)) same_file
+          ∙ same_after (batch_of there request application number at) (put_plan (loaded files objects)) (put_plan objects) (λ batch is. same_put_plan batch (batch_named there request application number at batch is))
 
 -- what an append does
 pub same_append_plan : (files : List (List ℕ)) (objects : Objects) (application : List ℕ) (number at : ℕ) (items : Items) → is_loaded files (data_file_name application number) ≡ true
     → append_plan false (loaded files objects) application number at items ≡ append_plan false objects application number at items
 same_append_plan files objects application number at items own =
-    ap (λ (request : Result AppendRequest AppendRefusal). request >>= plan_of (loaded files objects) application number at) (same_request files objects application number items)
+    ap (λ (request : Result SinkRequest SinkRefusal). request >>= plan_of (loaded files objects) application number at) (same_request files objects application number items)
     ∙ same_after (request_of false objects application number items) (plan_of (loaded files objects) application number at) (plan_of objects application number at) (λ request is. same_plan files objects application number at own request)
-
--- behind a put, a name that is loaded stands as it does behind the put over all objects
-pub same_behind_put : (files : List (List ℕ)) (objects : Objects) (name bytes other : List ℕ) → is_loaded files other ≡ true → object_at (with_object (loaded files objects) name bytes) other ≡ object_at (with_object objects name bytes) other
-same_behind_put files objects name bytes other own = by_case (bytes_eq other name) refl
-  where
-    by_case : (same : Bool) → bytes_eq other name ≡ same → object_at (with_object (loaded files objects) name bytes) other ≡ object_at (with_object objects name bytes) other
-    by_case true e =
-        let is : other ≡ name = (bytes_eq-Decides other name).0 e in
-        let named : is_loaded files name ≡ true = ap (is_loaded files) (sym is) ∙ own in
-        ap (object_at (with_object (loaded files objects) name bytes)) is
-        ∙ object_at-with_object_same (loaded files objects) name bytes
-        ∙ ap (λ (found : Option (List ℕ)). Some (unwrap_or found bytes)) (loaded_at files objects name named)
-        ∙ sym (object_at-with_object_same objects name bytes)
-        ∙ ap (object_at (with_object objects name bytes)) (sym is)
-    by_case false e =
-        object_at-with_object_other (loaded files objects) name bytes other (apart e)
-        ∙ loaded_at files objects other own
-        ∙ sym (object_at-with_object_other objects name bytes other (apart e))
-      where
-        apart : bytes_eq other name ≡ false → other ≡ name → ⊥
-        apart e is = let same : bytes_eq other name ≡ true = (bytes_eq-Decides other name).1 is in absurd cc
-
--- what is answered to it
-same_answered : (files : List (List ℕ)) (objects : Objects) (number : ℕ) (step : AppendPlan) → plan_answer (loaded files objects) number step ≡ plan_answer objects number step
-same_answered files objects number (puts batch) =
-    ap (λ (found : Option (List ℕ)). refused_if (appends.is_past batch.version) too_large >>= λ small. appends.unless_there batch.version found)
-    (same_behind_put files objects batch.name batch.file (commit_name batch.version) (commit_loaded files batch.version))
-same_answered files objects number stands = refl
 
 -- what an append answers
 pub same_appended : (files : List (List ℕ)) (objects : Objects) (application : List ℕ) (number at : ℕ) (items : Items) → is_loaded files (data_file_name application number) ≡ true
     → appended_by false (loaded files objects) application number at items ≡ appended_by false objects application number at items
 same_appended files objects application number at items own =
-    ap (λ (step : Result AppendPlan AppendRefusal). step >>= plan_answer (loaded files objects) number) (same_append_plan files objects application number at items own)
-    ∙ same_after (append_plan false objects application number at items) (plan_answer (loaded files objects) number) (plan_answer objects number) (λ step is. same_answered files objects number step)
+    ap (λ (step : Result AppendPlan SinkRefusal). step >>= plan_answer number) (same_append_plan files objects application number at items own)
 
 -- ---- checkpoints, snapshots and the versions of a log
 

@@ -14,11 +14,11 @@ use Rattle.snapshot_core.specs.Telling.{TellsSnapshot}
 use Rattle.lake_script.specs.Checkpoints.{by_log, checkpoint_by, checkpoint_of, checkpoint_reply, newest_version, snapshot_reply, too_large}
 use Rattle.script_lines.specs.Lines.{append, checkpoint, close, tail, Statement, create, die, fault, finish, foreign, hex, history, land, show, snapshot, start, step, task, tries, until}
 use Rattle.lake_script.specs.Replies.{put_word}
-use Rattle.lake_script.specs.Told.{appended_reply, created_reply, in_hex, reply_to_statement, shown, tailed_reply, IsPrintedStatement}
+use Rattle.lake_script.specs.Told.{created_reply, in_hex, reply_to_statement, shown, sink_reply, tailed_reply, IsPrintedStatement}
 use Rattle.job_laws.specs.Looking.{LooksWithin}
 use Rattle.job_laws.proofs.Loaded.{commit_loaded, loaded_at}
 use Rattle.job_laws.proofs.SameLogs.{same_count, same_replayed}
-use Rattle.job_laws.proofs.SameReads.{same_appended, same_checked, same_created, same_history, same_readable, same_tailed}
+use Rattle.job_laws.proofs.SameReads.{same_appended, same_checked, same_closed, same_created, same_history, same_readable, same_tailed}
 use Rattle.lake_bytes.specs.Lines.{with_newline}
 
 -- ---- what lines are told
@@ -38,8 +38,8 @@ same_checkpoint files objects bytes =
 
 pub same_reply : (objects : Objects) (statement : Statement) (files : List (List ℕ)) (printed : List ℕ) → LooksWithin objects statement files → reply_to_statement (loaded files objects) statement printed ≡ reply_to_statement objects statement printed
 same_reply objects (create id at schema) files printed within = ap created_reply (same_created files objects id at schema printed)
-same_reply objects (task (append application number at rows)) files printed within = ap appended_reply (same_appended files objects application number at rows (within _ refl))
-same_reply objects (task (close application at)) files printed within = refl
+same_reply objects (task (append application number at rows)) files printed within = ap sink_reply (same_appended files objects application number at rows (within _ refl))
+same_reply objects (task (close application at)) files printed within = ap sink_reply (same_closed files objects application)
 same_reply objects (task checkpoint) files printed within = ap checkpoint_reply (same_checkpoint files objects printed)
 same_reply objects (task (tail max offset)) files printed within = ap tailed_reply (same_tailed files objects max offset within)
 same_reply objects snapshot files printed within = ap (λ (log : Result (List (List Action)) faults.Reason). snapshot_reply log printed) (same_readable files objects)

@@ -1,5 +1,5 @@
 -- Whatever front of what a line put over the files that are loaded is saved beside all objects, the line may have put it.
-use Rattle.std.proofs.Common.{◌≡◌, ◌⊎◌, inl, inr, ◌∙◌, ℕ, List, Bool, true, false, if◌then◌else◌, Result, Ok, Err, refl, sym, ap, subst}
+use Rattle.std.proofs.Common.{◌≡◌, ◌⊎◌, inl, inr, ◌∙◌, ℕ, List, Bool, true, false, if◌then◌else◌, Option, None, Some, Result, Ok, Err, refl, sym, ap, subst}
 use Rattle.std.proofs.lemmas.Bool.{ltb-false}
 use Rattle.store_core.specs.Objects.{Objects, IsInOrder, names_of, with_object}
 use Rattle.delta_actions.specs.Names as names
@@ -12,15 +12,16 @@ use Rattle.commit_core.specs.Creating as creations
 use Rattle.commit_core.specs.Creating.{IsPut, commit_from}
 use Rattle.snapshot_core.specs.Taking.{HasPut, PutsCheckpoint}
 use Rattle.sink_core.specs.Appending.{EncodedBatch, IsWellMade, MayAppend, AppendPlan, is_past, puts, stands, append_plan, with_append, with_file}
-use Rattle.sink_core.specs.Refusals.{AppendRefusal}
+use Rattle.sink_core.specs.Closes.{MayClose, close_plan, close_text, with_close}
+use Rattle.batch_core.specs.Refusals.{SinkRefusal}
 use Rattle.lake_script.specs.Growth.{MayPut, MayPutCheckpoint}
-use Rattle.script_lines.specs.Lines.{append, checkpoint, Statement, create, task, foreign}
+use Rattle.script_lines.specs.Lines.{append, checkpoint, close, Statement, create, task, foreign}
 use Rattle.job_laws.specs.Looking.{LooksWithin}
 use Rattle.job_laws.proofs.Loaded.{checkpoint_loaded, commit_loaded}
 use Rattle.job_laws.proofs.NameKinds.{commit_is_commit, file_is_data}
 use Rattle.job_laws.proofs.OwnSteps.{IsOwn, PutsOwn, own_append_plan}
 use Rattle.job_laws.proofs.SameLogs.{same_count, same_replayed}
-use Rattle.job_laws.proofs.SameReads.{same_append_plan}
+use Rattle.job_laws.proofs.SameReads.{same_append_plan, same_close_plan}
 use Rattle.job_laws.proofs.SavedPuts.{none_saved, one_saved, two_saved}
 use Rattle.lake_bytes.specs.Lines.{with_newline}
 
@@ -80,7 +81,7 @@ module _ (files : List (List ℕ)) (objects after new : Objects) (application : 
       by_case (inr (inl put)) = inr (well, inl put)
       by_case (inr (inr both)) = inr (well, inr (both ∙ sym whole_is))
 
-  append_saved : (step : Result AppendPlan AppendRefusal) → PutsOwn application number step → MayAppend application number at step (loaded files objects) after → MayAppend application number at step objects new
+  append_saved : (step : Result AppendPlan SinkRefusal) → PutsOwn application number step → MayAppend application number at step (loaded files objects) after → MayAppend application number at step objects new
   append_saved step own (inl same) = inl (none_saved files objects after new same front)
   append_saved (Ok (puts batch)) own (inr (well, inl alone)) = file_saved batch own well alone
   append_saved (Ok (puts batch)) own (inr (well, inr whole)) = by_version (is_past batch.version) refl whole
@@ -94,6 +95,26 @@ module _ (files : List (List ℕ)) (objects after new : Objects) (application : 
   append_saved (Ok stands) own (inr (well, inr same)) = inl (none_saved files objects after new same front)
   append_saved (Err refusal) own (inr (well, inl same)) = inl (none_saved files objects after new same front)
   append_saved (Err refusal) own (inr (well, inr same)) = inl (none_saved files objects after new same front)
+
+-- ---- closes
+
+module _ (files : List (List ℕ)) (objects after new : Objects) (application : List ℕ) (at : ℕ) (order : IsInOrder objects) (front : IsSaved files objects after new) where
+  close_saved : (step : Result (Option ℕ) SinkRefusal) → MayClose application at step (loaded files objects) after → MayClose application at step objects new
+  close_saved step (inl same) = inl (none_saved files objects after new same front)
+  close_saved (Ok (Some version)) (inr (well, whole)) = by_version (is_past version) refl whole
+    where
+      by_version : (past : Bool) → is_past version ≡ past → after ≡ (if past then loaded files objects else with_object (loaded files objects) (commit_name version) (close_text application at)) → MayClose application at (Ok (Some version)) objects new
+      by_version true is same = inl (none_saved files objects after new same front)
+      by_version false is put = by_case (one_saved files objects after new (commit_name version) (close_text application at) order (commit_loaded files version) put front)
+        where
+          whole_is : with_close objects application at (Ok (Some version)) ≡ with_object objects (commit_name version) (close_text application at)
+          whole_is = rw is refl
+
+          by_case : (new ≡ objects) ⊎ (new ≡ with_object objects (commit_name version) (close_text application at)) → MayClose application at (Ok (Some version)) objects new
+          by_case (inl same) = inl same
+          by_case (inr put_all) = inr (well, put_all ∙ sym whole_is)
+  close_saved (Ok None) (inr (well, same)) = inl (none_saved files objects after new same front)
+  close_saved (Err refusal) (inr (well, same)) = inl (none_saved files objects after new same front)
 
 -- ---- checkpoints
 
@@ -127,7 +148,12 @@ saved objects after new (create id at schema) files order within (inr (printed, 
 saved objects after new (task (append application number at items)) files order within put front = (
   put.0,
   append_saved files objects after new application number at order (within (data_file_name application number) refl) front (append_plan false objects application number at items) (own_append_plan false objects application number at items)
-      (subst (λ (step : Result AppendPlan AppendRefusal). MayAppend application number at step (loaded files objects) after) (same_append_plan files objects application number at items (within (data_file_name application number) refl)) put.1),
+      (subst (λ (step : Result AppendPlan SinkRefusal). MayAppend application number at step (loaded files objects) after) (same_append_plan files objects application number at items (within (data_file_name application number) refl)) put.1),
+)
+saved objects after new (task (close application at)) files order within put front = (
+  put.0,
+  close_saved files objects after new application at order front (close_plan false objects application)
+      (subst (λ (step : Result (Option ℕ) SinkRefusal). MayClose application at step (loaded files objects) after) (same_close_plan files objects application) put.1),
 )
 saved objects after new (task checkpoint) files order within (inl same) front = inl (none_saved files objects after new same front)
 saved objects after new (task checkpoint) files order within (inr (version, put)) front = checkpoint_saved files objects after new version order put front

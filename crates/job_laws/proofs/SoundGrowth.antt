@@ -1,5 +1,5 @@
 -- What creations, appends and checkpoints put leaves the table of a sound store sound.
-use Rattle.std.proofs.Common.{◌≡◌, inl, inr, ℕ, Bool, true, false, List, [], Some, Result, Ok, Err, refl, sym, subst, arith}
+use Rattle.std.proofs.Common.{◌≡◌, inl, inr, ℕ, Bool, true, false, List, Some, Result, Ok, Err, refl, sym, subst}
 use Rattle.std.proofs.lemmas.Bool.{ltb-false}
 use Rattle.store_core.specs.Objects.{Objects, object_at}
 use Rattle.serde_json.specs.Data.{Items}
@@ -11,7 +11,7 @@ use Rattle.table_store.specs.Sound.{IsSound}
 use Rattle.table_store.proofs.SoundLemmas.{sound_commit, sound_data_file}
 use Rattle.commit_core.specs.Creating.{CreatesWell, MayCreate, CreateRefusal, commit_from, with_creation}
 use Rattle.sink_core.specs.Appending.{EncodedBatch, IsWellMade, MayAppend, PutsWell, AppendPlan, is_past, puts, append_plan, stands, with_append, with_file, with_file_alone}
-use Rattle.sink_core.specs.Refusals as sink
+use Rattle.batch_core.specs.Refusals as sink
 use Rattle.commit_core.proofs.CreationTalks.{admissible_creation}
 use Rattle.job_laws.proofs.Admissible.{admissible}
 use Rattle.job_laws.proofs.Requests.{PutsBatch, puts_batch}
@@ -38,7 +38,7 @@ module _ (objects : Objects) (sound : IsSound objects) (application : List ℕ) 
   file_sound batch found = rw found.name (sound_data_file objects application batch.file number sound)
 
   -- a step's file alone
-  alone_sound : (step : Result AppendPlan sink.AppendRefusal) → append_plan false objects application number at items ≡ step → IsSound (with_file_alone objects step)
+  alone_sound : (step : Result AppendPlan sink.SinkRefusal) → append_plan false objects application number at items ≡ step → IsSound (with_file_alone objects step)
   alone_sound (Ok (puts batch)) is = file_sound batch (puts_batch objects application number at batch items is)
   alone_sound (Ok stands) is = sound
   alone_sound (Err why) is = sound
@@ -51,7 +51,7 @@ module _ (objects : Objects) (sound : IsSound objects) (application : List ℕ) 
       rw is (sound_commit (with_file objects batch) batch.version batch.commit (file_sound batch found) (admissible objects application number at batch well are sound (ltb-false greatest_version batch.version is) found))
 
   -- whatever the step puts
-  whole_sound : (step : Result AppendPlan sink.AppendRefusal) → append_plan false objects application number at items ≡ step → PutsWell application number at step → IsSound (with_append objects step)
+  whole_sound : (step : Result AppendPlan sink.SinkRefusal) → append_plan false objects application number at items ≡ step → PutsWell application number at step → IsSound (with_append objects step)
   whole_sound (Ok (puts batch)) is well = batch_sound batch well (puts_batch objects application number at batch items is) (is_past batch.version) refl
   whole_sound (Ok stands) is well = sound
   whole_sound (Err why) is well = sound

@@ -5,17 +5,19 @@ use Rattle.delta_actions.specs.Names.{data_file_name}
 use Rattle.table_store.specs.Sound.{IsSound}
 use Rattle.log_laws.specs.Sound.{IsSoundStore}
 use Rattle.lake_script.specs.Growth.{MayPut}
-use Rattle.script_lines.specs.Lines.{Statement, append, asks, checkpoint, create, foreign, task}
+use Rattle.script_lines.specs.Lines.{Statement, append, asks, checkpoint, close, create, foreign, task}
 use Rattle.lake_script.specs.Told.{IsPutHere}
 use Rattle.lake_script.proofs.SoundPuts.{puts_sound}
 use Rattle.job_laws.specs.Bytes.{AreBytes, LooksAtBytes}
 use Rattle.log_laws.proofs.Callers.{no_checkpoint, sound_beside}
+use Rattle.job_laws.proofs.CloseSound.{close_sound}
 use Rattle.job_laws.proofs.SoundGrowth.{append_sound, create_sound}
 
 -- the table that stands behind a line
 line_sound : (objects : Objects) (statement : Statement) (after : Objects) → LooksAtBytes objects statement → IsPutHere (asks statement) → IsSound objects → MayPut objects statement after → IsSound after
 line_sound objects (create id at schema) after are here sound put = create_sound objects after id at schema put sound
 line_sound objects (task (append application number at items)) after are here sound put = append_sound objects sound application number at items (λ bytes there. are (data_file_name application number) bytes refl there) after put.1
+line_sound objects (task (close application at)) after are here sound put = close_sound objects sound application at put.0 after put.1
 line_sound objects (task checkpoint) after are here sound (inl same) = subst IsSound (sym same) sound
 line_sound objects (task checkpoint) after are here sound (inr (version, put)) =
     subst IsSound (sym put.put) (sound_beside objects put.name put.bytes (λ other fits. no_checkpoint version put.name put.puts.found other) sound)

@@ -14,7 +14,7 @@ ghost use Rattle.table_folder.specs.Copies.{HasSavedFront, to_save};
 ghost use Rattle.table_folder.specs.Loads.{loaded};
 ghost use Rattle.log_laws.specs.Sound.{IsSoundStore};
 ghost use Rattle.sink_core.specs.Appending.{PutsWell, appended_by, append_plan, stands, with_append, with_file_alone};
-ghost use Rattle.sink_core.specs.declared.appending.Appended.TheVariants.{Already, Committed};
+ghost use Rattle.sink_core.specs.declared.sink_state.SinkOutcome.TheVariants.{Already, Committed};
 ghost use Rattle.lake_script.specs.Growth.{MayPut};
 ghost use Rattle.script_lines.specs.Lines.{Statement, asks, tail, task};
 ghost use Rattle.lake_script.specs.Runs.{Executes};

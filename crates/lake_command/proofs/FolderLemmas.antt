@@ -1,5 +1,5 @@
 -- What a job leaves in a folder, by what a line of a script leaves over the files that were loaded.
-use Rattle.std.proofs.Common.{◌≡◌, inl, inr, ℕ, Bool, true, false, Contains, List, [], ◌∷◌, Bor, Option, Some, None, IfSome, Result, Ok, Err, IfOk, IfErr, sym, refl, ap, subst, ◌∙◌, map}
+use Rattle.std.proofs.Common.{◌≡◌, inl, inr, ℕ, Bool, true, false, Contains, List, [], ◌∷◌, Bor, Option, Some, IfSome, Result, Ok, Err, IfOk, IfErr, sym, refl, ap, subst, ◌∙◌, map}
 use Rattle.std.specs.Prelude.{IsErrAnd, is_some, string_bytes}
 use Rattle.json_text.specs.Rows.{text_data}
 use Rattle.store_core.specs.Objects.{Objects, IsInOrder, names_of}
@@ -131,7 +131,7 @@ fails_for_job (Err failure) work text statement old new asked of put names = lef
 put_here : (work : Work) (text : Option (List ℕ)) (statement : Statement) → IsAskedBy work text statement → IsPutHere (asks statement)
 put_here (words.create id schema at) text statement is = rw is tt
 put_here (words.append application number at tries) text statement is = rw is.4 tt
-put_here (words.close application at tries) text statement is = absurd is
+put_here (words.close application at tries) text statement is = rw is tt
 put_here (words.load workers at tries) text statement is = absurd is
 put_here (words.tail max offset) text statement is = rw is tt
 put_here words.snapshot text statement is = rw is tt

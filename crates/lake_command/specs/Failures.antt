@@ -55,6 +55,7 @@ IsLoading _ = ⊥
 abbrev pub moment_of : Work → ℕ
 moment_of (words.create id schema at) = at
 moment_of (words.append application number at tries) = at
+moment_of (words.close application at tries) = at
 moment_of _ = 0
 
 -- a job that is there asks for something; an append does where each line of its text, if that is known, is an object

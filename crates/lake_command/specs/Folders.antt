@@ -8,7 +8,7 @@ use Rattle.json_lines.specs.Rows.{input_lines, object_of}
 use Rattle.lake_words.specs.Asked.{Work}
 use Rattle.lake_words.specs.Asked as words
 use Rattle.lake_script.specs.Growth.{MayPut}
-use Rattle.script_lines.specs.Lines.{Statement, create, task, append, checkpoint, tail, snapshot, history}
+use Rattle.script_lines.specs.Lines.{Statement, create, task, append, close, checkpoint, tail, snapshot, history}
 use Rattle.lake_script.specs.Runs.{Executes}
 use Rattle.lake_script.specs.ReplyView.{reply_text}
 use Rattle.lake_script.specs.Told.{not_yet}
@@ -35,7 +35,7 @@ abbrev pub IsAskedBy : Work → (text : Option (List ℕ)) → Statement → Typ
 IsAskedBy (words.create id schema at) text statement = statement ≡ create id at schema
 IsAskedBy (words.append application number at tries) text statement =
     (bytes : List ℕ) × (rows : List Data) × IfSome text (λ known. bytes ≡ known) × AreLineRows bytes rows × (statement ≡ task (append application number at (items_of rows)))
-IsAskedBy (words.close application at tries) text statement = ⊥
+IsAskedBy (words.close application at tries) text statement = statement ≡ task (close application at)
 IsAskedBy (words.load workers at tries) text statement = ⊥
 IsAskedBy (words.tail max offset) text statement = statement ≡ task (tail max offset)
 IsAskedBy words.snapshot text statement = statement ≡ snapshot
@@ -44,7 +44,6 @@ IsAskedBy words.history text statement = statement ≡ history
 
 -- the job isn't there yet
 abbrev pub IsNotYet : Work → Type 0
-IsNotYet (words.close application at tries) = Unit {0}
 IsNotYet (words.load workers at tries) = Unit {0}
 IsNotYet _ = ⊥
 

@@ -5,7 +5,7 @@ use Rattle.delta_actions.specs.Commit.{lines_of}
 use Rattle.table_folder.specs.declared.fault.LoadFault.TheVariants as loads
 use Rattle.table_folder.specs.declared.fault.SaveFault.TheVariants as saves
 use Rattle.lake_script.specs.declared.reply.LineReply.{LineReply}
-use Rattle.lake_script.specs.declared.reply.LineReply.TheVariants.{Created, Appended, Checkpointed, Put, Bytes, Digits}
+use Rattle.lake_script.specs.declared.reply.LineReply.TheVariants.{Created, SinkTold, Checkpointed, Put, Bytes, Digits, Noted}
 use Rattle.lake_words.specs.Asked.{Work}
 use Rattle.lake_words.specs.Asked as words
 use Rattle.lake_command.specs.declared.failure.Failure.{Failure}
@@ -65,12 +65,13 @@ abbrev pub ends_early : Work → List ℕ → Bool
 ends_early words.history text = has_refusal text
 ends_early _ text = false
 
--- A reply to a job refuses it: a text and digits by their bytes; a creation, an append, a checkpoint or a put that was
--- done doesn't, and each other reply does.
+-- A reply to a job refuses it: a text and digits by their bytes; a creation, an append, a close, a checkpoint or a put that
+-- was done doesn't, and each other reply does.
 abbrev pub refuses : Work → LineReply → Bool
 refuses work (Bytes text) = is_refusal text.items || ends_early work text.items
 refuses work Created = false
-refuses work (Appended answer) = false
+refuses work (SinkTold answer) = false
+refuses work Noted = false
 refuses work (Checkpointed version) = false
 refuses work (Put put) = false
 refuses work (Digits digits) = is_refusal (string_bytes digits) || ends_early work (string_bytes digits)

@@ -27,7 +27,7 @@ use table_folder::Folder;
 const LAST_MOMENT: u64 = 999_999_999_999_999;
 
 /// Does a job on the table in a folder, and finds its reply. An append reads its rows from the input, one JSON object a
-/// line. Closes and loads aren't there yet.
+/// line. Loads aren't there yet.
 pub fn answer<F: Folder, R: Read>(
     alloc: Global,
     folder: &mut F,
@@ -69,9 +69,20 @@ pub fn answer<F: Folder, R: Read>(
     ensures steady { F.is_steady folder.old → F.is_steady folder.new }
 {
     let mut text = Vec::new(alloc);
+    let tries = tries_of(&command.job);
     match line_for(alloc, command.job, input, &mut text)? {
-        Some(line) => execute_in(alloc, folder, line, command.use_checkpoints),
+        Some(line) => execute_in(alloc, folder, line, tries, command.use_checkpoints),
         None => Ok(LineReply::Refused(Fault::NotYet)),
+    }
+}
+
+// How many versions a job tries at most; one that puts no commit of a stream tries none, and is taken to try one.
+fn tries_of(job: &Job<'_>) -> u64
+    ensures { 1 ≤ result }
+{
+    match job {
+        Job::Append { tries, .. } | Job::Close { tries, .. } => (*tries).max(1),
+        _ => 1,
     }
 }
 
@@ -120,7 +131,15 @@ fn line_for<'a, R: Read>(
         Job::Checkpoint => Line::Job(lake_script::Job::Checkpoint),
         Job::Snapshot => Line::Snapshot,
         Job::History => Line::History,
-        Job::Close { .. } | Job::Load { .. } => return Ok(None),
+        Job::Close {
+            application,
+            at,
+            ..
+        } => Line::Job(lake_script::Job::Close {
+            application,
+            at: moment(at)?,
+        }),
+        Job::Load { .. } => return Ok(None),
     };
     Ok(Some(line))
 }

@@ -1,5 +1,5 @@
 //! What a line asks for, done on the table in a folder: loaded, done, and saved.
-ghost use Rattle.std.specs.Prelude.{◌≡◌, [], ℕ, List, Some, None, Ok, true, IfOk, IfErr, IfSome};
+ghost use Rattle.std.specs.Prelude.{◌≡◌, ◌≤◌, [], ℕ, List, Some, None, Ok, true, IfOk, IfErr, IfSome};
 ghost use Rattle.store_core.specs.Memory.{stored_objects};
 ghost use Rattle.store_core.specs.Objects.{object_at, Objects};
 ghost use Rattle.table_log.specs.Restoring.{RestoresWell};
@@ -26,15 +26,17 @@ const FIRST_BYTES: u64 = 8 << 20;
 
 /// Does what a line asks for on the table in a folder, and finds its reply. Of the folder's files those of the log are
 /// loaded, and of the data files those that the line may look at, for a read no more than it needs by bytes, but for the first
-/// 8 MiB and a factor of four; the new objects are saved before the reply is told: data files, then commits, then checkpoints.
+/// 8 MiB and a factor of four; an append and a close try so many versions at most; the new objects are saved before the reply is told: data files, then commits, then checkpoints.
 /// However it ends, what stood stands.
 pub(crate) fn execute_in<F: Folder>(
     alloc: Global,
     folder: &mut F,
     line: Line<'_>,
+    tries: u64,
     use_checkpoints: bool,
 ) -> Result<LineReply, Failure>
-    requires { IsTimely (statement_view line) }
+    requires tries { 1 ≤ tries }
+    requires timely { IsTimely (statement_view line) }
     ensures told { F.is_steady folder.old → RestoresWell use_checkpoints (F.objects folder.old)
         → IfOk result (λ reply. Executes (F.objects folder.old) (statement_view line.entry) (reply_text reply) (F.objects folder.new)) }
     ensures puts { F.is_steady folder.old → RestoresWell use_checkpoints (F.objects folder.old)
@@ -63,10 +65,12 @@ pub(crate) fn execute_in<F: Folder>(
         return Ok(reply);
     }
     let loaded = store.list()?;
+    let mut tries = tries;
     let reply = execute(
         alloc,
         line,
         &mut store,
+        &mut tries,
         use_checkpoints,
         &mut LogCache::new(alloc),
     );
@@ -124,10 +128,13 @@ fn whole_read(
 {
     let (max, offset) = read_of(line)?;
     let read = Line::Job(Job::Tail { max, offset });
+    // A read puts no commit.
+    let mut tries = 1;
     let reply = execute(
         alloc,
         read,
         store,
+        &mut tries,
         use_checkpoints,
         &mut LogCache::new(alloc),
     );

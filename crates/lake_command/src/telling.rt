@@ -183,9 +183,10 @@ fn is_refused(reply: &LineReply, job: Job<'_>) -> bool
         LineReply::Bytes(text) => text_refuses(text, job),
         LineReply::Digits(text) => text_refuses(text.as_bytes(), job),
         LineReply::Created
-        | LineReply::Appended(_)
+        | LineReply::SinkTold(_)
         | LineReply::Checkpointed(_)
-        | LineReply::Put(_) => false,
+        | LineReply::Put(_)
+        | LineReply::Noted => false,
         _ => true,
     }
 }

@@ -7,7 +7,6 @@ use Rattle.serde_json.specs.Events.{items_len}
 use Rattle.serde_json.specs.Data.{Items}
 use Rattle.schema_tree.specs.Tree.{Tree}
 use Rattle.store_core.specs.Objects.{Objects, object_at}
-use Rattle.store_core.specs.ObjectLaws.{object_at-with_object_other}
 use Rattle.parquet_footer.specs.declared.fault.FileFault.{FileFault}
 use Rattle.parquet_file.specs.Reading.{rows_at}
 use Rattle.parquet_file.specs.Writing.{written_file}
@@ -15,24 +14,24 @@ use Rattle.table_model.specs.Appends.{appended, with_batch}
 use Rattle.table_model.specs.declared.table.AppendAnswer.TheVariants.{Committed, Already, Differs, StreamClosed}
 use Rattle.table_model.specs.Lawful.{IsLawful}
 use Rattle.delta_actions.specs.Names.{data_file_name, greatest_version}
-use Rattle.delta_actions.specs.Names as names
 use Rattle.row_core.specs.Rows.{Row, same_rows}
 use Rattle.delta_replay.specs.Support.{has_key_inside}
 use Rattle.table_model.specs.Table as model
 use Rattle.table_model.specs.Table.{Entry, creation, group, last_batch, is_closed}
 use Rattle.table_store.specs.Commits.{IsCommitOf}
-use Rattle.table_store.proofs.Callers.{commit_name-data_file_name}
 use Rattle.table_model.proofs.Callers.{append_keeps}
-use Rattle.sink_core.specs.Appending.{EncodedBatch, AppendRequest, AppendPlan, puts, stands, checked, appending, file_name, greatest_number, is_repeat, request_of, file_or_refusal, batch_of, put_plan, new_plan, repeated_plan, plan_of, append_plan, plan_answer, with_append, IsWellMade, PutsWell}
+use Rattle.batch_core.specs.Committing.{batch_actions, file_name, greatest_number}
+use Rattle.batch_core.specs.Requests.{SinkRequest, checked, is_repeat, file_or_refusal}
+use Rattle.sink_core.specs.Appending.{EncodedBatch, AppendPlan, puts, stands, request_of, size_behind, batch_of, put_plan, new_plan, repeated_plan, plan_of, append_plan, plan_answer, with_append, IsWellMade, PutsWell}
 use Rattle.commit_core.specs.Commits.{commit_text}
 use Rattle.script_lines.specs.Lines.{append, task}
-use Rattle.sink_core.specs.Refusals.{AppendRefusal, bad_app, too_large, file_too_large, stale, differs, bad_log}
+use Rattle.batch_core.specs.Refusals.{SinkRefusal, bad_app, too_large, file_too_large, stale, differs, bad_log}
 use Rattle.lake_bytes.specs.Results.{◌>>=◌, refused_if}
-use Rattle.sink_core.specs.RowsIn.{rows_from, takes_rows}
+use Rattle.batch_core.specs.RowsIn.{rows_from, takes_rows}
 use Rattle.lake_script.specs.Sound.{IsSoundStatement}
 use Rattle.lake_script.specs.Tables as tables
 use Rattle.lake_script.specs.Tables.{State, nothing, table}
-use Rattle.lake_script.specs.Told.{reply_to_statement, left_by_statement, appended_reply}
+use Rattle.lake_script.specs.Told.{reply_to_statement, left_by_statement, sink_reply}
 use Rattle.lake_script.specs.Keeps.{IsReadableFile, FileKept, IsKept, HasNoOther, Keeps}
 use Rattle.lake_script.proofs.KeptFile.{last_stands, last_own, same_either_way, file_read}
 use Rattle.lake_script.proofs.KeptHolds.{append_stands}
@@ -45,12 +44,12 @@ use Rattle.lake_script.proofs.KeptVersions.{count_kept, log_kept}
 use Rattle.lake_bytes.specs.Lines.{with_newline}
 
 -- what an append does agrees with the batch that is handed in at the plain table
-abbrev Agrees : (objects : Objects) (schema : Tree) (entries : List Entry) (number : ℕ) → Result AppendPlan AppendRefusal → Result model.Batch AppendRefusal → Type 0
+abbrev Agrees : (objects : Objects) (schema : Tree) (entries : List Entry) (number : ℕ) → Result AppendPlan SinkRefusal → Result model.Batch SinkRefusal → Type 0
 Agrees objects schema entries number step answer =
-    (appended_reply (step >>= plan_answer objects number) ≡ tables.appended_reply (table schema entries) answer) × Keeps (with_append objects step) (tables.with_append (table schema entries) answer)
+    (sink_reply (step >>= plan_answer number) ≡ tables.appended_reply (table schema entries) answer) × Keeps (with_append objects step) (tables.with_append (table schema entries) answer)
 
 -- what is put is well made, and no file is too large
-abbrev IsSoundPlan : (application : List ℕ) (number at : ℕ) → Result AppendPlan AppendRefusal → Type 0
+abbrev IsSoundPlan : (application : List ℕ) (number at : ℕ) → Result AppendPlan SinkRefusal → Type 0
 IsSoundPlan application number at step = PutsWell application number at step × (step ≢ Err file_too_large)
 
 -- ---- the tests in front
@@ -74,64 +73,67 @@ lawful_after objects schema entries b kept =
 pub version_fits : (entries : List Entry) → length entries ≤ greatest_version → nat_lt greatest_version (length entries) ≡ false
 version_fits entries few = le-ltb greatest_version (length entries) few
 
--- the batch that is put with this file
-abbrev pub made_with : (version : ℕ) (schema : Tree) (rows : List Row) (application : List ℕ) (number at : ℕ) (file : List ℕ) → EncodedBatch
-made_with version schema rows application number at file = record {
+-- the batch that is put with this file, whose commit states that size
+abbrev pub made_with : (version : ℕ) (schema : Tree) (rows : List Row) (application : List ℕ) (number at size : ℕ) (file : List ℕ) → EncodedBatch
+made_with version schema rows application number at size file = record {
   version = version;
   schema = schema;
   rows = rows;
   name = file_name application number;
   file = file;
-  commit = commit_text (appending application number at (file_name application number) (length file) (length rows));
+  commit = commit_text (batch_actions application number at size (length rows));
 }
 
 -- the batch that is handed in
 abbrev pub handed_in : (application : List ℕ) (number : ℕ) (rows : List Row) → model.Batch
 handed_in application number rows = record { application = application; number = number; rows = rows }
 
-module _ (schema : Tree) (version : ℕ) (rows : List Row) (application : List ℕ) (number at : ℕ) (file : List ℕ) where
+module _ (schema : Tree) (version : ℕ) (rows : List Row) (application : List ℕ) (number at size : ℕ) (file : List ℕ) where
   -- the file of a batch that is well made is one of its rows
-  pub file_made : IsWellMade application number at (made_with version schema rows application number at file) → IsReadableFile schema (handed_in application number rows) file
+  pub file_made : IsWellMade application number at (made_with version schema rows application number at size file) → IsReadableFile schema (handed_in application number rows) file
   file_made well = record { file = well.file; limits = well.limits }
 
   -- and its commit is one of the batch that is handed in
-  pub commit_made : IsWellMade application number at (made_with version schema rows application number at file) → IsCommitOf schema (group (handed_in application number rows ∷ [])) (made_with version schema rows application number at file).commit
-  commit_made well = append_stands schema (handed_in application number rows) at (length file) (length rows) (file_name application number) _ (same_file_name application number) well.commit
+  pub commit_made : IsWellMade application number at (made_with version schema rows application number at size file) → IsCommitOf schema (group (handed_in application number rows ∷ [])) (made_with version schema rows application number at size file).commit
+  commit_made well = append_stands schema (handed_in application number rows) at well.size (length rows) (file_name application number) _ (same_file_name application number) well.commit
 
 module _ (objects : Objects) (schema : Tree) (entries : List Entry) (kept : IsKept objects schema entries) (own : HasNoOther objects entries) (few : length entries ≤ greatest_version) (application : List ℕ) (number at : ℕ) (utf8 : IsUtf8 application)
     (fits : number ≤ greatest_number) (rows : List Row) where
   -- ---- a new number
 
   -- the file and the commit that are put are one entry more
-  put_agrees : (file : List ℕ) → appended (handed_in application number rows) entries ≡ Committed (length entries) → object_at objects (data_file_name application number) ≡ None
-      → IsWellMade application number at (made_with (length entries) schema rows application number at file) → Agrees objects schema entries number (Ok (puts (made_with (length entries) schema rows application number at file))) (Ok (handed_in application number rows))
-  put_agrees file new free well =
-      let made = made_with (length entries) schema rows application number at file in
+  put_agrees : (size : ℕ) (file : List ℕ) → appended (handed_in application number rows) entries ≡ Committed (length entries) → object_at objects (data_file_name application number) ≡ None
+      → IsWellMade application number at (made_with (length entries) schema rows application number at size file) → Agrees objects schema entries number (Ok (puts (made_with (length entries) schema rows application number at size file))) (Ok (handed_in application number rows))
+  put_agrees size file new free well =
+      let made = made_with (length entries) schema rows application number at size file in
       let b = handed_in application number rows in
       let none = none_behind objects schema entries kept few in
-      let is_file = file_made schema (length entries) rows application number at file well in
-      let is_commit = commit_made schema (length entries) rows application number at file well in
+      let is_file = file_made schema (length entries) rows application number at size file well in
+      let is_commit = commit_made schema (length entries) rows application number at size file well in
       let lawful : IsLawful (entries ++ group (b ∷ []) ∷ []) = rw new at (lawful_after objects schema entries b kept) in
       let more = kept_more objects schema entries b file made.commit kept few lawful free none is_file is_commit in
-      let apart = object_at-with_object_other objects (data_file_name application number) file (names.commit_name (length entries)) (commit_name-data_file_name (length entries) application number) ∙ none in
       let alone = no_other_more objects entries b file made.commit utf8 own in
-      rw (version_fits entries few, same_file_name application number, same_name (length entries), new) (rw apart refl, (rw (same_file_name application number) at more, rw (same_file_name application number) at alone))
+      rw (version_fits entries few, same_file_name application number, same_name (length entries), new) (refl, (rw (same_file_name application number) at more, rw (same_file_name application number) at alone))
 
   -- what is done for a new number
   new_agrees : appended (handed_in application number rows) entries ≡ Committed (length entries) → object_at objects (data_file_name application number) ≡ None
       → IsSoundPlan application number at (new_plan objects (asked (length entries) schema rows false) application number at)
       → Agrees objects schema entries number (new_plan objects (asked (length entries) schema rows false) application number at) (Ok (handed_in application number rows))
   unfolding batch_of
-  new_agrees new free sound = by_file (written_file schema rows) sound
+  new_agrees new free sound = by_file (object_at objects (file_name application number)) (written_file schema rows) sound
     where
-      by_file : (written : Result (List ℕ) FileFault) → IsSoundPlan application number at ((file_or_refusal written >>= λ file. Ok (made_with (length entries) schema rows application number at file)) >>= put_plan objects)
-          → Agrees objects schema entries number ((file_or_refusal written >>= λ file. Ok (made_with (length entries) schema rows application number at file)) >>= put_plan objects) (Ok (handed_in application number rows))
-      by_file (Err fault) sound = absurd (sound.1 refl)
-      by_file (Ok file) sound =
-          let made = made_with (length entries) schema rows application number at file in
+      by_size : (size : ℕ) (file : List ℕ) → IsSoundPlan application number at (put_plan objects (made_with (length entries) schema rows application number at size file))
+          → Agrees objects schema entries number (put_plan objects (made_with (length entries) schema rows application number at size file)) (Ok (handed_in application number rows))
+      by_size size file sound =
+          let made = made_with (length entries) schema rows application number at size file in
           let absent : object_at objects made.name ≡ None = ap (object_at objects) (same_file_name application number) ∙ free in
           let fitted : put_plan objects made ≡ Ok (puts made) = rw absent refl in
-          rw fitted (put_agrees file new free (rw fitted at sound.0))
+          rw fitted (put_agrees size file new free (rw fitted at sound.0))
+
+      by_file : (found : Option (List ℕ)) (written : Result (List ℕ) FileFault) → IsSoundPlan application number at ((file_or_refusal written >>= λ file. Ok (made_with (length entries) schema rows application number at (size_behind file found) file)) >>= put_plan objects)
+          → Agrees objects schema entries number ((file_or_refusal written >>= λ file. Ok (made_with (length entries) schema rows application number at (size_behind file found) file)) >>= put_plan objects) (Ok (handed_in application number rows))
+      by_file found (Err fault) sound = absurd (sound.1 refl)
+      by_file found (Ok file) sound = by_size (size_behind file found) file sound
 
   -- ---- the last number again
 
@@ -143,14 +145,14 @@ module _ (objects : Objects) (schema : Tree) (entries : List Entry) (kept : IsKe
       rw (same_file_name application number, there, reads, same_either_way before.rows rows, last, over, equal) (by_same (same_rows rows before.rows))
     where
       by_same : (same : Bool)
-          → (appended_reply ((refused_if (not same) (differs (data_file_name application number)) >>= λ fits. Ok stands) >>= plan_answer objects number)
+          → (sink_reply ((refused_if (not same) (differs (data_file_name application number)) >>= λ fits. Ok stands) >>= plan_answer number)
           ≡ with_newline (tables.answer_text (handed_in application number rows) (cond same (Already number) Differs)))
           × Keeps (with_append objects (refused_if (not same) (differs (data_file_name application number)) >>= λ fits. Ok stands)) (table schema (with_batch (cond same (Already number) Differs) (handed_in application number rows) entries))
       by_same true = (refl, (kept, own))
       by_same false = (refl, (kept, own))
 
   -- what is done behind the application's last number
-  abbrev behind_last : Option ℕ → Result AppendPlan AppendRefusal
+  abbrev behind_last : Option ℕ → Result AppendPlan SinkRefusal
   behind_last last = (is_repeat number last >>= λ repeats. goes_on (is_closed application entries) repeats >>= λ open_. Ok (asked (length entries) schema rows repeats)) >>= plan_of objects application number at
 
   -- what is done for a new number, where the stream may be closed
@@ -189,13 +191,13 @@ module _ (objects : Objects) (schema : Tree) (entries : List Entry) (kept : IsKe
 -- ---- a line that appends
 
 -- what is done with rows that were read
-abbrev pub step_with : (objects : Objects) (entries : List Entry) (application : List ℕ) (number at : ℕ) (schema : Tree) → Result (List Row) AppendRefusal → Result AppendPlan AppendRefusal
+abbrev pub step_with : (objects : Objects) (entries : List Entry) (application : List ℕ) (number at : ℕ) (schema : Tree) → Result (List Row) SinkRefusal → Result AppendPlan SinkRefusal
 step_with objects entries application number at schema read =
     (read >>= λ rows. is_repeat number (option_map (λ (b : model.Batch). b.number) (last_batch application entries)) >>= λ repeats. goes_on (is_closed application entries) repeats >>= λ open_. Ok (asked (length entries) schema rows repeats))
     >>= plan_of objects application number at
 
 -- what a line asks of a kept table
-abbrev pub step_behind : (objects : Objects) (schema : Tree) (entries : List Entry) (application : List ℕ) (number at : ℕ) (items : Items) → Result (Unit {0}) AppendRefusal → (barred : Bool) → Result (Unit {0}) AppendRefusal → Result AppendPlan AppendRefusal
+abbrev pub step_behind : (objects : Objects) (schema : Tree) (entries : List Entry) (application : List ℕ) (number at : ℕ) (items : Items) → Result (Unit {0}) SinkRefusal → (barred : Bool) → Result (Unit {0}) SinkRefusal → Result AppendPlan SinkRefusal
 step_behind objects schema entries application number at items fine barred takes =
     (fine >>= λ passed. unless_invariant barred >>= λ plain. takes >>= λ supported. rows_from 0 schema items >>= λ rows. is_repeat number (option_map (λ (b : model.Batch). b.number) (last_batch application entries)) >>= λ repeats.
     goes_on (is_closed application entries) repeats >>= λ open_. Ok (asked (length entries) schema rows repeats)) >>= plan_of objects application number at
@@ -210,7 +212,7 @@ step_is objects schema entries application number at items utf8 kept =
     rw (log_kept objects schema entries kept, count_kept objects schema entries kept, request_is objects (length entries) schema entries kept.rest commits application number items utf8 kept.begins (are_made objects schema 0 entries kept.kept)) refl
 
 -- where a table is kept, the answer is the plain table's
-table_agrees : (objects : Objects) (schema : Tree) (entries : List Entry) (application : List ℕ) (number at : ℕ) (items : Items) (fine : Result (Unit {0}) AppendRefusal) (barred : Bool) (takes : Result (Unit {0}) AppendRefusal)
+table_agrees : (objects : Objects) (schema : Tree) (entries : List Entry) (application : List ℕ) (number at : ℕ) (items : Items) (fine : Result (Unit {0}) SinkRefusal) (barred : Bool) (takes : Result (Unit {0}) SinkRefusal)
     → Keeps objects (table schema entries) → length entries ≤ greatest_version → IsUtf8 application → checked application number (items_len items) ≡ fine
     → IsSoundPlan application number at (step_behind objects schema entries application number at items fine barred takes)
     → Agrees objects schema entries number (step_behind objects schema entries application number at items fine barred takes)
@@ -220,15 +222,15 @@ table_agrees objects schema entries application number at items (Ok passed) true
 table_agrees objects schema entries application number at items (Ok passed) false (Err why) kept few utf8 is sound = (refl, kept)
 table_agrees objects schema entries application number at items (Ok passed) false (Ok supported) kept few utf8 is sound = by_read (rows_from 0 schema items) sound
   where
-    by_read : (read : Result (List Row) AppendRefusal) → IsSoundPlan application number at (step_with objects entries application number at schema read)
+    by_read : (read : Result (List Row) SinkRefusal) → IsSoundPlan application number at (step_with objects entries application number at schema read)
         → Agrees objects schema entries number (step_with objects entries application number at schema read) (read >>= λ rows. Ok (handed_in application number rows))
     by_read (Err why) sound = (refl, kept)
     by_read (Ok rows) sound =
         behind_agrees objects schema entries kept.0 kept.1 few application number at utf8 (small_number application number (items_len items) is) rows (last_batch application entries) refl sound
 
 -- what a line asks of a store of nothing
-abbrev pub step_of_nothing : (application : List ℕ) (number at : ℕ) → Result (Unit {0}) AppendRefusal → Result AppendPlan AppendRefusal
-step_of_nothing application number at fine = ◌>>=◌ {B = AppendRequest} fine (λ passed. Err (bad_log 0)) >>= plan_of [] application number at
+abbrev pub step_of_nothing : (application : List ℕ) (number at : ℕ) → Result (Unit {0}) SinkRefusal → Result AppendPlan SinkRefusal
+step_of_nothing application number at fine = ◌>>=◌ {B = SinkRequest} fine (λ passed. Err (bad_log 0)) >>= plan_of [] application number at
 
 -- that is what an append does where nothing stands
 pub nothing_is : (application : List ℕ) (number at : ℕ) (items : Items) → append_plan false [] application number at items ≡ step_of_nothing application number at (checked application number (items_len items))
@@ -236,8 +238,8 @@ unfolding request_of
 nothing_is application number at items = rw log_of_nothing refl
 
 -- no batch is handed in where nothing stands
-nothing_agrees : (application : List ℕ) (number at : ℕ) (fine : Result (Unit {0}) AppendRefusal)
-    → (appended_reply (step_of_nothing application number at fine >>= plan_answer [] number) ≡ tables.appended_reply nothing (fine >>= λ passed. Err (bad_log 0))) × (with_append [] (step_of_nothing application number at fine) ≡ [])
+nothing_agrees : (application : List ℕ) (number at : ℕ) (fine : Result (Unit {0}) SinkRefusal)
+    → (sink_reply (step_of_nothing application number at fine >>= plan_answer number) ≡ tables.appended_reply nothing (fine >>= λ passed. Err (bad_log 0))) × (with_append [] (step_of_nothing application number at fine) ≡ [])
 nothing_agrees application number at (Err why) = (refl, refl)
 nothing_agrees application number at (Ok passed) = (refl, refl)
 

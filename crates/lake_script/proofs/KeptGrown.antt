@@ -11,7 +11,9 @@ use Rattle.store_core.specs.ObjectLaws.{with_object_absent}
 use Rattle.table_store.specs.Sound.{IsSound}
 use Rattle.table_model.specs.Table.{creation}
 use Rattle.table_store.proofs.Callers.{lawful_log}
-use Rattle.sink_core.specs.Appending.{checked, append_plan, with_append, with_file_alone}
+use Rattle.batch_core.specs.Requests.{checked, named}
+use Rattle.sink_core.specs.Appending.{append_plan, with_append, with_file_alone}
+use Rattle.sink_core.specs.Closes.{close_plan, with_close, MayClose}
 use Rattle.table_log.specs.Names.{commit_name}
 use Rattle.commit_core.specs.Creating as creations
 use Rattle.commit_core.specs.Creating.{commit_from, with_creation}
@@ -19,13 +21,14 @@ use Rattle.sink_core.specs.Appending.{MayAppend}
 use Rattle.lake_script.specs.Growth.{MayPut}
 use Rattle.table_log.specs.Restoring.{AreCheckpointsSound, HasOnlySoundCheckpoints, replayed}
 use Rattle.snapshot_core.specs.Taking.{HasPut}
-use Rattle.script_lines.specs.Lines.{append, checkpoint, Statement, create, task, foreign, Reading, skipped, bad, asks, reading_of}
-use Rattle.sink_core.specs.Refusals.{AppendRefusal}
+use Rattle.script_lines.specs.Lines.{append, checkpoint, close, Statement, create, task, foreign, Reading, skipped, bad, asks, reading_of}
+use Rattle.batch_core.specs.Refusals.{SinkRefusal}
 use Rattle.lake_script.specs.Runs.{Replies, RunsInPart, waits, begins, follows}
 use Rattle.lake_script.specs.Told.{IsPutHere, ArePutHere}
 use Rattle.commit_core.specs.Creating.{CreatesWell}
 use Rattle.log_laws.proofs.Callers.{log_of_nothing, nothing_sound}
 use Rattle.lake_script.proofs.KeptAppend.{step_of_nothing, nothing_is}
+use Rattle.lake_script.proofs.KeptClose.{close_goes_on, close_nothing_is, close_over_nothing}
 use Rattle.lake_script.proofs.KeptCreate.{kept_creation, no_data_file, first_commit, left_table}
 use Rattle.lake_script.proofs.KeptHolds.{kept_sound}
 use Rattle.lake_script.proofs.KeptNames.{same_name}
@@ -61,7 +64,7 @@ created_stays most objects at text commit well (keeps schema entries kept files 
     rw (left_table objects commit (first_commit objects schema entries kept)) (keeps schema entries kept files (omega (arith, up)))
 
 -- an append where nothing stands
-append_over_nothing : (most : ℕ) (application : List ℕ) (number at : ℕ) (fine : Result (Unit {0}) AppendRefusal) → GoesOn (suc most) [] (step_of_nothing application number at fine)
+append_over_nothing : (most : ℕ) (application : List ℕ) (number at : ℕ) (fine : Result (Unit {0}) SinkRefusal) → GoesOn (suc most) [] (step_of_nothing application number at fine)
 append_over_nothing most application number at (Ok passed) = (bare refl, bare refl)
 append_over_nothing most application number at (Err why) = (bare refl, bare refl)
 
@@ -79,6 +82,15 @@ append_stays most objects application number at items new utf8 (inr (well, put))
         → GoesOn (suc most) objects (append_plan false objects application number at items) → Stays (suc most) new
     by_put (inl alone) goes = subst (Stays (suc most)) (sym alone) goes.0
     by_put (inr whole) goes = subst (Stays (suc most)) (sym whole) goes.1
+
+-- a close
+close_stays : (most : ℕ) (objects : Objects) (application : List ℕ) (at : ℕ) (new : Objects) → IsUtf8 application → MayClose application at (close_plan false objects application) objects new → Stays most objects → Stays (suc most) new
+close_stays most objects application at new utf8 (inl same) stays = rw same (still most objects stays)
+close_stays most objects application at new utf8 (inr (well, put)) stays = subst (Stays (suc most)) (sym put) (goes stays)
+  where
+    goes : Stays most objects → Stays (suc most) (with_close objects application at (close_plan false objects application))
+    goes (bare none) = rw (none, close_nothing_is application) (close_over_nothing most application at (named application))
+    goes (keeps schema entries kept files up) = close_goes_on objects schema entries kept files most up application at utf8 well
 
 -- what can't be read isn't read
 not_read : (commits : List (List Action)) (version : ℕ) (read : Result (List (List Action)) ℕ) → read ≡ Err version → read ≡ Ok commits → ⊥
@@ -102,6 +114,7 @@ put_stays : (most : ℕ) (old : Objects) (statement : Statement) (new : Objects)
 put_stays most old (create id at schema) new here (inl same) stays = rw same (still most old stays)
 put_stays most old (create id at schema) new here (inr (printed, put)) stays = rw put.1 (created_stays most old at schema (commit_from id at schema printed) put.0 stays)
 put_stays most old (task (append application number at items)) new here put stays = append_stays most old application number at items new put.0 put.1 stays
+put_stays most old (task (close application at)) new here put stays = close_stays most old application at new put.0 put.1 stays
 put_stays most old (task checkpoint) new here (inl same) stays = rw same (still most old stays)
 put_stays most old (task checkpoint) new here (inr (version, put)) stays = checkpoint_stays most old new version put stays
 put_stays most old (foreign version action) new here put stays = absurd here

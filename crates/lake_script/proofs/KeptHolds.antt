@@ -1,4 +1,5 @@
 -- A store that keeps a table holds it, and is sound.
+use Rattle.std.specs.Str.{IsUtf8}
 use Rattle.std.proofs.Common.{◌≡◌, ℕ, suc, ◌+◌, List, [], ◌∷◌, length, Ok, refl, arith}
 use Rattle.schema_tree.specs.Reading.{schema_of}
 use Rattle.schema_tree.specs.Tree.{Tree}
@@ -8,8 +9,9 @@ use Rattle.table_store.specs.Commits.{IsCommitOf}
 use Rattle.table_store.specs.Holds.{EndsAt, HoldsFrom, Holds}
 use Rattle.table_store.specs.Sound.{IsSound}
 use Rattle.delta_actions.specs.Names.{data_file_name}
-use Rattle.table_model.specs.Table.{Batch, Entry, creation, group, batches_of}
-use Rattle.sink_core.specs.Appending.{appending}
+use Rattle.table_model.specs.Table.{Batch, Entry, creation, group, close, batches_of}
+use Rattle.batch_core.specs.Closing.{closing}
+use Rattle.batch_core.specs.Committing.{appending}
 use Rattle.commit_core.specs.Commits.{creation as created}
 use Rattle.lake_script.specs.Keeps.{KeptFrom, IsKept}
 use Rattle.lake_script.proofs.KeptLog.{files_stand, none_behind}
@@ -33,6 +35,15 @@ append_stands schema b at size rows name bytes named commit = record {
   actions = appending b.application b.number at name size rows;
   commit = commit;
   stand = record { only = refl; numbered = refl; files = (named, refl, tt) };
+}
+
+-- those of a close stand for one, where the application's id is text
+pub close_stands : (schema : Tree) (application : List ℕ) (at : ℕ) (bytes : List ℕ) → IsUtf8 application → IsCommit bytes (closing application at) → IsCommitOf schema (close application) bytes
+unfolding closing
+close_stands schema application at bytes text commit = record {
+  actions = closing application at;
+  commit = commit;
+  stand = record { actions = refl; text = text };
 }
 
 -- ---- the table that is held

@@ -11,7 +11,7 @@ use Rattle.delta_actions.specs.Names as names
 use Rattle.table_model.specs.Lawful.{Rises}
 use Rattle.table_model.specs.Table.{Batch, Entry, batches_of, batches, numbers_by, last, last_batch}
 use Rattle.table_model.proofs.Callers.{IsAbove, last_none, last_number, numbers_in}
-use Rattle.sink_core.specs.Appending.{file_name, greatest_number}
+use Rattle.batch_core.specs.Committing.{file_name, greatest_number}
 use Rattle.table_log.specs.Names.{commit_name}
 use Rattle.lake_script.specs.Keeps.{IsKept, IsOwn, HasNoOther, KeptFrom, FileKept}
 

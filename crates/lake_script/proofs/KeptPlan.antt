@@ -23,10 +23,12 @@ use Rattle.row_core.proofs.Callers.{same_rows-is}
 use Rattle.table_model.specs.Table as model
 use Rattle.table_model.specs.Table.{Entry, group, is_closed, last_batch}
 use Rattle.table_store.proofs.Callers.{commit_name-data_file_name}
-use Rattle.sink_core.specs.Appending.{EncodedBatch, AppendPlan, puts, stands, checked, file_name, greatest_number, is_repeat, is_same, unless_other, where_same, file_or_refusal, batch_of, put_plan, new_plan, plan_of, append_plan, with_append, with_file_alone, IsWellMade, PutsWell}
-use Rattle.sink_core.specs.Refusals.{AppendRefusal, stale, differs}
+use Rattle.batch_core.specs.Committing.{file_name, greatest_number}
+use Rattle.batch_core.specs.Requests.{checked, is_repeat, is_same, unless_other, where_same, file_or_refusal}
+use Rattle.sink_core.specs.Appending.{EncodedBatch, AppendPlan, puts, stands, size_behind, batch_of, put_plan, new_plan, plan_of, append_plan, with_append, with_file_alone, IsWellMade, PutsWell}
+use Rattle.batch_core.specs.Refusals.{SinkRefusal, stale, differs}
 use Rattle.lake_bytes.specs.Results.{◌>>=◌, refused_if}
-use Rattle.sink_core.specs.RowsIn.{rows_from, takes_rows}
+use Rattle.batch_core.specs.RowsIn.{rows_from, takes_rows}
 use Rattle.lake_script.specs.Keeps.{AreFiles, IsReadableFile, FileKept, HasNoOther, IsKept, Keeps, KeepsBeside}
 use Rattle.lake_script.specs.Tables.{State, nothing, table, entries_of}
 use Rattle.lake_script.proofs.KeptAppend.{small_number, lawful_after, version_fits, made_with, handed_in, file_made, commit_made, step_with, step_behind, step_is}
@@ -92,7 +94,7 @@ files_put objects schema name b bytes files is application number found utf8 sma
     ]
 
 -- and any commit
-files_commit : (objects : Objects) (schema : Tree) (version : ℕ) (bytes : List ℕ) → AreFiles objects schema → AreFiles (with_object objects (names.commit_name version) bytes) schema
+pub files_commit : (objects : Objects) (schema : Tree) (version : ℕ) (bytes : List ℕ) → AreFiles objects schema → AreFiles (with_object objects (names.commit_name version) bytes) schema
 files_commit objects schema version bytes files application number found utf8 small there =
     elim (stood_or_put objects (names.commit_name version) bytes (data_file_name application number) found there) [
       | inl before ↦ files application number found utf8 small before
@@ -102,17 +104,21 @@ files_commit objects schema version bytes files application number found utf8 sm
 -- ---- an append over a table that is kept
 
 -- a store stays, whether the file that an append puts stands alone or with its commit
-abbrev pub GoesOn : (most : ℕ) → Objects → Result AppendPlan AppendRefusal → Type 0
+abbrev pub GoesOn : (most : ℕ) → Objects → Result AppendPlan SinkRefusal → Type 0
 GoesOn most objects step = Stays most (with_file_alone objects step) × Stays most (with_append objects step)
 
 module _ (objects : Objects) (schema : Tree) (entries : List Entry) (kept : IsKept objects schema entries) (files : AreFiles objects schema) (most : ℕ) (up : length entries ≤ most)
     (application : List ℕ) (number at : ℕ) (utf8 : IsUtf8 application) (fits : number ≤ greatest_number) (rows : List Row) where
+  -- the size of the file that stands under the batch's name behind the put of this one
+  abbrev size : (file : List ℕ) → ℕ
+  size file = size_behind file (object_at objects (file_name application number))
+
   -- the batch that is put with this file
   abbrev made : (file : List ℕ) → EncodedBatch
-  made file = made_with (length entries) schema rows application number at file
+  made file = made_with (length entries) schema rows application number at (size file) file
 
   -- what is done where the number is the application's last one again, or not
-  abbrev behind : Result Bool AppendRefusal → Result AppendPlan AppendRefusal
+  abbrev behind : Result Bool SinkRefusal → Result AppendPlan SinkRefusal
   behind repeats = (repeats >>= λ repeats. goes_on (is_closed application entries) repeats >>= λ open_. Ok (asked (length entries) schema rows repeats)) >>= plan_of objects application number at
 
   -- where nothing is put, the table is kept
@@ -148,8 +154,8 @@ module _ (objects : Objects) (schema : Tree) (entries : List Entry) (kept : IsKe
       let name = data_file_name application number in
       let next = names.commit_name (length entries) in
       let filed : Objects = with_object objects name file in
-      let is_file = file_made schema (length entries) rows application number at file well in
-      let is_commit = commit_made schema (length entries) rows application number at file well in
+      let is_file = file_made schema (length entries) rows application number at (size file) file well in
+      let is_commit = commit_made schema (length entries) rows application number at (size file) file well in
       let lawful : IsLawful (entries ++ group (b ∷ []) ∷ []) = rw new at (lawful_after objects schema entries b kept) in
       let filed_kept : IsKept filed schema entries = kept_file objects schema entries application number file kept in
       let filed_files : AreFiles filed schema = files_put objects schema name b file files is_file in
@@ -170,7 +176,7 @@ module _ (objects : Objects) (schema : Tree) (entries : List Entry) (kept : IsKe
   unfolding batch_of
   new_goes_on new well = by_file (written_file schema rows) well
     where
-      by_fit : (file : List ℕ) (fit : Result (Unit {0}) AppendRefusal) → unless_other schema rows (file_name application number) (object_at objects (file_name application number)) ≡ fit
+      by_fit : (file : List ℕ) (fit : Result (Unit {0}) SinkRefusal) → unless_other schema rows (file_name application number) (object_at objects (file_name application number)) ≡ fit
           → PutsWell application number at (fit >>= λ fits. Ok (puts (made file)))
           → GoesOn (suc most) objects (fit >>= λ fits. Ok (puts (made file)))
       by_fit file (Err why) is well = (unchanged, unchanged)
@@ -189,7 +195,7 @@ module _ (objects : Objects) (schema : Tree) (entries : List Entry) (kept : IsKe
   open_goes_on false new well = new_goes_on new well
 
   -- for the last number again nothing is put
-  again_goes_on : (same : Result (Unit {0}) AppendRefusal) → GoesOn (suc most) objects (same >>= λ same. Ok stands)
+  again_goes_on : (same : Result (Unit {0}) SinkRefusal) → GoesOn (suc most) objects (same >>= λ same. Ok stands)
   again_goes_on (Ok same) = (unchanged, unchanged)
   again_goes_on (Err why) = (unchanged, unchanged)
 
@@ -217,13 +223,13 @@ append_goes_on objects schema entries kept files most up application number at i
     same : GoesOn (suc most) objects (Ok stands)
     same = let still = keeps schema entries kept files (omega (arith, up)) in (still, still)
 
-    by_read : (read : Result (List Row) AppendRefusal) → number ≤ greatest_number → PutsWell application number at (step_with objects entries application number at schema read)
+    by_read : (read : Result (List Row) SinkRefusal) → number ≤ greatest_number → PutsWell application number at (step_with objects entries application number at schema read)
         → GoesOn (suc most) objects (step_with objects entries application number at schema read)
     by_read (Err why) small well = same
     by_read (Ok rows) small well =
         behind_goes_on objects schema entries kept files most up application number at utf8 small rows (last_batch application entries) refl well
 
-    by_tests : (fine : Result (Unit {0}) AppendRefusal) (barred : Bool) (takes : Result (Unit {0}) AppendRefusal) → checked application number (items_len items) ≡ fine
+    by_tests : (fine : Result (Unit {0}) SinkRefusal) (barred : Bool) (takes : Result (Unit {0}) SinkRefusal) → checked application number (items_len items) ≡ fine
         → PutsWell application number at (step_behind objects schema entries application number at items fine barred takes) → GoesOn (suc most) objects (step_behind objects schema entries application number at items fine barred takes)
     by_tests (Err why) barred takes is well = same
     by_tests (Ok passed) true takes is well = same

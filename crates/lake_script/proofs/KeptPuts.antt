@@ -1,4 +1,4 @@
--- What the puts of a batch leave of a store that keeps a table.
+-- What the puts of a batch and of a close leave of a store that keeps a table.
 use Rattle.std.proofs.Common.{◌≡◌, ◌≢◌, ℕ, suc, ◌+◌, ◌≤◌, Bool, true, false, List, [], ◌∷◌, ◌++◌, length, get_or, Option, Some, None, IsSome, refl, sym, ap, subst, ◌∙◌, arith, length-append}
 use Rattle.std.specs.Prelude.{bytes_eq, is_some, unwrap_or}
 use Rattle.std.specs.List.{AllByRecursion}
@@ -13,8 +13,10 @@ use Rattle.delta_checkpoint.specs.Names.{IsCheckpointName}
 use Rattle.table_store.specs.Commits.{IsCommitOf}
 use Rattle.table_store.specs.Holds.{Stands}
 use Rattle.table_model.specs.Lawful.{IsLawful}
-use Rattle.table_model.specs.Table.{Batch, Entry, group, batches_of, batches}
+use Rattle.table_model.specs.Appends.{with_close}
+use Rattle.table_model.specs.Table.{Batch, Entry, creation, group, close, batches_of, batches, is_closed}
 use Rattle.table_model.proofs.Callers.{batches-append}
+use Rattle.table_model.proofs.Kept.{close_keeps}
 use Rattle.table_store.proofs.Callers.{commit_name-data_file_name, commit_name-once, data_file_name-once}
 use Rattle.log_laws.proofs.Callers.{no_checkpoint}
 use Rattle.lake_script.specs.Keeps.{IsReadableFile, FileKept, FilesKept, KeptFrom, IsKept, IsOwn, HasNoOther}
@@ -118,24 +120,58 @@ module _ (objects : Objects) (version : ℕ) (name bytes : List ℕ) (checkpoint
   pub same_files : (application : List ℕ) (number : ℕ) → object_at (with_object objects name bytes) (data_file_name application number) ≡ object_at objects (data_file_name application number)
   same_files application number = object_at-with_object_other objects name bytes (data_file_name application number) (no_data_file version name application number checkpoint)
 
+-- ---- one entry more
+
+-- Where the files of an entry stand, the next version's commit, put under a free name, is that entry more.
+pub kept_entry : (objects : Objects) (schema : Tree) (entries : List Entry) (entry : Entry) (commit : List ℕ) → IsKept objects schema entries → length entries ≤ greatest_version → IsLawful (entries ++ entry ∷ [])
+    → FilesKept objects schema entry → object_at objects (commit_name (length entries)) ≡ None → IsCommitOf schema entry commit
+    → IsKept (with_object objects (commit_name (length entries)) commit) schema (entries ++ entry ∷ [])
+kept_entry objects schema entries entry commit kept few lawful files free is_commit =
+    let next = commit_name (length entries) in
+    let more : length (entries ++ entry ∷ []) ≡ length entries + 1 = length-append entries (entry ∷ []) in
+    record {
+      kept = KeptFrom-push (with_object objects next commit) schema 0 (length entries) entries entry (omega arith) (KeptFrom-put objects next commit schema 0 entries kept.kept)
+          (commit, put_stands objects next commit free, is_commit) (each_put objects next commit schema (batches_of entry) files);
+      rest = kept.rest ++ entry ∷ [];
+      begins = ap (λ (es : List Entry). es ++ entry ∷ []) kept.begins;
+      lawful = lawful;
+      fits = omega (arith, more, few);
+      ends = λ version past small. ends_behind objects commit (length entries) kept.ends version (omega (arith, more, past)) small;
+    }
+
+-- The commit of a close is one entry more.
+pub kept_close : (objects : Objects) (schema : Tree) (entries : List Entry) (application commit : List ℕ) → IsKept objects schema entries → length entries ≤ greatest_version → is_closed application entries ≡ false
+    → object_at objects (commit_name (length entries)) ≡ None → IsCommitOf schema (close application) commit
+    → IsKept (with_object objects (commit_name (length entries)) commit) schema (entries ++ close application ∷ [])
+kept_close objects schema entries application commit kept few open_still free is_commit =
+    let after : IsLawful (with_close application entries) =
+    subst (λ (es : List Entry). IsLawful (with_close application es)) (sym kept.begins) (close_keeps application creation kept.rest (subst IsLawful kept.begins kept.lawful)) in
+    let lawful : IsLawful (entries ++ close application ∷ []) = rw open_still at after in
+    kept_entry objects schema entries (close application) commit kept few lawful tt free is_commit
+
+-- And no data file stands then that is no batch's, where none stood before.
+pub no_other_close : (objects : Objects) (entries : List Entry) (application commit : List ℕ) → HasNoOther objects entries → HasNoOther (with_object objects (commit_name (length entries)) commit) (entries ++ close application ∷ [])
+no_other_close objects entries closed commit own application number utf8 small some =
+    named_put objects (commit_name (length entries)) commit IsOwned old none (data_file_name application number) some refl
+  where
+    IsOwned : List ℕ → Type 0
+    IsOwned other = other ≡ data_file_name application number → IsOwn (entries ++ close closed ∷ []) application number
+
+    old : (other : List ℕ) → IsSome (object_at objects other) → IsOwned other
+    old other some is =
+        let found = own application number utf8 small (subst (λ (name : List ℕ). IsSome (object_at objects name)) is some) in
+        (found.0, rw batches-append (Contains-append_left (batches entries) [] found.0 found.1), found.2, found.3)
+
+    none : IsOwned (commit_name (length entries))
+    none is = absurd (commit_name-data_file_name (length entries) application number is)
+
 -- ---- one batch more
 
 -- Where a batch's file stands, the next version's commit, put under a free name, is one entry more.
 pub kept_commit : (objects : Objects) (schema : Tree) (entries : List Entry) (b : Batch) (commit : List ℕ) → IsKept objects schema entries → length entries ≤ greatest_version → IsLawful (entries ++ group (b ∷ []) ∷ [])
     → FileKept objects schema b → object_at objects (commit_name (length entries)) ≡ None → IsCommitOf schema (group (b ∷ [])) commit
     → IsKept (with_object objects (commit_name (length entries)) commit) schema (entries ++ group (b ∷ []) ∷ [])
-kept_commit objects schema entries b commit kept few lawful file free is_commit =
-    let next = commit_name (length entries) in
-    let more : length (entries ++ group (b ∷ []) ∷ []) ≡ length entries + 1 = length-append entries (group (b ∷ []) ∷ []) in
-    record {
-      kept = KeptFrom-push (with_object objects next commit) schema 0 (length entries) entries (group (b ∷ [])) (omega arith) (KeptFrom-put objects next commit schema 0 entries kept.kept)
-          (commit, put_stands objects next commit free, is_commit) (FileKept-put objects next commit schema b file, tt);
-      rest = kept.rest ++ group (b ∷ []) ∷ [];
-      begins = ap (λ (es : List Entry). es ++ group (b ∷ []) ∷ []) kept.begins;
-      lawful = lawful;
-      fits = omega (arith, more, few);
-      ends = λ version past small. ends_behind objects commit (length entries) kept.ends version (omega (arith, more, past)) small;
-    }
+kept_commit objects schema entries b commit kept few lawful file free is_commit = kept_entry objects schema entries (group (b ∷ [])) commit kept few lawful (file, tt) free is_commit
 
 -- A batch's file and then the next version's commit, put under free names, are one entry more.
 pub kept_more : (objects : Objects) (schema : Tree) (entries : List Entry) (b : Batch) (file commit : List ℕ) → IsKept objects schema entries → length entries ≤ greatest_version → IsLawful (entries ++ group (b ∷ []) ∷ [])

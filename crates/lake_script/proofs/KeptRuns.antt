@@ -1,12 +1,12 @@
 -- From one line to whole scripts: where a store keeps what a script made so far, each line is told what the plain table
 -- tells, and the store goes on to keep it.
-use Rattle.std.proofs.Common.{◌≡◌, ℕ, suc, ◌+◌, ◌≤◌, Bool, true, false, List, [], ◌∷◌, ◌++◌, length, Result, Ok, Err, refl, sym, ap, ◌∙◌, append-nil, append_assoc, arith, inl, inr, length-append}
+use Rattle.std.proofs.Common.{if◌then◌else◌, ◌≡◌, ℕ, suc, ◌+◌, ◌≤◌, Bool, true, false, List, [], ◌∷◌, ◌++◌, length, Result, Ok, Err, refl, sym, ap, ◌∙◌, append-nil, append_assoc, arith, inl, inr, length-append}
 use Rattle.std.proofs.lemmas.Bool.{cases_Bool}
 use Rattle.serde_json.specs.Data.{Items}
 use Rattle.schema_tree.specs.Tree.{Tree}
 use Rattle.store_core.specs.Objects.{Objects}
 use Rattle.delta_actions.specs.Names.{greatest_version}
-use Rattle.table_model.specs.Table.{Batch, Entry, group}
+use Rattle.table_model.specs.Table.{Batch, Entry, group, close as closes, is_closed}
 use Rattle.table_model.specs.Appends.{appended, with_batch}
 use Rattle.table_model.specs.declared.table.AppendAnswer.{AppendAnswer}
 use Rattle.table_model.specs.declared.table.AppendAnswer.TheVariants.{Committed, Already, Stale, Differs, StreamClosed}
@@ -14,7 +14,7 @@ use Rattle.commit_core.specs.Creating as creations
 use Rattle.commit_core.specs.Histories.{history_of, bad_log}
 use Rattle.script_lines.specs.Lines.{Statement, create, task, history, show, hex, snapshot, foreign, append, close, checkpoint, tail, Reading, skipped, bad, asks, reading_of}
 use Rattle.source_core.specs.Offsets.{offset_of}
-use Rattle.sink_core.specs.Refusals.{AppendRefusal}
+use Rattle.batch_core.specs.Refusals.{SinkRefusal}
 use Rattle.lake_script.specs.Sound.{IsSoundStatement, IsSoundLine, AreSoundLines}
 use Rattle.lake_script.specs.Scripts.{line_over, reply_over, expected_over}
 use Rattle.lake_script.specs.Tables as tables
@@ -34,6 +34,10 @@ pub record Given : Type 0 where
       → IsSoundStatement objects (task (append application number at items)) printed
       → (told.reply_to_statement objects (task (append application number at items)) printed ≡ tables.reply_to_statement state (task (append application number at items)))
       × Keeps (told.left_by_statement objects (task (append application number at items)) printed) (tables.left_by_statement state (task (append application number at items)))
+  pub close_told : (objects : Objects) (state : State) (application : List ℕ) (at : ℕ) (printed : List ℕ) → Keeps objects state → length (entries_of state) ≤ greatest_version
+      → IsSoundStatement objects (task (close application at)) printed
+      → (told.reply_to_statement objects (task (close application at)) printed ≡ tables.reply_to_statement state (task (close application at)))
+      × Keeps (told.left_by_statement objects (task (close application at)) printed) (tables.left_by_statement state (task (close application at)))
   pub checkpoint_told : (objects : Objects) (state : State) (printed : List ℕ) → Keeps objects state → IsSoundStatement objects (task checkpoint) printed
       → (told.reply_to_statement objects (task checkpoint) printed ≡ tables.reply_to_statement state (task checkpoint))
       × Keeps (told.left_by_statement objects (task checkpoint) printed) (tables.left_by_statement state (task checkpoint))
@@ -59,15 +63,26 @@ batch_one Differs b entries = omega arith
 batch_one StreamClosed b entries = omega arith
 
 -- the same of a table, where there is one
-appended_one : (state : State) (answer : Result Batch AppendRefusal) → length (entries_of (tables.with_append state answer)) ≤ suc (length (entries_of state))
+appended_one : (state : State) (answer : Result Batch SinkRefusal) → length (entries_of (tables.with_append state answer)) ≤ suc (length (entries_of state))
 appended_one nothing answer = omega arith
 appended_one (table schema entries) (Ok b) = batch_one (appended b entries) b entries
 appended_one (table schema entries) (Err refusal) = omega arith
+
+-- so does a close
+close_one : (closed : Bool) (entries : List Entry) (entry : Entry) → length (if closed then entries else entries ++ entry ∷ []) ≤ suc (length entries)
+close_one true entries entry = omega arith
+close_one false entries entry = let joined = length-append entries (entry ∷ []) in omega arith
+
+closed_one : (state : State) (application : List ℕ) (answer : Result (Unit {0}) SinkRefusal) → length (entries_of (tables.with_closed state application answer)) ≤ suc (length (entries_of state))
+closed_one nothing application answer = omega arith
+closed_one (table schema entries) application (Ok fine) = close_one (is_closed application entries) entries (closes application)
+closed_one (table schema entries) application (Err refusal) = omega arith
 
 -- what a line asks for adds one entry at most
 statement_one : (state : State) (statement : Statement) → length (entries_of (tables.left_by_statement state statement)) ≤ suc (length (entries_of state))
 statement_one state (create id at schema) = created_one state (tables.creating state (creations.described id schema))
 statement_one state (task (append application number at items)) = appended_one state (tables.batch_in state application number items)
+statement_one state (task (close application at)) = closed_one state application (tables.stream_in state application)
 statement_one state _ = omega arith
 
 -- the table behind a line has one entry more at most
@@ -149,6 +164,7 @@ module _ (given : Given) where
       → told.reply_to_statement objects statement printed ≡ tables.reply_to_statement state statement
   statement_told objects state (create id at schema) printed keeps small sound only = (given.create_told objects state id at schema printed keeps sound).0
   statement_told objects state (task (append application number at items)) printed keeps small sound only = (given.append_told objects state application number at items printed keeps small sound).0
+  statement_told objects state (task (close application at)) printed keeps small sound only = (given.close_told objects state application at printed keeps small sound).0
   statement_told objects state (task checkpoint) printed keeps small sound only = (given.checkpoint_told objects state printed keeps sound).0
   statement_told objects state (task (tail max offset)) printed keeps small sound only = tail_state objects state keeps max offset
   statement_told objects state history printed keeps small sound only = history_state objects state keeps
@@ -163,6 +179,7 @@ module _ (given : Given) where
       → Keeps (told.left_by_statement objects statement printed) (tables.left_by_statement state statement)
   statement_kept objects state (create id at schema) printed keeps small sound here = (given.create_told objects state id at schema printed keeps sound).1
   statement_kept objects state (task (append application number at items)) printed keeps small sound here = (given.append_told objects state application number at items printed keeps small sound).1
+  statement_kept objects state (task (close application at)) printed keeps small sound here = (given.close_told objects state application at printed keeps small sound).1
   statement_kept objects state (task checkpoint) printed keeps small sound here = (given.checkpoint_told objects state printed keeps sound).1
   statement_kept objects state (foreign version action) printed keeps small sound here = absurd here
   statement_kept objects state _ printed keeps small sound here = keeps
@@ -245,6 +262,7 @@ module _ (given : Given) where
       → told.reply_to_statement objects statement printed ≡ reply_over state objects statement printed
   statement_over objects state (create id at schema) printed keeps small sound = statement_told objects state (create id at schema) printed keeps small sound tt
   statement_over objects state (task (append application number at items)) printed keeps small sound = statement_told objects state (task (append application number at items)) printed keeps small sound tt
+  statement_over objects state (task (close application at)) printed keeps small sound = statement_told objects state (task (close application at)) printed keeps small sound tt
   statement_over objects state (task checkpoint) printed keeps small sound = statement_told objects state (task checkpoint) printed keeps small sound tt
   statement_over objects state (task (tail max offset)) printed keeps small sound = statement_told objects state (task (tail max offset)) printed keeps small sound tt
   statement_over objects state history printed keeps small sound = statement_told objects state history printed keeps small sound tt

@@ -11,6 +11,7 @@ use Rattle.lake_script.specs.Tables.{State, nothing, table}
 use Rattle.lake_script.specs.Keeps.{Keeps}
 use Rattle.lake_script.proofs.KeptAppend.{append_told}
 use Rattle.lake_script.proofs.KeptCheckpoint.{checkpoint_told}
+use Rattle.lake_script.proofs.KeptClose.{close_told}
 use Rattle.lake_script.proofs.KeptCreate.{create_told}
 use Rattle.lake_script.proofs.KeptHistory.{history_told, history_of_nothing}
 use Rattle.lake_script.proofs.KeptHolds.{kept_holds}
@@ -25,6 +26,7 @@ pub lines_told : Given
 lines_told = record {
   create_told = create_told;
   append_told = append_told;
+  close_told = close_told;
   checkpoint_told = checkpoint_told;
   tail_told = tail_told;
   tail_of_nothing = tail_of_nothing;

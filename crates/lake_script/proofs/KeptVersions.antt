@@ -3,7 +3,6 @@ use Rattle.std.proofs.Common.{◌≡◌, ℕ, suc, ◌+◌, ◌<◌, ◌≤◌, 
 use Rattle.std.proofs.lemmas.Bool.{cases_lt}
 use Rattle.schema_tree.specs.Tree.{Tree}
 use Rattle.store_core.specs.Objects.{Objects, object_at}
-use Rattle.delta_actions.specs.Action as actions
 use Rattle.delta_actions.specs.Names as names
 use Rattle.delta_actions.specs.Names.{greatest_version}
 use Rattle.table_model.specs.Table.{Entry}

@@ -2,6 +2,7 @@ pub mod Callers
 pub mod CheckpointLemmas
 pub mod KeptAppend
 pub mod KeptCheckpoint
+pub mod KeptClose
 pub mod KeptCreate
 pub mod KeptFile
 pub mod KeptGrown

@@ -1,18 +1,21 @@
 -- From one line's reply to what a whole script may be told.
-use Rattle.std.proofs.Common.{◌≡◌, ◌⊎◌, ℕ, ◌+◌, ◌∷◌, [], ◌++◌, List, Option, Result, Ok, Err, OnErr, Bool, true, false, inl, inr, refl, ap, subst, sym, ◌∙◌, append_assoc, append-nil}
+use Rattle.std.proofs.Common.{◌≡◌, ◌≢◌, ◌⊎◌, ℕ, ◌+◌, ◌∷◌, [], ◌++◌, List, Option, Result, Ok, Err, OnErr, Bool, true, false, inl, inr, refl, ap, subst, sym, ◌∙◌, append_assoc, append-nil}
 use Rattle.std.specs.Prelude.{⊤}
 use Rattle.std.specs.Io.KnownBytes.{Appends, append_known}
 use Rattle.store_core.specs.Objects.{Objects}
 use Rattle.serde_json.specs.Data.{Items}
 use Rattle.commit_core.specs.declared.fault.CreateFault.{CreateFault}
 use Rattle.commit_core.specs.declared.fault.CreateFault.TheVariants as creating
-use Rattle.sink_core.specs.declared.refusal.AppendFault.{AppendFault}
-use Rattle.sink_core.specs.declared.refusal.AppendFault.TheVariants as appending
+use Rattle.batch_core.specs.declared.fault.SinkFault.{SinkFault}
+use Rattle.batch_core.specs.declared.fault.SinkFault.TheVariants as appending
+use Rattle.batch_core.specs.Refusals.{file_too_large}
 use Rattle.sink_core.specs.Appending.{append_plan}
-use Rattle.sink_core.specs.Puts.{IsSaidBy}
+use Rattle.sink_core.specs.SinkSessions.{IsDriven, close_job}
+use Rattle.session_core.specs.Stores.{State}
+use Rattle.table_log.specs.declared.loading.Loaded.{Loaded}
 use Rattle.source_core.specs.Tailing.{tailed}
-use Rattle.lake_script.specs.declared.reply.LineReply.TheVariants.{NotCreated, NotAppended}
-use Rattle.script_lines.specs.Lines.{append, Statement, create, tail, task, reading_of}
+use Rattle.lake_script.specs.declared.reply.LineReply.TheVariants.{NotCreated, SinkRefused}
+use Rattle.script_lines.specs.Lines.{append, close, Statement, create, tail, task, reading_of}
 use Rattle.lake_script.specs.ReplyView.{reply_text, is_short}
 use Rattle.lake_script.specs.Runs.{IsShort, IsWantOfMemory, MayLeave, Executes, IsCutOff, Replies, Runs, done, stops, goes_on, RunsInPart, waits, begins, follows, no_room_to_read, FallsShort, here, later, Tells, TellsFront, TellsShort}
 use Rattle.lake_script.specs.Streams.{StandsIn}
@@ -38,11 +41,28 @@ creation_short creating.Memory objects id at schema h = inl refl
 creation_short creating.TooLarge objects id at schema h = inr refl
 creation_short _ objects id at schema h = cc
 
-pub append_short : (fault : AppendFault) (objects : Objects) (application : List ℕ) (number at : ℕ) (items : Items) → is_short (NotAppended fault) ≡ true
-    → IsSaidBy (append_plan false objects application number at items) fault → IsShort objects (task (append application number at items)) (reply_text (NotAppended fault))
-append_short appending.Memory objects application number at items h said = inl refl
-append_short appending.FileTooLarge objects application number at items h said = inr (refl, said)
-append_short _ objects application number at items h said = cc
+pub append_short : (fault : SinkFault) (objects : Objects) (application : List ℕ) (number at : ℕ) (items : Items) → is_short (SinkRefused fault) ≡ true
+    → (fault ≡ appending.FileTooLarge → append_plan false objects application number at items ≡ Err file_too_large) → IsShort objects (task (append application number at items)) (reply_text (SinkRefused fault))
+append_short appending.Memory objects application number at items h large = inl refl
+append_short appending.FileTooLarge objects application number at items h large = inr (refl, large refl)
+append_short _ objects application number at items h large = cc
+
+pub close_short : (fault : SinkFault) (objects : Objects) (application : List ℕ) (at : ℕ) → is_short (SinkRefused fault) ≡ true → fault ≢ appending.FileTooLarge → IsShort objects (task (close application at)) (reply_text (SinkRefused fault))
+close_short appending.Memory objects application at h small = inl refl
+close_short appending.FileTooLarge objects application at h small = absurd (small refl)
+close_short _ objects application at h small = cc
+
+-- a close writes no file that is too large
+module _ (is_reliable : Type 0) (application : List ℕ) (at tries : ℕ) (use_checkpoints : Bool) (known later_known : Loaded) (old new : State) (count later : ℕ) where
+  abbrev IsClosedBy : SinkFault → Type 0
+  IsClosedBy fault = IsDriven is_reliable (close_job application at tries use_checkpoints known) later_known (Err fault) old new count later
+
+  none_large : IsClosedBy appending.FileTooLarge → ⊥
+  none_large (inl memory) = let wrong = memory.0 in cc
+  none_large (inr driven) = let wrong = driven.3.ended.answer.is.task in cc
+
+  pub closes_small : (fault : SinkFault) → IsClosedBy fault → fault ≢ appending.FileTooLarge
+  closes_small fault driven large = none_large (subst IsClosedBy large driven)
 
 -- whatever the lines that are left are told, all of them or some, the whole is told behind what was told so far
 abbrev pub Onward : Objects → List (List ℕ) → ℕ → Objects → List (List ℕ) → List ℕ → Type 0

@@ -3,6 +3,7 @@ use Rattle.std.specs.Prelude.{◌≡◌, ◌⊎◌, ℕ, false}
 use Rattle.std.specs.Str.{IsUtf8}
 use Rattle.store_core.specs.Objects.{Objects, with_object}
 use Rattle.sink_core.specs.Appending.{append_plan, MayAppend}
+use Rattle.sink_core.specs.Closes.{close_plan, MayClose}
 use Rattle.commit_core.specs.Creating.{MayCreate}
 use Rattle.table_log.specs.Names.{commit_name}
 use Rattle.snapshot_core.specs.Taking.{HasPut}
@@ -24,7 +25,7 @@ MayPut old snapshot new = new ≡ old
 MayPut old history new = new ≡ old
 MayPut old (show version) new = new ≡ old
 MayPut old (hex name) new = new ≡ old
-MayPut old (task (close application at)) new = new ≡ old
+MayPut old (task (close application at)) new = IsUtf8 application × MayClose application at (close_plan false old application) old new
 MayPut old (tries count) new = new ≡ old
 MayPut old (fault kind) new = new ≡ old
 MayPut old (start actor job) new = new ≡ old

@@ -8,7 +8,7 @@ use Rattle.delta_actions.specs.Names.{commit_name, data_file_name, greatest_vers
 use Rattle.parquet_file.specs.File.{KeepsLimits}
 use Rattle.table_model.specs.Lawful.{IsLawful}
 use Rattle.table_model.specs.Table.{Batch, Entry, creation, batches_of, batches}
-use Rattle.sink_core.specs.Appending.{greatest_number}
+use Rattle.batch_core.specs.Committing.{greatest_number}
 use Rattle.table_store.specs.Commits.{IsCommitOf}
 use Rattle.table_store.specs.Holds.{Stands}
 use Rattle.table_store.specs.Schema.{Schema}

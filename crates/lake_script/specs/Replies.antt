@@ -3,6 +3,8 @@ use Rattle.std.specs.Prelude.{ℕ, List, ◌++◌, Option, None, Some, codes}
 use Rattle.std.specs.Fmt.{decimal}
 use Rattle.lake_script.specs.declared.faults.Fault.{Fault}
 use Rattle.lake_script.specs.declared.faults.Fault.TheVariants.{NotYet, NoSuchName, NotRead, NotWritten}
+use Rattle.sink_core.specs.declared.sink_state.SinkOutcome.{SinkOutcome}
+use Rattle.sink_core.specs.declared.sink_state.SinkOutcome.TheVariants.{Committed, Already, Closed, AlreadyClosed}
 use Rattle.lake_bytes.specs.Lines.{with_newline}
 
 -- a fault: its code and its name
@@ -27,6 +29,25 @@ committed_at version = codes "Committed " ++ decimal version
 -- the reply where the application's last batch has that number, and stands already
 abbrev pub already : ℕ → List ℕ
 already number = codes "Already " ++ decimal number
+
+-- the reply where an application's stream was closed with the commit of that version
+abbrev pub closed_at : ℕ → List ℕ
+closed_at version = codes "Closed " ++ decimal version
+
+-- the reply where it is closed already
+abbrev pub already_closed : List ℕ
+already_closed = codes "AlreadyClosed"
+
+-- the reply to an append and to a close that aren't refused
+abbrev pub outcome_text : SinkOutcome → List ℕ
+outcome_text (Committed version) = committed_at version
+outcome_text (Already number) = already number
+outcome_text (Closed version) = closed_at version
+outcome_text AlreadyClosed = already_closed
+
+-- the reply to a line that sets something
+abbrev pub noted : List ℕ
+noted = codes "ok"
 
 -- the reply to a commit that another tool puts, by what stood under its name
 abbrev pub put_word : Option (List ℕ) → List ℕ

@@ -5,16 +5,15 @@ use Rattle.store_core.specs.declared.store.Put.TheVariants as puts
 use Rattle.store_core.specs.Texts as texts
 use Rattle.commit_core.specs.declared.fault.CreateFault.TheVariants as creating
 use Rattle.lake_script.specs.declared.reply.LineReply.{LineReply}
-use Rattle.sink_core.specs.declared.refusal.AppendFault.TheVariants as appending
-use Rattle.lake_script.specs.declared.reply.LineReply.TheVariants.{Created, NotCreated, Appended, NotAppended, NotTailed, Checkpointed, NoSnapshot, NoHistory, Put, Refused, Unanswered, Bytes, Digits}
-use Rattle.sink_core.specs.declared.appending.Appended.TheVariants.{Committed, Already}
+use Rattle.batch_core.specs.declared.fault.SinkFault.TheVariants as sink
+use Rattle.lake_script.specs.declared.reply.LineReply.TheVariants.{Created, NotCreated, SinkTold, SinkRefused, NotTailed, Checkpointed, NoSnapshot, NoHistory, Put, Refused, Unanswered, Bytes, Digits, Noted}
 use Rattle.source_core.specs.declared.tail_fault.TailFault.TheVariants as tailing
 use Rattle.snapshot_core.specs.FaultTexts as snapshots
 use Rattle.snapshot_core.specs.declared.fault.SnapshotFault.TheVariants as snapshot_faults
 use Rattle.lake_script.specs.Checkpoints.{checkpointed_at}
 use Rattle.commit_core.specs.Histories.{unanswered}
-use Rattle.sink_core.specs.Refusals.{refusal_text, refusal_view}
-use Rattle.lake_script.specs.Replies.{fault_text, created, committed_at, already, put_word}
+use Rattle.batch_core.specs.Refusals.{refusal_text, refusal_view}
+use Rattle.lake_script.specs.Replies.{fault_text, created, noted, outcome_text, put_word}
 use Rattle.commit_core.specs.Texts.{create_fault_text, refused}
 use Rattle.source_core.specs.TailFaults as tail_texts
 use Rattle.lake_bytes.specs.Lines.{with_newline}
@@ -23,9 +22,8 @@ use Rattle.lake_bytes.specs.Lines.{with_newline}
 abbrev pub reply_text : LineReply → List ℕ
 reply_text Created = with_newline created
 reply_text (NotCreated fault) = with_newline (refused (create_fault_text fault))
-reply_text (Appended (Committed version)) = with_newline (committed_at version)
-reply_text (Appended (Already number)) = with_newline (already number)
-reply_text (NotAppended fault) = with_newline (refused (refusal_text (refusal_view fault)))
+reply_text (SinkTold outcome) = with_newline (outcome_text outcome)
+reply_text (SinkRefused fault) = with_newline (refused (refusal_text (refusal_view fault)))
 reply_text (NotTailed fault) = with_newline (refused (tail_texts.refusal_text (tail_texts.refusal_view fault)))
 reply_text (Checkpointed version) = with_newline (checkpointed_at version)
 reply_text (NoSnapshot fault) = with_newline (refused (snapshots.fault_text fault))
@@ -36,13 +34,14 @@ reply_text (Refused fault) = with_newline (refused (fault_text fault))
 reply_text (Unanswered fault) = with_newline (refused (texts.fault_text fault))
 reply_text (Bytes bytes) = bytes.items
 reply_text (Digits digits) = with_newline (string_bytes digits)
+reply_text Noted = with_newline noted
 
 -- a growth was refused, or an object would pass 64 MiB
 abbrev pub is_short : LineReply → Bool
 is_short (NotCreated creating.Memory) = true
 is_short (NotCreated creating.TooLarge) = true
-is_short (NotAppended appending.Memory) = true
-is_short (NotAppended appending.FileTooLarge) = true
+is_short (SinkRefused sink.Memory) = true
+is_short (SinkRefused sink.FileTooLarge) = true
 is_short (NotTailed tailing.Memory) = true
 is_short (NoSnapshot snapshot_faults.Memory) = true
 is_short (NoSnapshot snapshot_faults.TooLarge) = true
@@ -53,7 +52,7 @@ is_short _ = false
 -- the store lost a call
 abbrev pub says_lost : LineReply → Bool
 says_lost (NotCreated creating.Lost) = true
-says_lost (NotAppended (appending.Lost version)) = true
+says_lost (SinkRefused (sink.Lost version)) = true
 says_lost (NotTailed tailing.Lost) = true
 says_lost (NoSnapshot snapshot_faults.Lost) = true
 says_lost (NoHistory stores.Lost) = true

@@ -12,7 +12,7 @@ use Rattle.commit_core.specs.Histories.{unanswered}
 use Rattle.snapshot_core.specs.Taking as checkpoints
 use Rattle.lake_script.specs.Checkpoints.{not_put_text, too_large}
 use Rattle.script_lines.specs.Lines.{Statement, append, close, checkpoint, tail, create, task, snapshot, history, show, hex, tries, fault, start, until, step, finish, die, land, foreign, Reading, skipped, bad, asks, reading_of}
-use Rattle.sink_core.specs.Refusals.{refusal_text, memory, file_too_large}
+use Rattle.batch_core.specs.Refusals.{refusal_text, memory, file_too_large}
 use Rattle.commit_core.specs.Texts.{create_fault_text, refused}
 use Rattle.lake_script.specs.Replies.{bad_line}
 use Rattle.lake_script.specs.Streams.{StandsIn}
@@ -22,8 +22,8 @@ use Rattle.delta_actions.specs.Commit.{lines_of}
 use Rattle.lake_script.specs.Told.{is_bad, IsPrintedStatement, reply_to_statement, left_by_statement}
 use Rattle.lake_bytes.specs.Lines.{with_newline}
 
--- the replies to lines that create a table, append a batch, show or put an object, read rows, and put a checkpoint or tell
--- the snapshot or the history, where a growth was refused
+-- the replies to lines that create a table, append a batch or close a stream, show or put an object, read rows, and put a
+-- checkpoint or tell the snapshot or the history, where a growth was refused
 abbrev pub no_room_to_create : List ℕ
 no_room_to_create = with_newline (refused (create_fault_text create_faults.Memory))
 
@@ -50,7 +50,7 @@ IsWantOfMemory history reply = reply ≡ no_room_to_tell
 IsWantOfMemory (show version) reply = reply ≡ no_room_to_show
 IsWantOfMemory (hex name) reply = reply ≡ no_room_to_show
 IsWantOfMemory (foreign version action) reply = reply ≡ no_room_to_show
-IsWantOfMemory (task (close application at)) reply = ⊥
+IsWantOfMemory (task (close application at)) reply = reply ≡ no_room_to_append
 IsWantOfMemory (tries count) reply = ⊥
 IsWantOfMemory (fault kind) reply = ⊥
 IsWantOfMemory (start actor job) reply = ⊥

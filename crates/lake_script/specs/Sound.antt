@@ -5,10 +5,11 @@ use Rattle.std.specs.Str.{IsUtf8}
 use Rattle.delta_actions.specs.Commit.{lines_of}
 use Rattle.store_core.specs.Objects.{Objects}
 use Rattle.sink_core.specs.Appending.{append_plan, PutsWell}
+use Rattle.sink_core.specs.Closes.{close_plan, ClosesWell}
 use Rattle.commit_core.specs.Creating.{too_large, commit_from, CreatesWell}
 use Rattle.lake_script.specs.Checkpoints.{checkpoint_by, IsWellPut}
 use Rattle.script_lines.specs.Lines.{Statement, append, close, checkpoint, tail, create, task, snapshot, history, show, hex, tries, fault, start, until, step, finish, die, land, foreign, Reading, skipped, bad, asks, reading_of}
-use Rattle.sink_core.specs.Refusals.{file_too_large}
+use Rattle.batch_core.specs.Refusals.{file_too_large}
 use Rattle.lake_script.specs.Streams.{StandsIn}
 use Rattle.lake_script.specs.Told.{is_bad, UnlessBad, IsPrintedStatement, IsPrintedLine, ArePrintedLines, ArePrintedInPart, reply_to_statement, left_by_statement, reply_to, left_by}
 use Rattle.lake_script.specs.Told as scripts
@@ -25,7 +26,7 @@ IsSoundStatement objects history printed = Unit {0}
 IsSoundStatement objects (show version) printed = Unit {0}
 IsSoundStatement objects (hex name) printed = Unit {0}
 IsSoundStatement objects (foreign version action) printed = Unit {0}
-IsSoundStatement objects (task (close application at)) printed = Unit {0}
+IsSoundStatement objects (task (close application at)) printed = IsUtf8 application × ClosesWell application at (close_plan false objects application)
 IsSoundStatement objects (tries count) printed = Unit {0}
 IsSoundStatement objects (fault kind) printed = Unit {0}
 IsSoundStatement objects (start actor job) printed = Unit {0}

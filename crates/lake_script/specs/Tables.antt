@@ -9,13 +9,15 @@ use Rattle.serde_json.specs.Events.{items_len}
 use Rattle.serde_json.specs.Data.{Items}
 use Rattle.table_model.specs.Table.{Batch, Entry, creation, batches_of, closes_of}
 use Rattle.delta_actions.specs.Names.{data_file_name}
-use Rattle.table_model.specs.Appends.{appended, with_batch}
+use Rattle.table_model.specs.Appends.{appended, closing, with_batch, with_close}
+use Rattle.table_model.specs.declared.table.Closing.{Closing}
+use Rattle.table_model.specs.declared.table.Closing.TheVariants.{Closed, AlreadyClosed}
 use Rattle.table_model.specs.declared.table.AppendAnswer.{AppendAnswer}
 use Rattle.table_model.specs.declared.table.AppendAnswer.TheVariants.{Committed, Already, Stale, Differs, StreamClosed}
 use Rattle.table_model.specs.declared.reading.Offset.{Offset}
 use Rattle.table_model.specs.Reads.{Answer, handed, beyond, bad_place, read}
 use Rattle.schema_tree.specs.Tree.{Tree}
-use Rattle.sink_core.specs.Appending.{checked}
+use Rattle.batch_core.specs.Requests.{checked, named}
 use Rattle.commit_core.specs.Creating as creations
 use Rattle.commit_core.specs.Creating.{table_exists, described}
 use Rattle.commit_core.specs.Histories.{close_told, number_told}
@@ -24,13 +26,13 @@ use Rattle.snapshot_core.specs.Faults.{bad_log, unsupported}
 use Rattle.lake_script.specs.Checkpoints.{by_log, checkpointed_at, not_put_text}
 use Rattle.script_lines.specs.Lines.{Statement, append, close, checkpoint, tail, create, task, snapshot, history, show, hex, tries, fault, start, until, step, finish, die, land, foreign, Reading, skipped, bad, asks, reading_of}
 use Rattle.source_core.specs.Offsets.{offset_of}
-use Rattle.sink_core.specs.Refusals as appends
+use Rattle.batch_core.specs.Refusals as appends
 use Rattle.commit_core.specs.Texts as texts
 use Rattle.commit_core.specs.Texts.{refused}
-use Rattle.lake_script.specs.Replies.{created, committed_at, already, bad_line}
+use Rattle.lake_script.specs.Replies.{created, committed_at, already, already_closed, closed_at, noted, bad_line}
 use Rattle.lake_bytes.specs.Results.{◌>>=◌, refused_if}
 use Rattle.delta_replay.specs.Support.{feature, has_key_inside}
-use Rattle.sink_core.specs.RowsIn.{rows_from, takes_rows}
+use Rattle.batch_core.specs.RowsIn.{rows_from, takes_rows}
 use Rattle.source_core.specs.Tailing as tails
 use Rattle.source_core.specs.TailFaults as tail_texts
 use Rattle.delta_actions.specs.Commit.{lines_of}
@@ -61,7 +63,7 @@ with_table state (Err why) = state
 -- ---- append
 
 -- the batch that a line hands in, or the first reason why it hands in none
-abbrev pub batch_in : State → (application : List ℕ) (number : ℕ) → Items → Result Batch appends.AppendRefusal
+abbrev pub batch_in : State → (application : List ℕ) (number : ℕ) → Items → Result Batch appends.SinkRefusal
 batch_in nothing application number items = checked application number (items_len items) >>= λ fine. Err (appends.bad_log 0)
 batch_in (table schema entries) application number items = do
   fine ← checked application number (items_len items)
@@ -82,14 +84,37 @@ abbrev pub entries_of : State → List Entry
 entries_of nothing = []
 entries_of (table schema entries) = entries
 
-abbrev pub appended_reply : State → Result Batch appends.AppendRefusal → List ℕ
+abbrev pub appended_reply : State → Result Batch appends.SinkRefusal → List ℕ
 appended_reply state (Ok b) = with_newline (answer_text b (appended b (entries_of state)))
 appended_reply state (Err refusal) = with_newline (refused (appends.refusal_text refusal))
 
-abbrev pub with_append : State → Result Batch appends.AppendRefusal → State
+abbrev pub with_append : State → Result Batch appends.SinkRefusal → State
 with_append nothing answer = nothing
 with_append (table schema entries) (Ok b) = table schema (with_batch (appended b entries) b entries)
 with_append (table schema entries) (Err refusal) = table schema entries
+
+-- ---- close
+
+-- the application whose stream a line closes, or the first reason why it closes none
+abbrev pub stream_in : State → (application : List ℕ) → Result (Unit {0}) appends.SinkRefusal
+stream_in nothing application = named application >>= λ fine. Err (appends.bad_log 0)
+stream_in (table schema entries) application = do
+  fine ← named application
+  refused_if (has_key_inside (codes "delta.invariants") schema) (appends.read_only (feature (codes "invariants")))
+
+-- what the table answers
+abbrev pub closing_text : Closing → List ℕ
+closing_text (Closed version) = closed_at version
+closing_text AlreadyClosed = already_closed
+
+abbrev pub closed_reply : State → (application : List ℕ) → Result (Unit {0}) appends.SinkRefusal → List ℕ
+closed_reply state application (Ok fine) = with_newline (closing_text (closing application (entries_of state)))
+closed_reply state application (Err refusal) = with_newline (refused (appends.refusal_text refusal))
+
+abbrev pub with_closed : State → (application : List ℕ) → Result (Unit {0}) appends.SinkRefusal → State
+with_closed nothing application answer = nothing
+with_closed (table schema entries) application (Ok fine) = table schema (with_close application entries)
+with_closed (table schema entries) application (Err refusal) = table schema entries
 
 -- ---- tail
 
@@ -146,8 +171,8 @@ reply_to_statement state snapshot = not_yet
 reply_to_statement state (show version) = not_yet
 reply_to_statement state (hex name) = not_yet
 reply_to_statement state (foreign version action) = not_yet
-reply_to_statement state (task (close application at)) = not_yet
-reply_to_statement state (tries count) = not_yet
+reply_to_statement state (task (close application at)) = closed_reply state application (stream_in state application)
+reply_to_statement state (tries count) = with_newline noted
 reply_to_statement state (fault kind) = not_yet
 reply_to_statement state (start actor job) = not_yet
 reply_to_statement state (until actor) = not_yet
@@ -167,7 +192,7 @@ left_by_statement state history = state
 left_by_statement state (show version) = state
 left_by_statement state (hex name) = state
 left_by_statement state (foreign version action) = state
-left_by_statement state (task (close application at)) = state
+left_by_statement state (task (close application at)) = with_closed state application (stream_in state application)
 left_by_statement state (tries count) = state
 left_by_statement state (fault kind) = state
 left_by_statement state (start actor job) = state

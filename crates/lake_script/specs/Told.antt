@@ -10,8 +10,8 @@ use Rattle.lake_script.specs.declared.engine.End.TheVariants.{Done, BadLine, Not
 use Rattle.lake_script.specs.declared.engine.Outcome.{Outcome}
 use Rattle.lake_script.specs.declared.faults.Fault.TheVariants.{NotYet, NoSuchName}
 use Rattle.sink_core.specs.Appending.{appended_by, append_plan, with_append}
-use Rattle.sink_core.specs.declared.appending.Appended.{Appended}
-use Rattle.sink_core.specs.declared.appending.Appended.TheVariants.{Committed, Already}
+use Rattle.sink_core.specs.declared.sink_state.SinkOutcome.{SinkOutcome}
+use Rattle.sink_core.specs.Closes.{close_plan, closed_by, with_close}
 use Rattle.table_log.specs.Names.{commit_name}
 use Rattle.commit_core.specs.Creating as creations
 use Rattle.commit_core.specs.Creating.{commit_from, created_by, with_creation, IsPrintedFor}
@@ -19,8 +19,8 @@ use Rattle.commit_core.specs.Histories.{history_of}
 use Rattle.snapshot_core.specs.Faults.{readable_log}
 use Rattle.lake_script.specs.Checkpoints.{checkpoint_by, checkpoint_reply, snapshot_reply, with_checkpoint, IsItsCheckpoint, IsItsSnapshot}
 use Rattle.script_lines.specs.Lines.{Statement, append, close, checkpoint, tail, create, task, snapshot, history, show, hex, tries, fault, start, until, step, finish, die, land, foreign, Reading, skipped, bad, asks, reading_of}
-use Rattle.sink_core.specs.Refusals.{AppendRefusal, refusal_text}
-use Rattle.lake_script.specs.Replies.{fault_text, created, committed_at, already, put_word, bad_line}
+use Rattle.batch_core.specs.Refusals.{SinkRefusal, refusal_text}
+use Rattle.lake_script.specs.Replies.{fault_text, created, noted, outcome_text, put_word, bad_line}
 use Rattle.commit_core.specs.Texts as texts
 use Rattle.commit_core.specs.Texts.{refused}
 use Rattle.source_core.specs.TailFaults as tail_texts
@@ -33,11 +33,10 @@ abbrev pub created_reply : Result (List ℕ) creations.CreateRefusal → List �
 created_reply (Ok bytes) = with_newline created
 created_reply (Err refusal) = with_newline (refused (texts.refusal_text refusal))
 
--- the reply to a line that appends a batch
-abbrev pub appended_reply : Result Appended AppendRefusal → List ℕ
-appended_reply (Ok (Committed version)) = with_newline (committed_at version)
-appended_reply (Ok (Already number)) = with_newline (already number)
-appended_reply (Err refusal) = with_newline (refused (refusal_text refusal))
+-- the reply to a line that appends a batch, or closes a stream
+abbrev pub sink_reply : Result SinkOutcome SinkRefusal → List ℕ
+sink_reply (Ok outcome) = with_newline (outcome_text outcome)
+sink_reply (Err refusal) = with_newline (refused (refusal_text refusal))
 
 -- the reply to a line that reads from an offset on
 abbrev pub tailed_reply : Result (List ℕ) tails.ReadRefusal → List ℕ
@@ -83,7 +82,7 @@ IsPrintedStatement objects (land put) printed = Unit {0}
 -- the reply to what a line asks for, over the objects that stand
 abbrev pub reply_to_statement : Objects → Statement → (printed : List ℕ) → List ℕ
 reply_to_statement objects (create id at schema) printed = created_reply (created_by objects id at schema printed)
-reply_to_statement objects (task (append application number at rows)) printed = appended_reply (appended_by false objects application number at rows)
+reply_to_statement objects (task (append application number at rows)) printed = sink_reply (appended_by false objects application number at rows)
 reply_to_statement objects (task (tail max offset)) printed = tailed_reply (tailed false objects max offset)
 reply_to_statement objects (task checkpoint) printed = checkpoint_reply (checkpoint_by objects printed)
 reply_to_statement objects snapshot printed = snapshot_reply (readable_log false objects) printed
@@ -91,8 +90,8 @@ reply_to_statement objects history printed = history_of objects
 reply_to_statement objects (show version) printed = shown (object_at objects (commit_name version))
 reply_to_statement objects (hex name) printed = in_hex (object_at objects name)
 reply_to_statement objects (foreign version action) printed = with_newline (put_word (object_at objects (commit_name version)))
-reply_to_statement objects (task (close application at)) printed = not_yet
-reply_to_statement objects (tries count) printed = not_yet
+reply_to_statement objects (task (close application at)) printed = sink_reply (closed_by false objects application)
+reply_to_statement objects (tries count) printed = with_newline noted
 reply_to_statement objects (fault kind) printed = not_yet
 reply_to_statement objects (start actor job) printed = not_yet
 reply_to_statement objects (until actor) printed = not_yet
@@ -112,7 +111,7 @@ left_by_statement objects snapshot printed = objects
 left_by_statement objects history printed = objects
 left_by_statement objects (show version) printed = objects
 left_by_statement objects (hex name) printed = objects
-left_by_statement objects (task (close application at)) printed = objects
+left_by_statement objects (task (close application at)) printed = with_close objects application at (close_plan false objects application)
 left_by_statement objects (tries count) printed = objects
 left_by_statement objects (fault kind) printed = objects
 left_by_statement objects (start actor job) printed = objects

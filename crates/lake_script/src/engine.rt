@@ -56,6 +56,9 @@ impl Outcome {
     }
 }
 
+/// How many versions an append and a close try at most, until a line says otherwise.
+pub(crate) const TRIES: u64 = 16;
+
 // Answers one line. False where the line is bad. Where a growth was refused, it says so.
 fn answer<S: Store, W: Write>(
     alloc: Global,
@@ -64,11 +67,14 @@ fn answer<S: Store, W: Write>(
     store: &mut S,
     output: &mut Output<W>,
     is_short: &mut bool,
+    tries: &mut u64,
     use_checkpoints: bool,
     cache: &mut LogCache,
     scratch: &mut Scratch,
 ) -> Result<bool, OutputError>
-    requires { IsCacheOf (S.objects store.old) cache.old }
+    requires tries { 1 ≤ tries.old }
+    requires cache { IsCacheOf (S.objects store.old) cache.old }
+    ensures tries { 1 ≤ tries.new }
     ensures cache { IsCacheOf (S.objects store.new) cache.new }
     ensures whole { S.is_reliable store.old → RestoresWell use_checkpoints (S.objects store.old) → is_short.new ≡ false → OnOk result (IsAnsweredLine number (S.objects store.old) (reading_of line.now)
         (held W.contents output.old) (held W.contents output.new) (S.objects store.new)) }
@@ -94,7 +100,7 @@ fn answer<S: Store, W: Write>(
             Ok(false)
         }
         Reading::Asks(line) => {
-            let reply = execute(alloc, line, store, use_checkpoints, cache);
+            let reply = execute(alloc, line, store, tries, use_checkpoints, cache);
             if reply.is_short() {
                 *is_short = true;
             }
@@ -135,6 +141,7 @@ fn answer_all<S: Store, W: Write>(
 {
     let mut number = 1u64;
     let mut rest = Some(text);
+    let mut tries = TRIES;
     let mut cache = LogCache::new(alloc);
     let mut scratch = Scratch::new(alloc);
     while let Some(text) = rest {
@@ -146,6 +153,7 @@ fn answer_all<S: Store, W: Write>(
             store,
             output,
             is_short,
+            &mut tries,
             use_checkpoints,
             &mut cache,
             &mut scratch,

@@ -1,5 +1,5 @@
 // What a line is told, and how it is found.
-ghost use Rattle.std.specs.Prelude.{◌≡◌, ◌<◌, ◌^◌, ◌⊎◌, [], Bool, false, OnOk, OnErr, true};
+ghost use Rattle.std.specs.Prelude.{◌≡◌, ◌<◌, ◌≤◌, ◌^◌, ◌⊎◌, [], Bool, false, OnOk, OnErr, true};
 ghost use Rattle.std.specs.Io.KnownBytes.{Appends};
 ghost use Rattle.json_text.specs.Rows.{rows_data};
 ghost use Rattle.store_core.specs.Calls.{HasRisen};
@@ -9,7 +9,7 @@ ghost use Rattle.table_log.specs.Names.{commit_name};
 ghost use Rattle.table_log.specs.Restoring.{AreCheckpointsSound, RestoresWell};
 ghost use Rattle.lake_script.specs.Growth.{MayPut};
 ghost use Rattle.commit_core.specs.Histories.{history_of};
-ghost use Rattle.script_lines.specs.Lines.{append, checkpoint, create, foreign, snapshot, task, task_view, statement_view, IsTimely, IsTimelyTask};
+ghost use Rattle.script_lines.specs.Lines.{append, checkpoint, close, create, foreign, snapshot, task, task_view, statement_view, IsTimely, IsTimelyTask};
 ghost use Rattle.lake_script.specs.ReplyView.{reply_text, is_short, says_lost};
 ghost use Rattle.lake_script.specs.Runs.{Executes, IsShort, no_room_to_read, no_room_to_show, no_room_to_tell};
 ghost use Rattle.lake_script.specs.Sound.{IsExecuted};
@@ -24,7 +24,7 @@ use crate::showing::hex_of;
 use commit_core::{CreateFault, create, history};
 use json_text::JsonRows;
 use script_lines::{Job, Line};
-use sink_core::{AppendFault, Appended, append};
+use sink_core::{SinkFault, SinkOutcome, append, close};
 use snapshot_core::{SnapshotFault, checkpoint};
 use source_core::{TailFault, tail};
 use std::alloc::Global;
@@ -39,10 +39,10 @@ pub enum LineReply {
     Created,
     /// The table was not created.
     NotCreated(CreateFault),
-    /// The batch stands in the log.
-    Appended(Appended),
-    /// The batch was not appended.
-    NotAppended(AppendFault),
+    /// The batch stands in the log, or the stream is closed.
+    SinkTold(SinkOutcome),
+    /// The batch was not appended, or the stream not closed.
+    SinkRefused(SinkFault),
     /// Nothing was handed out.
     NotTailed(TailFault),
     /// An object under the name of that version's checkpoint stands.
@@ -61,6 +61,8 @@ pub enum LineReply {
     Bytes(Vec<u8>),
     /// An object in hexadecimal.
     Digits(String),
+    /// What was set counts from now on.
+    Noted,
 }
 
 impl LineReply {
@@ -71,7 +73,7 @@ impl LineReply {
         matches!(
             self,
             LineReply::NotCreated(CreateFault::Memory | CreateFault::TooLarge)
-                | LineReply::NotAppended(AppendFault::Memory | AppendFault::FileTooLarge)
+                | LineReply::SinkRefused(SinkFault::Memory | SinkFault::FileTooLarge)
                 | LineReply::NotTailed(TailFault::Memory)
                 | LineReply::NoSnapshot(SnapshotFault::Memory | SnapshotFault::TooLarge)
                 | LineReply::NoHistory(StoreFault::Memory)
@@ -93,13 +95,17 @@ impl LineReply {
         match self {
             LineReply::Created => output.say("Created 0"),
             LineReply::NotCreated(fault) => output.say(RefusalText(fault)),
-            LineReply::Appended(Appended::Committed(version)) => {
+            LineReply::SinkTold(SinkOutcome::Committed { version }) => {
                 output.say(format_args!("Committed {version}"))
             }
-            LineReply::Appended(Appended::Already(number)) => {
+            LineReply::SinkTold(SinkOutcome::Already { number }) => {
                 output.say(format_args!("Already {number}"))
             }
-            LineReply::NotAppended(fault) => output.say(RefusalText(fault)),
+            LineReply::SinkTold(SinkOutcome::Closed { version }) => {
+                output.say(format_args!("Closed {version}"))
+            }
+            LineReply::SinkTold(SinkOutcome::AlreadyClosed) => output.say("AlreadyClosed"),
+            LineReply::SinkRefused(fault) => output.say(RefusalText(fault)),
             LineReply::NotTailed(fault) => output.say(RefusalText(fault)),
             LineReply::Checkpointed(version) => output.say(format_args!("Checkpointed {version}")),
             LineReply::NoSnapshot(fault) => output.say(RefusalText(fault)),
@@ -111,6 +117,7 @@ impl LineReply {
             LineReply::Unanswered(fault) => output.say(RefusalText(*fault)),
             LineReply::Bytes(bytes) => output.show(bytes.as_slice()),
             LineReply::Digits(text) => output.say(text.as_str()),
+            LineReply::Noted => output.say("ok"),
         }
     }
 }
@@ -145,17 +152,19 @@ fn append_batch<S: Store>(
     application: &str,
     number: u64,
     at: u64,
-    rows: &JsonRows<'_>,
+    rows: JsonRows<'_>,
+    tries: u64,
     use_checkpoints: bool,
     cache: &mut LogCache,
 ) -> LineReply
     requires at { at < 2 ^ 63 }
+    requires tries { 1 ≤ tries }
     requires cache { IsCacheOf (S.objects store.old) cache.old }
     ensures cache { IsCacheOf (S.objects store.new) cache.new }
-    ensures told { S.is_reliable store.old → RestoresWell use_checkpoints (S.objects store.old) → Executes (S.objects store.old) (task (append application.now number at (rows_data rows.now))) (reply_text result) (S.objects store.new) }
-    ensures whole { S.is_reliable store.old → RestoresWell use_checkpoints (S.objects store.old) → is_short result ≡ false → IsExecuted (S.objects store.old) (task (append application.now number at (rows_data rows.now))) (reply_text result) (S.objects store.new) }
-    ensures grows { S.is_reliable store.old → RestoresWell use_checkpoints (S.objects store.old) → MayPut (S.objects store.old) (task (append application.now number at (rows_data rows.now))) (S.objects store.new) }
-    ensures short { RestoresWell use_checkpoints (S.objects store.old) → is_short result ≡ true → IsShort (S.objects store.old) (task (append application.now number at (rows_data rows.now))) (reply_text result) }
+    ensures told { S.is_reliable store.old → RestoresWell use_checkpoints (S.objects store.old) → Executes (S.objects store.old) (task (append application.now number at (rows_data rows.entry))) (reply_text result) (S.objects store.new) }
+    ensures whole { S.is_reliable store.old → RestoresWell use_checkpoints (S.objects store.old) → is_short result ≡ false → IsExecuted (S.objects store.old) (task (append application.now number at (rows_data rows.entry))) (reply_text result) (S.objects store.new) }
+    ensures grows { S.is_reliable store.old → RestoresWell use_checkpoints (S.objects store.old) → MayPut (S.objects store.old) (task (append application.now number at (rows_data rows.entry))) (S.objects store.new) }
+    ensures short { RestoresWell use_checkpoints (S.objects store.old) → is_short result ≡ true → IsShort (S.objects store.old) (task (append application.now number at (rows_data rows.entry))) (reply_text result) }
     ensures reliable { S.is_reliable store.old → S.is_reliable store.new }
     ensures lost { says_lost result ≡ true → HasRisen (S.fault_count store.old) (S.fault_count store.new) }
     ensures counted { says_lost result ≡ false → S.fault_count store.new ≡ S.fault_count store.old }
@@ -167,11 +176,40 @@ fn append_batch<S: Store>(
         number,
         at,
         rows,
+        tries,
         use_checkpoints,
         cache,
     ) {
-        Ok(answer) => LineReply::Appended(answer),
-        Err(fault) => LineReply::NotAppended(fault),
+        Ok(answer) => LineReply::SinkTold(answer),
+        Err(fault) => LineReply::SinkRefused(fault),
+    }
+}
+
+// The reply to a line that closes a stream.
+fn close_stream<S: Store>(
+    alloc: Global,
+    store: &mut S,
+    application: &str,
+    at: u64,
+    tries: u64,
+    use_checkpoints: bool,
+    cache: &mut LogCache,
+) -> LineReply
+    requires at { at < 2 ^ 63 }
+    requires tries { 1 ≤ tries }
+    requires cache { IsCacheOf (S.objects store.old) cache.old }
+    ensures cache { IsCacheOf (S.objects store.new) cache.new }
+    ensures told { S.is_reliable store.old → RestoresWell use_checkpoints (S.objects store.old) → Executes (S.objects store.old) (task (close application.now at)) (reply_text result) (S.objects store.new) }
+    ensures whole { S.is_reliable store.old → RestoresWell use_checkpoints (S.objects store.old) → is_short result ≡ false → IsExecuted (S.objects store.old) (task (close application.now at)) (reply_text result) (S.objects store.new) }
+    ensures grows { S.is_reliable store.old → RestoresWell use_checkpoints (S.objects store.old) → MayPut (S.objects store.old) (task (close application.now at)) (S.objects store.new) }
+    ensures short { is_short result ≡ true → IsShort (S.objects store.old) (task (close application.now at)) (reply_text result) }
+    ensures reliable { S.is_reliable store.old → S.is_reliable store.new }
+    ensures lost { says_lost result ≡ true → HasRisen (S.fault_count store.old) (S.fault_count store.new) }
+    ensures counted { says_lost result ≡ false → S.fault_count store.new ≡ S.fault_count store.old }
+{
+    match close(alloc, store, application, at, tries, use_checkpoints, cache) {
+        Ok(answer) => LineReply::SinkTold(answer),
+        Err(fault) => LineReply::SinkRefused(fault),
     }
 }
 
@@ -323,9 +361,11 @@ fn execute_job<S: Store>(
     alloc: Global,
     job: Job<'_>,
     store: &mut S,
+    tries: u64,
     use_checkpoints: bool,
     cache: &mut LogCache,
 ) -> LineReply
+    requires tries { 1 ≤ tries }
     requires timely { IsTimelyTask (task_view job) }
     requires cache { IsCacheOf (S.objects store.old) cache.old }
     ensures cache { IsCacheOf (S.objects store.new) cache.new }
@@ -350,27 +390,34 @@ fn execute_job<S: Store>(
             application,
             number,
             at,
-            &rows,
+            rows,
+            tries,
             use_checkpoints,
             cache,
         ),
         Job::Tail { max, offset } => read(alloc, store, max, offset, use_checkpoints, cache),
         Job::Checkpoint => take_checkpoint(alloc, store, use_checkpoints, cache),
-        Job::Close { .. } => LineReply::Refused(Fault::NotYet),
+        Job::Close { application, at } => {
+            close_stream(alloc, store, application, at, tries, use_checkpoints, cache)
+        }
     }
 }
 
-/// Does what a line asks for, and finds its reply. What is known of the store's log is what earlier calls over this store
-/// left, or [`LogCache::new`]: appends and reads needn't read those commits again.
+/// Does what a line asks for, and finds its reply. An append and a close try so many versions at most, until a line says
+/// otherwise. What is known of the store's log is what earlier calls over this store left, or [`LogCache::new`]: appends,
+/// closes and reads needn't read those commits again.
 pub fn execute<S: Store>(
     alloc: Global,
     line: Line<'_>,
     store: &mut S,
+    tries: &mut u64,
     use_checkpoints: bool,
     cache: &mut LogCache,
 ) -> LineReply
+    requires tries { 1 ≤ tries.old }
     requires timely { IsTimely (statement_view line) }
     requires cache { IsCacheOf (S.objects store.old) cache.old }
+    ensures tries { 1 ≤ tries.new }
     ensures cache { IsCacheOf (S.objects store.new) cache.new }
     // What was asked for is told and done, and what was put is well made.
     ensures whole { S.is_reliable store.old → RestoresWell use_checkpoints (S.objects store.old) → is_short result ≡ false
@@ -393,7 +440,7 @@ pub fn execute<S: Store>(
             forget(alloc, cache);
             create_table(alloc, store, id, at, schema)
         }
-        Line::Job(job) => execute_job(alloc, job, store, use_checkpoints, cache),
+        Line::Job(job) => execute_job(alloc, job, store, *tries, use_checkpoints, cache),
         Line::Snapshot => tell_snapshot(alloc, store, use_checkpoints, cache),
         Line::History => tell_history(alloc, store),
         Line::Show { version } => show(alloc, store, version),
@@ -401,6 +448,11 @@ pub fn execute<S: Store>(
         Line::Foreign { version, action } => {
             forget(alloc, cache);
             put_foreign(alloc, store, version, action)
+        }
+        Line::Tries { count } => {
+            // A line gives at least one.
+            *tries = count.max(1);
+            LineReply::Noted
         }
         _ => LineReply::Refused(Fault::NotYet),
     }

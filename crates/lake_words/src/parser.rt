@@ -262,12 +262,7 @@ fn close<'a>(alloc: Global) -> Result<Command<'a>, AllocError>
     ensures app { IfOk result (λ command. app_of command ≡ words.close) }
     ensures local { IfOk result (λ command. (fields_of command).has_globals ≡ false) }
 {
-    let command = on_folder(
-        alloc,
-        "close",
-        "Close an application's stream (not yet)",
-        STATUSES,
-    )?;
+    let command = on_folder(alloc, "close", "Close an application's stream", STATUSES)?;
     let application = place(alloc, "APP", "The application's id, 1 to 64 bytes");
     let command = with(command, application)?;
     let command = with(command, at(alloc))?;

@@ -69,7 +69,7 @@ unfolding close_from
 close_timely text t h =
     bind_all IsTimelyTask (word_and_rest text) _
     (λ application u _ h1. bind_all IsTimelyTask (moment_of application.1) _
-    (λ at v _ h2. some_all IsTimelyTask (close application.0 at) v tt h2) u h1) t h
+    (λ at v is h2. some_all IsTimelyTask (close application.0 at) v (moment_small application.1 at is) h2) u h1) t h
 
 tail_timely : (text : List ℕ) (t : Task) → tail_from text ≡ Some t → IsTimelyTask t
 unfolding tail_from

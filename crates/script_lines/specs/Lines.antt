@@ -221,7 +221,7 @@ statement_view (line.Foreign version action) = foreign version action.now
 -- a moment fits where a commit keeps one
 abbrev pub IsTimelyTask : Task → Type 0
 IsTimelyTask (append application number at rows) = at < 2 ^ 63
-IsTimelyTask (close application at) = ⊤
+IsTimelyTask (close application at) = at < 2 ^ 63
 IsTimelyTask checkpoint = ⊤
 IsTimelyTask (tail max offset) = ⊤
 

@@ -1,7 +1,5 @@
-pub mod Closing
-pub mod CloseSessions
 pub mod Appending
-pub mod Puts
-pub mod Refusals
-pub mod RowsIn
-pub mod SinkFaultTexts
+pub mod Closes
+pub mod SinkFits
+pub mod SinkLaws
+pub mod SinkSessions

@@ -1,20 +1,18 @@
-//! Batches of rows that are appended to a table over a store: the file, and the commit behind the log; and the close of a stream
-//! as a session.
+//! The sink of a table: batches of rows are appended, and streams closed, each by a session that loads the log, puts what the rules
+//! let be put, and goes past the commits of others; and over one store, which drives such a session.
 #![tactic(auto)]
 
-mod appending;
-mod closing;
-mod committing;
-mod putting;
-mod refusal;
-mod rows_in;
-mod sink_fault;
+mod filing;
+mod racing;
+mod rules;
 mod sink_laws;
 mod sink_session;
 mod sink_state;
+mod sinking;
 
-pub use appending::{Appended, GREATEST_NUMBER, MOST_ID_BYTES, MOST_ROWS, append};
-pub use refusal::AppendFault;
-pub use sink_fault::SinkFault;
-pub use sink_laws::{a_close_asks_for_little, a_created_close_is_told, what_a_close_may};
-pub use sink_state::{SinkEnd, SinkOutcome, SinkSession, SinkStage};
+pub use batch_core::{GREATEST_NUMBER, MOST_ID_BYTES, MOST_ROWS, SinkFault};
+pub use sink_laws::{
+    a_contended_sink_tried_all, a_created_commit_is_told, a_sink_asks_for_little, what_a_sink_may,
+};
+pub use sink_state::{Settled, SinkEnd, SinkOutcome, SinkSession, SinkStage, SinkTask};
+pub use sinking::{append, close};

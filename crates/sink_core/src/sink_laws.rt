@@ -1,39 +1,51 @@
-// Laws of closes as sessions: what they may ask for and tell, and how many calls they make. Each is a function that does nothing,
-// whose contract is the law.
-ghost use Rattle.std.specs.Prelude.{◌≡◌, ◌≤◌, ◌+◌, ◌*◌, ℕ, suc, List, [], ◌∷◌, ◌++◌, length, Some, Ok};
-ghost use Rattle.store_core.specs.Objects.{Objects, object_at};
+//! Laws of a sink's sessions: what they may ask for and tell, and how many calls and tries they make. Each is a function that does nothing,
+//! whose contract is the law.
+ghost use Rattle.std.specs.Prelude.{◌≡◌, ◌≤◌, ◌+◌, ◌*◌, ℕ, List, [], ◌∷◌, ◌++◌, length, Ok, Err};
+ghost use Rattle.store_core.specs.Objects.{Objects};
 ghost use Rattle.store_core.specs.declared.store.Put.TheVariants.{Created};
-ghost use Rattle.session_core.specs.Names.{commit_name};
 ghost use Rattle.session_core.specs.Sessions.{AllAsked};
 ghost use Rattle.session_core.specs.Talks.{Asked, Bears, Talk, list_names, put_commit, put_file, told_names, told_put};
-ghost use Rattle.commit_core.specs.Commits.{commit_text};
-ghost use Rattle.sink_core.specs.Closing.{closing};
-ghost use Rattle.sink_core.specs.CloseSessions.{SinkAsks, SinkEnds, SinkJob};
+ghost use Rattle.batch_core.specs.declared.fault.SinkFault.TheVariants.{Contended};
+ghost use Rattle.sink_core.specs.SinkLaws.{IsCommittedIn, IsCommitOfJob, IsFileOfJob, StandsIn, TellsCommit, versions_taken};
+ghost use Rattle.sink_core.specs.SinkSessions.{SinkAsks, SinkEnds, SinkJob};
 ghost use Rattle.sink_core.specs.declared.sink_state.SinkEnd.{SinkEnd};
-ghost use Rattle.sink_core.specs.declared.sink_state.SinkOutcome.TheVariants.{Closed};
+ghost use Rattle.sink_core.specs.declared.sink_state.SinkOutcome.TheVariants.{Already};
 
 use commit_core::what_a_commit_may;
 
-/// A close puts nothing but the commit that closes its stream, to the byte; and where it tells that the stream was closed, that
-/// commit stands at that version of each store that bears its talk.
-pub fn what_a_close_may()
-    ensures commit { (job : SinkJob) (before talk : Talk) (version : ℕ) (bytes : List ℕ) → SinkAsks job before talk (put_commit version bytes) → bytes ≡ commit_text (closing job.application job.at) }
-    ensures file { (job : SinkJob) (before talk : Talk) (name bytes : List ℕ) → SinkAsks job before talk (put_file name bytes) → ⊥ }
-    ensures closed { (objects : Objects) (job : SinkJob) (before talk : Talk) (end : SinkEnd) (version : ℕ) → Bears objects talk → SinkEnds job before talk end → end.answer ≡ Ok (Closed version)
-        → object_at objects (commit_name version) ≡ Some (commit_text (closing job.application job.at)) }
+/// A session puts no commit but that of its job, to the byte: of a close the one that closes its stream, of an append the one of its
+/// batch, with the size of the file that stands under its name in each store that bears the talk and what went before it; and, over
+/// such a store, no file but one of the rows that its items spell for a schema that the table had at some version, under the batch's
+/// name. A close puts no file. Where it tells that its commit was put, that stands at that version of each store that bears its talk
+/// and what went before it, and a batch's file stands there with its rows, for a schema that the table had; where it tells that its
+/// batch stands already, such a file stands there too, and the batch's number was the application's last one at some version.
+pub fn what_a_sink_may()
+    ensures commit { (objects : Objects) (job : SinkJob) (before talk : Talk) (version : ℕ) (bytes : List ℕ) → Bears objects before → Bears objects talk → SinkAsks job before talk (put_commit version bytes) → IsCommitOfJob objects job bytes }
+    ensures file { (objects : Objects) (job : SinkJob) (before talk : Talk) (name bytes : List ℕ) → Bears objects before → Bears objects talk → SinkAsks job before talk (put_file name bytes) → IsFileOfJob objects job name bytes }
+    ensures committed { (objects : Objects) (job : SinkJob) (before talk : Talk) (end : SinkEnd) (version : ℕ) → Bears objects before → Bears objects talk → SinkEnds job before talk end → TellsCommit end.answer version
+        → IsCommittedIn objects job version }
+    ensures already { (objects : Objects) (job : SinkJob) (before talk : Talk) (end : SinkEnd) (number : ℕ) → Bears objects before → Bears objects talk → SinkEnds job before talk end → end.answer ≡ Ok (Already number)
+        → StandsIn objects job number }
 {
     what_a_commit_may();
 }
 
-/// Right behind a put that created its commit a close tells nothing but that the stream was closed, with that very version: neither
-/// that memory ran out nor any other fault.
-pub fn a_created_close_is_told()
-    ensures { (job : SinkJob) (before talk : Talk) (version : ℕ) (bytes : List ℕ) (end : SinkEnd)
-        → SinkEnds job before (talk ++ (put_commit version bytes, told_put Created) ∷ []) end → end.answer ≡ Ok (Closed version) }
+/// Right behind a put that created its commit a session asks for nothing more, and tells nothing but that, with that very version:
+/// neither that memory ran out nor any other fault.
+pub fn a_created_commit_is_told()
+    ensures told { (job : SinkJob) (before talk : Talk) (version : ℕ) (bytes : List ℕ) (end : SinkEnd)
+        → SinkEnds job before (talk ++ (put_commit version bytes, told_put Created) ∷ []) end → TellsCommit end.answer version }
+    ensures quiet { (job : SinkJob) (before talk : Talk) (version : ℕ) (bytes : List ℕ) (asked : Asked)
+        → SinkAsks job before (talk ++ (put_commit version bytes, told_put Created) ∷ []) asked → ⊥ }
 {}
 
-/// A close makes at most as many calls as names were listed, two for each try, and one.
-pub fn a_close_asks_for_little()
+/// Where a session tells that it was contended, just as many of its puts of a commit as tries were given found their version taken.
+pub fn a_contended_sink_tried_all()
+    ensures { (job : SinkJob) (before talk : Talk) (end : SinkEnd) (newest : ℕ) → SinkEnds job before talk end → end.answer ≡ Err (Contended newest) → versions_taken talk ≡ job.tries }
+{}
+
+/// A session makes at most as many calls as names were listed, two for each try, and four.
+pub fn a_sink_asks_for_little()
     ensures { (job : SinkJob) (before talk rest : Talk) (names : List (List ℕ)) → AllAsked (SinkAsks job before) [] talk → talk ≡ (list_names, told_names names) ∷ rest
-        → length talk ≤ suc (length names + 2 * job.tries) }
+        → length talk ≤ length names + 2 * job.tries + 4 }
 {}

@@ -1,10 +1,10 @@
 //! The lines of a case.
 
-use crate::closes::{Waiting, begin_close, step_close};
 use crate::conflicts::Contest;
 use crate::failure::Failure;
 use crate::faults::{add_turns, turn_of};
 use crate::races::race;
+use crate::sinks::{Waiting, start, step};
 use crate::telling::{tell_creation, tell_faults, tell_landed, tell_object, tell_reply};
 use commit_core::CreateSession;
 use session_core::{Request, ask, drive};
@@ -27,14 +27,16 @@ use store_core::{Flaky, MemoryStore};
 /// - `conflict`: what of the commit that is begun conflicts with the candidate;
 /// - `race V TRIES`: a `CommitSession` of the candidate, whose bytes are its lines, is driven to its end: from version V on, at
 ///   most so many versions. It tells how many winners were met;
-/// - `close APP AT TRIES`: the close of an application's stream is begun, at a moment in milliseconds, below 2^63, which tries at
-///   most so many versions. It tells what it asks for first;
-/// - `step`: the call that it asks for is made. It tells what it asks for next, or how it ended.
+/// - `append APP NUMBER AT TRIES ROWS` and `close APP AT TRIES`: the append of a batch, whose rows are a JSON array, or the close
+///   of an application's stream is begun, at a moment in milliseconds, below 2^63, which tries at most so many versions. It tells
+///   what it asks for first, of a file also how many bytes it has;
+/// - `step`: the call that it asks for is made. It tells what it asks for next, or how it ended;
+/// - `start ACTOR LINE` and `step ACTOR`: the same, of an append or a close beside others, under a name of its own.
 pub fn tell_line(
     alloc: Global,
     store: &mut Flaky<MemoryStore>,
     contest: &mut Contest,
-    close: &mut Option<Waiting>,
+    sinks: &mut Vec<Waiting>,
     line: &str,
     out: &mut Vec<u8>,
 ) -> Result<(), Failure> {
@@ -53,15 +55,12 @@ pub fn tell_line(
         "candidate" => contest.make_candidate(alloc, rest),
         "conflict" if rest.is_empty() => contest.tell_conflict(alloc, out),
         "race" => race(alloc, store, contest, rest, out),
-        "close" => {
-            *close = begin_close(alloc, rest, out)?;
-            Ok(())
+        "append" | "close" => start(alloc, sinks, "", line, out),
+        "start" => {
+            let (actor, job) = rest.split_once(' ').ok_or(Failure::Misspelled)?;
+            start(alloc, sinks, actor, job, out)
         }
-        "step" if rest.is_empty() => {
-            let waiting = close.take().ok_or(Failure::Misspelled)?;
-            *close = step_close(alloc, store, waiting, out)?;
-            Ok(())
-        }
+        "step" => step(alloc, store, sinks, rest, out),
         _ => tell_reply(ask(alloc, store, request_of(alloc, word, rest)?), out),
     }
 }

@@ -12,17 +12,17 @@ use store_core::{Flaky, MemoryStore};
 pub fn tell_cases(alloc: Global, text: &str, out: &mut Vec<u8>) -> Result<(), Failure> {
     let mut store = empty_store(alloc);
     let mut contest = Contest::new(alloc);
-    let mut close = None;
+    let mut sinks = Vec::new(alloc);
     let mut number = 0u64;
     for line in text.split('\n') {
         number = number.saturating_add(1);
         if let Some(name) = line.strip_prefix("case ") {
             store = empty_store(alloc);
             contest = Contest::new(alloc);
-            close = None;
+            sinks = Vec::new(alloc);
             writeln!(out, "== {name}")?;
         } else if !line.is_empty() && !line.starts_with('#') {
-            match tell_line(alloc, &mut store, &mut contest, &mut close, line, out) {
+            match tell_line(alloc, &mut store, &mut contest, &mut sinks, line, out) {
                 Err(Failure::Misspelled) => writeln!(out, "bad line {number}")?,
                 ended => ended?,
             }

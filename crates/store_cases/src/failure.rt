@@ -1,5 +1,6 @@
 //! Why a line of a case can't be told.
 
+use json_text::TextError;
 use std::alloc::{AllocError, AllocFailed};
 use std::io;
 use std::num::ParseIntError;
@@ -38,5 +39,14 @@ impl From<io::Error> for Failure {
 impl From<ParseIntError> for Failure {
     fn from(_error: ParseIntError) -> Failure {
         Failure::Misspelled
+    }
+}
+
+impl From<TextError> for Failure {
+    fn from(error: TextError) -> Failure {
+        match error {
+            TextError::Malformed => Failure::Misspelled,
+            TextError::Memory => Failure::Memory,
+        }
     }
 }

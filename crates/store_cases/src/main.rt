@@ -1,19 +1,20 @@
 //! A program that reads calls of a store which stand on standard input as cases, and prints how each ends; which commits
-//! conflict with a candidate, how the puts of a commit end, and what the close of a stream asks for and tells.
+//! conflict with a candidate, how the puts of a commit end, and what the append of a batch and the close of a stream ask for
+//! and tell.
 //!
 //! A line `case NAME` begins a case, with a store in which nothing stands and no candidate, and prints `== NAME`. Each other
-//! line is a call of that store, what becomes of calls, of a commit or a close that is begun, or a question (`calls.rt` lists
-//! them).
+//! line is a call of that store, what becomes of calls, of a commit, an append or a close that is begun, or a question
+//! (`calls.rt` lists them).
 //! Blank lines and those that begin with `#` are passed over.
 #![tactic(auto)]
 
 mod calls;
 mod cases;
-mod closes;
 mod conflicts;
 mod failure;
 mod faults;
 mod races;
+mod sinks;
 mod telling;
 
 use std::io;

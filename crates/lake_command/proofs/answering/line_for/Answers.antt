@@ -2,10 +2,10 @@ use Rattle.std.proofs.Common.{ap, sym, refl, map, ◌∙◌}
 use Rattle.serde_json.specs.View.{items_of}
 use Rattle.json_text.specs.Rows.{text_data}
 use Rattle.json_lines.specs.Rows.{input_lines, object_of}
-use Rattle.script_lines.specs.Lines.{append, create, task}
+use Rattle.script_lines.specs.Lines.{append, close, create, task}
 use Rattle.lake_command.proofs.FolderLemmas.{rows_are}
 use Rattle.lake_command.proofs.answering.line_for.Goals as goal
-use Rattle.lake_command.proofs.answering.line_for.Goals.{in-Create+in_ok-moment-in-Create, in-Append+in_ok-at-in-Append+in_ok-text-in-Append+in_ok-rows-in-Append, in-Tail, in-Checkpoint, in-Snapshot, in-History}
+use Rattle.lake_command.proofs.answering.line_for.Goals.{in-Create+in_ok-moment-in-Create, in-Append+in_ok-at-in-Append+in_ok-text-in-Append+in_ok-rows-in-Append, in-Close+in_ok-moment-in-Close, in-Tail, in-Checkpoint, in-Snapshot, in-History}
 
 pub returns-clause-asked : goal.returns-clause-asked
 returns-clause-asked g c = elim c.match-job.branch [
@@ -17,6 +17,7 @@ returns-clause-asked g c = elim c.match-job.branch [
     rows_are w.in_ok-text-in-Append.field-0.items w.in_ok-rows-in-Append.rows.items (ap (λ text. map object_of (input_lines text)) (sym w.as_slice.ensures.value) ∙ w.in_ok-rows-in-Append.ensures.objects),
     ap (λ at. task (append w.in-Append.application.now w.in-Append.number at (items_of (map (λ object. text_data object.now) w.in_ok-rows-in-Append.rows.items)))) w.in_ok-at-in-Append.ensures.same.0,
   )
+  | in-Close+in_ok-moment-in-Close w ↦ rw (w.in-Close.is, w.line-is) (ap (λ at. task (close w.in-Close.application.now at)) w.in_ok-moment-in-Close.ensures.same.0)
   | in-Tail w ↦ rw (w.in-Tail.is, w.line-is) refl
   | in-Checkpoint w ↦ rw (w.in-Checkpoint.is, w.line-is) refl
   | in-Snapshot w ↦ rw (w.in-Snapshot.is, w.line-is) refl

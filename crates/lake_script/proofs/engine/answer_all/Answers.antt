@@ -26,6 +26,7 @@ loop-rest-init g c = record {
   found = refl;
   unbroken = refl;
   cache = c.new-cache.ensures (g.S.Store.objects c.args.store.now);
+  tries = omega arith;
   counted = search rules;
 }
 
@@ -95,6 +96,7 @@ loop-rest-preserved g c =
       found = sym (first_bad_next _ _ _ goes_on) ∙ (ap (first_bad_from c.loop-rest.number) (sym here) ∙ c.loop-rest.invariant.found);
       unbroken = c.in_ok-answer.ensures.unbroken ∙ c.loop-rest.invariant.unbroken;
       cache = c.in_ok-answer.ensures.cache;
+      tries = c.in_ok-answer.ensures.tries;
       counted =
           let more = lines_at_most-after c.in-Some.text.now c.first_line.result.1 c.first_line.ensures.shorter in
           let fits = rw c.in-Some.is at c.loop-rest.invariant.counted in

@@ -27,6 +27,7 @@ invariant-loop-rest g l =
       found : first_bad_from l.number (lines_left lines) ≡ first_bad l.fn.text;
       unbroken : write_failed l.output ≡ write_failed l.fn.output;
       cache : IsCacheOf (objects l.store) l.cache;
+      tries : 1 ≤ l.tries;
       counted : l.number + lines_at_most lines ≤ 2 ^ 30 + 2;
     }
 

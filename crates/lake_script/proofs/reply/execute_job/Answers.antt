@@ -20,6 +20,21 @@ returns-in-Append-clause-grows g c = λ reliable well. rw c.in-Append.is (c.appe
 pub returns-in-Append-clause-short : goal.returns-in-Append-clause-short
 returns-in-Append-clause-short g c = λ well short. rw c.in-Append.is (c.append_batch.ensures.short well short)
 
+pub close_stream-requires-clause-at : goal.close_stream-requires-clause-at
+close_stream-requires-clause-at g c = rw c.in-Close.is at c.requires.timely
+
+pub returns-in-Close-clause-told : goal.returns-in-Close-clause-told
+returns-in-Close-clause-told g c = λ reliable well. rw c.in-Close.is (c.close_stream.ensures.told reliable well)
+
+pub returns-in-Close-clause-whole : goal.returns-in-Close-clause-whole
+returns-in-Close-clause-whole g c = λ reliable well enough. rw c.in-Close.is (c.close_stream.ensures.whole reliable well enough)
+
+pub returns-in-Close-clause-grows : goal.returns-in-Close-clause-grows
+returns-in-Close-clause-grows g c = λ reliable well. rw c.in-Close.is (c.close_stream.ensures.grows reliable well)
+
+pub returns-in-Close-clause-short : goal.returns-in-Close-clause-short
+returns-in-Close-clause-short g c = λ well short. rw c.in-Close.is (c.close_stream.ensures.short short)
+
 pub returns-in-Tail-clause-told : goal.returns-in-Tail-clause-told
 returns-in-Tail-clause-told g c = λ reliable well.
     rw c.in-Tail.is

@@ -1,0 +1,5 @@
+pub mod Closing
+pub mod Committing
+pub mod Refusals
+pub mod Requests
+pub mod RowsIn
