@@ -4,5 +4,6 @@ pub mod Callers
 pub mod CommitLemmas
 pub mod FileLemmas
 pub mod RequestLemmas
+pub mod RequestParts
 pub mod RowLemmas
 pub mod TextReads

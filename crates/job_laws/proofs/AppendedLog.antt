@@ -31,7 +31,8 @@ use Rattle.batch_core.specs.Refusals.{bad_log, read_only}
 use Rattle.batch_core.specs.RowsIn.{rows_from, takes_rows}
 use Rattle.log_laws.proofs.Callers.{newest-cons, of_commit}
 use Rattle.job_laws.proofs.OwnSteps.{batch_own}
-use Rattle.job_laws.proofs.Requests.{IsTaken, batch_asked, behind_number, behind_rows, behind_schema, both_done, given, taken, told_done}
+use Rattle.batch_core.proofs.Callers.{behind_number, behind_rows, behind_schema}
+use Rattle.job_laws.proofs.Requests.{IsTaken, batch_asked, both_done, given, taken, told_done}
 
 -- ---- the newest actions behind one more commit
 

@@ -22,6 +22,7 @@ use Rattle.batch_core.specs.Requests.{SinkRequest, checked, file_or_refusal, is_
 use Rattle.sink_core.specs.Appending.{EncodedBatch, batch_of, size_behind, put_plan, new_plan, puts, repeated_plan, request_of, append_plan, stands, plan_of}
 use Rattle.batch_core.specs.Refusals.{SinkRefusal, bad_log, read_only, stream_closed}
 use Rattle.batch_core.specs.RowsIn.{rows_from, takes_rows}
+use Rattle.batch_core.proofs.Callers.{asked_parts, numbered_parts}
 
 -- ---- steps that weren't refused
 
@@ -60,44 +61,12 @@ pub record IsTaken (next : ℕ) (commits : List (List actions.Action)) (applicat
   goes_on : (not request.repeats && is_closed application commits) ≡ false
   pub version : request.version ≡ next
 
-module _ (next : ℕ) (commits : List (List actions.Action)) (application : List ℕ) (number : ℕ) (items : Items) where
-  abbrev asked : Tree → List Row → Bool → SinkRequest
-  asked schema rows repeats = record { version = next; schema = schema; rows = rows; repeats = repeats }
-
-  -- the steps of a request, each behind the one before it
-  abbrev pub behind_number : Tree → List Row → Bool → Result SinkRequest SinkRefusal
-  behind_number schema rows repeats = refused_if (not repeats && is_closed application commits) stream_closed >>= λ goes_on. Ok (asked schema rows repeats)
-
-  abbrev pub behind_rows : Tree → List Row → Result SinkRequest SinkRefusal
-  behind_rows schema rows = is_repeat number (last_number application commits) >>= behind_number schema rows
-
-  abbrev pub behind_schema : Tree → Result SinkRequest SinkRefusal
-  behind_schema schema = takes_rows schema >>= λ supported. rows_from 0 schema items >>= behind_rows schema
-
-  -- a request whose number was looked at
-  taken_with : (schema : Tree) (rows : List Row) (repeats : Bool) (request : SinkRequest) → writable commits ≡ Ok schema → takes_rows schema ≡ Ok tt → rows_from 0 schema items ≡ Ok rows
-      → is_repeat number (last_number application commits) ≡ Ok repeats → behind_number schema rows repeats ≡ Ok request → IsTaken next commits application number items request
-  taken_with schema rows repeats request written supported rows_are number_is is =
-      let e = both_done (refused_if (not repeats && is_closed application commits) stream_closed) (λ goes_on. Ok (asked schema rows repeats)) request is in
-      let same : asked schema rows repeats ≡ request = given {E = SinkRefusal} (asked schema rows repeats) request e.2 in
-      subst (IsTaken next commits application number items) same (record {
-        schema = written;
-        supported = supported;
-        rows = rows_are;
-        repeats = number_is;
-        goes_on = passed (not repeats && is_closed application commits) stream_closed e.0 e.1;
-        version = refl;
-      })
-
-  -- the request behind the commits of a log
-  pub taken : (request : SinkRequest) → request_behind next commits application number items ≡ Ok request → IsTaken next commits application number items request
-  unfolding request_behind
-  taken request is =
-      let a = both_done (refused_as read_only (writable commits)) behind_schema request is in
-      let b = both_done (takes_rows a.0) (λ supported. rows_from 0 a.0 items >>= behind_rows a.0) request a.2 in
-      let c = both_done (rows_from 0 a.0 items) (behind_rows a.0) request b.2 in
-      let d = both_done (is_repeat number (last_number application commits)) (behind_number a.0 c.0) request c.2 in
-      taken_with a.0 c.0 d.0 request (told_done read_only (writable commits) a.0 a.1) b.1 c.1 d.1 d.2
+-- the request behind the commits of a log
+pub taken : (next : ℕ) (commits : List (List actions.Action)) (application : List ℕ) (number : ℕ) (items : Items) (request : SinkRequest) → request_behind next commits application number items ≡ Ok request → IsTaken next commits application number items request
+taken next commits application number items request is =
+    let parts = asked_parts next commits application number items request is in
+    let numbers = numbered_parts commits application number request.repeats parts.1 in
+    record { schema = parts.0.written; supported = parts.0.takes; rows = parts.0.spelled; repeats = numbers.0; goes_on = numbers.1; version = parts.2 }
 
 -- ---- the batch
 

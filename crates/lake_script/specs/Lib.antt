@@ -9,3 +9,4 @@ pub mod Sound
 pub mod Streams
 pub mod Tables
 pub mod Told
+pub mod Tries

@@ -16,6 +16,7 @@ ghost use Rattle.lake_script.specs.Sound.{IsExecuted};
 ghost use Rattle.lake_script.specs.Streams.{held, waiting, write_failed, StandsIn};
 ghost use Rattle.source_core.specs.Tailing.{tailed};
 ghost use Rattle.lake_script.specs.Told.{shown, in_hex, tailed_reply};
+ghost use Rattle.lake_script.specs.Tries.{SetsTries};
 
 use crate::faults::{Fault, RefusalText};
 use crate::foreign::put_line;
@@ -418,6 +419,7 @@ pub fn execute<S: Store>(
     requires timely { IsTimely (statement_view line) }
     requires cache { IsCacheOf (S.objects store.old) cache.old }
     ensures tries { 1 ≤ tries.new }
+    ensures set { SetsTries (statement_view line.entry) tries.old tries.new }
     ensures cache { IsCacheOf (S.objects store.new) cache.new }
     // What was asked for is told and done, and what was put is well made.
     ensures whole { S.is_reliable store.old → RestoresWell use_checkpoints (S.objects store.old) → is_short result ≡ false

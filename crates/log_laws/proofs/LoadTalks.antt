@@ -92,7 +92,7 @@ never_none : (bytes : List ℕ) (actions : List Action) → IsCommit bytes actio
 never_none bytes actions is none = let wrong : ◌≡◌ {A = Option (List Action)} (Some actions) None = sym (of_commit bytes actions is) ∙ none in cc
 
 -- in a sound store whatever stands under a commit's name is one
-commit_stands : (objects : Objects) → IsSound objects → (version : ℕ) (bytes : List ℕ) → version ≤ greatest_version → object_at objects (commit_name version) ≡ Some bytes → commit_of bytes ≡ None → ⊥
+pub commit_stands : (objects : Objects) → IsSound objects → (version : ℕ) (bytes : List ℕ) → version ≤ greatest_version → object_at objects (commit_name version) ≡ Some bytes → commit_of bytes ≡ None → ⊥
 unfolding commit_name
 commit_stands objects sound version bytes small stands none =
     elim (cases_lt version (length sound.entries)) [
@@ -104,12 +104,12 @@ commit_stands objects sound version bytes small stands none =
     ]
 
 -- the last call of a talk is one that is asked for behind the others
-asked_last : (asks : Talk → Asked → Type 0) (before front : Talk) (call : Asked × Told) → AllAsked asks before (front ++ call ∷ []) → asks (before ++ front) call.0
+pub asked_last : (asks : Talk → Asked → Type 0) (before front : Talk) (call : Asked × Told) → AllAsked asks before (front ++ call ∷ []) → asks (before ++ front) call.0
 asked_last asks before [] call asked = subst (λ (t : Talk). asks t call.0) (sym (append-nil before)) asked.0
 asked_last asks before (first ∷ front) call asked = subst (λ (t : Talk). asks t call.0) (append_assoc before (first ∷ []) front) (asked_last asks (before ++ first ∷ []) front call asked.1)
 
 -- What a load asks for is a commit where a sound store has it.
-sought_commit : (objects : Objects) → IsSoundStore objects → (job : LoadJob) (listed : List (List ℕ)) (gets : Talk) (name bytes : List ℕ) → IsNextCommit job listed gets name ⊎ IsListedCheckpoint job listed gets name
+pub sought_commit : (objects : Objects) → IsSoundStore objects → (job : LoadJob) (listed : List (List ℕ)) (gets : Talk) (name bytes : List ℕ) → IsNextCommit job listed gets name ⊎ IsListedCheckpoint job listed gets name
     → object_at objects name ≡ Some bytes → commit_of bytes ≡ None → ⊥
 sought_commit objects sound job listed gets name bytes (inl next) stands none =
     let few = count_few listed in

@@ -1,1 +1,15 @@
+mod Created
+mod Entries
+mod Files
+mod Fronts
+mod Lacks
+mod LoadRows
+mod NextSteps
+mod NextVersions
 mod Puts
+mod Ready
+mod StreamLacks
+mod StreamPuts
+mod StreamRefused
+mod StreamTold
+mod TableAnswers

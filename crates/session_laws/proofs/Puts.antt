@@ -20,10 +20,6 @@ front_sound objects sound version name bytes puts =
     let log = front_log objects sound (suc version) puts.from puts.r puts.commits puts.checkpoint puts.read in
     record { commits = log.0; stand = log.1; checkpoint = checkpoint_same puts.commits log.0 log.2 bytes version puts.is.checkpoint }
 
--- a talk that goes on behind a list begins with it
-pub begins_more : (front talk more : Talk) (names : List (List ℕ)) → HasListed front names → talk ≡ front ++ more → (rest : Talk) × (talk ≡ (list_names, told_names names) ∷ rest)
-begins_more front talk more names listed is = (listed.gets ++ more, is ∙ ap (λ (t : Talk). t ++ more) listed.talked)
-
 -- behind a put an object stands there
 put_stands : (put : Put) (bytes : List ℕ) (found : Option (List ℕ)) → StandsAfter put bytes found → IsSome found
 put_stands Created bytes found is = rw is refl

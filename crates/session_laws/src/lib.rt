@@ -1,7 +1,9 @@
-//! What sessions ask for and tell, seen over sound stores: laws, each a function with an empty body whose contract is the law.
-//! The product calls no code of this crate.
+//! What sessions may ask for and tell, in every sound store that bears their talk: laws, each a function whose contract is the law, and
+//! each session's next step under them. The product calls no code of this crate.
 #![tactic(auto)]
 
-mod checkpoints;
+mod sessions;
+mod steps;
 
-pub use checkpoints::what_a_checkpoint_may;
+pub use sessions::{what_a_checkpoint_may, what_a_load_may, what_a_session_may, what_a_stream_may};
+pub use steps::{checkpoint_step, create_step, load_step, stream_step};

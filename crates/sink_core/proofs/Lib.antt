@@ -10,5 +10,6 @@ pub mod Quiet
 pub mod RaceSteps
 pub mod ReachLemmas
 pub mod RestoredAppends
+pub mod SinkCounts
 pub mod SinkTalks
 pub mod WinnerLemmas

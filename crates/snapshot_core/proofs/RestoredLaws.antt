@@ -41,7 +41,7 @@ module _ (log other : List (List Action)) (same : (key : Key) → at key log ≡
       }
 
   -- all of them
-  all_same : (list : List Action) → ListsAll log list → ListsAll other list
+  pub all_same : (list : List Action) → ListsAll log list → ListsAll other list
   all_same list lists = record {
     numbers = lists.numbers;
     domains = lists.domains;

@@ -4,7 +4,7 @@ use crate::conflicts::Contest;
 use crate::failure::Failure;
 use crate::faults::{add_turns, turn_of};
 use crate::races::race;
-use crate::sinks::{Waiting, start, step};
+use crate::sinks::{Waiting, start, step, step_without_memory};
 use crate::telling::{tell_creation, tell_faults, tell_landed, tell_object, tell_reply};
 use commit_core::CreateSession;
 use session_core::{Request, ask, drive};
@@ -31,7 +31,9 @@ use store_core::{Flaky, MemoryStore};
 ///   of an application's stream is begun, at a moment in milliseconds, below 2^63, which tries at most so many versions. It tells
 ///   what it asks for first, of a file also how many bytes it has;
 /// - `step`: the call that it asks for is made. It tells what it asks for next, or how it ended;
-/// - `start ACTOR LINE` and `step ACTOR`: the same, of an append or a close beside others, under a name of its own.
+/// - `memory`: memory runs out in the call that it asks for, which isn't made. It tells how it ended;
+/// - `start ACTOR LINE`, `step ACTOR` and `memory ACTOR`: the same, of an append or a close beside others, under a name of its
+///   own.
 pub fn tell_line(
     alloc: Global,
     store: &mut Flaky<MemoryStore>,
@@ -61,6 +63,7 @@ pub fn tell_line(
             start(alloc, sinks, actor, job, out)
         }
         "step" => step(alloc, store, sinks, rest, out),
+        "memory" => step_without_memory(alloc, sinks, rest, out),
         _ => tell_reply(ask(alloc, store, request_of(alloc, word, rest)?), out),
     }
 }

@@ -123,6 +123,21 @@ pub fn step(
     go_on(sinks, actor, session, Some(reply), out)
 }
 
+/// Tells the session of an actor that memory ran out in the call that it asks for, which isn't made, and adds how it ended.
+pub fn step_without_memory(
+    alloc: Global,
+    sinks: &mut Vec<Waiting>,
+    actor: &str,
+    out: &mut Vec<u8>,
+) -> Result<(), Failure> {
+    let Waiting {
+        actor,
+        session,
+        request: _,
+    } = take(alloc, sinks, actor)?.ok_or(Failure::Misspelled)?;
+    go_on(sinks, actor, session, Some(Reply::Memory), out)
+}
+
 // Takes the session of an actor out of those that wait, if one does.
 fn take(alloc: Global, sinks: &mut Vec<Waiting>, actor: &str) -> Result<Option<Waiting>, Failure> {
     let mut taken = None;
@@ -148,6 +163,7 @@ fn go_on(
     requires answered { IsReplyTo (awaited_at session.stage session) (option_map told_view reply) }
 {
     let mut session = session;
+    let is_short = matches!(reply, Some(Reply::Memory));
     match session.next(reply) {
         Step::Ask(request) => {
             tell_request(&request, out)?;
@@ -158,6 +174,7 @@ fn go_on(
             })?;
             Ok(())
         }
+        Step::Done(end) if is_short => tell_short(end.answer, out),
         Step::Done(end) => tell_answer(end.answer, out),
     }
 }
@@ -175,6 +192,15 @@ fn tell_request(request: &Request, out: &mut Vec<u8>) -> Result<(), Failure> {
             writeln!(out, "asks to put commit {version}")?;
             out.extend_from_slice(bytes)?;
         }
+    }
+    Ok(())
+}
+
+// Adds how a session ended that was told of want of memory.
+fn tell_short(answer: Result<SinkOutcome, SinkFault>, out: &mut Vec<u8>) -> Result<(), Failure> {
+    match answer {
+        Err(SinkFault::Memory) => writeln!(out, "{}", SinkFault::Memory)?,
+        answer => tell_answer(answer, out)?,
     }
     Ok(())
 }

@@ -1,4 +1,4 @@
-use Rattle.sink_core.proofs.SinkTalks.{all_tried}
+use Rattle.sink_core.proofs.SinkCounts.{all_tried}
 use Rattle.sink_core.proofs.sink_laws.a_contended_sink_tried_all.Goals as goal
 
 pub returns : goal.returns

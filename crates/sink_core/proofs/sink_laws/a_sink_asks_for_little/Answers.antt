@@ -1,4 +1,4 @@
-use Rattle.sink_core.proofs.SinkTalks.{sink_few}
+use Rattle.sink_core.proofs.SinkCounts.{sink_few}
 use Rattle.sink_core.proofs.sink_laws.a_sink_asks_for_little.Goals as goal
 
 pub returns : goal.returns

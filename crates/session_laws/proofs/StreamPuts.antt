@@ -1,0 +1,168 @@
+-- What a stream's session puts: its batch's file, and its commit, which is admissible at the version that comes next.
+use Rattle.std.proofs.Common.{◌≡◌, ◌∙◌, ◌≤◌, ℕ, List, [], ◌∷◌, ◌++◌, length, false, None, Ok, inl, refl, sym, ap, subst, arith}
+use Rattle.std.specs.Str.{IsUtf8}
+use Rattle.serde_json.specs.Data.{Items}
+use Rattle.store_core.specs.Objects.{Objects}
+use Rattle.session_core.specs.Talks.{Bears, Talk, put_commit, put_file}
+use Rattle.delta_actions.specs.Action.{Action}
+use Rattle.delta_actions.specs.Commit.{IsCommit}
+use Rattle.delta_actions.specs.Names.{greatest_version, stream_domain}
+use Rattle.delta_replay.specs.Support.{writable}
+use Rattle.table_log.specs.declared.loading.Loaded.{Loaded}
+use Rattle.table_model.specs.Appends.{appended}
+use Rattle.table_model.specs.Lawful.{IsLawful}
+use Rattle.table_model.specs.Table.{Batch, Entry, close, group, is_closed}
+use Rattle.table_model.specs.declared.table.AppendAnswer.TheVariants.{Committed}
+use Rattle.table_store.specs.Commits.{IsCommitOf}
+use Rattle.table_store.specs.Conflicts.{ReadsItsOwn}
+use Rattle.table_store.specs.Holds.{FileStands, Holds, HoldsFirst, IsLawfulStore}
+use Rattle.table_store.specs.Schema.{Schema, IsFileOf}
+use Rattle.table_store.specs.Sound.{IsAdmissible}
+use Rattle.table_store.proofs.LawfulLogLemmas.{AreMadeFor}
+use Rattle.log_laws.specs.Sound.{IsSoundStore}
+use Rattle.log_laws.proofs.Callers.{batch_admissible, close_admissible}
+use Rattle.commit_core.specs.Commits.{commit_text}
+use Rattle.commit_core.specs.CommitSessions.{CommitAsks, CommitJob, ComesTo}
+use Rattle.commit_core.proofs.Callers.{bears_end, bears_front, own_read}
+use Rattle.commit_core.proofs.CandidateLemmas.{reading_reads}
+use Rattle.batch_core.specs.Closing.{close_candidate, closing}
+use Rattle.batch_core.specs.Committing.{append_candidate, appending, batch_actions}
+use Rattle.sink_core.specs.SinkSessions.{Reaches, Settled, SinkAsks, SinkJob, SinkTask, actions_of, appends, candidate_of, closes, race_of, ready, rules}
+use Rattle.sink_core.proofs.ReachLemmas.{reaches_reads}
+use Rattle.session_laws.specs.May.{AreBytes}
+use Rattle.session_laws.specs.Rows.{IsBatchOf, IsJobCommit, IsJobFile, MayPutNext, next_version}
+use Rattle.session_laws.proofs.Fronts.{reached_front}
+use Rattle.session_laws.proofs.NextVersions.{in_race_next}
+use Rattle.session_laws.proofs.TableAnswers.{written_front}
+use Rattle.session_laws.proofs.Ready.{batch_by, file_named, ready_batch, ready_close, ready_for, ruled_batch, ruled_close}
+
+-- ---- the commit of what is settled
+
+-- its actions, of a batch and of a close
+pub batch_made : (job : SinkJob) (settled : Settled) (number : ℕ) (items : Items) → job.task ≡ appends number items → actions_of job settled ≡ batch_actions job.application number job.at settled.size (length settled.rows)
+batch_made job settled number items task = ap (λ (t : SinkTask). actions_of (record job { task = t }) settled) task
+
+pub close_made : (job : SinkJob) (settled : Settled) → job.task ≡ closes → actions_of job settled ≡ closing job.application job.at
+close_made job settled task = ap (λ (t : SinkTask). actions_of (record job { task = t }) settled) task
+
+-- they are a commit of the batch's entry, or of the close's
+pub batch_commit : (schema : Schema) (b : Batch) (at size : ℕ) (bytes : List ℕ) → IsCommit bytes (batch_actions b.application b.number at size (length b.rows)) → IsCommitOf schema (group (b ∷ [])) bytes
+unfolding appending
+batch_commit schema b at size bytes commit = record {
+  actions = batch_actions b.application b.number at size (length b.rows);
+  commit = commit;
+  stand = record { only = refl; numbered = refl; files = (file_named b.application b.number, refl, tt) };
+}
+
+pub close_commit : (schema : Schema) (application : List ℕ) (at : ℕ) (bytes : List ℕ) → IsUtf8 application → IsCommit bytes (closing application at) → IsCommitOf schema (close application) bytes
+unfolding closing
+close_commit schema application at bytes text commit = record { actions = closing application at; commit = commit; stand = record { actions = refl; text = text } }
+
+-- a stream's candidate reads what it is to
+own_candidate : (job : SinkJob) (settled : Settled) → ReadsItsOwn (candidate_of job settled)
+own_candidate job settled = by_task job.task refl
+  where
+    by_task : (task : SinkTask) → job.task ≡ task → ReadsItsOwn (candidate_of (record job { task = task }) settled)
+    by_task (appends number items) is = own_read (append_candidate job.application number job.at settled.size (length settled.rows)) (reading_reads (batch_actions job.application number job.at settled.size (length settled.rows)) [] [])
+    by_task closes is = own_read (close_candidate job.application job.at) (reading_reads (closing job.application job.at) [] (stream_domain job.application ∷ []))
+
+-- its candidate has the same actions
+candidate_reads : (job : SinkJob) (settled : Settled) → IsCommit (commit_text (actions_of job settled)) (actions_of job settled) → IsCommit (commit_text (actions_of job settled)) (candidate_of job settled).actions
+candidate_reads job settled reads = subst (IsCommit (commit_text (actions_of job settled))) (by_task job.task) reads
+  where
+    by_task : (task : SinkTask) → actions_of (record job { task = task }) settled ≡ (candidate_of (record job { task = task }) settled).actions
+    by_task (appends number items) = refl
+    by_task closes = refl
+
+-- ---- entries that may come next
+
+-- a table that is written has entries, for which its first commits stand
+none_written : (objects : Objects) (schema : Schema) (log : List (List Action)) (found : Schema) → AreMadeFor objects schema [] log → writable log ≡ Ok found → ⊥
+none_written objects schema [] found made written = absurd cc
+none_written objects schema (first ∷ log) found made written = absurd made
+
+module _ (objects : Objects) (schema : Schema) (version : ℕ) (small : version ≤ greatest_version) (log : List (List Action)) (written : writable log ≡ Ok schema) where
+  -- the batch that a table takes behind its first entries
+  batch_next : (firsts : List Entry) → HoldsFirst objects schema 0 firsts → IsLawful firsts → length firsts ≡ version → AreMadeFor objects schema firsts log → (b : Batch) (bytes : List ℕ) → appended b firsts ≡ Committed (length firsts)
+      → IsCommitOf schema (group (b ∷ [])) bytes → FileStands objects schema b → IsAdmissible objects version bytes
+  batch_next [] stand lawful long made b bytes taken commit file = absurd (none_written objects schema log schema made written)
+  batch_next (first ∷ rest) stand lawful long made b bytes taken commit file =
+      subst (λ (v : ℕ). IsAdmissible objects v bytes) long (batch_admissible objects schema first rest stand lawful (omega (arith, long, small)) b bytes taken commit file)
+
+  -- the close of a stream that is open there
+  close_next : (firsts : List Entry) → HoldsFirst objects schema 0 firsts → IsLawful firsts → length firsts ≡ version → AreMadeFor objects schema firsts log → (application bytes : List ℕ) → is_closed application firsts ≡ false
+      → IsCommitOf schema (close application) bytes → IsAdmissible objects version bytes
+  close_next [] stand lawful long made application bytes still_open commit = absurd (none_written objects schema log schema made written)
+  close_next (first ∷ rest) stand lawful long made application bytes still_open commit =
+      subst (λ (v : ℕ). IsAdmissible objects v bytes) long (close_admissible objects schema first rest stand lawful (omega (arith, long, small)) application bytes still_open commit)
+
+-- ---- what is put
+
+module _ (objects : Objects) (schema : Schema) (entries : List Entry) (sound : IsSoundStore objects) (are : AreBytes objects) (holds : Holds objects schema entries) (job : SinkJob) (before : Talk) (known_before : Bears objects before) where
+  -- the file of its batch
+  pub puts_file : (talk : Talk) (name bytes : List ℕ) → Bears objects talk → SinkAsks job before talk (put_file name bytes) → IsJobFile schema job name bytes
+  puts_file talk name bytes borne asks =
+      let puts = asks.1 in
+      let is = puts.is in
+      let ruled = ruled_batch objects schema entries sound holds job before talk known_before borne is.known is.tries (rules None) is.reaches puts.number is.items puts.request is.task is.asked in (
+        batch_by job puts.number puts.request.rows,
+        ruled.of_job,
+        puts.named ∙ file_named job.application puts.number,
+        subst (λ (t : Schema). IsFileOf t bytes puts.request.rows) ruled.schema_is puts.written.is_file,
+      )
+
+  module _ (text : IsUtf8 job.application) (talk : Talk) (borne : Bears objects talk) (known : Loaded) (tries : ℕ) (settled : Settled) (reaches : Reaches job before talk known tries (ready settled)) where
+    -- where its commit may be put, it is admissible behind what is known
+    pub first_admissible : known.next ≤ greatest_version → IsAdmissible objects known.next (commit_text (actions_of job settled))
+    first_admissible small = by_task job.task refl
+      where
+        reads : IsCommit (commit_text (actions_of job settled)) (actions_of job settled)
+        reads = reaches_reads job before talk known tries (ready settled) settled (inl refl) reaches
+
+        by_task : (task : SinkTask) → job.task ≡ task → IsAdmissible objects known.next (commit_text (actions_of job settled))
+        by_task (appends number items) is =
+            let own = ready_batch objects schema entries sound holds job before talk known_before borne known tries settled reaches are number items is in
+            let front = own.front.front in
+            batch_next objects schema known.next small own.front.log own.written front.firsts front.stand front.lawful front.long front.made (batch_by job number settled.rows) (commit_text (actions_of job settled)) own.taken
+            (batch_commit schema (batch_by job number settled.rows) job.at settled.size (commit_text (actions_of job settled)) (subst (IsCommit (commit_text (actions_of job settled))) (batch_made job settled number items is) reads))
+            (own.file.0, own.file.1, own.file.2.0)
+        by_task closes is =
+            let wants = ready_for job before talk known tries settled (ready settled) refl reaches in
+            let here = reached_front objects schema entries sound holds job before talk known tries (ready settled) known_before borne reaches in
+            let parts = ruled_close objects schema entries sound holds job before talk known_before borne known tries (ready settled) reaches wants.request is wants.asked in
+            let same : wants.request.schema ≡ schema = written_front objects schema entries known.next here.log here.front wants.request.schema parts.0 in
+            let front = here.front in
+            close_next objects schema known.next small here.log (parts.0 ∙ ap (λ (t : Schema). Ok t) same) front.firsts front.stand front.lawful front.long front.made job.application (commit_text (actions_of job settled))
+            (ready_close objects schema entries sound holds job before talk known_before borne known tries settled reaches is)
+            (close_commit schema job.application job.at (commit_text (actions_of job settled)) text (subst (IsCommit (commit_text (actions_of job settled))) (close_made job settled is) reads))
+
+    -- it is the job's, to the byte
+    pub own_commit : IsJobCommit objects schema job (commit_text (actions_of job settled))
+    own_commit = by_task job.task refl
+      where
+        by_task : (task : SinkTask) → job.task ≡ task → IsJobCommit objects schema job (commit_text (actions_of job settled))
+        by_task (appends number items) is =
+            let own = ready_batch objects schema entries sound holds job before talk known_before borne known tries settled reaches are number items is in
+            let text_is : commit_text (actions_of job settled) ≡ commit_text (batch_actions job.application number job.at (length own.file.0) (length settled.rows)) =
+            ap commit_text (batch_made job settled number items is ∙ ap (λ (size : ℕ). batch_actions job.application number job.at size (length settled.rows)) own.file.2.1) in
+            subst (λ (t : SinkTask). IsJobCommit objects schema (record job { task = t }) (commit_text (actions_of job settled))) (sym is)
+            (batch_by job number settled.rows, subst (λ (t : SinkTask). IsBatchOf schema (record job { task = t }) (batch_by job number settled.rows)) is own.of_job, (own.file.0, own.file.1, (own.file.2.0, text_is)))
+        by_task closes is = subst (λ (t : SinkTask). IsJobCommit objects schema (record job { task = t }) (commit_text (actions_of job settled))) (sym is) (ap commit_text (close_made job settled is))
+
+  -- its commit, as the version that comes next
+  pub puts_commit : ((put : CommitJob) (race : Talk) (version : ℕ) (bytes : List ℕ) → IsLawfulStore objects → Bears objects race → IsAdmissible objects put.version put.bytes → IsCommit put.bytes put.candidate.actions → ReadsItsOwn put.candidate
+      → CommitAsks put before race (put_commit version bytes) → IsAdmissible objects version bytes) → IsUtf8 job.application
+      → (talk : Talk) (version : ℕ) (bytes : List ℕ) → Bears objects talk → SinkAsks job before talk (put_commit version bytes) → MayPutNext objects talk version bytes × IsJobCommit objects schema job bytes
+  puts_commit stays text talk version bytes borne asks =
+      let r = asks.1 in
+      let put = race_of job r.settled r.known.next r.tries in
+      let both : Bears objects (r.front ++ r.race) = subst (Bears objects) r.talked borne in
+      let own_front = bears_front objects r.front r.race both in
+      let comes : ComesTo put r.race version r.holds.0 [] = r.holds.1 in
+      let small : r.known.next ≤ greatest_version = omega (arith, comes.at, r.holds.4) in
+      let first = first_admissible text r.front own_front r.known r.tries r.settled r.reaches small in
+      let reads = reaches_reads job before r.front r.known r.tries (ready r.settled) r.settled (inl refl) r.reaches in
+      let lawful : IsLawfulStore objects = record { schema = sound.table.schema; entries = sound.table.entries; holds = sound.table.holds; lawful = sound.table.lawful } in
+      let admissible = stays put r.race version bytes lawful (bears_end objects r.front r.race both) first (candidate_reads job r.settled reads) (own_candidate job r.settled) r.holds in
+      let next : version ≡ next_version talk = sym (in_race_next job before talk _ r version r.holds.0 [] comes) in
+      ((admissible, next), subst (IsJobCommit objects schema job) (sym r.holds.2) (own_commit text r.front own_front r.known r.tries r.settled r.reaches))

@@ -1,0 +1,3 @@
+pub mod May
+pub mod Rows
+pub mod Sessions
