@@ -2,6 +2,7 @@
 
 use crate::failure::Failure;
 use crate::notation::{Names, number, spelled};
+use crate::shared::Rival;
 use crate::streams::{Manner, SOUND};
 use std::alloc::Global;
 use std::mem;
@@ -16,6 +17,8 @@ pub struct Run {
     pub input: Vec<u8>,
     /// Which file's making fails, where the folder is in memory.
     pub stop: Stop,
+    /// The files that another process makes meanwhile, where the folder is in memory.
+    pub rivals: Vec<Rival>,
 }
 
 /// A script, and how it is run and told.
@@ -77,6 +80,8 @@ impl Case {
     ///   standard input, over a folder in memory that holds the objects, whatever its name is;
     /// - `stops before N`, `stops after N`: of the files that the command makes the one after N others fails, before it is
     ///   made or after;
+    /// - `rival N NAME TEXT`: right before the command makes the file after N others, another process makes this one, where
+    ///   nothing of that name stands;
     /// - `folder NAME`: the commands run on the disk, where a new folder of that name is made for them;
     /// - `plain` runs the script over the plain table, as `plain.rt` says;
     /// - `replays`: logs are read from version 0, without a checkpoint;
@@ -101,6 +106,7 @@ impl Case {
             "meets" => self.store.turns = turns_of(alloc, rest)?,
             "words" => self.begin(alloc, rest)?,
             "stops" => self.stop(rest)?,
+            "rival" => self.rival(alloc, names, rest)?,
             "folder" => self.folder = Some(String::from_str(alloc, rest)?),
             "plain" => self.is_plain = true,
             "replays" => self.replays = true,
@@ -120,6 +126,7 @@ impl Case {
             words: words_of(alloc, words)?,
             input: Vec::new(alloc),
             stop: Stop::Never,
+            rivals: Vec::new(alloc),
         };
         self.runs.push(run)?;
         Ok(())
@@ -142,6 +149,20 @@ impl Case {
             "after" => Stop::After(count),
             _ => return Err(Failure::Misspelled),
         };
+        Ok(())
+    }
+
+    // Adds a file that another process makes during the last command line.
+    fn rival(&mut self, alloc: Global, names: &Names, text: &str) -> Result<(), Failure> {
+        let (behind, text) = text.split_once(' ').ok_or(Failure::Misspelled)?;
+        let (name, text) = text.split_once(' ').unwrap_or((text, ""));
+        let rival = Rival {
+            behind: number(behind)?,
+            name: String::from_str(alloc, name)?,
+            bytes: spelled(alloc, names, text)?,
+        };
+        let run = self.runs.last_mut().ok_or(Failure::Misspelled)?;
+        run.rivals.push(rival)?;
         Ok(())
     }
 

@@ -3,6 +3,7 @@
 use crate::case::{Case, Run};
 use crate::failure::Failure;
 use crate::running::tell_written;
+use crate::shared::SharedFolder;
 use crate::streams::{Sink, Source};
 use crate::table::tell_objects;
 use lake_command::{command, table_command};
@@ -22,13 +23,15 @@ pub fn tell_runs(rt: &HostRuntime, case: &mut Case, out: &mut Vec<u8>) -> Result
         fs::create_dir(rt, folder.as_str())?;
     }
     let store = mem::replace(&mut case.store.store, MemoryStore::new(alloc));
-    let mut folder = MemoryFolder::new(alloc, store, Stop::Never);
+    let mut files = MemoryFolder::new(alloc, store, Stop::Never);
     for run in &case.runs {
-        folder.stop = run.stop;
+        files.stop = run.stop;
+        let mut folder = SharedFolder::new(alloc, files, &run.rivals);
         tell_run(rt, case, run, &mut folder, out)?;
+        files = folder.into_files();
     }
     if case.tells_objects {
-        tell_files(rt, case, &mut folder, out)?;
+        tell_files(rt, case, &mut files, out)?;
     }
     Ok(())
 }
@@ -54,7 +57,7 @@ fn tell_run(
     rt: &HostRuntime,
     case: &Case,
     run: &Run,
-    folder: &mut MemoryFolder,
+    folder: &mut SharedFolder<'_>,
     out: &mut Vec<u8>,
 ) -> Result<(), Failure> {
     let mut told = Vec::new(rt.alloc());
@@ -70,7 +73,7 @@ fn run_command(
     rt: &HostRuntime,
     case: &Case,
     run: &Run,
-    folder: &mut MemoryFolder,
+    folder: &mut SharedFolder<'_>,
     told: &mut Vec<u8>,
     err: &mut Vec<u8>,
 ) -> u8 {

@@ -13,6 +13,7 @@ mod failure;
 mod notation;
 mod plain;
 mod running;
+mod shared;
 mod streams;
 mod table;
 

@@ -1,3 +1,4 @@
+pub mod AgainLemmas
 pub mod EndingLemmas
 pub mod FolderLemmas
 pub mod LineLemmas

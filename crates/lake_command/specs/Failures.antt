@@ -1,7 +1,8 @@
 -- Why a job on a folder has no reply: the texts, and what the folder holds then.
-use Rattle.std.specs.Prelude.{◌≡◌, ◌⊎◌, ◌<◌, ◌≤◌, ◌++◌, ℕ, Bool, true, List, Option, None, Result, Err, IfErr, IfSome, IsSome, codes, length, string_bytes}
+use Rattle.std.specs.Prelude.{◌≡◌, ◌⊎◌, ◌<◌, ◌≤◌, ◌++◌, ℕ, Bool, true, List, Option, None, Result, Err, IfErr, IfSome, IsSome, IsTrue, codes, length, string_bytes}
 use Rattle.std.specs.Fmt.{decimal}
 use Rattle.store_core.specs.Calls.{HasRisen}
+use Rattle.store_core.specs.Names.{is_commit}
 use Rattle.store_core.specs.Objects.{Objects, object_at}
 use Rattle.table_folder.specs.Texts.{load_text, save_text}
 use Rattle.table_folder.specs.declared.fault.LoadFault.TheVariants as loads
@@ -129,6 +130,11 @@ Leaves _ work text old new = new ≡ old
 abbrev pub NamesPut : Failure → Statement → (old : Objects) → Type 0
 NamesPut (Saving (saves.NotSaved name reason)) statement old = LinePutsUnder statement old (string_bytes name)
 NamesPut _ statement old = Unit {0}
+
+-- saving is refused, since a commit's name is taken
+abbrev pub IsTaken : {X : Type 0} → Result X Failure → Type 0
+IsTaken (Err (Saving (saves.NotSaved name reason))) = (reason ≡ Taken) × IsTrue (is_commit (string_bytes name))
+IsTaken _ = ⊥
 
 -- nobody else takes a name in a steady folder: a file that isn't saved comes of a call that failed
 abbrev pub ComesOfACall : {X : Type 0} → Result X Failure → (old new : ℕ) → Type 0

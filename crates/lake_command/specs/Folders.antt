@@ -29,6 +29,10 @@ abbrev pub reads_input : Work → Bool
 reads_input (words.append application number at tries) = true
 reads_input _ = false
 
+-- the bytes that a job reads, where the reader tells them; of a job that reads none nothing is asked
+abbrev pub IsTextOf : Work → (known : Option (List ℕ)) → (bytes : List ℕ) → Type 0
+IsTextOf work known bytes = reads_input work ≡ true → IfSome known (λ text. bytes ≡ text)
+
 -- What a job asks for. An append's rows are those of the input's lines; where the reader doesn't tell its bytes, those of
 -- the lines of some text.
 abbrev pub IsAskedBy : Work → (text : Option (List ℕ)) → Statement → Type 0

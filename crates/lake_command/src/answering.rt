@@ -1,5 +1,6 @@
 //! The reply to a job on the table in a folder.
-ghost use Rattle.std.specs.Prelude.{◌≡◌, ◌⊎◌, ◌<◌, ◌≤◌, ◌^◌, ℕ, List, true, false, Some, None, IfOk, IfErr, IfSome, IsOkAnd, OnErr, Ok, length};
+ghost use Rattle.std.specs.Prelude.{◌≡◌, ◌⊎◌, ◌↔◌, ◌<◌, ◌≤◌, ◌^◌, ℕ, Bool, List, Option, true, false, Some, None, IfOk, IfErr, IfSome, IsErrAnd, IsOk, IsOkAnd, IsTrue, Ok, length};
+ghost use Rattle.store_core.specs.Calls.{HasRisen};
 ghost use Rattle.store_core.specs.Objects.{object_at};
 ghost use Rattle.log_laws.specs.Sound.{IsSoundStore};
 ghost use Rattle.job_laws.specs.Bytes.{AreBytes};
@@ -8,10 +9,10 @@ ghost use Rattle.lake_words.specs.Asked.{work_view};
 ghost use Rattle.script_lines.specs.Lines.{statement_view, IsTimely};
 ghost use Rattle.lake_script.specs.ReplyView.{reply_text};
 ghost use Rattle.lake_script.specs.Streams.{read_failed, unread};
-ghost use Rattle.lake_command.specs.Failures.{ComesOfACall, IsByFolder, IsCaused, IsNotRead, IsOfInput, Leaves};
+ghost use Rattle.lake_command.specs.Failures.{ComesOfACall, CountsFolderFault, IsByFolder, IsCaused, IsLoading, IsNotRead, IsOfInput, IsTaken, Leaves};
 ghost use Rattle.lake_script.specs.Told.{not_yet};
 ghost use Rattle.lake_script.specs.declared.inputs.TheConstants.{MOST_BYTES};
-ghost use Rattle.lake_command.specs.Folders.{IsJobAnswer, IsAskedBy, IsNotYet, JobMayLeave, reads_input};
+ghost use Rattle.lake_command.specs.Folders.{IsJobAnswer, IsAskedBy, IsNotYet, IsTextOf, JobMayLeave, reads_input};
 
 use crate::Failure;
 use crate::saving::execute_in;
@@ -21,13 +22,17 @@ use lake_script::{Fault, Input, Line, LineReply};
 use lake_words::{Job, TableCommand};
 use std::alloc::Global;
 use std::io::Read;
-use table_folder::Folder;
+use store_core::is_commit;
+use table_folder::{Folder, Reason, SaveFault};
 
 /// The last moment there is, in milliseconds.
 const LAST_MOMENT: u64 = 999_999_999_999_999;
 
 /// Does a job on the table in a folder, and finds its reply. An append reads its rows from the input, one JSON object a
-/// line. Loads aren't there yet.
+/// line. Where saving is refused since another process put an append's or a close's commit meanwhile, the table is loaded
+/// anew and the job is run again, as long as it has tries left: behind the last one, and where the table can't be loaded
+/// again, the failure is `Saving`. Each run takes time for the log and for the data files that it may look at. Loads aren't
+/// there yet.
 pub fn answer<F: Folder, R: Read>(
     alloc: Global,
     folder: &mut F,
@@ -68,12 +73,87 @@ pub fn answer<F: Folder, R: Read>(
         → object_at (F.objects folder.new) name ≡ Some bytes }
     ensures steady { F.is_steady folder.old → F.is_steady folder.new }
 {
-    let mut text = Vec::new(alloc);
+    let text = text_for(alloc, &command.job, input)?;
+    let Some(line) = line_for(alloc, command.job, &text)? else {
+        return Ok(LineReply::Refused(Fault::NotYet));
+    };
     let tries = tries_of(&command.job);
-    match line_for(alloc, command.job, input, &mut text)? {
-        Some(line) => execute_in(alloc, folder, line, tries, command.use_checkpoints),
-        None => Ok(LineReply::Refused(Fault::NotYet)),
+    let before = folder.faults();
+    let outcome = execute_in(alloc, folder, line, tries, command.use_checkpoints);
+    if is_taken(&outcome) && none_failed(before, folder.faults()) {
+        return run_again(alloc, folder, command, &text, tries, outcome);
     }
+    outcome
+}
+
+// Runs a job again whose commit's name was taken, over the folder as it stands by then: so many runs in all, each with the
+// tries that are left, and the last one is told. Where the table isn't loaded, or no memory is left for the rows, the
+// refusal of the run before is told, whose data file may stand. Each run costs as much as the first.
+fn run_again<F: Folder>(
+    alloc: Global,
+    folder: &mut F,
+    command: TableCommand<'_>,
+    text: &[u8],
+    tries: u64,
+    refused: Result<LineReply, Failure>,
+) -> Result<LineReply, Failure>
+    requires { IsTaken refused }
+    ensures caused { IfErr result (λ failure. IsByFolder failure) }
+    ensures faults { CountsFolderFault result (F.fault_count folder.old) (F.fault_count folder.new) }
+    ensures kept { F.is_steady folder.old → (name bytes : List ℕ) → object_at (F.objects folder.old) name ≡ Some bytes
+        → object_at (F.objects folder.new) name ≡ Some bytes }
+    ensures steady { F.is_steady folder.old → F.is_steady folder.new }
+{
+    let mut refused = refused;
+    let mut left = tries;
+    while left > 1 {
+        left -= 1;
+        let Ok(Some(line)) = line_for(alloc, command.job, text) else {
+            return refused;
+        };
+        let before = folder.faults();
+        let outcome = execute_in(alloc, folder, line, left, command.use_checkpoints);
+        if is_unloaded(&outcome) {
+            return refused;
+        }
+        if !is_taken(&outcome) || !none_failed(before, folder.faults()) {
+            return outcome;
+        }
+        refused = outcome;
+    }
+    refused
+}
+
+// Whether saving was refused since a commit's name is taken.
+fn is_taken(outcome: &Result<LineReply, Failure>) -> bool
+    ensures { IsTrue result ↔ IsTaken outcome.now }
+{
+    match outcome {
+        Err(
+            Failure::Saving(
+                SaveFault::NotSaved {
+                    name,
+                    reason: Reason::Taken,
+                },
+            ),
+        ) => is_commit(name.as_bytes()),
+        _ => false,
+    }
+}
+
+// Whether the table isn't loaded.
+fn is_unloaded(outcome: &Result<LineReply, Failure>) -> bool
+    ensures { IsTrue result ↔ IsErrAnd outcome.now (λ failure. IsLoading failure) }
+{
+    matches!(outcome, Err(Failure::Loading(_)))
+}
+
+// Whether no call of a folder failed between two counts of its faults. The greatest count stays as it is, and tells nothing.
+fn none_failed(before: u64, after: u64) -> bool
+    ensures same { result ≡ true → after ≡ before }
+    ensures none { result ≡ true → HasRisen before after → ⊥ }
+{
+    after == before && before < u64::MAX
 }
 
 // How many versions a job tries at most; one that puts no commit of a stream tries none, and is taken to try one.
@@ -86,24 +166,37 @@ fn tries_of(job: &Job<'_>) -> u64
     }
 }
 
-// The line of a script that asks for the same, or `None` for what isn't there yet. The text of an append's rows is left
-// in the buffer.
-fn line_for<'a, R: Read>(
-    alloc: Global,
-    job: Job<'a>,
-    input: &mut Input<R>,
-    text: &'a mut Vec<u8>,
-) -> Result<Option<Line<'a>>, Failure>
-    ensures asked { IfOk result (λ found. IfSome found (λ line. IsAskedBy (work_view job.entry) (unread R.remaining input.old) (statement_view line))) }
-    ensures timely { IfOk result (λ found. IfSome found (λ line. IsTimely (statement_view line))) }
-    ensures broken { reads_input (work_view job.entry) ≡ true → read_failed input.new ≡ true → IsNotRead result }
-    ensures too_long { reads_input (work_view job.entry) ≡ true
+// The text that a job reads to its end: that of an append's rows, once its moment is one that a commit may have. Another job
+// leaves the input alone.
+fn text_for<R: Read>(alloc: Global, job: &Job<'_>, input: &mut Input<R>) -> Result<Vec<u8>, Failure>
+    ensures read { IfOk result (λ text. IsTextOf (work_view job.now) (unread R.remaining input.old) text.items) }
+    ensures broken { reads_input (work_view job.now) ≡ true → read_failed input.new ≡ true → IsNotRead result }
+    ensures too_long { reads_input (work_view job.now) ≡ true
         → IfSome (unread R.remaining input.old) (λ text. MOST_BYTES < length text → IsNotRead result) }
-    ensures input_untouched { reads_input (work_view job.entry) ≡ false → input.new ≡ input.old }
+    ensures input_untouched { reads_input (work_view job.now) ≡ false → input.new ≡ input.old }
+    ensures not_yet { IsNotYet (work_view job.now) → IsOk result }
+    ensures failed { IfErr result (λ failure. IsOfInput failure (work_view job.now) (unread R.remaining input.old)
+        (read_failed input.new)) }
+{
+    match job {
+        Job::Append { at, .. } => {
+            moment(*at)?;
+            Ok(input.read_to_end(alloc)?)
+        }
+        _ => Ok(Vec::new(alloc)),
+    }
+}
+
+// The line of a script that asks for the same, of an append with the rows of this text, or `None` for what isn't there yet.
+// Takes time linear in the text.
+fn line_for<'a>(alloc: Global, job: Job<'a>, text: &'a [u8]) -> Result<Option<Line<'a>>, Failure>
+    ensures asked { (known : Option (List ℕ)) → IsTextOf (work_view job.entry) known text.now
+        → IfOk result (λ found. IfSome found (λ line. IsAskedBy (work_view job.entry) known (statement_view line))) }
+    ensures timely { IfOk result (λ found. IfSome found (λ line. IsTimely (statement_view line))) }
     ensures not_yet { IsNotYet (work_view job.entry) → result ≡ Ok None }
     ensures later { result ≡ Ok None → IsNotYet (work_view job.entry) }
-    ensures failed { IfErr result (λ failure. IsOfInput failure (work_view job.entry) (unread R.remaining input.old)
-        (read_failed input.new)) }
+    ensures failed { (known : Option (List ℕ)) (is_broken : Bool) → IsTextOf (work_view job.entry) known text.now
+        → IfErr result (λ failure. IsOfInput failure (work_view job.entry) known is_broken) }
 {
     let line = match job {
         Job::Create { id, schema, at } => Line::Create {
@@ -116,17 +209,12 @@ fn line_for<'a, R: Read>(
             number,
             at,
             ..
-        } => {
-            let at = moment(at)?;
-            *text = input.read_to_end(alloc)?;
-            let rows = objects_in(alloc, text.as_slice())?;
-            Line::Job(lake_script::Job::Append {
-                application,
-                number,
-                at,
-                rows: JsonRows::Texts(rows),
-            })
-        }
+        } => Line::Job(lake_script::Job::Append {
+            application,
+            number,
+            at: moment(at)?,
+            rows: JsonRows::Texts(objects_in(alloc, text)?),
+        }),
         Job::Tail { max, offset } => Line::Job(lake_script::Job::Tail { max, offset }),
         Job::Checkpoint => Line::Job(lake_script::Job::Checkpoint),
         Job::Snapshot => Line::Snapshot,

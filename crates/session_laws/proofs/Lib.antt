@@ -1,15 +1,15 @@
 mod Created
-mod Entries
+pub mod Entries
 mod Files
-mod Fronts
+pub mod Fronts
 mod Lacks
 mod LoadRows
 mod NextSteps
-mod NextVersions
+pub mod NextVersions
 mod Puts
-mod Ready
+pub mod Ready
 mod StreamLacks
-mod StreamPuts
+pub mod StreamPuts
 mod StreamRefused
 mod StreamTold
 mod TableAnswers

@@ -140,14 +140,24 @@ module _ (objects : Objects) (schema : Schema) (entries : List Entry) (sound : I
     pub own_commit : IsJobCommit objects schema job (commit_text (actions_of job settled))
     own_commit = by_task job.task refl
       where
+        reads : IsCommit (commit_text (actions_of job settled)) (actions_of job settled)
+        reads = reaches_reads job before talk known tries (ready settled) settled (inl refl) reaches
+
         by_task : (task : SinkTask) → job.task ≡ task → IsJobCommit objects schema job (commit_text (actions_of job settled))
         by_task (appends number items) is =
             let own = ready_batch objects schema entries sound holds job before talk known_before borne known tries settled reaches are number items is in
-            let text_is : commit_text (actions_of job settled) ≡ commit_text (batch_actions job.application number job.at (length own.file.0) (length settled.rows)) =
-            ap commit_text (batch_made job settled number items is ∙ ap (λ (size : ℕ). batch_actions job.application number job.at size (length settled.rows)) own.file.2.1) in
+            let text = commit_text (actions_of job settled) in
+            let made : actions_of job settled ≡ batch_actions job.application number job.at (length own.file.0) (length settled.rows) =
+            batch_made job settled number items is ∙ ap (λ (size : ℕ). batch_actions job.application number job.at size (length settled.rows)) own.file.2.1 in
+            subst (λ (t : SinkTask). IsJobCommit objects schema (record job { task = t }) text) (sym is) (
+              batch_by job number settled.rows,
+              subst (λ (t : SinkTask). IsBatchOf schema (record job { task = t }) (batch_by job number settled.rows)) is own.of_job,
+              (own.file.0, own.file.1, (own.file.2.0, (ap commit_text made, subst (IsCommit text) made reads))),
+            )
+        by_task closes is =
+            let made = close_made job settled is in
             subst (λ (t : SinkTask). IsJobCommit objects schema (record job { task = t }) (commit_text (actions_of job settled))) (sym is)
-            (batch_by job number settled.rows, subst (λ (t : SinkTask). IsBatchOf schema (record job { task = t }) (batch_by job number settled.rows)) is own.of_job, (own.file.0, own.file.1, (own.file.2.0, text_is)))
-        by_task closes is = subst (λ (t : SinkTask). IsJobCommit objects schema (record job { task = t }) (commit_text (actions_of job settled))) (sym is) (ap commit_text (close_made job settled is))
+            (ap commit_text made, subst (IsCommit (commit_text (actions_of job settled))) made reads)
 
   -- its commit, as the version that comes next
   pub puts_commit : ((put : CommitJob) (race : Talk) (version : ℕ) (bytes : List ℕ) → IsLawfulStore objects → Bears objects race → IsAdmissible objects put.version put.bytes → IsCommit put.bytes put.candidate.actions → ReadsItsOwn put.candidate

@@ -9,6 +9,7 @@ use Rattle.session_core.specs.Talks.{Talk, list_names, get_object, put_commit, t
 use Rattle.schema_tree.specs.Sameness.{has_fraction}
 use Rattle.parquet_file.specs.File.{KeepsLimits}
 use Rattle.delta_actions.specs.Action.{Action}
+use Rattle.delta_actions.specs.Commit.{IsCommit}
 use Rattle.delta_actions.specs.Names.{data_file_name, greatest_version}
 use Rattle.delta_checkpoint.specs.Names.{checkpoint_name}
 use Rattle.delta_replay.specs.Snapshots.{IsSnapshotOf}
@@ -115,6 +116,10 @@ name_of batch = data_file_name batch.application batch.number
 abbrev pub IsJobFile : Schema → SinkJob → (name bytes : List ℕ) → Type 0
 IsJobFile schema job name bytes = (batch : Batch) × IsBatchOf schema job batch × (name ≡ name_of batch) × IsFileOf schema bytes batch.rows
 
+-- these bytes are the text of these actions, and read as them
+abbrev pub IsTextOf : List ℕ → List Action → Type 0
+IsTextOf bytes made = (bytes ≡ commit_text made) × IsCommit bytes made
+
 -- Its commit, to the byte. That of a batch has the size and the count of rows of the file that stands under the batch's name, which is one
 -- of its rows.
 abbrev pub IsJobCommit : Objects → Schema → SinkJob → List ℕ → Type 0
@@ -122,8 +127,8 @@ IsJobCommit objects schema job bytes = by_task job.task
   where
     by_task : SinkTask → Type 0
     by_task (appends number items) = (batch : Batch) × IsBatchOf schema job batch
-        × Stands objects (name_of batch) (λ file. IsFileOf schema file batch.rows × (bytes ≡ commit_text (batch_actions job.application number job.at (length file) (length batch.rows))))
-    by_task closes = bytes ≡ commit_text (closing job.application job.at)
+        × Stands objects (name_of batch) (λ file. IsFileOf schema file batch.rows × IsTextOf bytes (batch_actions job.application number job.at (length file) (length batch.rows)))
+    by_task closes = IsTextOf bytes (closing job.application job.at)
 
 -- a commit may be put as the version that comes next
 abbrev pub MayPutNext : Objects → Talk → (version : ℕ) (bytes : List ℕ) → Type 0

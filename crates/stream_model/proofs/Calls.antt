@@ -1,0 +1,151 @@
+-- What sessions ask for is good in a sound store that bears their talk, and what is answered is borne.
+use Rattle.std.proofs.Common.{◌≡◌, ◌∙◌, ◌<◌, ℕ, zero, suc, List, [], ◌∷◌, ◌++◌, length, Option, Some, None, Contains, append-nil, append_assoc, refl, sym, ap, subst, arith}
+use Rattle.std.specs.Prelude.{slice_get, unwrap_or}
+use Rattle.lake_bytes.specs.Varint.{IsBytes}
+use Rattle.serde_json.specs.Data.{Items}
+use Rattle.store_core.specs.Calls.{StandsAfter, put_told}
+use Rattle.store_core.specs.Objects.{Objects, object_at, with_object}
+use Rattle.store_core.specs.ObjectLaws.{listed_iff_stands, object_at-with_object_kept, object_at-with_object_same}
+use Rattle.session_core.specs.Names as sessions
+use Rattle.session_core.specs.Sessions.{AllAsked}
+use Rattle.session_core.specs.Talks.{Asked, Bears, IsBorne, Talk, Told, get_object, list_names, put_commit, put_file, told_lost, told_memory, told_object}
+use Rattle.delta_actions.specs.Commit.{IsCommit}
+use Rattle.delta_actions.specs.Names.{commit_name}
+use Rattle.table_model.specs.Table.{Entry}
+use Rattle.table_store.specs.Holds.{Holds}
+use Rattle.table_store.specs.Schema.{Schema}
+use Rattle.log_laws.specs.Sound.{IsSoundStore}
+use Rattle.batch_core.specs.Committing.{batch_actions}
+use Rattle.sink_core.specs.SinkSessions.{Point, Reaches, SinkAsks, SinkJob, SinkTask, appends, closes}
+use Rattle.session_laws.specs.May.{IsValidJob, MayAsk}
+use Rattle.session_laws.specs.Rows.{IsBatchOf, IsJobCommit}
+use Rattle.session_laws.specs.Sessions.{Asks, Does, HasAsked, Job, asks, checkpoints, creates, loads, streams}
+use Rattle.session_laws.proofs.Fronts.{reached_front}
+use Rattle.session_laws.proofs.NextVersions.{reaches_some}
+use Rattle.session_laws.proofs.StreamPuts.{batch_commit, close_commit}
+use Rattle.commit_core.proofs.Callers.{bears_front}
+use Rattle.stream_model.specs.Events.{Event, IsOfBytes}
+use Rattle.stream_model.specs.Puts.{HasTable, IsGoodPut, IsMade, Submitted, WasBegun, a_checkpoint, a_commit, a_file}
+use Rattle.stream_model.specs.Puts as made
+use Rattle.stream_model.specs.Worlds.{told_by, left_by}
+
+-- ---- what is asked for
+
+-- a call's put is good, and of bytes
+abbrev pub IsGoodCall : List Event → Objects → Asked → Type 0
+IsGoodCall events objects (put_file name bytes) = IsGoodPut events objects name bytes × IsBytes bytes
+IsGoodCall events objects (put_commit version bytes) = IsGoodPut events objects (commit_name version) bytes × IsBytes bytes
+IsGoodCall events objects asked = Unit {0}
+
+module _ (events : List Event) (objects : Objects) (schema : Schema) (entries : List Entry) (sound : IsSoundStore objects) (holds : Holds objects schema entries) where
+  -- where a stream has come to a point, a table stands
+  some_table : (job : SinkJob) (talk : Talk) (borne : Bears objects talk) → {known : _} {tries : ℕ} {point : Point} → Reaches job [] talk known tries point → HasTable objects schema
+  some_table job talk borne {known = known} {tries = tries} {point = point} reaches =
+      let front = (reached_front objects schema entries sound holds job [] talk known tries point tt borne reaches).front in
+      by_firsts front.firsts front.later front.split (omega (arith, front.long, reaches_some job [] talk known tries point reaches)) holds
+    where
+      by_firsts : (firsts later : List Entry) → entries ≡ firsts ++ later → 0 < length firsts → Holds objects schema entries → HasTable objects schema
+      by_firsts [] later split long held = absurd (omega (arith, long))
+      by_firsts (first ∷ rest) later split long held = (first, rest ++ later, subst (Holds objects schema) split held)
+
+  module _ (job : SinkJob) (submitted : Submitted events job) (well : IsValidJob (streams job)) (talk : Talk) (borne : Bears objects talk) where
+    same_number : (number other : ℕ) (items others : Items) → appends number items ≡ appends other others → number ≡ other
+    same_number number other items others is = cc
+
+    -- what its commit holds
+    commit_made : HasTable objects schema → (version : ℕ) (bytes : List ℕ) → IsJobCommit objects schema job bytes → IsMade events objects version bytes
+    commit_made table version bytes commit = by_task job.task refl commit
+      where
+        by_task : (task : SinkTask) → job.task ≡ task → IsJobCommit objects schema (record job { task = task }) bytes → IsMade events objects version bytes
+        by_task (appends number items) is (b, of_job, file) =
+            let task : job.task ≡ appends b.number of_job.items = is ∙ of_job.task in
+            let number_is : number ≡ b.number = same_number number b.number items of_job.items of_job.task in
+            let own : IsBatchOf schema job b = record { items = of_job.items; task = task; application = of_job.application; spelled = of_job.spelled } in
+            let reads : IsCommit bytes (batch_actions b.application b.number job.at (length file.0) (length b.rows)) =
+            subst (λ (n : ℕ). IsCommit bytes (batch_actions b.application n job.at (length file.0) (length b.rows))) number_is
+            (subst (λ (a : List ℕ). IsCommit bytes (batch_actions a number job.at (length file.0) (length b.rows))) (sym of_job.application) file.2.1.1) in
+            made.appends schema job b table submitted own (batch_commit schema b job.at (length file.0) bytes reads) (file.0, file.1, file.2.0)
+        by_task closes is text = made.closes schema job submitted is (close_commit schema job.application job.at bytes well.0 text.1)
+
+    stream_good : (asked : Asked) → SinkAsks job [] talk asked → MayAsk objects schema (streams job) talk asked → IsOfBytes asked → IsGoodCall events objects asked
+    stream_good list_names asks_so may of_bytes = tt
+    stream_good (get_object name) asks_so may of_bytes = tt
+    stream_good (put_file name bytes) asks_so may of_bytes =
+        let b = may.1.0 in
+        (a_file schema (some_table job talk borne asks_so.1.is.reaches) (job, submitted, may.1), of_bytes)
+    stream_good (put_commit version bytes) asks_so may of_bytes =
+        let r = asks_so.1 in
+        let table = some_table job r.front (bears_front objects r.front r.race (subst (Bears objects) r.talked borne)) r.reaches in
+        (a_commit version refl may.1.0 (commit_made table version bytes may.2), of_bytes)
+
+  -- Whatever a session asks for is good.
+  pub call_good : (job : Job) → WasBegun events job → (talk : Talk) → Bears objects talk → (asked : Asked) → Does job [] talk (asks asked) → MayAsk objects schema job talk asked → IsOfBytes asked → IsGoodCall events objects asked
+  call_good job begun talk borne list_names does may of_bytes = tt
+  call_good job begun talk borne (get_object name) does may of_bytes = tt
+  call_good (streams job) begun talk borne (put_file name bytes) does may of_bytes = stream_good job begun begun.0.0 talk borne (put_file name bytes) does.0 may of_bytes
+  call_good (streams job) begun talk borne (put_commit version bytes) does may of_bytes = stream_good job begun begun.0.0 talk borne (put_commit version bytes) does.0 may of_bytes
+  call_good (checkpoints job) begun talk borne (put_file name bytes) does may of_bytes = (a_checkpoint may.0 may.1 may.2, of_bytes)
+  call_good (checkpoints job) begun talk borne (put_commit version bytes) does may of_bytes = absurd may
+  call_good (creates job) begun talk borne (put_file name bytes) does may of_bytes = absurd may
+  call_good (creates job) begun talk borne (put_commit version bytes) does may of_bytes = (a_commit version refl may.0.0 (made.creates job begun does.0.0 may.1), of_bytes)
+  call_good (loads job) begun talk borne (put_file name bytes) does may of_bytes = absurd may
+  call_good (loads job) begun talk borne (put_commit version bytes) does may of_bytes = absurd may
+
+-- ---- what is answered
+
+-- of a lost call, and of one without memory, nothing is said
+pub lost_borne : (objects : Objects) (asked : Asked) → IsBorne objects asked told_lost
+lost_borne objects list_names = tt
+lost_borne objects (get_object name) = tt
+lost_borne objects (put_file name bytes) = tt
+lost_borne objects (put_commit version bytes) = tt
+
+pub memory_borne : (objects : Objects) (asked : Asked) → IsBorne objects asked told_memory
+memory_borne objects list_names = tt
+memory_borne objects (get_object name) = tt
+memory_borne objects (put_file name bytes) = tt
+memory_borne objects (put_commit version bytes) = tt
+
+-- behind a put its object stands
+put_borne : (objects : Objects) (name bytes : List ℕ) → StandsAfter (put_told (object_at objects name)) bytes (object_at (with_object objects name bytes) name)
+put_borne objects name bytes = by_old (object_at objects name) refl
+  where
+    by_old : (old : Option (List ℕ)) → object_at objects name ≡ old → StandsAfter (put_told old) bytes (object_at (with_object objects name bytes) name)
+    by_old None is = object_at-with_object_same objects name bytes ∙ ap (λ (o : Option (List ℕ)). Some (unwrap_or o bytes)) is
+    by_old (Some kept) is = rw (object_at-with_object_kept objects name bytes name kept is) refl
+
+got_borne : (objects : Objects) (name : List ℕ) (found : Option (List ℕ)) → object_at objects name ≡ found → IsBorne objects (get_object name) (told_object found)
+got_borne objects name None is = tt
+got_borne objects name (Some bytes) is = is
+
+-- What a call that takes effect tells is borne by what it leaves.
+pub told_borne : (objects : Objects) (asked : Asked) → IsBorne (left_by objects asked) asked (told_by objects asked)
+unfolding sessions.commit_name
+told_borne objects list_names = λ name has. (listed_iff_stands objects name).0 has
+told_borne objects (get_object name) = got_borne objects name (object_at objects name) refl
+told_borne objects (put_file name bytes) = put_borne objects name bytes
+told_borne objects (put_commit version bytes) = put_borne objects (commit_name version) bytes
+
+-- ---- talks
+
+-- a call more that was asked for
+asked_more : (asks_for : Talk → Asked → Type 0) (first talk : Talk) (asked : Asked) (told : Told) → AllAsked asks_for first talk → asks_for (first ++ talk) asked → AllAsked asks_for first (talk ++ (asked, told) ∷ [])
+asked_more asks_for first [] asked told all one = (subst (λ (t : Talk). asks_for t asked) (append-nil first) one, tt)
+asked_more asks_for first (call ∷ talk) asked told all one = (all.0, asked_more asks_for (first ++ call ∷ []) talk asked told all.1 (subst (λ (t : Talk). asks_for t asked) (sym (append_assoc first (call ∷ []) talk)) one))
+
+-- what a session has heard is borne, and was asked for
+pub heard_so : ((objects : Objects) (talk more : Talk) → Bears objects talk → Bears objects more → Bears objects (talk ++ more))
+    → (objects : Objects) (job : Job) (talk : Talk) (asked : Asked) (told : Told) → Bears objects talk → HasAsked job [] talk → IsBorne objects asked told → Asks job [] talk asked
+    → Bears objects (talk ++ (asked, told) ∷ []) × HasAsked job [] (talk ++ (asked, told) ∷ [])
+heard_so bears_both objects job talk asked told borne all one own = (bears_both objects talk ((asked, told) ∷ []) borne (one, tt), asked_more (Asks job []) [] talk asked told all own)
+
+-- ---- places
+
+pub got_one : {A : Type 0} (xs : List A) (place : ℕ) (x : A) → slice_get xs place ≡ Some x → Contains xs x
+got_one [] place x is = absurd cc
+got_one {A = A} (y ∷ xs) zero x is =
+    let same : y ≡ x = cc in
+    (0, omega arith, same)
+got_one (y ∷ xs) (suc place) x is =
+    let later = got_one xs place x is in
+    (suc later.0, omega (arith, later.1), later.2)

@@ -1,0 +1,192 @@
+-- What is so of each world, and stays so by more events and by more objects.
+use Rattle.std.proofs.Common.{◌≡◌, ℕ, List, [], ◌∷◌, ◌++◌, Option, Some, Contains, sym, subst, arith}
+use Rattle.std.specs.Prelude.{Result, Ok, Err}
+use Rattle.lake_bytes.specs.Varint.{IsBytes}
+use Rattle.store_core.specs.Calls.{Flight}
+use Rattle.store_core.specs.Objects.{HasObjectsOf, Objects}
+use Rattle.session_core.specs.Talks.{Asked, Bears, IsBorne, Talk, get_object, list_names, put_commit, put_file}
+use Rattle.session_core.proofs.Callers.{bears_grows, borne_grows}
+use Rattle.delta_actions.specs.Names.{commit_name}
+use Rattle.table_model.specs.Appends.{TellsAppend, TellsClose}
+use Rattle.table_model.specs.Lawful.{BeginsWithCreation}
+use Rattle.table_model.specs.Table.{Batch, Entry}
+use Rattle.table_model.specs.declared.table.AppendAnswer.{AppendAnswer}
+use Rattle.table_model.specs.declared.table.AppendAnswer.TheVariants as appended
+use Rattle.table_model.specs.declared.table.Closing.{Closing}
+use Rattle.table_model.specs.declared.table.Closing.TheVariants as closed
+use Rattle.table_model.proofs.Callers.{append_lasts, close_lasts}
+use Rattle.table_store.specs.Holds.{Holds}
+use Rattle.table_store.specs.Schema.{Schema}
+use Rattle.table_store.specs.Sound.{IsSound}
+use Rattle.table_store.proofs.HoldingGrown.{front, same_schema}
+use Rattle.batch_core.specs.declared.fault.SinkFault.{SinkFault}
+use Rattle.batch_core.specs.declared.fault.SinkFault.TheVariants as faults
+use Rattle.sink_core.specs.SinkSessions.{SinkJob}
+use Rattle.sink_core.specs.declared.sink_state.SinkEnd.{SinkEnd}
+use Rattle.sink_core.specs.declared.sink_state.SinkOutcome.{SinkOutcome}
+use Rattle.sink_core.specs.declared.sink_state.SinkOutcome.TheVariants.{Already, AlreadyClosed, Closed, Committed}
+use Rattle.session_laws.specs.Rows.{IsBatchOf, TellsOfBatch}
+use Rattle.session_laws.specs.Sessions.{Asks, Does, HasAsked, Job, Outcome, stream, streams, tells}
+use Rattle.stream_model.specs.Events.{Event}
+use Rattle.stream_model.specs.Headline.{IsSoOf}
+use Rattle.stream_model.specs.Puts.{IsGoodPut, Submitted, WasBegun}
+use Rattle.stream_model.specs.Worlds.{Actor, Hand, World, asking, ended, fresh, waiting}
+use Rattle.stream_model.proofs.Calls.{IsGoodCall}
+use Rattle.stream_model.proofs.Growing.{begun_more, file_more, put_grows, put_more, submitted_more}
+use Rattle.stream_model.proofs.Landing.{IsGoodStore}
+use Rattle.stream_model.proofs.Lacking.{AllTold, HasVersion, WasTold}
+use Rattle.stream_model.proofs.Laws.{AreLaws}
+
+-- what a session has at hand
+abbrev pub IsGoodHand : List Event → Objects → Job → Talk → Hand → Type 0
+IsGoodHand events objects job talk fresh = Unit {0}
+IsGoodHand events objects job talk (asking call) = Asks job [] talk call × HasVersion call × IsGoodCall events objects call
+IsGoodHand events objects job talk (waiting call told) = Asks job [] talk call × HasVersion call × WasTold talk call told × IsBorne objects call told
+IsGoodHand events objects job talk (ended outcome) = Does job [] talk (tells outcome)
+
+pub record IsGoodActor (events : List Event) (objects : Objects) (actor : Actor) : Type 0 where
+  pub begun : WasBegun events actor.job
+  pub borne : Bears objects actor.talk
+  pub asked : HasAsked actor.job [] actor.talk
+  pub told : AllTold [] actor.talk
+  pub hand : IsGoodHand events objects actor.job actor.talk actor.hand
+
+abbrev pub AreGoodPuts : List Event → Objects → Flight → Type 0
+AreGoodPuts events objects flight = (put : List ℕ × List ℕ) → Contains flight put → IsGoodPut events objects put.0 put.1 × IsBytes put.1
+
+abbrev pub AreGoodActors : List Event → Objects → (actors : ℕ → Option Actor) → Type 0
+AreGoodActors events objects actors = (name : ℕ) (actor : Actor) → actors name ≡ Some actor → IsGoodActor events objects actor
+
+-- what was told is so of the table, whichever a store is said to hold
+abbrev pub IsToldSo : Objects → List (Job × Outcome) → Type 0
+IsToldSo objects outs = (job : SinkJob) (end : SinkEnd) → Contains outs (streams job, stream end) → (schema : Schema) (entries : List Entry) → Holds objects schema entries → IsSoOf schema entries job end.answer
+
+-- each job that an outcome was told of was handed in
+abbrev pub AreHandedIn : List Event → List (Job × Outcome) → Type 0
+AreHandedIn events outs = (job : SinkJob) (end : SinkEnd) → Contains outs (streams job, stream end) → Submitted events job
+
+pub record IsGoodWorld (events : List Event) (outs : List (Job × Outcome)) (w : World) : Type 0 where
+  pub store : IsGoodStore events w.objects
+  pub flight : AreGoodPuts events w.objects w.flight
+  pub actors : AreGoodActors events w.objects w.actors
+  pub told : IsToldSo w.objects outs
+  pub handed : AreHandedIn events outs
+
+-- ---- one event more
+
+module _ (events : List Event) (event : Event) (objects : Objects) where
+  call_more : (call : Asked) → IsGoodCall events objects call → IsGoodCall (events ++ event ∷ []) objects call
+  call_more list_names good = tt
+  call_more (get_object name) good = tt
+  call_more (put_file name bytes) good = (put_more events event objects name bytes good.0, good.1)
+  call_more (put_commit version bytes) good = (put_more events event objects (commit_name version) bytes good.0, good.1)
+
+  hand_more : (job : Job) (talk : Talk) (hand : Hand) → IsGoodHand events objects job talk hand → IsGoodHand (events ++ event ∷ []) objects job talk hand
+  hand_more job talk fresh good = tt
+  hand_more job talk (asking call) good = (good.0, good.1, call_more call good.2)
+  hand_more job talk (waiting call told) good = good
+  hand_more job talk (ended outcome) good = good
+
+  actor_more : (actor : Actor) → IsGoodActor events objects actor → IsGoodActor (events ++ event ∷ []) objects actor
+  actor_more actor good = record {
+    begun = begun_more events event actor.job good.begun;
+    borne = good.borne;
+    asked = good.asked;
+    told = good.told;
+    hand = hand_more actor.job actor.talk actor.hand good.hand;
+  }
+
+  store_more : IsGoodStore events objects → IsGoodStore (events ++ event ∷ []) objects
+  store_more good = record {
+    sound = good.sound;
+    bytes = good.bytes;
+    files = λ application number bytes is. let file = good.files application number bytes is in (file.0, file.1, file_more events event file.0 _ bytes file.2);
+    submitted = λ schema entries holds b has. let one = good.submitted schema entries holds b has in (one.0, submitted_more events event one.0 one.1, one.2);
+  }
+
+pub world_more : (events : List Event) (event : Event) (outs : List (Job × Outcome)) (w : World) → IsGoodWorld events outs w → IsGoodWorld (events ++ event ∷ []) outs w
+world_more events event outs w good = record {
+  store = store_more events event w.objects good.store;
+  flight = λ put has. let one = good.flight put has in (put_more events event w.objects put.0 put.1 one.0, one.1);
+  actors = λ name actor is. actor_more events event w.objects actor (good.actors name actor is);
+  told = good.told;
+  handed = λ job end has. submitted_more events event job (good.handed job end has);
+}
+
+-- ---- more objects
+
+pub none_in : {A : Type 0} (x : A) → Contains [] x → ⊥
+none_in x has = omega (arith, has.1)
+
+-- nothing is told of an empty table
+none_told : (answer : AppendAnswer) (b : Batch) → TellsAppend answer b [] → ⊥
+none_told (appended.Committed version) b facts = let no = facts.1 in absurd cc
+none_told (appended.Already number) b facts = none_in b facts.1
+none_told (appended.Stale last) b facts = none_in _ facts.2
+none_told appended.Differs b facts = none_in _ facts.2
+none_told appended.StreamClosed b facts = none_in b.application facts.0
+
+module _ (laws : AreLaws) (objects more : Objects) (sound : IsSound objects) (still : IsSound more) (grown : HasObjectsOf objects more) where
+  put_lasts : (events : List Event) (name bytes : List ℕ) → IsGoodPut events objects name bytes → IsGoodPut events more name bytes
+  put_lasts events name bytes good = put_grows objects more sound still grown events name bytes (λ version new. laws.commit_stays objects more version bytes grown new) (λ version one. laws.checkpoint_stays objects more version bytes grown one) good
+
+  call_lasts : (events : List Event) (call : Asked) → IsGoodCall events objects call → IsGoodCall events more call
+  call_lasts events list_names good = tt
+  call_lasts events (get_object name) good = tt
+  call_lasts events (put_file name bytes) good = (put_lasts events name bytes good.0, good.1)
+  call_lasts events (put_commit version bytes) good = (put_lasts events (commit_name version) bytes good.0, good.1)
+
+  hand_lasts : (events : List Event) (job : Job) (talk : Talk) (hand : Hand) → IsGoodHand events objects job talk hand → IsGoodHand events more job talk hand
+  hand_lasts events job talk fresh good = tt
+  hand_lasts events job talk (asking call) good = (good.0, good.1, call_lasts events call good.2)
+  hand_lasts events job talk (waiting call told) good = (good.0, good.1, good.2, borne_grows objects more call told grown good.3)
+  hand_lasts events job talk (ended outcome) good = good
+
+  pub actor_lasts : (events : List Event) (actor : Actor) → IsGoodActor events objects actor → IsGoodActor events more actor
+  actor_lasts events actor good = record {
+    begun = good.begun;
+    borne = bears_grows objects more actor.talk grown good.borne;
+    asked = good.asked;
+    told = good.told;
+    hand = hand_lasts events actor.job actor.talk actor.hand good.hand;
+  }
+
+  pub puts_last : (events : List Event) (flight : Flight) → AreGoodPuts events objects flight → AreGoodPuts events more flight
+  puts_last events flight good = λ put has. let one = good put has in (put_lasts events put.0 put.1 one.0, one.1)
+
+  batch_lasts_on : (schema : Schema) (entries : List Entry) → Holds more schema entries → (job : SinkJob) (answer : AppendAnswer) → TellsOfBatch sound.schema sound.entries job answer → TellsOfBatch schema entries job answer
+  batch_lasts_on schema entries held job answer told = by_entries sound.entries sound.holds sound.lawful.begins told
+    where
+      by_entries : (own : List Entry) → Holds objects sound.schema own → BeginsWithCreation own → TellsOfBatch sound.schema own job answer → TellsOfBatch schema entries job answer
+      by_entries [] holds begins (b, of_job, facts) = absurd (none_told answer b facts)
+      by_entries (first ∷ rest) holds begins (b, of_job, facts) =
+          let same : sound.schema ≡ schema = same_schema objects more sound.schema grown schema first rest entries begins holds held in
+          let later = front objects more sound.schema grown schema (first ∷ rest) entries begins holds held in
+          (b, subst (λ (s : Schema). IsBatchOf s job b) same of_job, subst (TellsAppend answer b) (sym later.1) (append_lasts answer b (first ∷ rest) later.0 facts))
+
+  close_lasts_on : (schema : Schema) (entries : List Entry) → Holds more schema entries → (application : List ℕ) (answer : Closing) → TellsClose answer application sound.entries → TellsClose answer application entries
+  close_lasts_on schema entries held application answer facts =
+      let later = front objects more sound.schema grown schema sound.entries entries sound.lawful.begins sound.holds held in
+      subst (TellsClose answer application) (sym later.1) (close_lasts answer application sound.entries later.0 facts)
+
+  so_lasts : (schema : Schema) (entries : List Entry) → Holds more schema entries → (job : SinkJob) (answer : Result SinkOutcome SinkFault) → IsSoOf sound.schema sound.entries job answer → IsSoOf schema entries job answer
+  so_lasts schema entries held job (Ok (Committed version)) so = batch_lasts_on schema entries held job (appended.Committed version) so
+  so_lasts schema entries held job (Ok (Already number)) so = batch_lasts_on schema entries held job (appended.Already number) so
+  so_lasts schema entries held job (Ok (Closed version)) so = close_lasts_on schema entries held job.application (closed.Closed version) so
+  so_lasts schema entries held job (Ok AlreadyClosed) so = close_lasts_on schema entries held job.application closed.AlreadyClosed so
+  so_lasts schema entries held job (Err (faults.Stale last)) so = batch_lasts_on schema entries held job (appended.Stale last) so
+  so_lasts schema entries held job (Err faults.StreamClosed) so = batch_lasts_on schema entries held job appended.StreamClosed so
+  so_lasts schema entries held job (Err (faults.Differs name)) so = tt
+  so_lasts schema entries held job (Err (faults.Contended newest)) so = tt
+  so_lasts schema entries held job (Err (faults.Lost version)) so = tt
+  so_lasts schema entries held job (Err (faults.BadLog version)) so = tt
+  so_lasts schema entries held job (Err (faults.ReadOnly fault)) so = tt
+  so_lasts schema entries held job (Err (faults.BadRow index fault)) so = tt
+  so_lasts schema entries held job (Err faults.BadApp) so = tt
+  so_lasts schema entries held job (Err faults.TooLarge) so = tt
+  so_lasts schema entries held job (Err faults.FileTooLarge) so = tt
+  so_lasts schema entries held job (Err (faults.SchemaChanged version)) so = tt
+  so_lasts schema entries held job (Err faults.Memory) so = tt
+
+  pub told_lasts : (outs : List (Job × Outcome)) → IsToldSo objects outs → IsToldSo more outs
+  told_lasts outs told = λ job end has schema entries held. so_lasts schema entries held job end.answer (told job end has sound.schema sound.entries sound.holds)

@@ -1,0 +1,23 @@
+-- The laws that say it of one call and of one step, as they are cited here.
+use Rattle.std.proofs.Common.{◌≡◌, ℕ, List, [], ◌++◌, Some}
+use Rattle.store_core.specs.Objects.{HasObjectsOf, Objects, with_object}
+use Rattle.session_core.specs.Talks.{Bears, Talk}
+use Rattle.delta_actions.specs.Names.{commit_name, data_file_name}
+use Rattle.table_log.specs.Restoring.{IsSoundCheckpoint, checkpoint_version}
+use Rattle.table_model.specs.Table.{Entry}
+use Rattle.table_store.specs.Schema.{Schema}
+use Rattle.table_store.specs.Sound.{IsAdmissible}
+use Rattle.log_laws.specs.Sound.{IsSoundStore}
+use Rattle.session_laws.specs.May.{BearsSession, IsValidJob, May}
+use Rattle.session_laws.specs.Sessions.{Does, Job, Move}
+
+pub record AreLaws : Type 0 where
+  pub empty : IsSoundStore []
+  pub commit_lands : (objects : Objects) (version : ℕ) (bytes : List ℕ) → IsSoundStore objects → IsAdmissible objects version bytes → IsSoundStore (with_object objects (commit_name version) bytes)
+  pub commit_stays : (objects more : Objects) (version : ℕ) (bytes : List ℕ) → HasObjectsOf objects more → IsAdmissible objects version bytes → IsAdmissible more version bytes
+  pub file_lands : (objects : Objects) (application bytes : List ℕ) (number : ℕ) → IsSoundStore objects → IsSoundStore (with_object objects (data_file_name application number) bytes)
+  pub checkpoint_lands : (objects : Objects) (name bytes : List ℕ) (version : ℕ) → checkpoint_version name ≡ Some version → IsSoundStore objects → IsSoundCheckpoint objects version bytes → IsSoundStore (with_object objects name bytes)
+  pub checkpoint_stays : (objects more : Objects) (version : ℕ) (bytes : List ℕ) → HasObjectsOf objects more → IsSoundCheckpoint objects version bytes → IsSoundCheckpoint more version bytes
+  pub bears_both : (objects : Objects) (talk more : Talk) → Bears objects talk → Bears objects more → Bears objects (talk ++ more)
+  pub may : (objects : Objects) (schema : Schema) (entries : List Entry) (job : Job) (before talk : Talk) (move : Move) → BearsSession objects schema entries job before talk → IsValidJob job → Does job before talk move
+      → May objects schema entries job talk move

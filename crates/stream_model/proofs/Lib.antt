@@ -1,0 +1,9 @@
+mod Calls
+mod Good
+mod Growing
+mod Lacking
+mod Landing
+mod Laws
+mod Once
+mod Running
+mod Steps

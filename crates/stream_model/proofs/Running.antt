@@ -1,0 +1,217 @@
+-- Whatever happens, it is so of each world; and what follows of it for a table that a store holds.
+use Rattle.std.proofs.Common.{refl, Contains, List, Option, Some, None, [], append-nil, append_assoc, subst, suc, sym, zero, ℕ, ◌++◌, ◌∷◌, ◌≡◌}
+use Rattle.std.specs.Prelude.{Result, Ok, Err, slice_get}
+use Rattle.std.proofs.lemmas.List.Elements.{Contains-append_left, Contains-append_right, Contains-push}
+use Rattle.store_core.specs.Objects.{HasObjectsOf, Objects}
+use Rattle.session_core.specs.Talks.{Asked, get_object, list_names, put_commit, put_file}
+use Rattle.delta_actions.specs.Names.{commit_name}
+use Rattle.table_model.specs.Table.{Batch, Entry, batches, batches_of}
+use Rattle.table_store.specs.Holds.{Holds}
+use Rattle.table_store.specs.Schema.{Schema}
+use Rattle.table_log.specs.declared.fault.LogFault.TheVariants as load_faults
+use Rattle.snapshot_core.specs.declared.fault.SnapshotFault.TheVariants as checkpoint_faults
+use Rattle.batch_core.specs.declared.fault.SinkFault.{SinkFault}
+use Rattle.batch_core.specs.declared.fault.SinkFault.TheVariants as faults
+use Rattle.sink_core.specs.SinkSessions.{SinkJob}
+use Rattle.sink_core.specs.declared.sink_state.SinkEnd.{SinkEnd}
+use Rattle.sink_core.specs.declared.sink_state.SinkOutcome.{SinkOutcome}
+use Rattle.sink_core.specs.declared.sink_state.SinkOutcome.TheVariants.{Already, AlreadyClosed, Closed, Committed}
+use Rattle.session_laws.specs.Rows.{IsBatchOf, MayTellOfStream}
+use Rattle.session_laws.specs.Sessions.{Does, Job, Outcome, checkpoint, checkpoints, creates, creation, load, loads, stream, streams, tells}
+use Rattle.stream_model.specs.Events.{CanBegin, Event, Happens, HasActor, IsWorldOf, Ran, acts, at_first, begin, begins, die, dies, ends, goes_on, lands, nothing_happens, then_one, with_told}
+use Rattle.stream_model.specs.Headline.{Acknowledges, IsHeadline, IsSoOf, ListsCommit, TellsBadLog}
+use Rattle.stream_model.specs.Worlds.{Actor, How, World, empty_world, ended, fresh, late, left_by, left_how, lost, once, short, twice}
+use Rattle.stream_model.proofs.Calls.{got_one}
+use Rattle.stream_model.proofs.Good.{IsGoodActor, IsGoodHand, IsGoodWorld, none_in, world_more}
+use Rattle.stream_model.proofs.Growing.{lawful_held}
+use Rattle.stream_model.proofs.Landing.{put_grew}
+use Rattle.stream_model.proofs.Laws.{AreLaws}
+use Rattle.stream_model.proofs.Once.{stands_once}
+use Rattle.stream_model.proofs.Steps.{with_good, without_actor, world_acts, world_asks, world_put, world_tells}
+use Rattle.stream_model.specs.Puts.{WasBegun}
+use Rattle.stream_model.proofs.Lacking.{none_lacked}
+use Rattle.session_laws.specs.May.{MayTell}
+
+-- a job that is begun now was begun
+begun_now : (events : List Event) (name : ℕ) (job : Job) → CanBegin job → WasBegun (events ++ begin name job ∷ []) job
+begun_now events name job can = (can, name, Contains-push events (begin name job))
+
+-- a store without objects holds no batch
+no_batch : (schema : Schema) (entries : List Entry) → Holds [] schema entries → (b : Batch) → Contains (batches entries) b → ⊥
+no_batch schema [] holds b has = none_in b has
+no_batch schema (entry ∷ entries) holds b has = let none = holds.0.1 in absurd cc
+
+-- in the world of nothing, nothing is amiss
+empty_good : AreLaws → IsGoodWorld [] [] empty_world
+empty_good laws = record {
+  store = record {
+    sound = laws.empty;
+    bytes = λ name bytes is. absurd cc;
+    files = λ application number bytes is. absurd cc;
+    submitted = λ schema entries holds b has. absurd (no_batch schema entries holds b has);
+  };
+  flight = λ put has. absurd (none_in put has);
+  actors = λ name actor is. absurd cc;
+  told = λ job end has. absurd (none_in _ has);
+  handed = λ job end has. absurd (none_in _ has);
+}
+
+module _ (laws : AreLaws) where
+  -- one event
+  world_happens : (events : List Event) (outs : List (Job × Outcome)) (w : World) (event : Event) (told : Option (Job × Outcome)) (later : World) → IsGoodWorld events outs w → Happens w event told later → IsGoodWorld (events ++ event ∷ []) (with_told outs told) later
+  world_happens events outs w event told later good happens = by_case event told later happens (world_more events event outs w good)
+    where
+      by_case : (event : Event) (told : Option (Job × Outcome)) (later : World) → Happens w event told later → IsGoodWorld (events ++ event ∷ []) outs w → IsGoodWorld (events ++ event ∷ []) (with_told outs told) later
+      by_case event told later (begins name job can) more = with_good (events ++ begin name job ∷ []) outs w name (record { job = job; talk = []; hand = fresh }) more (record {
+        begun = begun_now events name job can;
+        borne = tt;
+        asked = tt;
+        told = tt;
+        hand = tt;
+      })
+      by_case event told later (dies name) more = without_actor (events ++ die name ∷ []) outs w name more
+      by_case event told later (acts name how actor call is hand) more = world_acts laws (events ++ event ∷ []) outs w name actor call is hand more how
+      by_case event told later (goes_on made name actor now call taken does of_bytes) more = world_asks laws (events ++ event ∷ []) outs w event name actor now taken more call does of_bytes
+      by_case event told later (ends made name actor now outcome taken does) more = world_tells laws (events ++ event ∷ []) outs w event name actor now taken more outcome does
+      by_case event told later (lands place put is) more =
+          let one = more.flight put (got_one w.flight place put is) in
+          world_put laws (events ++ event ∷ []) outs w put.0 put.1 more one.0 one.1
+      by_case event told later (nothing_happens made unfit) more = more
+
+  -- all events
+  pub world_ran : (events : List Event) (outs : List (Job × Outcome)) (w : World) → IsWorldOf events outs w → IsGoodWorld events outs w
+  world_ran events outs w at_first = empty_good laws
+  world_ran events outs w (then_one before earlier old event told now ran happens) = world_happens before earlier old event told now (world_ran before earlier old ran) happens
+
+-- ---- later worlds
+
+-- objects stay through an event
+call_grew : (objects : Objects) (call : Asked) → HasObjectsOf objects (left_by objects call)
+call_grew objects list_names = λ name bytes stands. stands
+call_grew objects (get_object asked) = λ name bytes stands. stands
+call_grew objects (put_file file bytes) = put_grew objects file bytes
+call_grew objects (put_commit version bytes) = put_grew objects (commit_name version) bytes
+
+how_grew : (how : How) (objects : Objects) (call : Asked) → HasObjectsOf objects (left_how how objects call)
+how_grew once objects call = call_grew objects call
+how_grew twice objects call = λ name bytes stands. call_grew (left_by objects call) call name bytes (call_grew objects call name bytes stands)
+how_grew late objects call = λ name bytes stands. stands
+how_grew lost objects call = λ name bytes stands. stands
+how_grew short objects call = λ name bytes stands. stands
+
+event_grew : (w : World) (event : Event) (told : Option (Job × Outcome)) (later : World) → Happens w event told later → HasObjectsOf w.objects later.objects
+event_grew w event told later (begins name job can) = λ name bytes stands. stands
+event_grew w event told later (dies name) = λ name bytes stands. stands
+event_grew w event told later (acts name how actor call is hand) = how_grew how w.objects call
+event_grew w event told later (goes_on made name actor now call taken does of_bytes) = λ name bytes stands. stands
+event_grew w event told later (ends made name actor now outcome taken does) = λ name bytes stands. stands
+event_grew w event told later (lands place put is) = put_grew w.objects put.0 put.1
+event_grew w event told later (nothing_happens made unfit) = λ name bytes stands. stands
+
+-- and through all
+pub ran_grew : (w : World) (events : List Event) (outs : List (Job × Outcome)) (later : World) → Ran w events outs later → HasObjectsOf w.objects later.objects
+ran_grew w events outs later at_first = λ name bytes stands. stands
+ran_grew w events outs later (then_one before earlier old event told now ran happens) = λ name bytes stands. event_grew old event told now happens name bytes (ran_grew w before earlier old ran name bytes stands)
+
+-- a later world is one of all events
+pub later_world : (events : List Event) (outs : List (Job × Outcome)) (w : World) → IsWorldOf events outs w → (more : List Event) (told : List (Job × Outcome)) (later : World) → Ran w more told later → IsWorldOf (events ++ more) (outs ++ told) later
+later_world events outs w of more told later at_first = subst (λ (es : List Event). IsWorldOf es (outs ++ []) w) (sym (append-nil events)) (subst (λ (os : List (Job × Outcome)). IsWorldOf events os w) (sym (append-nil outs)) of)
+later_world events outs w of more told later (then_one before earlier old event one now ran happens) =
+    subst (λ (es : List Event). IsWorldOf es (outs ++ with_told earlier one) now) (append_assoc events before (event ∷ []))
+    (subst (λ (os : List (Job × Outcome)). IsWorldOf ((events ++ before) ++ event ∷ []) os now) (told_behind one) (then_one (events ++ before) (outs ++ earlier) old event one now (later_world events outs w of before earlier old ran) happens))
+  where
+    told_behind : (one : Option (Job × Outcome)) → with_told (outs ++ earlier) one ≡ outs ++ with_told earlier one
+    told_behind None = refl
+    told_behind (Some told) = append_assoc outs earlier (told ∷ [])
+
+-- ---- the headline
+
+-- a batch of an entry stands in the table
+batch_at : (entries : List Entry) (version : ℕ) (entry : Entry) (b : Batch) → slice_get entries version ≡ Some entry → Contains (batches_of entry) b → Contains (batches entries) b
+batch_at [] version entry b is has = absurd cc
+batch_at (first ∷ entries) zero entry b is has =
+    let same : first ≡ entry = cc in
+    Contains-append_left (batches_of first) (batches entries) b (subst (λ (e : Entry). Contains (batches_of e) b) (sym same) has)
+batch_at (first ∷ entries) (suc version) entry b is has = Contains-append_right (batches_of first) (batches entries) b (batch_at entries version entry b is has)
+
+-- a batch that was acknowledged stands
+acknowledged_stands : (schema : Schema) (entries : List Entry) (job : SinkJob) (end : SinkEnd) → IsSoOf schema entries job end.answer → Acknowledges end → (b : Batch) × IsBatchOf schema job b × Contains (batches entries) b
+acknowledged_stands schema entries job end so = by_answer end.answer so
+  where
+    by_answer : (answer : Result SinkOutcome SinkFault) → IsSoOf schema entries job answer → Acknowledges (record end { answer = answer }) → (b : Batch) × IsBatchOf schema job b × Contains (batches entries) b
+    by_answer (Ok (Committed version)) so acknowledges = (so.0, so.1, batch_at entries version so.2.0 so.0 so.2.1 so.2.2)
+    by_answer (Ok (Already number)) so acknowledges = (so.0, so.1, so.2.1)
+    by_answer (Ok (Closed version)) so acknowledges = absurd acknowledges
+    by_answer (Ok AlreadyClosed) so acknowledges = absurd acknowledges
+    by_answer (Err fault) so acknowledges = absurd acknowledges
+
+-- a session that listed a commit is told of none that is lacked
+pub no_bad_log : AreLaws → (events : List Event) (outs : List (Job × Outcome)) (w : World) → IsGoodWorld events outs w → (name : ℕ) (actor : Actor) (outcome : Outcome) → HasActor w name actor → actor.hand ≡ ended outcome → ListsCommit actor.talk → TellsBadLog outcome → ⊥
+no_bad_log laws events outs w good name actor outcome is hand listed bad = by_outcome actor.job outcome may bad
+  where
+    own : IsGoodActor events w.objects actor
+    own = good.actors name actor is
+
+    does : Does actor.job [] actor.talk (tells outcome)
+    does = subst (IsGoodHand events w.objects actor.job actor.talk) hand own.hand
+
+    may : MayTell w.objects good.store.sound.table.schema good.store.sound.table.entries actor.job actor.talk outcome
+    may = laws.may w.objects good.store.sound.table.schema good.store.sound.table.entries actor.job [] actor.talk (tells outcome) (record {
+      sound = good.store.sound;
+      bytes = good.store.bytes;
+      holds = good.store.sound.table.holds;
+      earlier = tt;
+      borne = own.borne;
+      asked = own.asked;
+    }) own.begun.0.0 does
+
+    by_answer : (job : SinkJob) (end : SinkEnd) (answer : Result SinkOutcome SinkFault) → MayTellOfStream w.objects good.store.sound.table.schema good.store.sound.table.entries job actor.talk answer → TellsBadLog (stream (record end { answer = answer })) → ⊥
+    by_answer job end (Err (faults.BadLog version)) lacks bad = none_lacked actor.talk own.told listed version lacks
+    by_answer job end (Ok outcome) lacks bad = bad
+    by_answer job end (Err (faults.Stale last)) lacks bad = bad
+    by_answer job end (Err faults.StreamClosed) lacks bad = bad
+    by_answer job end (Err (faults.Differs object)) lacks bad = bad
+    by_answer job end (Err (faults.Contended newest)) lacks bad = bad
+    by_answer job end (Err (faults.Lost version)) lacks bad = bad
+    by_answer job end (Err (faults.ReadOnly fault)) lacks bad = bad
+    by_answer job end (Err (faults.BadRow index fault)) lacks bad = bad
+    by_answer job end (Err faults.BadApp) lacks bad = bad
+    by_answer job end (Err faults.TooLarge) lacks bad = bad
+    by_answer job end (Err faults.FileTooLarge) lacks bad = bad
+    by_answer job end (Err (faults.SchemaChanged version)) lacks bad = bad
+    by_answer job end (Err faults.Memory) lacks bad = bad
+
+    by_outcome : (job : Job) (outcome : Outcome) → MayTell w.objects good.store.sound.table.schema good.store.sound.table.entries job actor.talk outcome → TellsBadLog outcome → ⊥
+    by_outcome (loads job) (load (Err (load_faults.BadLog version))) lacks bad = none_lacked actor.talk own.told listed version lacks
+    by_outcome (checkpoints job) (checkpoint (Err (checkpoint_faults.BadLog version))) lacks bad = none_lacked actor.talk own.told listed version lacks
+    by_outcome (streams job) (stream end) lacks bad = by_answer job end end.answer lacks bad
+    by_outcome (loads job) (load (Ok loaded)) lacks bad = bad
+    by_outcome (loads job) (load (Err load_faults.Lost)) lacks bad = bad
+    by_outcome (loads job) (load (Err load_faults.Memory)) lacks bad = bad
+    by_outcome (loads job) (creation told) lacks bad = lacks
+    by_outcome (loads job) (checkpoint told) lacks bad = lacks
+    by_outcome (loads job) (stream told) lacks bad = lacks
+    by_outcome (checkpoints job) (checkpoint (Ok put)) lacks bad = bad
+    by_outcome (checkpoints job) (checkpoint (Err (checkpoint_faults.Unsupported fault))) lacks bad = bad
+    by_outcome (checkpoints job) (checkpoint (Err checkpoint_faults.TooLarge)) lacks bad = bad
+    by_outcome (checkpoints job) (checkpoint (Err checkpoint_faults.Lost)) lacks bad = bad
+    by_outcome (checkpoints job) (checkpoint (Err checkpoint_faults.Memory)) lacks bad = bad
+    by_outcome (checkpoints job) (creation told) lacks bad = lacks
+    by_outcome (checkpoints job) (load told) lacks bad = lacks
+    by_outcome (checkpoints job) (stream told) lacks bad = lacks
+    by_outcome (streams job) (creation told) lacks bad = lacks
+    by_outcome (streams job) (load told) lacks bad = lacks
+    by_outcome (streams job) (checkpoint told) lacks bad = lacks
+    by_outcome (creates job) (creation told) lacks bad = bad
+    by_outcome (creates job) (load told) lacks bad = lacks
+    by_outcome (creates job) (checkpoint told) lacks bad = lacks
+    by_outcome (creates job) (stream told) lacks bad = lacks
+
+pub headline_of : (events : List Event) (outs : List (Job × Outcome)) (w : World) → IsGoodWorld events outs w → (schema : Schema) (entries : List Entry) → Holds w.objects schema entries → IsHeadline events outs schema entries
+headline_of events outs w good schema entries holds = record {
+  once = stands_once entries (lawful_held w.objects schema entries good.store.sound.table holds).rises;
+  lawful = lawful_held w.objects schema entries good.store.sound.table holds;
+  acknowledged = λ job end has acknowledges. let one = acknowledged_stands schema entries job end (good.told job end has schema entries holds) acknowledges in (good.handed job end has, one.0, one.1, one.2);
+  submitted = λ b has. good.store.submitted schema entries holds b has;
+  told = λ job end has. good.told job end has schema entries holds;
+}

@@ -1,0 +1,37 @@
+use Rattle.stream_model.proofs.Laws.{AreLaws}
+use Rattle.stream_model.proofs.Running.{headline_of, no_bad_log, world_ran}
+use Rattle.stream_model.proofs.worlds.every_world.Goals as goal
+
+-- the laws that it calls
+laws_of : goal.After-what_a_session_may → AreLaws
+laws_of c = record {
+  empty = c.an_empty_store_is_sound.ensures;
+  commit_lands = c.an_admissible_commit_lands.ensures.now;
+  commit_stays = c.an_admissible_commit_stays_admissible.ensures;
+  file_lands = c.a_data_file_lands.ensures.file;
+  checkpoint_lands = c.a_sound_checkpoint_lands.ensures.now;
+  checkpoint_stays = c.a_sound_checkpoint_stays_sound.ensures;
+  bears_both = c.what_is_borne_twice_is_borne_at_once.ensures;
+  may = c.what_a_session_may.ensures.may;
+}
+
+pub returns-clause-sound : goal.returns-clause-sound
+returns-clause-sound c = λ events outs w ran. (world_ran (laws_of c) events outs w ran).store.sound
+
+pub returns-clause-bytes : goal.returns-clause-bytes
+returns-clause-bytes c = λ events outs w ran. (world_ran (laws_of c) events outs w ran).store.bytes
+
+pub returns-clause-borne : goal.returns-clause-borne
+returns-clause-borne c = λ events outs w ran name actor is. let good = (world_ran (laws_of c) events outs w ran).actors name actor is in (good.borne, good.asked)
+
+pub returns-clause-flight : goal.returns-clause-flight
+returns-clause-flight c = λ events outs w ran put has. ((world_ran (laws_of c) events outs w ran).flight put has).0
+
+pub returns-clause-files : goal.returns-clause-files
+returns-clause-files c = λ events outs w ran. (world_ran (laws_of c) events outs w ran).store.files
+
+pub returns-clause-headline : goal.returns-clause-headline
+returns-clause-headline c = λ events outs w ran. headline_of events outs w (world_ran (laws_of c) events outs w ran)
+
+pub returns-clause-listed : goal.returns-clause-listed
+returns-clause-listed c = λ events outs w ran. no_bad_log (laws_of c) events outs w (world_ran (laws_of c) events outs w ran)

@@ -1,0 +1,82 @@
+-- What may happen in a world: one event after the other, from a world in which nothing stands.
+use Rattle.std.specs.Prelude.{◌≡◌, ◌⊎◌, ℕ, List, [], ◌∷◌, ◌++◌, Option, None, Some, slice_get}
+use Rattle.lake_bytes.specs.Varint.{IsBytes}
+use Rattle.store_core.specs.Objects.{with_object}
+use Rattle.session_core.specs.Talks.{Asked, Talk, Told, put_commit, put_file, told_lost}
+use Rattle.session_laws.specs.May.{IsValidJob}
+use Rattle.session_laws.specs.Sessions.{Does, Job, Outcome, asks, checkpoints, creates, loads, streams, tells}
+use Rattle.stream_model.specs.Worlds.{Actor, How, World, acted, asking, empty_world, ended, fresh, waiting, with_actor}
+
+-- An actor begins a session, dropping an older one, or dies; its call is answered in some way; its session goes on: it makes its first step,
+-- or takes the answer that waits, or is told in place of it that the call was lost; or a put in flight takes effect, and stays in flight.
+pub data Event : Type 0 where
+  begin : (name : ℕ) → Job → Event
+  die : (name : ℕ) → Event
+  act : (name : ℕ) → How → Event
+  answer : (name : ℕ) → Event
+  lose_answer : (name : ℕ) → Event
+  land : (place : ℕ) → Event
+
+-- the first version that a job has still to read
+abbrev pub first_of : Job → ℕ
+first_of (creates job) = 0
+first_of (loads job) = job.first
+first_of (checkpoints job) = job.first
+first_of (streams job) = job.load.first
+
+-- a job that a session can begin which knows nothing yet
+abbrev pub CanBegin : Job → Type 0
+CanBegin job = IsValidJob job × (first_of job ≡ 0)
+
+-- the actor of a number
+abbrev pub HasActor : World → ℕ → Actor → Type 0
+HasActor w name actor = w.actors name ≡ Some actor
+
+-- whether an event fits a world: the job can begin, the actor waits for it, or the put is in flight
+abbrev pub Fits : World → Event → Type 0
+Fits w (begin name job) = CanBegin job
+Fits w (die name) = Unit {0}
+Fits w (act name how) = (actor : Actor) × (call : Asked) × HasActor w name actor × (actor.hand ≡ asking call)
+Fits w (answer name) = (actor : Actor) × HasActor w name actor × ((actor.hand ≡ fresh) ⊎ ((call : Asked) × (told : Told) × (actor.hand ≡ waiting call told)))
+Fits w (lose_answer name) = (actor : Actor) × (call : Asked) × (told : Told) × HasActor w name actor × (actor.hand ≡ waiting call told)
+Fits w (land place) = (put : List ℕ × List ℕ) × (slice_get w.flight place ≡ Some put)
+
+-- By an event the session of an actor comes to this talk: it makes its first step, or takes the answer to its call, or that it was lost.
+pub data Takes (w : World) : Event → (name : ℕ) → Actor → (now : Talk) → Type 0 where
+  begins_now : (name : ℕ) (actor : Actor) → HasActor w name actor → actor.hand ≡ fresh → Takes w (answer name) name actor []
+  takes : (name : ℕ) (actor : Actor) (call : Asked) (told : Told) → HasActor w name actor → actor.hand ≡ waiting call told → Takes w (answer name) name actor (actor.talk ++ (call, told) ∷ [])
+  loses : (name : ℕ) (actor : Actor) (call : Asked) (told : Told) → HasActor w name actor → actor.hand ≡ waiting call told → Takes w (lose_answer name) name actor (actor.talk ++ (call, told_lost) ∷ [])
+
+-- what is put is of numbers of eight bits
+abbrev pub IsOfBytes : Asked → Type 0
+IsOfBytes (put_file name bytes) = IsBytes bytes
+IsOfBytes (put_commit version bytes) = IsBytes bytes
+IsOfBytes asked = Unit {0}
+
+-- What may become of a world by an event, and which outcome is told. A session does whatever its job does next by its talk; what it puts is
+-- of numbers of eight bits, as a program's bytes are. An event that doesn't fit changes nothing.
+pub data Happens (w : World) : Event → (told : Option (Job × Outcome)) → World → Type 0 where
+  begins : (name : ℕ) (job : Job) → CanBegin job → Happens w (begin name job) None (with_actor w name (Some (record { job = job; talk = []; hand = fresh })))
+  dies : (name : ℕ) → Happens w (die name) None (with_actor w name None)
+  acts : (name : ℕ) (how : How) (actor : Actor) (call : Asked) → HasActor w name actor → actor.hand ≡ asking call → Happens w (act name how) None (acted w name actor call how)
+  goes_on : (event : Event) (name : ℕ) (actor : Actor) (now : Talk) (call : Asked) → Takes w event name actor now → Does actor.job [] now (asks call) → IsOfBytes call
+      → Happens w event None (with_actor w name (Some (record { job = actor.job; talk = now; hand = asking call })))
+  ends : (event : Event) (name : ℕ) (actor : Actor) (now : Talk) (outcome : Outcome) → Takes w event name actor now → Does actor.job [] now (tells outcome)
+      → Happens w event (Some (actor.job, outcome)) (with_actor w name (Some (record { job = actor.job; talk = now; hand = ended outcome })))
+  lands : (place : ℕ) (put : List ℕ × List ℕ) → slice_get w.flight place ≡ Some put → Happens w (land place) None (record w { objects = with_object w.objects put.0 put.1 })
+  nothing_happens : (event : Event) → (Fits w event → ⊥) → Happens w event None w
+
+-- the outcomes with one more, if one was told
+abbrev pub with_told : List (Job × Outcome) → Option (Job × Outcome) → List (Job × Outcome)
+with_told outs None = outs
+with_told outs (Some one) = outs ++ one ∷ []
+
+-- By these events, one after the other, a world came to another, and these outcomes were told.
+pub data Ran (first : World) : List Event → List (Job × Outcome) → World → Type 0 where
+  at_first : Ran first [] [] first
+  then_one : (events : List Event) (outs : List (Job × Outcome)) (w : World) (event : Event) (told : Option (Job × Outcome)) (later : World) → Ran first events outs w → Happens w event told later
+      → Ran first (events ++ event ∷ []) (with_told outs told) later
+
+-- a world that came by these events from the one in which nothing stands
+abbrev pub IsWorldOf : List Event → List (Job × Outcome) → World → Type 0
+IsWorldOf events outs w = Ran empty_world events outs w

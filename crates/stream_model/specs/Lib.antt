@@ -1,0 +1,4 @@
+pub mod Events
+pub mod Headline
+pub mod Puts
+pub mod Worlds

@@ -1,0 +1,46 @@
+-- Which puts are good in a store: they leave it sound, and a data file is one of a batch that was handed in.
+use Rattle.std.specs.Prelude.{◌≡◌, ℕ, List, [], ◌∷◌, Contains, Some}
+use Rattle.store_core.specs.Objects.{Objects}
+use Rattle.delta_actions.specs.Names.{commit_name}
+use Rattle.table_log.specs.Restoring.{IsSoundCheckpoint, checkpoint_version}
+use Rattle.table_model.specs.Table.{Batch, Entry, close, group}
+use Rattle.table_store.specs.Commits.{IsCommitOf}
+use Rattle.table_store.specs.Holds.{FileStands, Holds}
+use Rattle.table_store.specs.Schema.{Schema}
+use Rattle.table_store.specs.Sound.{IsAdmissible}
+use Rattle.sink_core.specs.SinkSessions as tasks
+use Rattle.sink_core.specs.SinkSessions.{SinkJob}
+use Rattle.session_laws.specs.Rows.{IsBatchOf, IsJobFile}
+use Rattle.session_laws.specs.Sessions.{Job, streams}
+use Rattle.session_laws.specs.Sessions as jobs
+use Rattle.commit_core.specs.CreateSessions.{CreateJob, IsCreationOf}
+use Rattle.stream_model.specs.Events.{CanBegin, Event, begin}
+
+-- some actor began this job, which can begin
+abbrev pub WasBegun : List Event → Job → Type 0
+WasBegun events job = CanBegin job × (name : ℕ) × Contains events (begin name job)
+
+-- a stream's job was handed in
+abbrev pub Submitted : List Event → SinkJob → Type 0
+Submitted events job = WasBegun events (streams job)
+
+-- under this name, a file of the rows of a batch that was handed in, for a table of this schema
+abbrev pub IsSubmittedFile : List Event → Schema → (name bytes : List ℕ) → Type 0
+IsSubmittedFile events schema name bytes = (job : SinkJob) × Submitted events job × IsJobFile schema job name bytes
+
+-- a table of this schema was created, and stands
+abbrev pub HasTable : Objects → Schema → Type 0
+HasTable objects schema = (first : Entry) × (rest : List Entry) × Holds objects schema (first ∷ rest)
+
+-- What a commit holds that a session puts: as version 0, the creation that a job asks for; a batch that was handed in, whose file stands; or
+-- the close that a job asks for.
+pub data IsMade (events : List Event) (objects : Objects) (version : ℕ) (bytes : List ℕ) : Type 0 where
+  creates : (job : CreateJob) → WasBegun events (jobs.creates job) → version ≡ 0 → IsCreationOf job bytes → IsMade events objects version bytes
+  appends : (schema : Schema) (job : SinkJob) (b : Batch) → HasTable objects schema → Submitted events job → IsBatchOf schema job b → IsCommitOf schema (group (b ∷ [])) bytes → FileStands objects schema b → IsMade events objects version bytes
+  closes : (schema : Schema) (job : SinkJob) → Submitted events job → job.task ≡ tasks.closes → IsCommitOf schema (close job.application) bytes → IsMade events objects version bytes
+
+-- A put is good: an admissible commit that a job asks for, a sound checkpoint, or a file of a batch that was handed in.
+pub data IsGoodPut (events : List Event) (objects : Objects) (name bytes : List ℕ) : Type 0 where
+  a_commit : (version : ℕ) → name ≡ commit_name version → IsAdmissible objects version bytes → IsMade events objects version bytes → IsGoodPut events objects name bytes
+  a_checkpoint : (version : ℕ) → checkpoint_version name ≡ Some version → IsSoundCheckpoint objects version bytes → IsGoodPut events objects name bytes
+  a_file : (schema : Schema) → HasTable objects schema → IsSubmittedFile events schema name bytes → IsGoodPut events objects name bytes

@@ -1,0 +1,92 @@
+-- Worlds of actors over one store: what stands, the puts that may take effect later, and what each actor's session has at hand.
+use Rattle.std.specs.Prelude.{ℕ, ◌==◌, [], ◌∷◌, ◌++◌, Option, Some, None, if◌then◌else◌}
+use Rattle.store_core.specs.Calls.{Flight, put_told}
+use Rattle.store_core.specs.Objects.{Objects, names_of, object_at, with_object}
+use Rattle.session_core.specs.Talks.{Asked, Talk, Told, get_object, list_names, put_commit, put_file, told_lost, told_memory, told_names, told_object, told_put}
+use Rattle.delta_actions.specs.Names.{commit_name}
+use Rattle.session_laws.specs.Sessions.{Job, Outcome}
+
+-- What a session has at hand: it has asked for nothing yet; it asks for a call; an answer to its call waits; or it has ended.
+pub data Hand : Type 0 where
+  fresh : Hand
+  asking : Asked → Hand
+  waiting : Asked → Told → Hand
+  ended : Outcome → Hand
+
+-- An actor: what its session is to do, its talk so far, and what it has at hand.
+pub record Actor : Type 0 where
+  pub job : Job
+  pub talk : Talk
+  pub hand : Hand
+
+-- A world: the objects that stand, the puts in flight, and the actors, by number.
+pub record World : Type 0 where
+  pub objects : Objects
+  pub flight : Flight
+  pub actors : ℕ → Option Actor
+
+-- the world in which nothing stands, nothing is in flight, and nobody acts
+abbrev pub empty_world : World
+empty_world = record { objects = []; flight = []; actors = λ name. None }
+
+-- the world with that actor under a number, or with none
+abbrev pub with_actor : World → ℕ → Option Actor → World
+with_actor w name found = record w { actors = λ other. if other == name then found else w.actors other }
+
+-- ---- calls that take effect
+
+-- what a call that takes effect tells
+abbrev pub told_by : Objects → Asked → Told
+told_by objects list_names = told_names (names_of objects)
+told_by objects (get_object name) = told_object (object_at objects name)
+told_by objects (put_file name bytes) = told_put (put_told (object_at objects name))
+told_by objects (put_commit version bytes) = told_put (put_told (object_at objects (commit_name version)))
+
+-- and what it leaves: a put makes an absent name stand
+abbrev pub left_by : Objects → Asked → Objects
+left_by objects (put_file name bytes) = with_object objects name bytes
+left_by objects (put_commit version bytes) = with_object objects (commit_name version) bytes
+left_by objects asked = objects
+
+-- the put that goes in flight; a list and a get don't
+abbrev pub sent : Asked → Flight
+sent (put_file name bytes) = (name, bytes) ∷ []
+sent (put_commit version bytes) = (commit_name version, bytes) ∷ []
+sent asked = []
+
+-- How a call is answered. A list or a get that is late is lost: only puts go in flight.
+pub data How : Type 0 where
+  -- it takes effect, and its answer waits
+  once : How
+  -- it takes effect twice, and the second answer waits
+  twice : How
+  -- a put goes in flight, and that it was lost waits
+  late : How
+  -- it has no effect, and that it was lost waits
+  lost : How
+  -- it has no effect, and that memory ran out waits
+  short : How
+
+abbrev pub told_how : How → Objects → Asked → Told
+told_how once objects asked = told_by objects asked
+told_how twice objects asked = told_by (left_by objects asked) asked
+told_how late objects asked = told_lost
+told_how lost objects asked = told_lost
+told_how short objects asked = told_memory
+
+abbrev pub left_how : How → Objects → Asked → Objects
+left_how once objects asked = left_by objects asked
+left_how twice objects asked = left_by (left_by objects asked) asked
+left_how how objects asked = objects
+
+abbrev pub flight_how : How → Flight → Asked → Flight
+flight_how late flight asked = flight ++ sent asked
+flight_how how flight asked = flight
+
+-- the world behind an actor's call that is answered so
+abbrev pub acted : World → ℕ → Actor → Asked → How → World
+acted w name actor asked how =
+    record (with_actor w name (Some (record actor { hand = waiting asked (told_how how w.objects asked) }))) {
+      objects = left_how how w.objects asked;
+      flight = flight_how how w.flight asked;
+    }
