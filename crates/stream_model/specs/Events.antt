@@ -24,7 +24,7 @@ first_of (loads job) = job.first
 first_of (checkpoints job) = job.first
 first_of (streams job) = job.load.first
 
--- a job that a session can begin which knows nothing yet
+-- a job that can begin: a stream's application is a text and a version is tried at least, and no version is known already
 abbrev pub CanBegin : Job → Type 0
 CanBegin job = IsValidJob job × (first_of job ≡ 0)
 

@@ -66,7 +66,7 @@ StandOnce bs = (place other : ℕ) (b c : Batch) → slice_get bs place ≡ Some
 
 -- Of the table that a store holds: each batch stands once, each application's numbers rise, and none of it stands with or behind its close;
 -- each batch that was acknowledged was handed in, and stands; each batch that stands was handed in, with these rows; and what a stream was
--- told of its batch or its close is so.
+-- told of its batch or its close is so, of the outcomes that `IsSoOf` speaks of.
 pub record IsHeadline (events : List Event) (outs : List (Job × Outcome)) (schema : Schema) (entries : List Entry) : Type 0 where
   pub once : StandOnce (batches entries)
   pub lawful : IsLawful entries

@@ -28,7 +28,7 @@ Submitted events job = WasBegun events (streams job)
 abbrev pub IsSubmittedFile : List Event → Schema → (name bytes : List ℕ) → Type 0
 IsSubmittedFile events schema name bytes = (job : SinkJob) × Submitted events job × IsJobFile schema job name bytes
 
--- a table of this schema was created, and stands
+-- the store holds a table of this schema with a version at least; in a sound store the first is its creation
 abbrev pub HasTable : Objects → Schema → Type 0
 HasTable objects schema = (first : Entry) × (rest : List Entry) × Holds objects schema (first ∷ rest)
 
@@ -39,7 +39,8 @@ pub data IsMade (events : List Event) (objects : Objects) (version : ℕ) (bytes
   appends : (schema : Schema) (job : SinkJob) (b : Batch) → HasTable objects schema → Submitted events job → IsBatchOf schema job b → IsCommitOf schema (group (b ∷ [])) bytes → FileStands objects schema b → IsMade events objects version bytes
   closes : (schema : Schema) (job : SinkJob) → Submitted events job → job.task ≡ tasks.closes → IsCommitOf schema (close job.application) bytes → IsMade events objects version bytes
 
--- A put is good: an admissible commit that a job asks for, a sound checkpoint, or a file of a batch that was handed in.
+-- A put is good: an admissible commit of a job's creation, of a batch that was handed in or of a job's close (not told to the byte but for a
+-- creation); a sound checkpoint; or a file of a batch that was handed in.
 pub data IsGoodPut (events : List Event) (objects : Objects) (name bytes : List ℕ) : Type 0 where
   a_commit : (version : ℕ) → name ≡ commit_name version → IsAdmissible objects version bytes → IsMade events objects version bytes → IsGoodPut events objects name bytes
   a_checkpoint : (version : ℕ) → checkpoint_version name ≡ Some version → IsSoundCheckpoint objects version bytes → IsGoodPut events objects name bytes

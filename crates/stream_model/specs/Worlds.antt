@@ -67,6 +67,7 @@ pub data How : Type 0 where
   -- it has no effect, and that memory ran out waits
   short : How
 
+-- what such an answer tells
 abbrev pub told_how : How → Objects → Asked → Told
 told_how once objects asked = told_by objects asked
 told_how twice objects asked = told_by (left_by objects asked) asked
@@ -74,11 +75,13 @@ told_how late objects asked = told_lost
 told_how lost objects asked = told_lost
 told_how short objects asked = told_memory
 
+-- which objects it leaves
 abbrev pub left_how : How → Objects → Asked → Objects
 left_how once objects asked = left_by objects asked
 left_how twice objects asked = left_by (left_by objects asked) asked
 left_how how objects asked = objects
 
+-- which puts are in flight then
 abbrev pub flight_how : How → Flight → Asked → Flight
 flight_how late flight asked = flight ++ sent asked
 flight_how how flight asked = flight

@@ -10,7 +10,7 @@ ghost use Rattle.table_store.specs.Schema.{Schema};
 ghost use Rattle.log_laws.specs.Sound.{IsSoundStore};
 ghost use Rattle.session_laws.specs.May.{AreBytes};
 ghost use Rattle.session_laws.specs.Sessions.{HasAsked, Job, Outcome};
-ghost use Rattle.stream_model.specs.Events.{Event, HasActor, IsWorldOf, Ran};
+ghost use Rattle.stream_model.specs.Events.{CanBegin, Event, HasActor, IsWorldOf, Ran};
 ghost use Rattle.stream_model.specs.Headline.{IsHeadline, ListsCommit, TellsBadLog};
 ghost use Rattle.stream_model.specs.Puts.{HasTable, IsGoodPut, IsSubmittedFile};
 ghost use Rattle.stream_model.specs.Worlds.{Actor, World, ended};
@@ -24,24 +24,27 @@ use session_laws::what_a_session_may;
 
 /// Over every list of events, of any length and with any number of actors, from a world in which nothing stands:
 /// - the store is sound, its checkpoints too (`sound`), and each object is of numbers of eight bits (`bytes`);
-/// - it bears what each session was told, and each call of a session is one that its job asks for there (`borne`); so what it does next it may
-///   do, as `what_a_session_may` has it;
+/// - it bears what each session was told, each call that a session had an answer to is one that its job asks for there, and its job can begin
+///   (`borne`); so what its job does next by that talk it may do, as `what_a_session_may` has it;
 /// - each put in flight may take effect at any time: it is a file of a batch that was handed in, an admissible commit of a creation or a close
 ///   that a job asks for or of such a batch, or a checkpoint of the log's commits up to its version (`flight`);
 /// - each data file has the rows of a batch of its name that was handed in, for the table that stands (`files`);
-/// - of the table that the store holds, and there is one: each batch stands once, each application's in rising number, and none with or behind
-///   its close; each batch that was acknowledged was handed in, and stands; each that stands was handed in, with these rows; and what an append
-///   or a close told of its batch or its close is so (`headline`);
-/// - a session that listed a commit is told of none that is missing or can't be read (`listed`).
+/// - of the table that the store holds (by `sound` there is one, without versions until a creation takes effect): each batch stands once, each
+///   application's in rising number, and none with or behind its close; each batch that was acknowledged was handed in, and stands; each that
+///   stands was handed in, with these rows; and where an append told that its batch was put as a version, stands already, is below a number
+///   that stands (S1) or comes behind the close of its stream (S2), or a close that it was put as a version or its stream was closed already,
+///   that is so (`headline`). Of other refusals it says nothing;
+/// - a session that has ended, and whose list had a commit, didn't tell that one is missing or can't be read (`listed`).
 ///
-/// A put takes effect on a free name alone, a get gives what stands, and all objects are put by these sessions. Jobs are creations, loads,
-/// checkpoints, appends of a batch and closes; reads of rows are none yet. A session begins with nothing known from an earlier one; an
-/// append's and a close's application is a text, and they try a version at least: another job can't begin.
+/// A put takes effect on a free name alone; when it takes effect, a get gives what stands under its name, and a list all names that stand; and
+/// all objects are put by these sessions, of numbers of eight bits, as a program's bytes are. Jobs are creations, loads, checkpoints, appends
+/// of a batch and closes; reads of rows aren't among them yet. A session begins with nothing known from an earlier one; an append's and a
+/// close's application is a text, and they try a version at least: another job can't begin.
 pub fn every_world()
     ensures sound { (events : List Event) (outs : List (Job × Outcome)) (w : World) → IsWorldOf events outs w → IsSoundStore w.objects }
     ensures bytes { (events : List Event) (outs : List (Job × Outcome)) (w : World) → IsWorldOf events outs w → AreBytes w.objects }
     ensures borne { (events : List Event) (outs : List (Job × Outcome)) (w : World) → IsWorldOf events outs w → (name : ℕ) (actor : Actor) → HasActor w name actor
-        → Bears w.objects actor.talk × HasAsked actor.job [] actor.talk }
+        → Bears w.objects actor.talk × HasAsked actor.job [] actor.talk × CanBegin actor.job }
     ensures flight { (events : List Event) (outs : List (Job × Outcome)) (w : World) → IsWorldOf events outs w → (put : List ℕ × List ℕ) → Contains w.flight put → IsGoodPut events w.objects put.0 put.1 }
     ensures files { (events : List Event) (outs : List (Job × Outcome)) (w : World) → IsWorldOf events outs w
         → (application : List ℕ) (number : ℕ) (bytes : List ℕ) → object_at w.objects (data_file_name application number) ≡ Some bytes
@@ -61,7 +64,7 @@ pub fn every_world()
 }
 
 /// Whatever happens, an object that stands keeps its bytes (`objects`), and the log of each later world begins with the log that stood (`log`).
-/// A later world is one of all events (`world`), so what was acknowledged stands there once, too.
+/// A later world is a world of the earlier events followed by the later ones (`world`), so what was acknowledged stands there once, too.
 pub fn what_stands_in_a_world_stays()
     ensures objects { (w later : World) (events : List Event) (outs : List (Job × Outcome)) → Ran w events outs later → HasObjectsOf w.objects later.objects }
     ensures world { (events more : List Event) (outs told : List (Job × Outcome)) (w later : World) → IsWorldOf events outs w → Ran w more told later → IsWorldOf (events ++ more) (outs ++ told) later }

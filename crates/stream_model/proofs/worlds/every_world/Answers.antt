@@ -22,7 +22,7 @@ pub returns-clause-bytes : goal.returns-clause-bytes
 returns-clause-bytes c = λ events outs w ran. (world_ran (laws_of c) events outs w ran).store.bytes
 
 pub returns-clause-borne : goal.returns-clause-borne
-returns-clause-borne c = λ events outs w ran name actor is. let good = (world_ran (laws_of c) events outs w ran).actors name actor is in (good.borne, good.asked)
+returns-clause-borne c = λ events outs w ran name actor is. let good = (world_ran (laws_of c) events outs w ran).actors name actor is in (good.borne, good.asked, good.begun.0)
 
 pub returns-clause-flight : goal.returns-clause-flight
 returns-clause-flight c = λ events outs w ran put has. ((world_ran (laws_of c) events outs w ran).flight put has).0

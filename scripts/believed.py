@@ -1,0 +1,231 @@
+#!/usr/bin/env python3
+"""Prints the definitions that a clause unfolds to: what has to be read, and believed to say what it should, beside the proof.
+
+scripts/believed.py CRATE::FUNCTION[::CLAUSE] [--names]
+
+Each definition stands once, behind those that it mentions, with its file and line. At the end their lines are counted, comments and blank
+lines left out: those of the public standards' formats apart from the rest. What the kit defines is named, and what a type in code declares.
+`--names` leaves the texts out.
+"""
+import re
+import sys
+from pathlib import Path
+
+ROOT = Path(__file__).resolve().parent.parent / "crates"
+
+# Crates whose definitions say what the bytes and texts of Parquet, Thrift, JSON, schemas and Delta's actions are.
+FORMATS = {
+    "lake_bytes", "json_text", "json_fields", "thrift_core", "parquet_footer", "parquet_pages", "page_writing", "parquet_schema",
+    "parquet_file", "file_laws", "schema_tree", "row_core", "shred", "delta_actions", "delta_checkpoint",
+}
+
+WORD = r"[^\s(){}\[\];,.λ:=→×⊎≡≢≤<+∷|↦\"]+"
+PATH = re.compile(r"(?:%s\.)*%s" % (WORD, WORD))
+HEAD = re.compile(r"^(?:abbrev |unfoldable |mutual |pub )*(?:(data|record) )?(\S+)")
+SKIP = ("use ", "pub use ", "unfoldable pub use ", "mod ", "pub mod ", "infix", "open ", "unfolding ")
+
+
+class Definition:
+    """A definition with the comment above it, and the names that it brings: its own, and its constructors'."""
+
+    def __init__(self, module, line, text, head, names):
+        self.module, self.line, self.text, self.head, self.names = module, line, text, head, names
+
+    def is_constructor(self, name):
+        return self.names != {name} and name != self.head
+
+    def lines(self):
+        return sum(1 for row in self.text.split("\n") if row.strip() and not row.strip().startswith("--"))
+
+
+class Module:
+    """A file of definitions: what it defines, and under which names it sees those of others."""
+
+    def __init__(self, name, path):
+        self.name, self.path, self.defined, self.seen, self.aliases = name, path, {}, {}, {}
+        rows = path.read_text().split("\n")
+        uses = [row for row in rows if re.match(r"^(unfoldable )?(pub )?use ", row)]
+        self.read_uses(uses)
+        self.read_definitions(rows)
+
+    def read_uses(self, uses):
+        for use in uses:
+            several = re.match(r".*?use (\S+)\.\{(.*)\}", use)
+            alias = re.match(r".*?use (\S+) as (\S+)", use)
+            if several:
+                for one in several.group(2).split(","):
+                    whole = one.split(" as ")
+                    self.seen[whole[-1].strip()] = (several.group(1), whole[0].strip())
+            elif alias:
+                self.aliases[alias.group(2)] = alias.group(1)
+
+    def read_definitions(self, rows):
+        start, comment, block = None, None, []
+        for number, row in enumerate(rows + ["."], 1):
+            if row.startswith((" ", "\t")) and start is not None:
+                block.append(row)
+                continue
+            if row.startswith(SKIP) or row.strip() == "" or row.startswith("--"):
+                if start is not None and row.strip() == "":
+                    block.append(row)
+                if row.startswith("--"):
+                    self.close(start, block)
+                    start, block = None, []
+                    comment = (number, [row]) if comment is None or comment[2] != number - 1 else (comment[0], comment[1] + [row])
+                    comment = (comment[0], comment[1], number)
+                continue
+            name = HEAD.match(row)
+            name = name.group(2) if name else None
+            if start is not None and (name == start[1] or (name and row.startswith(start[1] + " "))):
+                block.append(row)
+                continue
+            self.close(start, block)
+            start, block = None, []
+            if row != "." and name:
+                above = comment[1] if comment is not None and comment[2] == number - 1 else []
+                start, block = (number - len(above), name), above + [row]
+
+    def close(self, start, block):
+        if start is None:
+            return
+        text = "\n".join(block).rstrip()
+        names = {start[1]}
+        body = [row for row in block if not row.startswith("--")]
+        # A record's fields are seen by what has its type, so they bring no name.
+        if re.match(r"^(abbrev |unfoldable |pub )*data ", body[0]) or body[0].startswith("mutual"):
+            for row in body[1:]:
+                inner = re.match(r"^  (?:abbrev |pub )*(?:(?:data|record) )?(\S+) (?::|\()", row)
+                if inner:
+                    names.add(inner.group(1))
+        one = Definition(self, start[0], text, start[1], names)
+        for name in names:
+            self.defined.setdefault(name, one)
+
+
+class House:
+    def __init__(self):
+        self.modules, self.kit, self.declared = {}, set(), set()
+        for path in ROOT.glob("*/specs/**/*.antt"):
+            parts = path.relative_to(ROOT).with_suffix("").parts
+            name = "Rattle." + ".".join(parts)
+            self.modules[name] = Module(name, path)
+
+    def find(self, module, name, depth=0):
+        """The definition of a name that a module of this name has or passes on."""
+        here = self.modules.get(module)
+        if here is None or depth > 8:
+            if here is None:
+                (self.declared if ".declared." in module else self.kit).add(module + "." + name)
+            return None
+        if name in here.defined:
+            return here.defined[name]
+        if name in here.seen:
+            return self.find(*here.seen[name], depth + 1)
+        return None
+
+    def resolve(self, module, token):
+        first, _, rest = token.partition(".")
+        if first in module.aliases and rest:
+            return self.find(module.aliases[first], rest.split(".")[0])
+        for name in [token] + [self.mixfix(module, first)] + [first]:
+            if name is None:
+                continue
+            if name in module.defined:
+                return module.defined[name]
+            if name in module.seen:
+                return self.find(*module.seen[name])
+        return None
+
+    @staticmethod
+    def mixfix(module, token):
+        for name in list(module.defined) + list(module.seen):
+            if "◌" in name and token in name.split("◌"):
+                return name
+        return None
+
+
+def mentioned(text):
+    plain = "\n".join(re.sub(r"--.*", "", row) for row in text.split("\n"))
+    return PATH.findall(plain)
+
+
+def bound_in(text):
+    """Names that stand for variables: those of binders, and those left of `=` that aren't constructors, which the caller tells apart."""
+    binders, left = set(), set()
+    for names in re.findall(r"[({]([^(){}:]+) : ", text) + re.findall(r"λ ([^.]+)\.", text) + re.findall(r"let (\S+) ", text):
+        binders.update(names.split())
+    for row in text.split("\n"):
+        clause = re.match(r"^\s*\S+ ([^=:]*) = ?", row + " ")
+        if clause and "{" not in clause.group(1):
+            left.update(PATH.findall(clause.group(1)))
+    return binders, left
+
+
+def gather(house, module, text, done, order):
+    binders, left = bound_in(text)
+    for token in mentioned(text):
+        found = house.resolve(module, token)
+        first = token.split(".")[0]
+        if found is None or first in binders:
+            continue
+        if token in left and not found.is_constructor(token.split(".")[-1]) and "◌" not in found.head:
+            continue
+        if id(found) not in done:
+            done.add(id(found))
+            gather(house, found.module, found.text, done, order)
+            order.append(found)
+
+
+def clauses_of(crate, function, clause):
+    """The contract's clauses and the module that stands for the file that they are in."""
+    for path in sorted((ROOT / crate / "src").glob("**/*.rt")):
+        text = path.read_text()
+        at = re.search(r"^\s*(?:pub(?:\([a-z]+\))? )?fn %s\b" % re.escape(function), text, re.M)
+        if not at:
+            continue
+        contract = text[at.start():]
+        ends = re.search(r"^\s*\{", contract, re.M)
+        contract = contract[: ends.start()] if ends else contract
+        pieces = re.split(r"\n\s*(?=(?:ensures|requires)\b)", contract)
+        chosen = [p for p in pieces if p.startswith(("ensures", "requires")) and (clause is None or p.startswith("ensures %s " % clause))]
+        if not chosen:
+            sys.exit("believed: %s has no clause %s" % (function, clause))
+        seen = Module.__new__(Module)
+        seen.name, seen.path, seen.defined, seen.seen, seen.aliases = path.stem, path, {}, {}, {}
+        seen.read_uses([row.strip().rstrip(";") for row in text.split("\n") if row.strip().startswith("ghost use ")])
+        return path, "\n".join(chosen), seen
+    sys.exit("believed: no function %s in %s" % (function, crate))
+
+
+def type_of(name):
+    """The crate and the type of what code declares, whichever variant was named."""
+    crate, rest = name.removeprefix("Rattle.").split(".specs.declared.")
+    return crate + "::" + rest.split(".TheVariants")[0].split(".")[-1]
+
+
+def main(words):
+    names_only = "--names" in words
+    words = [word for word in words if word != "--names"]
+    if len(words) != 1 or words[0].count("::") not in (1, 2):
+        sys.exit(__doc__)
+    crate, function, *rest = words[0].split("::")
+    path, text, seen = clauses_of(crate, function, rest[0] if rest else None)
+    house, order = House(), []
+    gather(house, seen, text, set(), order)
+    counts = {}
+    for one in order:
+        place = one.module.path.relative_to(ROOT.parent)
+        counts[place.parts[1]] = counts.get(place.parts[1], 0) + one.lines()
+        print("%s:%d" % (place, one.line) + (" " + one.head if names_only else ""))
+        if not names_only:
+            print(one.text + "\n")
+    print("%s\n%s\n" % (path.relative_to(ROOT.parent), text))
+    print("types of code: " + ", ".join(sorted({type_of(name) for name in house.declared})))
+    print("of the kit: " + ", ".join(sorted({name.removeprefix("Rattle.").replace(".specs.", "::") for name in house.kit})))
+    print("lines: " + ", ".join("%s %d" % one for one in sorted(counts.items(), key=lambda one: -one[1])))
+    formats = sum(lines for name, lines in counts.items() if name in FORMATS)
+    print("%d definitions: %d lines, and %d of formats" % (len(order), sum(counts.values()) - formats, formats))
+
+
+if __name__ == "__main__":
+    main(sys.argv[1:])
