@@ -1,5 +1,5 @@
 -- A session that listed a commit is never told, in a world, that one is lacked.
-use Rattle.std.proofs.Common.{◌≡◌, ◌∙◌, ◌+◌, ◌<◌, ◌≤◌, ℕ, zero, suc, List, [], ◌∷◌, ◌++◌, Option, Some, None, Contains, IsSome, append-nil, append_assoc, refl, sym, ap, subst, arith}
+use Rattle.std.proofs.Common.{length, ◌≡◌, ◌∙◌, ◌+◌, ◌<◌, ◌≤◌, ℕ, zero, suc, List, [], ◌∷◌, ◌++◌, Option, Some, None, Contains, IsSome, append-nil, append_assoc, refl, sym, ap, subst, arith}
 use Rattle.store_core.specs.Objects.{Objects, names_of, object_at}
 use Rattle.store_core.specs.ObjectLaws.{listed_iff_stands}
 use Rattle.store_core.specs.declared.store.Put.TheVariants.{Created, Exists}
@@ -10,6 +10,9 @@ use Rattle.table_log.specs.Counts.{count_in}
 use Rattle.table_log.specs.LoadSessions.{HasGap}
 use Rattle.table_log.specs.Names as table_names
 use Rattle.table_log.proofs.CountNames.{newest_named}
+use Rattle.table_model.specs.Table.{Entry}
+use Rattle.table_store.specs.Holds.{Holds}
+use Rattle.table_store.specs.Schema.{Schema}
 use Rattle.table_store.specs.Sound.{IsSound}
 use Rattle.log_laws.specs.Sound.{IsSoundStore}
 use Rattle.session_laws.specs.Rows.{LacksCommit, Lists, got_none, next_after, next_version, none_listed, not_listed}
@@ -99,6 +102,42 @@ module _ (objects : Objects) (sound : IsSound objects) where
   next_stand ((put_commit at bytes, told_object found) ∷ talk) first next stand all borne = next_stand talk (first ++ (put_commit at bytes, told_object found) ∷ []) next stand all.2 borne.1
   next_stand ((put_commit at bytes, told_lost) ∷ talk) first next stand all borne = next_stand talk (first ++ (put_commit at bytes, told_lost) ∷ []) next stand all.2 borne.1
   next_stand ((put_commit at bytes, told_memory) ∷ talk) first next stand all borne = next_stand talk (first ++ (put_commit at bytes, told_memory) ∷ []) next stand all.2 borne.1
+
+  -- the version that comes next is one behind one that a commit can have
+  next_fits : (talk : Talk) (first : Talk) (next : ℕ) → next ≤ suc greatest_version → AllTold first talk → next_after next talk ≤ suc greatest_version
+  next_fits [] first next fits all = fits
+  next_fits ((list_names, told_names names) ∷ talk) first next fits all = next_fits talk (first ++ (list_names, told_names names) ∷ []) (count_in names) (by_count (count_in names) refl) all.2
+    where
+      by_count : (count : ℕ) → count_in names ≡ count → count ≤ suc greatest_version
+      by_count zero is = omega arith
+      by_count (suc last) is = let newest = newest_named names last is in omega (arith, newest.1)
+  next_fits ((put_commit at bytes, told_put Exists) ∷ talk) first next fits all = next_fits talk (first ++ (put_commit at bytes, told_put Exists) ∷ []) (suc at) (omega (arith, all.1)) all.2
+  next_fits ((list_names, told_object found) ∷ talk) first next fits all = next_fits talk (first ++ (list_names, told_object found) ∷ []) next fits all.2
+  next_fits ((list_names, told_put put) ∷ talk) first next fits all = next_fits talk (first ++ (list_names, told_put put) ∷ []) next fits all.2
+  next_fits ((list_names, told_lost) ∷ talk) first next fits all = next_fits talk (first ++ (list_names, told_lost) ∷ []) next fits all.2
+  next_fits ((list_names, told_memory) ∷ talk) first next fits all = next_fits talk (first ++ (list_names, told_memory) ∷ []) next fits all.2
+  next_fits ((get_object name, told) ∷ talk) first next fits all = next_fits talk (first ++ (get_object name, told) ∷ []) next fits all.2
+  next_fits ((put_file name bytes, told) ∷ talk) first next fits all = next_fits talk (first ++ (put_file name bytes, told) ∷ []) next fits all.2
+  next_fits ((put_commit at bytes, told_put Created) ∷ talk) first next fits all = next_fits talk (first ++ (put_commit at bytes, told_put Created) ∷ []) next fits all.2
+  next_fits ((put_commit at bytes, told_names names) ∷ talk) first next fits all = next_fits talk (first ++ (put_commit at bytes, told_names names) ∷ []) next fits all.2
+  next_fits ((put_commit at bytes, told_object found) ∷ talk) first next fits all = next_fits talk (first ++ (put_commit at bytes, told_object found) ∷ []) next fits all.2
+  next_fits ((put_commit at bytes, told_lost) ∷ talk) first next fits all = next_fits talk (first ++ (put_commit at bytes, told_lost) ∷ []) next fits all.2
+  next_fits ((put_commit at bytes, told_memory) ∷ talk) first next fits all = next_fits talk (first ++ (put_commit at bytes, told_memory) ∷ []) next fits all.2
+
+  -- so no more versions come in front of it than the table has
+  pub next_within : (schema : Schema) (entries : List Entry) → Holds objects schema entries → (talk : Talk) → AllTold [] talk → Bears objects talk → next_version talk ≤ length entries
+  next_within schema entries holds talk all borne = by_next (next_version talk) refl
+    where
+      by_next : (next : ℕ) → next_version talk ≡ next → next ≤ length entries
+      by_next zero is = omega arith
+      by_next (suc last) is =
+          let fits = next_fits talk [] 0 (omega arith) all in
+          let stands = next_stand talk [] 0 (λ v none. absurd (omega (arith, none))) all borne last (omega (arith, is)) in
+          by_found (object_at objects (commit_name last)) refl stands (omega (arith, fits, is))
+        where
+          by_found : (found : Option (List ℕ)) → object_at objects (commit_name last) ≡ found → IsSome found → last ≤ greatest_version → suc last ≤ length entries
+          by_found None here none small = absurd cc
+          by_found (Some bytes) here some small = let within = within_table objects schema entries sound holds last bytes small here in omega (arith, within)
 
   -- no version is missing among the names that it lists
   no_gap : (names : List (List ℕ)) → names ≡ names_of objects → HasGap names → ⊥

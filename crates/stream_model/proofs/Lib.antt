@@ -5,5 +5,6 @@ mod Lacking
 mod Landing
 mod Laws
 mod Once
+mod Refused
 mod Running
 mod Steps

@@ -8,29 +8,24 @@ use Rattle.delta_actions.specs.Names.{commit_name}
 use Rattle.table_model.specs.Table.{Batch, Entry, batches, batches_of}
 use Rattle.table_store.specs.Holds.{Holds}
 use Rattle.table_store.specs.Schema.{Schema}
-use Rattle.table_log.specs.declared.fault.LogFault.TheVariants as load_faults
-use Rattle.snapshot_core.specs.declared.fault.SnapshotFault.TheVariants as checkpoint_faults
 use Rattle.batch_core.specs.declared.fault.SinkFault.{SinkFault}
-use Rattle.batch_core.specs.declared.fault.SinkFault.TheVariants as faults
 use Rattle.sink_core.specs.SinkSessions.{SinkJob}
 use Rattle.sink_core.specs.declared.sink_state.SinkEnd.{SinkEnd}
 use Rattle.sink_core.specs.declared.sink_state.SinkOutcome.{SinkOutcome}
 use Rattle.sink_core.specs.declared.sink_state.SinkOutcome.TheVariants.{Already, AlreadyClosed, Closed, Committed}
-use Rattle.session_laws.specs.Rows.{IsBatchOf, MayTellOfStream}
-use Rattle.session_laws.specs.Sessions.{Does, Job, Outcome, checkpoint, checkpoints, creates, creation, load, loads, stream, streams, tells}
-use Rattle.stream_model.specs.Events.{CanBegin, Event, Happens, HasActor, IsWorldOf, Ran, acts, at_first, begin, begins, die, dies, ends, goes_on, lands, nothing_happens, then_one, with_told}
-use Rattle.stream_model.specs.Headline.{Acknowledges, IsHeadline, IsSoOf, ListsCommit, TellsBadLog}
-use Rattle.stream_model.specs.Worlds.{Actor, How, World, empty_world, ended, fresh, late, left_by, left_how, lost, once, short, twice}
+use Rattle.session_laws.specs.Rows.{IsBatchOf}
+use Rattle.session_laws.specs.Sessions.{Job, Outcome}
+use Rattle.stream_model.specs.Events.{CanBegin, Event, Happens, IsWorldOf, Ran, acts, at_first, begin, begins, die, dies, ends, goes_on, lands, nothing_happens, then_one, with_told}
+use Rattle.stream_model.specs.Headline.{Acknowledges, IsHeadline, IsSoOf}
+use Rattle.stream_model.specs.Worlds.{How, World, empty_world, fresh, late, left_by, left_how, lost, once, short, twice}
 use Rattle.stream_model.proofs.Calls.{got_one}
-use Rattle.stream_model.proofs.Good.{IsGoodActor, IsGoodHand, IsGoodWorld, none_in, world_more}
+use Rattle.stream_model.proofs.Good.{IsGoodWorld, none_in, world_more}
 use Rattle.stream_model.proofs.Growing.{lawful_held}
 use Rattle.stream_model.proofs.Landing.{put_grew}
 use Rattle.stream_model.proofs.Laws.{AreLaws}
 use Rattle.stream_model.proofs.Once.{stands_once}
 use Rattle.stream_model.proofs.Steps.{with_good, without_actor, world_acts, world_asks, world_put, world_tells}
 use Rattle.stream_model.specs.Puts.{WasBegun}
-use Rattle.stream_model.proofs.Lacking.{none_lacked}
-use Rattle.session_laws.specs.May.{MayTell}
 
 -- a job that is begun now was begun
 begun_now : (events : List Event) (name : ℕ) (job : Job) → CanBegin job → WasBegun (events ++ begin name job ∷ []) job
@@ -144,68 +139,6 @@ acknowledged_stands schema entries job end so = by_answer end.answer so
     by_answer (Ok (Closed version)) so acknowledges = absurd acknowledges
     by_answer (Ok AlreadyClosed) so acknowledges = absurd acknowledges
     by_answer (Err fault) so acknowledges = absurd acknowledges
-
--- a session that listed a commit is told of none that is lacked
-pub no_bad_log : AreLaws → (events : List Event) (outs : List (Job × Outcome)) (w : World) → IsGoodWorld events outs w → (name : ℕ) (actor : Actor) (outcome : Outcome) → HasActor w name actor → actor.hand ≡ ended outcome → ListsCommit actor.talk → TellsBadLog outcome → ⊥
-no_bad_log laws events outs w good name actor outcome is hand listed bad = by_outcome actor.job outcome may bad
-  where
-    own : IsGoodActor events w.objects actor
-    own = good.actors name actor is
-
-    does : Does actor.job [] actor.talk (tells outcome)
-    does = subst (IsGoodHand events w.objects actor.job actor.talk) hand own.hand
-
-    may : MayTell w.objects good.store.sound.table.schema good.store.sound.table.entries actor.job actor.talk outcome
-    may = laws.may w.objects good.store.sound.table.schema good.store.sound.table.entries actor.job [] actor.talk (tells outcome) (record {
-      sound = good.store.sound;
-      bytes = good.store.bytes;
-      holds = good.store.sound.table.holds;
-      earlier = tt;
-      borne = own.borne;
-      asked = own.asked;
-    }) own.begun.0.0 does
-
-    by_answer : (job : SinkJob) (end : SinkEnd) (answer : Result SinkOutcome SinkFault) → MayTellOfStream w.objects good.store.sound.table.schema good.store.sound.table.entries job actor.talk answer → TellsBadLog (stream (record end { answer = answer })) → ⊥
-    by_answer job end (Err (faults.BadLog version)) lacks bad = none_lacked actor.talk own.told listed version lacks
-    by_answer job end (Ok outcome) lacks bad = bad
-    by_answer job end (Err (faults.Stale last)) lacks bad = bad
-    by_answer job end (Err faults.StreamClosed) lacks bad = bad
-    by_answer job end (Err (faults.Differs object)) lacks bad = bad
-    by_answer job end (Err (faults.Contended newest)) lacks bad = bad
-    by_answer job end (Err (faults.Lost version)) lacks bad = bad
-    by_answer job end (Err (faults.ReadOnly fault)) lacks bad = bad
-    by_answer job end (Err (faults.BadRow index fault)) lacks bad = bad
-    by_answer job end (Err faults.BadApp) lacks bad = bad
-    by_answer job end (Err faults.TooLarge) lacks bad = bad
-    by_answer job end (Err faults.FileTooLarge) lacks bad = bad
-    by_answer job end (Err (faults.SchemaChanged version)) lacks bad = bad
-    by_answer job end (Err faults.Memory) lacks bad = bad
-
-    by_outcome : (job : Job) (outcome : Outcome) → MayTell w.objects good.store.sound.table.schema good.store.sound.table.entries job actor.talk outcome → TellsBadLog outcome → ⊥
-    by_outcome (loads job) (load (Err (load_faults.BadLog version))) lacks bad = none_lacked actor.talk own.told listed version lacks
-    by_outcome (checkpoints job) (checkpoint (Err (checkpoint_faults.BadLog version))) lacks bad = none_lacked actor.talk own.told listed version lacks
-    by_outcome (streams job) (stream end) lacks bad = by_answer job end end.answer lacks bad
-    by_outcome (loads job) (load (Ok loaded)) lacks bad = bad
-    by_outcome (loads job) (load (Err load_faults.Lost)) lacks bad = bad
-    by_outcome (loads job) (load (Err load_faults.Memory)) lacks bad = bad
-    by_outcome (loads job) (creation told) lacks bad = lacks
-    by_outcome (loads job) (checkpoint told) lacks bad = lacks
-    by_outcome (loads job) (stream told) lacks bad = lacks
-    by_outcome (checkpoints job) (checkpoint (Ok put)) lacks bad = bad
-    by_outcome (checkpoints job) (checkpoint (Err (checkpoint_faults.Unsupported fault))) lacks bad = bad
-    by_outcome (checkpoints job) (checkpoint (Err checkpoint_faults.TooLarge)) lacks bad = bad
-    by_outcome (checkpoints job) (checkpoint (Err checkpoint_faults.Lost)) lacks bad = bad
-    by_outcome (checkpoints job) (checkpoint (Err checkpoint_faults.Memory)) lacks bad = bad
-    by_outcome (checkpoints job) (creation told) lacks bad = lacks
-    by_outcome (checkpoints job) (load told) lacks bad = lacks
-    by_outcome (checkpoints job) (stream told) lacks bad = lacks
-    by_outcome (streams job) (creation told) lacks bad = lacks
-    by_outcome (streams job) (load told) lacks bad = lacks
-    by_outcome (streams job) (checkpoint told) lacks bad = lacks
-    by_outcome (creates job) (creation told) lacks bad = bad
-    by_outcome (creates job) (load told) lacks bad = lacks
-    by_outcome (creates job) (checkpoint told) lacks bad = lacks
-    by_outcome (creates job) (stream told) lacks bad = lacks
 
 pub headline_of : (events : List Event) (outs : List (Job × Outcome)) (w : World) → IsGoodWorld events outs w → (schema : Schema) (entries : List Entry) → Holds w.objects schema entries → IsHeadline events outs schema entries
 headline_of events outs w good schema entries holds = record {

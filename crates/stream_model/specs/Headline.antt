@@ -38,6 +38,20 @@ TellsBadLog (stream end) = by_answer end.answer
     by_answer answer = ⊥
 TellsBadLog outcome = ⊥
 
+-- that a winner changed the table's schema
+abbrev pub TellsSchemaChanged : Outcome → Type 0
+TellsSchemaChanged (stream end) = by_answer end.answer
+  where
+    by_answer : Result SinkOutcome SinkFault → Type 0
+    by_answer (Err (faults.SchemaChanged version)) = Unit {0}
+    by_answer answer = ⊥
+TellsSchemaChanged outcome = ⊥
+
+-- that the table is one whose checkpoint isn't put
+abbrev pub TellsUnsupported : Outcome → Type 0
+TellsUnsupported (checkpoint (Err (checkpoint_faults.Unsupported fault))) = Unit {0}
+TellsUnsupported outcome = ⊥
+
 -- ---- what is so of the table
 
 -- What a stream was told of its batch or its close is so of the table: that it was put as a version, stands already, is below a number that

@@ -1,6 +1,8 @@
 //! What is so of every world, whatever happened in it: laws, each a function that does nothing.
 
-ghost use Rattle.std.specs.Prelude.{◌≡◌, ℕ, List, [], ◌++◌, Some, Contains};
+ghost use Rattle.std.specs.Prelude.{◌≡◌, ℕ, List, [], ◌++◌, Some, Contains, codes, true};
+ghost use Rattle.schema_tree.specs.Sameness.{has_fraction};
+ghost use Rattle.delta_replay.specs.Support.{has_key_inside};
 ghost use Rattle.store_core.specs.Objects.{HasObjectsOf, Objects, object_at};
 ghost use Rattle.session_core.specs.Talks.{Bears};
 ghost use Rattle.delta_actions.specs.Names.{data_file_name};
@@ -11,7 +13,7 @@ ghost use Rattle.log_laws.specs.Sound.{IsSoundStore};
 ghost use Rattle.session_laws.specs.May.{AreBytes};
 ghost use Rattle.session_laws.specs.Sessions.{HasAsked, Job, Outcome};
 ghost use Rattle.stream_model.specs.Events.{CanBegin, Event, HasActor, IsWorldOf, Ran};
-ghost use Rattle.stream_model.specs.Headline.{IsHeadline, ListsCommit, TellsBadLog};
+ghost use Rattle.stream_model.specs.Headline.{IsHeadline, ListsCommit, TellsBadLog, TellsSchemaChanged, TellsUnsupported};
 ghost use Rattle.stream_model.specs.Puts.{HasTable, IsGoodPut, IsSubmittedFile};
 ghost use Rattle.stream_model.specs.Worlds.{Actor, World, ended};
 
@@ -34,7 +36,9 @@ use session_laws::what_a_session_may;
 ///   stands was handed in, with these rows; and where an append told that its batch was put as a version, stands already, is below a number
 ///   that stands (S1) or comes behind the close of its stream (S2), or a close that it was put as a version or its stream was closed already,
 ///   that is so (`headline`). Of other refusals it says nothing;
-/// - a session that has ended, and whose list had a commit, didn't tell that one is missing or can't be read (`listed`).
+/// - a session that has ended, and whose list had a commit, didn't tell that one is missing or can't be read (`listed`); that a winner changed
+///   the schema it told only where the schema's metadata has a number with a fraction or an exponent, `-0`, or one beyond 64 bits (`schema`),
+///   and that a checkpoint isn't put for what the table asks of its writers only where a field has `delta.invariants` (`supported`).
 ///
 /// A put takes effect on a free name alone; when it takes effect, a get gives what stands under its name, and a list all names that stand; and
 /// all objects are put by these sessions, of numbers of eight bits, as a program's bytes are. Jobs are creations, loads, checkpoints, appends
@@ -52,6 +56,10 @@ pub fn every_world()
     ensures headline { (events : List Event) (outs : List (Job × Outcome)) (w : World) → IsWorldOf events outs w → (schema : Schema) (entries : List Entry) → Holds w.objects schema entries → IsHeadline events outs schema entries }
     ensures listed { (events : List Event) (outs : List (Job × Outcome)) (w : World) → IsWorldOf events outs w → (name : ℕ) (actor : Actor) (outcome : Outcome) → HasActor w name actor → actor.hand ≡ ended outcome
         → ListsCommit actor.talk → TellsBadLog outcome → ⊥ }
+    ensures schema { (events : List Event) (outs : List (Job × Outcome)) (w : World) → IsWorldOf events outs w → (name : ℕ) (actor : Actor) (outcome : Outcome) → HasActor w name actor → actor.hand ≡ ended outcome
+        → (schema : Schema) (entries : List Entry) → Holds w.objects schema entries → TellsSchemaChanged outcome → has_fraction schema ≡ true }
+    ensures supported { (events : List Event) (outs : List (Job × Outcome)) (w : World) → IsWorldOf events outs w → (name : ℕ) (actor : Actor) (outcome : Outcome) → HasActor w name actor → actor.hand ≡ ended outcome
+        → (schema : Schema) (entries : List Entry) → Holds w.objects schema entries → TellsUnsupported outcome → has_key_inside (codes "delta.invariants") schema ≡ true }
 {
     an_empty_store_is_sound();
     an_admissible_commit_lands();

@@ -1,5 +1,6 @@
 use Rattle.stream_model.proofs.Laws.{AreLaws}
-use Rattle.stream_model.proofs.Running.{headline_of, no_bad_log, world_ran}
+use Rattle.stream_model.proofs.Refused.{no_bad_log, schema_fraction, schema_invariants}
+use Rattle.stream_model.proofs.Running.{headline_of, world_ran}
 use Rattle.stream_model.proofs.worlds.every_world.Goals as goal
 
 -- the laws that it calls
@@ -34,4 +35,10 @@ pub returns-clause-headline : goal.returns-clause-headline
 returns-clause-headline c = λ events outs w ran. headline_of events outs w (world_ran (laws_of c) events outs w ran)
 
 pub returns-clause-listed : goal.returns-clause-listed
-returns-clause-listed c = λ events outs w ran. no_bad_log (laws_of c) events outs w (world_ran (laws_of c) events outs w ran)
+returns-clause-listed c = λ events outs w ran name actor outcome is hand. no_bad_log (laws_of c) events outs w (world_ran (laws_of c) events outs w ran) name actor outcome is hand
+
+pub returns-clause-schema : goal.returns-clause-schema
+returns-clause-schema c = λ events outs w ran name actor outcome is hand schema entries holds. schema_fraction (laws_of c) events outs w (world_ran (laws_of c) events outs w ran) name actor outcome is hand schema entries holds
+
+pub returns-clause-supported : goal.returns-clause-supported
+returns-clause-supported c = λ events outs w ran name actor outcome is hand schema entries holds. schema_invariants (laws_of c) events outs w (world_ran (laws_of c) events outs w ran) name actor outcome is hand schema entries holds
