@@ -3,9 +3,10 @@
 
 scripts/believed.py CRATE::FUNCTION[::CLAUSE] [--names]
 
-Each definition stands once, behind those that it mentions, with its file and line. At the end their lines are counted, comments and blank
+Each definition stands once, behind those that it mentions but where they mention each other, with its file and line. At the end their lines are counted, comments and blank
 lines left out: those of the public standards' formats apart from the rest. What the kit defines is named, and what a type in code declares.
-`--names` leaves the texts out.
+`--names` leaves the texts out. Of several functions of a name in a crate it takes the first; names are found by their texts, so a few
+definitions may be too many.
 """
 import re
 import sys
@@ -69,20 +70,18 @@ class Module:
                 if start is not None and row.strip() == "":
                     block.append(row)
                 if row.startswith("--"):
-                    self.close(start, block)
-                    start, block = None, []
                     comment = (number, [row]) if comment is None or comment[2] != number - 1 else (comment[0], comment[1] + [row])
                     comment = (comment[0], comment[1], number)
                 continue
             name = HEAD.match(row)
             name = name.group(2) if name else None
-            if start is not None and (name == start[1] or (name and row.startswith(start[1] + " "))):
-                block.append(row)
+            above = comment[1] if comment is not None and comment[2] == number - 1 else []
+            if start is not None and row.startswith(start[1] + " "):
+                block += above + [row]
                 continue
             self.close(start, block)
             start, block = None, []
             if row != "." and name:
-                above = comment[1] if comment is not None and comment[2] == number - 1 else []
                 start, block = (number - len(above), name), above + [row]
 
     def close(self, start, block):
@@ -91,12 +90,16 @@ class Module:
         text = "\n".join(block).rstrip()
         names = {start[1]}
         body = [row for row in block if not row.startswith("--")]
-        # A record's fields are seen by what has its type, so they bring no name.
-        if re.match(r"^(abbrev |unfoldable |pub )*data ", body[0]) or body[0].startswith("mutual"):
-            for row in body[1:]:
-                inner = re.match(r"^  (?:abbrev |pub )*(?:(?:data|record) )?(\S+) (?::|\()", row)
-                if inner:
-                    names.add(inner.group(1))
+        # A record's fields are seen by what has its type, so they bring no name. A mutual block brings those inside it and their constructors.
+        depth = "" if re.match(r"^(abbrev |unfoldable |pub )*data ", body[0]) else None
+        for row in body[1:]:
+            inner = re.match(r"^  (?:abbrev |unfoldable |pub )*((?:data |record )?)(\S+) (?::|\()", row) if start[1] == "mutual" else None
+            if inner:
+                names.add(inner.group(2))
+                depth = "  " if inner.group(1) == "data " else None
+            built = re.match(r"^%s  (\S+) :" % depth, row) if depth is not None else None
+            if built:
+                names.add(built.group(1))
         one = Definition(self, start[0], text, start[1], names)
         for name in names:
             self.defined.setdefault(name, one)
@@ -145,8 +148,9 @@ class House:
 
 
 def mentioned(text):
-    plain = "\n".join(re.sub(r"--.*", "", row) for row in text.split("\n"))
-    return PATH.findall(plain)
+    # A record's field isn't what another definition of its name is.
+    plain = "\n".join(re.sub(r"^  pub (?=\S+ :)\S+|\"[^\"]*\"|--.*", "", row) for row in text.split("\n"))
+    return PATH.findall(plain) + (["◌>>=◌"] if "←" in plain or ">>=" in plain else [])
 
 
 def bound_in(text):
@@ -155,7 +159,7 @@ def bound_in(text):
     for names in re.findall(r"[({]([^(){}:]+) : ", text) + re.findall(r"λ ([^.]+)\.", text) + re.findall(r"let (\S+) ", text):
         binders.update(names.split())
     for row in text.split("\n"):
-        clause = re.match(r"^\s*\S+ ([^=:]*) = ?", row + " ")
+        clause = re.match(r"^\s*\S+ ([^=:←]*) = ", row + " ")
         if clause and "{" not in clause.group(1):
             left.update(PATH.findall(clause.group(1)))
     return binders, left
@@ -189,7 +193,7 @@ def clauses_of(crate, function, clause):
         pieces = re.split(r"\n\s*(?=(?:ensures|requires)\b)", contract)
         chosen = [p for p in pieces if p.startswith(("ensures", "requires")) and (clause is None or p.startswith("ensures %s " % clause))]
         if not chosen:
-            sys.exit("believed: %s has no clause %s" % (function, clause))
+            sys.exit("believed: %s has no clause%s" % (function, "" if clause is None else " " + clause))
         seen = Module.__new__(Module)
         seen.name, seen.path, seen.defined, seen.seen, seen.aliases = path.stem, path, {}, {}, {}
         seen.read_uses([row.strip().rstrip(";") for row in text.split("\n") if row.strip().startswith("ghost use ")])
