@@ -1,15 +1,16 @@
+pub mod Callers
 mod Created
-pub mod Entries
+mod Entries
 mod Files
-pub mod Fronts
+mod Fronts
 mod Lacks
 mod LoadRows
 mod NextSteps
-pub mod NextVersions
+mod NextVersions
 mod Puts
-pub mod Ready
+mod Ready
 mod StreamLacks
-pub mod StreamPuts
+mod StreamPuts
 mod StreamRefused
 mod StreamTold
 mod TableAnswers

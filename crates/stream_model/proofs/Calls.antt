@@ -20,9 +20,7 @@ use Rattle.sink_core.specs.SinkSessions.{Point, Reaches, SinkAsks, SinkJob, Sink
 use Rattle.session_laws.specs.May.{IsValidJob, MayAsk}
 use Rattle.session_laws.specs.Rows.{IsBatchOf, IsJobCommit}
 use Rattle.session_laws.specs.Sessions.{Asks, Does, HasAsked, Job, asks, checkpoints, creates, loads, streams}
-use Rattle.session_laws.proofs.Fronts.{reached_front}
-use Rattle.session_laws.proofs.NextVersions.{reaches_some}
-use Rattle.session_laws.proofs.StreamPuts.{batch_commit, close_commit}
+use Rattle.session_laws.proofs.Callers.{batch_commit, close_commit, reached_front, reaches_some}
 use Rattle.commit_core.proofs.Callers.{bears_front}
 use Rattle.stream_model.specs.Events.{Event, IsOfBytes}
 use Rattle.stream_model.specs.Puts.{HasTable, IsGoodPut, IsMade, Submitted, WasBegun, a_checkpoint, a_commit, a_file}

@@ -1,5 +1,5 @@
 -- What is so of each world, and stays so by more events and by more objects.
-use Rattle.std.proofs.Common.{◌≡◌, ℕ, List, [], ◌∷◌, ◌++◌, Option, Some, Contains, sym, subst, arith}
+use Rattle.std.proofs.Common.{◌≡◌, ℕ, List, [], ◌∷◌, ◌++◌, Option, Some, Contains, sym, subst}
 use Rattle.std.specs.Prelude.{Result, Ok, Err}
 use Rattle.lake_bytes.specs.Varint.{IsBytes}
 use Rattle.store_core.specs.Calls.{Flight}
@@ -33,7 +33,7 @@ use Rattle.stream_model.specs.Puts.{IsGoodPut, Submitted, WasBegun}
 use Rattle.stream_model.specs.Worlds.{Actor, Hand, World, asking, ended, fresh, waiting}
 use Rattle.stream_model.proofs.Calls.{IsGoodCall}
 use Rattle.stream_model.proofs.Growing.{begun_more, file_more, put_grows, put_more, submitted_more}
-use Rattle.stream_model.proofs.Landing.{IsGoodStore}
+use Rattle.stream_model.proofs.Landing.{IsGoodStore, none_in}
 use Rattle.stream_model.proofs.Lacking.{AllTold, HasVersion, WasTold}
 use Rattle.stream_model.proofs.Laws.{AreLaws}
 
@@ -114,9 +114,6 @@ world_more events event outs w good = record {
 }
 
 -- ---- more objects
-
-pub none_in : {A : Type 0} (x : A) → Contains [] x → ⊥
-none_in x has = omega (arith, has.1)
 
 -- nothing is told of an empty table
 none_told : (answer : AppendAnswer) (b : Batch) → TellsAppend answer b [] → ⊥

@@ -16,8 +16,7 @@ use Rattle.table_store.specs.Schema.{Schema}
 use Rattle.table_store.specs.Sound.{IsSound}
 use Rattle.log_laws.specs.Sound.{IsSoundStore}
 use Rattle.session_laws.specs.Rows.{LacksCommit, Lists, got_none, next_after, next_version, none_listed, not_listed}
-use Rattle.session_laws.proofs.Entries.{entry_at, within_table}
-use Rattle.session_laws.proofs.NextVersions.{get_next}
+use Rattle.session_laws.proofs.Callers.{entry_at, get_next, within_table}
 use Rattle.stream_model.specs.Headline.{ListsCommit}
 use Rattle.stream_model.specs.Worlds.{told_by}
 

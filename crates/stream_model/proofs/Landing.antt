@@ -83,12 +83,13 @@ IsSubmitted events schema b = (job : SinkJob) × Submitted events job × IsBatch
 abbrev pub AreSubmitted : List Event → Objects → Type 0
 AreSubmitted events objects = (schema : Schema) (entries : List Entry) → Holds objects schema entries → (b : Batch) → Contains (batches entries) b → IsSubmitted events schema b
 
-no_batches : (b : Batch) → Contains {X = Batch} [] b → ⊥
-no_batches b has = omega (arith, has.1)
+-- an empty list has nothing
+pub none_in : {A : Type 0} (x : A) → Contains [] x → ⊥
+none_in x has = omega (arith, has.1)
 
 one_batch : (b c : Batch) → Contains (c ∷ []) b → c ≡ b
 one_batch b c has = elim (Contains-push_cases [] c b has) [
-  | inl none ↦ absurd (no_batches b none)
+  | inl none ↦ absurd (none_in b none)
   | inr same ↦ same
 ]
 
@@ -115,16 +116,16 @@ module _ (events : List Event) (objects : Objects) (sound : IsSound objects) (ve
   first_none is b has = by_entry new.entry (subst (λ (es : List Entry). BeginsWithCreation (es ++ new.entry ∷ [])) is new.lawful.begins) has
     where
       by_entry : (entry : Entry) → BeginsWithCreation (entry ∷ []) → Contains (batches_of entry) b → ⊥
-      by_entry creation begins none = no_batches b none
+      by_entry creation begins none = none_in b none
       by_entry (group bs) begins some = begins
-      by_entry (close application) begins none = no_batches b none
+      by_entry (close application) begins none = none_in b none
 
   close_none : (schema : Schema) (application : List ℕ) → IsCommitOf schema (close application) bytes → (b : Batch) → Contains (batches_of new.entry) b → ⊥
   close_none schema application commit b has = by_entry new.entry new.commit has
     where
       by_entry : (entry : Entry) → IsCommitOf new.schema entry bytes → Contains (batches_of entry) b → ⊥
-      by_entry creation is none = no_batches b none
-      by_entry (close other) is none = no_batches b none
+      by_entry creation is none = none_in b none
+      by_entry (close other) is none = none_in b none
       by_entry (group bs) is some =
           let lists = one_list bytes bytes new.schema schema (group bs) (close application) refl is commit in
           group_no_close application bs (without_commit_info commit.actions) (subst (λ (made : List actions.Action). IsGroupOf bs (without_commit_info made)) lists is.stand) commit.stand
@@ -171,7 +172,7 @@ module _ (events : List Event) (objects : Objects) (sound : IsSound objects) (ve
             | inl old ↦ all new.schema new.entries before b old
             | inr added ↦ added_submitted made b (elim (Contains-append_cases (batches_of new.entry) [] b added) [
               | inl own ↦ own
-              | inr none ↦ absurd (no_batches b none)
+              | inr none ↦ absurd (none_in b none)
             ])
           ])
 
@@ -226,7 +227,7 @@ module _ (objects : Objects) (name bytes : List ℕ) (apart : (version : ℕ) �
       by_entries : (own : List Entry) → Holds objects sound.schema own → BeginsWithCreation own → (schema : Schema) (entries : List Entry) → Holds (with_object objects name bytes) schema entries → (b : Batch) → Contains (batches entries) b → IsSubmitted events schema b
       by_entries [] holds begins schema entries held b has =
           let same : [] ≡ entries = only_table (with_object objects name bytes) sound.schema schema [] entries begins (held_beside sound.schema 0 [] holds) held in
-          absurd (no_batches b (subst (λ (es : List Entry). Contains (batches es) b) (sym same) has))
+          absurd (none_in b (subst (λ (es : List Entry). Contains (batches es) b) (sym same) has))
       by_entries (first ∷ rest) holds begins schema entries held b has =
           let here = held_beside sound.schema 0 (first ∷ rest) holds in
           let same : first ∷ rest ≡ entries = only_table (with_object objects name bytes) sound.schema schema (first ∷ rest) entries begins here held in

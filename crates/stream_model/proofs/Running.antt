@@ -1,6 +1,6 @@
 -- Whatever happens, it is so of each world; and what follows of it for a table that a store holds.
 use Rattle.std.proofs.Common.{refl, Contains, List, Option, Some, None, [], append-nil, append_assoc, subst, suc, sym, zero, ℕ, ◌++◌, ◌∷◌, ◌≡◌}
-use Rattle.std.specs.Prelude.{Result, Ok, Err, slice_get}
+use Rattle.std.specs.Prelude.{slice_get}
 use Rattle.std.proofs.lemmas.List.Elements.{Contains-append_left, Contains-append_right, Contains-push}
 use Rattle.store_core.specs.Objects.{HasObjectsOf, Objects}
 use Rattle.session_core.specs.Talks.{Asked, get_object, list_names, put_commit, put_file}
@@ -8,20 +8,17 @@ use Rattle.delta_actions.specs.Names.{commit_name}
 use Rattle.table_model.specs.Table.{Batch, Entry, batches, batches_of}
 use Rattle.table_store.specs.Holds.{Holds}
 use Rattle.table_store.specs.Schema.{Schema}
-use Rattle.batch_core.specs.declared.fault.SinkFault.{SinkFault}
 use Rattle.sink_core.specs.SinkSessions.{SinkJob}
 use Rattle.sink_core.specs.declared.sink_state.SinkEnd.{SinkEnd}
-use Rattle.sink_core.specs.declared.sink_state.SinkOutcome.{SinkOutcome}
-use Rattle.sink_core.specs.declared.sink_state.SinkOutcome.TheVariants.{Already, AlreadyClosed, Closed, Committed}
 use Rattle.session_laws.specs.Rows.{IsBatchOf}
 use Rattle.session_laws.specs.Sessions.{Job, Outcome}
 use Rattle.stream_model.specs.Events.{CanBegin, Event, Happens, IsWorldOf, Ran, acts, at_first, begin, begins, die, dies, ends, goes_on, lands, nothing_happens, then_one, with_told}
-use Rattle.stream_model.specs.Headline.{Acknowledges, IsHeadline, IsSoOf}
+use Rattle.stream_model.specs.Headline.{Acknowledges, IsHeadline, IsSoOf, already, committed}
 use Rattle.stream_model.specs.Worlds.{How, World, empty_world, fresh, late, left_by, left_how, lost, once, short, twice}
 use Rattle.stream_model.proofs.Calls.{got_one}
-use Rattle.stream_model.proofs.Good.{IsGoodWorld, none_in, world_more}
+use Rattle.stream_model.proofs.Good.{IsGoodWorld, world_more}
 use Rattle.stream_model.proofs.Growing.{lawful_held}
-use Rattle.stream_model.proofs.Landing.{put_grew}
+use Rattle.stream_model.proofs.Landing.{none_in, put_grew}
 use Rattle.stream_model.proofs.Laws.{AreLaws}
 use Rattle.stream_model.proofs.Once.{stands_once}
 use Rattle.stream_model.proofs.Steps.{with_good, without_actor, world_acts, world_asks, world_put, world_tells}
@@ -131,14 +128,8 @@ batch_at (first ∷ entries) (suc version) entry b is has = Contains-append_righ
 
 -- a batch that was acknowledged stands
 acknowledged_stands : (schema : Schema) (entries : List Entry) (job : SinkJob) (end : SinkEnd) → IsSoOf schema entries job end.answer → Acknowledges end → (b : Batch) × IsBatchOf schema job b × Contains (batches entries) b
-acknowledged_stands schema entries job end so = by_answer end.answer so
-  where
-    by_answer : (answer : Result SinkOutcome SinkFault) → IsSoOf schema entries job answer → Acknowledges (record end { answer = answer }) → (b : Batch) × IsBatchOf schema job b × Contains (batches entries) b
-    by_answer (Ok (Committed version)) so acknowledges = (so.0, so.1, batch_at entries version so.2.0 so.0 so.2.1 so.2.2)
-    by_answer (Ok (Already number)) so acknowledges = (so.0, so.1, so.2.1)
-    by_answer (Ok (Closed version)) so acknowledges = absurd acknowledges
-    by_answer (Ok AlreadyClosed) so acknowledges = absurd acknowledges
-    by_answer (Err fault) so acknowledges = absurd acknowledges
+acknowledged_stands schema entries job end so (committed version is) = let told = subst (IsSoOf schema entries job) is so in (told.0, told.1, batch_at entries version told.2.0 told.0 told.2.1 told.2.2)
+acknowledged_stands schema entries job end so (already number is) = let told = subst (IsSoOf schema entries job) is so in (told.0, told.1, told.2.1)
 
 pub headline_of : (events : List Event) (outs : List (Job × Outcome)) (w : World) → IsGoodWorld events outs w → (schema : Schema) (entries : List Entry) → Holds w.objects schema entries → IsHeadline events outs schema entries
 headline_of events outs w good schema entries holds = record {

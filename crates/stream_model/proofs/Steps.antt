@@ -24,8 +24,8 @@ use Rattle.stream_model.specs.Headline.{IsSoOf}
 use Rattle.stream_model.specs.Puts.{IsGoodPut, WasBegun}
 use Rattle.stream_model.specs.Worlds.{Actor, Hand, How, World, acted, asking, ended, late, left_by, lost, once, sent, short, told_by, twice, waiting, with_actor}
 use Rattle.stream_model.proofs.Calls.{IsGoodCall, call_good, heard_so, lost_borne, memory_borne, told_borne}
-use Rattle.stream_model.proofs.Good.{IsGoodActor, IsGoodHand, IsGoodWorld, actor_lasts, none_in, puts_last, told_lasts}
-use Rattle.stream_model.proofs.Landing.{IsGoodStore, put_grew, put_lands}
+use Rattle.stream_model.proofs.Good.{IsGoodActor, IsGoodHand, IsGoodWorld, actor_lasts, puts_last, told_lasts}
+use Rattle.stream_model.proofs.Landing.{IsGoodStore, none_in, put_grew, put_lands}
 use Rattle.stream_model.proofs.Laws.{AreLaws}
 use Rattle.stream_model.proofs.Lacking.{AllTold, HasVersion, WasTold, told_more, was_told}
 

@@ -3,6 +3,7 @@ use Rattle.std.specs.Prelude.{◌≡◌, ◌<◌, ℕ, List, Contains, Some, Res
 use Rattle.session_core.specs.Talks.{Talk}
 use Rattle.table_log.specs.Counts.{count_in}
 use Rattle.table_log.specs.declared.fault.LogFault.TheVariants as load_faults
+use Rattle.delta_replay.specs.declared.support.SupportFault.{SupportFault}
 use Rattle.snapshot_core.specs.declared.fault.SnapshotFault.TheVariants as checkpoint_faults
 use Rattle.table_model.specs.Appends.{TellsClose}
 use Rattle.table_model.specs.Lawful.{IsLawful}
@@ -28,29 +29,18 @@ abbrev pub ListsCommit : Talk → Type 0
 ListsCommit talk = (names : List (List ℕ)) × Lists talk names × (0 < count_in names)
 
 -- the outcome tells that a version's commit is missing or can't be read
-abbrev pub TellsBadLog : Outcome → Type 0
-TellsBadLog (load (Err (load_faults.BadLog version))) = Unit {0}
-TellsBadLog (checkpoint (Err (checkpoint_faults.BadLog version))) = Unit {0}
-TellsBadLog (stream end) = by_answer end.answer
-  where
-    by_answer : Result SinkOutcome SinkFault → Type 0
-    by_answer (Err (faults.BadLog version)) = Unit {0}
-    by_answer answer = ⊥
-TellsBadLog outcome = ⊥
+pub data TellsBadLog : Outcome → Type 0 where
+  bad_load : (version : ℕ) → TellsBadLog (load (Err (load_faults.BadLog version)))
+  bad_checkpoint : (version : ℕ) → TellsBadLog (checkpoint (Err (checkpoint_faults.BadLog version)))
+  bad_stream : (end : SinkEnd) (version : ℕ) → end.answer ≡ Err (faults.BadLog version) → TellsBadLog (stream end)
 
 -- that a winner changed the table's schema
-abbrev pub TellsSchemaChanged : Outcome → Type 0
-TellsSchemaChanged (stream end) = by_answer end.answer
-  where
-    by_answer : Result SinkOutcome SinkFault → Type 0
-    by_answer (Err (faults.SchemaChanged version)) = Unit {0}
-    by_answer answer = ⊥
-TellsSchemaChanged outcome = ⊥
+pub data TellsSchemaChanged : Outcome → Type 0 where
+  changed : (end : SinkEnd) (version : ℕ) → end.answer ≡ Err (faults.SchemaChanged version) → TellsSchemaChanged (stream end)
 
 -- that the table is one whose checkpoint isn't put
-abbrev pub TellsUnsupported : Outcome → Type 0
-TellsUnsupported (checkpoint (Err (checkpoint_faults.Unsupported fault))) = Unit {0}
-TellsUnsupported outcome = ⊥
+pub data TellsUnsupported : Outcome → Type 0 where
+  unsupported : (fault : SupportFault) → TellsUnsupported (checkpoint (Err (checkpoint_faults.Unsupported fault)))
 
 -- ---- what is so of the table
 
@@ -66,13 +56,9 @@ IsSoOf schema entries job (Err faults.StreamClosed) = TellsOfBatch schema entrie
 IsSoOf schema entries job (Err fault) = Unit {0}
 
 -- the outcome tells that the job's batch stands: it was committed, or stood already
-abbrev pub Acknowledges : SinkEnd → Type 0
-Acknowledges end = by_answer end.answer
-  where
-    by_answer : Result SinkOutcome SinkFault → Type 0
-    by_answer (Ok (Committed version)) = Unit {0}
-    by_answer (Ok (Already number)) = Unit {0}
-    by_answer answer = ⊥
+pub data Acknowledges (end : SinkEnd) : Type 0 where
+  committed : (version : ℕ) → end.answer ≡ Ok (Committed version) → Acknowledges end
+  already : (number : ℕ) → end.answer ≡ Ok (Already number) → Acknowledges end
 
 -- no two places of a list have batches of one application and number
 abbrev pub StandOnce : List Batch → Type 0

@@ -1,6 +1,6 @@
 //! What is so of every world, whatever happened in it: laws, each a function that does nothing.
 
-ghost use Rattle.std.specs.Prelude.{◌≡◌, ℕ, List, [], ◌++◌, Some, Contains, codes, true};
+ghost use Rattle.std.specs.Prelude.{◌≡◌, ℕ, List, [], ◌∷◌, ◌++◌, Some, Contains, codes, true};
 ghost use Rattle.schema_tree.specs.Sameness.{has_fraction};
 ghost use Rattle.delta_replay.specs.Support.{has_key_inside};
 ghost use Rattle.store_core.specs.Objects.{HasObjectsOf, Objects, object_at};
@@ -19,7 +19,8 @@ ghost use Rattle.stream_model.specs.Worlds.{Actor, World, ended};
 
 use log_laws::{
     a_data_file_lands, a_sound_checkpoint_lands, a_sound_checkpoint_stays_sound,
-    an_admissible_commit_lands, an_admissible_commit_stays_admissible, an_empty_store_is_sound,
+    a_sound_table_grows_at_its_end, an_admissible_commit_lands,
+    an_admissible_commit_stays_admissible, an_empty_store_is_sound,
 };
 use session_core::what_is_borne_twice_is_borne_at_once;
 use session_laws::what_a_session_may;
@@ -71,13 +72,17 @@ pub fn every_world()
     what_a_session_may();
 }
 
-/// Whatever happens, an object that stands keeps its bytes (`objects`), and the log of each later world begins with the log that stood (`log`).
-/// A later world is a world of the earlier events followed by the later ones (`world`), so what was acknowledged stands there once, too.
+/// Whatever happens, an object that stands keeps its bytes (`objects`), and the log of each later world begins with the log that stood (`log`),
+/// with the same schema where that had a version (`schema`). A later world is a world of the earlier events followed by the later ones
+/// (`world`), so what was acknowledged stands there once, too.
 pub fn what_stands_in_a_world_stays()
     ensures objects { (w later : World) (events : List Event) (outs : List (Job × Outcome)) → Ran w events outs later → HasObjectsOf w.objects later.objects }
     ensures world { (events more : List Event) (outs told : List (Job × Outcome)) (w later : World) → IsWorldOf events outs w → Ran w more told later → IsWorldOf (events ++ more) (outs ++ told) later }
     ensures log { (events more : List Event) (outs told : List (Job × Outcome)) (w later : World) → IsWorldOf events outs w → Ran w more told later → (schema other : Schema) (entries others : List Entry)
         → Holds w.objects schema entries → Holds later.objects other others → (tail : List Entry) × (others ≡ entries ++ tail) }
+    ensures schema { (events more : List Event) (outs told : List (Job × Outcome)) (w later : World) → IsWorldOf events outs w → Ran w more told later → (schema other : Schema) (first : Entry) (entries others : List Entry)
+        → Holds w.objects schema (first ∷ entries) → Holds later.objects other others → schema ≡ other }
 {
     every_world();
+    a_sound_table_grows_at_its_end();
 }

@@ -1,0 +1,5 @@
+-- The lemmas that proofs of other crates may cite.
+pub use Rattle.session_laws.proofs.Entries.{IsEntryAt, entry_at, within_table}
+pub use Rattle.session_laws.proofs.Fronts.{IsFrontOf, front_of, reached_front}
+pub use Rattle.session_laws.proofs.NextVersions.{get_next, reaches_some}
+pub use Rattle.session_laws.proofs.StreamPuts.{batch_commit, close_commit}
