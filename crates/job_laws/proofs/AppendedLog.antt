@@ -21,7 +21,8 @@ use Rattle.table_log.specs.Counts.{commit_count}
 use Rattle.table_log.specs.Names.{commit_name}
 use Rattle.table_log.specs.Restoring.{replayed}
 use Rattle.table_log.specs.Versions.{Version, missing, unreadable, commit, commits_in, commits_of, log_of, version_at, version_by, version_read, versions_from, versions_of}
-use Rattle.table_log.proofs.Callers.{count_is, of_commit as read_commit, or_none, or_regroup, stands_below}
+use Rattle.table_log.proofs.Callers.{count_is, of_commit as read_commit, stands_below}
+use Rattle.log_reading.proofs.Callers.{or_none, or_regroup}
 use Rattle.table_store.proofs.HoldingNames.{commit_name-data_file_name}
 use Rattle.table_store.proofs.NamesOnce.{commit_name-once}
 use Rattle.batch_core.specs.Committing.{appending}

@@ -9,10 +9,12 @@ pub mod CloseSound
 mod Left
 mod Loaded
 mod LoadedItems
+mod KeptFiles
 mod KeptLaws
 mod NameKinds
 mod OwnSteps
 mod PutNames
+mod ReaderLaws
 mod Requests
 mod RowLines
 mod SameLogs

@@ -1,6 +1,6 @@
 -- The data files that a read from a place on meets are loaded, and it hands out the same.
 use Rattle.std.proofs.Common.{◌≡◌, ◌∙◌, ◌<◌, ◌≤◌, ◌+◌, ◌-◌, ◌++◌, ℕ, zero, suc, Bool, true, false, List, [], ◌∷◌, Contains, Option, Some, None, Result, Ok, cond, filter, length, map, not, refl, sym, ap, subst, add-one, arith}
-use Rattle.std.specs.Prelude.{◌||◌, slice_get}
+use Rattle.std.specs.Prelude.{◌||◌}
 use Rattle.std.proofs.lemmas.Bool.{ltb-false}
 use Rattle.std.proofs.lemmas.List.Elements.{Contains-append_right}
 use Rattle.lake_bytes.specs.Results.{◌>>=◌, or_refusal}
@@ -9,15 +9,15 @@ use Rattle.row_core.specs.Rows.{Row}
 use Rattle.parquet_file.specs.Reading.{rows_at}
 use Rattle.store_core.specs.Objects.{Objects}
 use Rattle.delta_actions.specs.Kinds.{Path}
-use Rattle.table_log.specs.FromCheckpoints.{looked_at, no_start}
-use Rattle.table_log.specs.InForce.{SchemaText}
-use Rattle.table_log.specs.Reads.{first_standing}
+use Rattle.log_reading.specs.FromCheckpoints.{looked_at, no_start}
+use Rattle.log_reading.specs.InForce.{SchemaText}
+use Rattle.log_reading.specs.Reads.{first_standing}
 use Rattle.table_log.specs.Versions.{Version, version_at, versions_from, versions_of}
 use Rattle.table_log.specs.Counts.{commit_count}
 use Rattle.table_model.specs.declared.reading.Offset.{Offset}
 use Rattle.table_store.specs.Groups.{new_files}
 use Rattle.table_folder.specs.Loads.{is_loaded, loaded}
-use Rattle.source_core.specs.Tailing.{ReadRows, Item, LogFile, ReadRefusal, actions_in, offset_behind_rows, data_file, end_of, fault_of, hand, hand_on, handed_by, is_before, is_done, item_before, items_at, items_from, items_in, missing_file, numbered, or_bad_file, paths_in, rows_behind, rows_left, file_rows, schema_at, schema_for, unless_beyond, unless_gone, unless_no_file, unless_removed, version_fault, versions_at}
+use Rattle.source_core.specs.Tailing.{ReadRows, Item, LogFile, ReadRefusal, actions_in, offset_behind_rows, data_file, found_at, end_of, fault_of, hand, hand_on, handed_by, is_before, is_done, item_before, items_at, items_from, items_in, missing_file, numbered, or_bad_file, paths_in, rows_behind, rows_left, file_rows, schema_at, schema_for, unless_beyond, unless_gone, unless_no_file, unless_removed, version_fault, versions_at}
 use Rattle.job_laws.proofs.Loaded.{loaded_at}
 use Rattle.job_laws.proofs.SameLogs.{same_versions}
 
@@ -139,7 +139,7 @@ pub handed_alike : (files : List (List ℕ)) (objects : Objects) (told : SchemaT
 unfolding handed_by
 handed_alike files objects told max place adds =
     let versions : List Version = versions_at false objects place in
-    ap (λ (handed : Result ReadRows ReadRefusal). unless_beyond place (length versions) >>= λ within. unless_gone place (first_standing versions) >>= λ stands. actions_in place.version (slice_get versions place.version) >>= λ actions. unless_no_file place (length (new_files actions)) >>= λ inside. unless_removed place actions >>= λ kept. handed)
+    ap (λ (handed : Result ReadRows ReadRefusal). unless_beyond place (length versions) >>= λ within. unless_gone place (first_standing versions) >>= λ stands. actions_in place.version (found_at place versions) >>= λ actions. unless_no_file place (length (new_files actions)) >>= λ inside. unless_removed place actions >>= λ kept. handed)
     (hand_alike files objects told.schema (end_of versions) (items_at told place versions) (items_loaded objects place files told adds) max place.row [] place)
 
 -- ---- the versions and the schema that a read goes by

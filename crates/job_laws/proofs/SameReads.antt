@@ -11,7 +11,7 @@ use Rattle.delta_replay.specs.Support.{checkpointable, readable}
 use Rattle.table_log.specs.Counts.{commit_count}
 use Rattle.table_log.specs.Names.{commit_name}
 use Rattle.table_log.specs.Restoring.{replayed}
-use Rattle.table_log.specs.InForce.{SchemaText}
+use Rattle.log_reading.specs.InForce.{SchemaText}
 use Rattle.table_model.specs.declared.reading.Offset.{Offset}
 use Rattle.table_folder.specs.Loads.{is_loaded, loaded}
 use Rattle.commit_core.specs.Creating.{commit_from, created_by, unless_there}

@@ -1,6 +1,6 @@
 -- A read that hands out all its rows over some of the data files is the read over all of them.
 use Rattle.std.proofs.Common.{◌≡◌, ◌⊎◌, inl, inr, ◌∙◌, ◌<◌, ◌≤◌, ◌+◌, ◌-◌, ◌++◌, ℕ, zero, suc, Bool, true, false, codes, List, [], ◌∷◌, None, Option, Result, Ok, Err, cond, length, take, length-append, refl, sym, ap, subst, arith}
-use Rattle.std.specs.Prelude.{nat_eq, slice_get}
+use Rattle.std.specs.Prelude.{nat_eq}
 use Rattle.std.specs.List.{starts_with}
 use Rattle.lake_bytes.specs.Results.{◌>>=◌, or_refusal}
 use Rattle.schema_tree.specs.Tree.{Tree}
@@ -8,15 +8,15 @@ use Rattle.row_core.specs.Rows.{Row}
 use Rattle.store_core.specs.Objects.{Objects, object_at}
 use Rattle.parquet_file.specs.Reading.{rows_at}
 use Rattle.commit_core.specs.Texts.{refused}
-use Rattle.table_log.specs.InForce.{SchemaText}
-use Rattle.table_log.specs.Reads.{first_standing}
+use Rattle.log_reading.specs.InForce.{SchemaText}
+use Rattle.log_reading.specs.Reads.{first_standing}
 use Rattle.table_log.specs.Versions.{Version}
 use Rattle.table_model.specs.declared.reading.Offset.{Offset}
 use Rattle.table_store.specs.Groups.{new_files}
 use Rattle.table_folder.specs.Loads.{is_loaded, loaded}
 use Rattle.source_core.specs.Offsets.{offset_of}
 use Rattle.source_core.specs.TailFaults.{refusal_text}
-use Rattle.source_core.specs.Tailing.{ReadRows, Item, LogFile, ReadRefusal, actions_in, bad_offset, offset_behind_rows, data_file, end_of, ended, hand, hand_on, handed_by, handed_text, is_done, items_at, memory, missing_file, or_bad_file, rows_behind, rows_left, file_rows, schema_at, tailed, unless_beyond, unless_gone, unless_no_file, unless_removed, version_fault, versions_at}
+use Rattle.source_core.specs.Tailing.{ReadRows, Item, LogFile, ReadRefusal, actions_in, bad_offset, offset_behind_rows, data_file, found_at, end_of, ended, hand, hand_on, handed_by, handed_text, is_done, items_at, memory, missing_file, or_bad_file, rows_behind, rows_left, file_rows, schema_at, tailed, unless_beyond, unless_gone, unless_no_file, unless_removed, version_fault, versions_at}
 use Rattle.script_lines.specs.Lines.{task, tail}
 use Rattle.lake_script.specs.Runs.{Executes}
 use Rattle.lake_script.specs.Told.{tailed_reply}
@@ -103,7 +103,7 @@ unfolding handed_by
 handed_part files objects told versions max place handed is all =
     onward (unless_beyond place (length versions)) _ _ handed (λ within.
     onward (unless_gone place (first_standing versions)) _ _ handed (λ stands.
-    onward (actions_in place.version (slice_get versions place.version)) _ _ handed (λ actions.
+    onward (actions_in place.version (found_at place versions)) _ _ handed (λ actions.
     onward (unless_no_file place (length (new_files actions))) _ _ handed (λ inside.
     onward (unless_removed place actions) _ _ handed (λ kept was.
     hand_part files objects told.schema (end_of versions) (items_at told place versions) max place.row [] place handed (inl refl) was (omega (arith, all))))))) is

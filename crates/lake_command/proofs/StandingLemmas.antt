@@ -4,7 +4,7 @@ use Rattle.std.proofs.lemmas.Bool.{eqb-false}
 use Rattle.std.proofs.lemmas.List.{drop_more, drop_all}
 use Rattle.store_core.specs.Objects.{Objects}
 use Rattle.table_log.specs.Counts.{commit_count}
-use Rattle.table_log.specs.Logs.{standing_by, standing_from}
+use Rattle.table_log.specs.Standing.{standing_by, standing_from}
 use Rattle.table_log.specs.Versions.{Version, missing, unreadable, commit, version_at, versions_from, versions_of}
 use Rattle.table_model.specs.declared.reading.Offset.{Offset}
 use Rattle.source_core.specs.Offsets.{offset_of}

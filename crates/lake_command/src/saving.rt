@@ -15,11 +15,11 @@ use crate::Failure;
 use crate::looking::{DataFile, files_for};
 use crate::telling::is_refusal;
 use lake_script::{Job, Line, LineReply, execute};
+use log_reading::LogCache;
 use std::alloc::Global;
 use std::slice;
 use store_core::{MemoryStore, Store};
 use table_folder::{Folder, load_files, load_log, save};
-use table_log::LogCache;
 
 /// A read is tried over the first data files once they have this many bytes, and each time that they have four times as many.
 const FIRST_BYTES: u64 = 8 << 20;

@@ -3,7 +3,7 @@ use Rattle.std.proofs.Common.{◌≡◌, [], map, Err, Result, refl}
 use Rattle.store_core.specs.Objects.{Objects}
 use Rattle.table_model.specs.Reads.{Answer, handed, beyond, bad_place}
 use Rattle.source_core.specs.Tailing.{ReadRows, ReadRefusal, bad_log, schema_for}
-use Rattle.table_log.specs.FromCheckpoints.{no_start}
+use Rattle.log_reading.specs.FromCheckpoints.{no_start}
 use Rattle.table_log.specs.Versions.{commit, versions_of}
 use Rattle.table_model.specs.declared.reading.Offset.{Offset}
 use Rattle.lake_script.specs.Scripts.{HoldsState, AnswersReads, ReadsOut}

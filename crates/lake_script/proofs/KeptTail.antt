@@ -21,9 +21,9 @@ use Rattle.table_store.specs.Groups.{AreFilesOf, AreTxnsAndAdds, added, new_file
 use Rattle.table_store.proofs.HoldingLogs.{AreFilesOf-new, new_files-added, new_files-without_commit_info, paths_of, told-without_commit_info}
 use Rattle.table_store.proofs.HoldingOne.{named}
 use Rattle.table_store.proofs.LawfulLogLemmas.{AreMadeFor}
-use Rattle.table_log.specs.FromCheckpoints.{no_start}
-use Rattle.table_log.specs.InForce.{SchemaText, schema_text_at}
-use Rattle.table_log.specs.Reads.{removes_rows}
+use Rattle.log_reading.specs.FromCheckpoints.{no_start}
+use Rattle.log_reading.specs.InForce.{SchemaText, schema_text_at}
+use Rattle.log_reading.specs.Reads.{removes_rows}
 use Rattle.source_core.specs.Tailing.{ReadRefusal, ReadRows, data_file, file_rows, hand, handed_by, handed_text, schema_for, tailed}
 use Rattle.lake_script.specs.Told.{tailed_reply}
 use Rattle.lake_script.specs.Keeps.{FileKept, FilesKept, KeptFrom, IsKept}
@@ -69,7 +69,7 @@ entry_found objects schema entry made stand kept =
     beside_found (close application) beside stand kept = rw stand.actions tt
 
 -- so does each commit of a table
-entries_found : (objects : Objects) (schema : Tree) (version : ℕ) (entries : List Entry) (commits : List (List actions.Action)) → KeptFrom objects schema version entries → AreMadeFor objects schema entries commits
+pub entries_found : (objects : Objects) (schema : Tree) (version : ℕ) (entries : List Entry) (commits : List (List actions.Action)) → KeptFrom objects schema version entries → AreMadeFor objects schema entries commits
     → AreEntriesFound objects schema entries commits
 entries_found objects schema version [] [] kept made = tt
 entries_found objects schema version [] (first ∷ commits) kept made = absurd made

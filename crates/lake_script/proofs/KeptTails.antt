@@ -12,8 +12,8 @@ use Rattle.table_model.specs.declared.reading.Offset.{Offset}
 use Rattle.table_model.proofs.Callers.{beginning_is_offset, is_answered}
 use Rattle.table_model.proofs.Callers.{final_grows, log_from_beginning, onward_in_the_log, all_after_short}
 use Rattle.table_log.specs.Versions.{Version, versions_of}
-use Rattle.table_log.specs.FromCheckpoints.{no_start}
-use Rattle.table_log.specs.InForce.{SchemaText}
+use Rattle.log_reading.specs.FromCheckpoints.{no_start}
+use Rattle.log_reading.specs.InForce.{SchemaText}
 use Rattle.lake_script.specs.Tables.{State, nothing, table, entries_of}
 use Rattle.source_core.specs.Tailing.{ReadRows, ReadRefusal, bad_log, handed_by, read_by, schema_for, beyond_log, bad_place as bad_place_told}
 use Rattle.source_core.specs.Tails.{Tails, rows_handed, offset_after, with_earlier, tails, HandOutTheLog, HandOutAll, AreAnswered}

@@ -11,7 +11,7 @@ ghost use Rattle.lake_script.specs.Streams.{held, waiting, write_failed, unread,
 ghost use Rattle.lake_script.specs.Tables.{State, entries_of};
 ghost use Rattle.delta_actions.specs.Commit.{lines_of};
 ghost use Rattle.delta_actions.specs.Names.{greatest_version};
-ghost use Rattle.table_log.specs.LogCache.{IsCacheOf};
+ghost use Rattle.log_reading.specs.LogCache.{IsCacheOf};
 ghost use Rattle.table_log.specs.Restoring.{AreCheckpointsSound, HasOnlySoundCheckpoints, RestoresWell};
 ghost use Rattle.lake_script.specs.Told.{ArePutHere, is_bad, first_bad, Finishes, fell_short};
 
@@ -19,11 +19,11 @@ use crate::inputs::{Input, InputError};
 use crate::outputs::{Output, OutputError};
 use crate::reply::execute;
 use json::Scratch;
+use log_reading::LogCache;
 use script_lines::{Reading, first_line, reading_of};
 use std::alloc::Global;
 use std::io::{Read, Write};
 use store_core::Store;
-use table_log::LogCache;
 
 /// How a run ended.
 #[derive(Clone, Copy, Debug, PartialEq, Eq)]

@@ -4,7 +4,7 @@ ghost use Rattle.std.specs.Io.KnownBytes.{Appends};
 ghost use Rattle.json_text.specs.Rows.{rows_data};
 ghost use Rattle.store_core.specs.Calls.{HasRisen};
 ghost use Rattle.store_core.specs.Objects.{Objects, object_at};
-ghost use Rattle.table_log.specs.LogCache.{IsCacheOf};
+ghost use Rattle.log_reading.specs.LogCache.{IsCacheOf};
 ghost use Rattle.table_log.specs.Names.{commit_name};
 ghost use Rattle.table_log.specs.Restoring.{AreCheckpointsSound, RestoresWell};
 ghost use Rattle.lake_script.specs.Growth.{MayPut};
@@ -24,6 +24,7 @@ use crate::outputs::{Output, OutputError};
 use crate::showing::hex_of;
 use commit_core::{CreateFault, create, history};
 use json_text::JsonRows;
+use log_reading::LogCache;
 use script_lines::{Job, Line};
 use sink_core::{SinkFault, SinkOutcome, append, close};
 use snapshot_core::{SnapshotFault, checkpoint};
@@ -31,7 +32,7 @@ use source_core::{TailFault, tail};
 use std::alloc::Global;
 use std::io::Write;
 use store_core::{Put, Store, StoreFault};
-use table_log::{LogCache, commit_at};
+use table_log::commit_at;
 
 /// What a line is told.
 #[derive(Drop)]
@@ -179,7 +180,7 @@ fn append_batch<S: Store>(
         rows,
         tries,
         use_checkpoints,
-        cache,
+        &mut cache.loaded,
     ) {
         Ok(answer) => LineReply::SinkTold(answer),
         Err(fault) => LineReply::SinkRefused(fault),
@@ -208,7 +209,15 @@ fn close_stream<S: Store>(
     ensures lost { says_lost result ≡ true → HasRisen (S.fault_count store.old) (S.fault_count store.new) }
     ensures counted { says_lost result ≡ false → S.fault_count store.new ≡ S.fault_count store.old }
 {
-    match close(alloc, store, application, at, tries, use_checkpoints, cache) {
+    match close(
+        alloc,
+        store,
+        application,
+        at,
+        tries,
+        use_checkpoints,
+        &mut cache.loaded,
+    ) {
         Ok(answer) => LineReply::SinkTold(answer),
         Err(fault) => LineReply::SinkRefused(fault),
     }

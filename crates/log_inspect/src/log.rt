@@ -15,18 +15,19 @@ use delta_checkpoint::{
     CheckpointError, checkpoint_name, checkpoint_version, print_checkpoint, read_checkpoint,
 };
 use delta_replay::{FileAction, Snapshot, SupportError, closes};
+use log_reading::Standing;
 use schema_tree::Schema;
 use std::alloc::Global;
 use std::io::Write;
 use store_core::MemoryStore;
-use table_log::{Standing, version_of};
+use table_log::version_of;
 
 /// A log's snapshot, its versions one by one, the commit that is begun, and a store beside them.
 #[derive(Drop)]
 pub struct Log {
     alloc: Global,
     pub snapshot: Snapshot,
-    kept: table_log::Log,
+    kept: log_reading::Log,
     commit: Vec<u8>,
     store: MemoryStore,
 }
@@ -38,7 +39,7 @@ impl Log {
         Log {
             alloc,
             snapshot: Snapshot::new(alloc),
-            kept: table_log::Log {
+            kept: log_reading::Log {
                 start: None,
                 schema: None,
                 standing: Vec::new(alloc),

@@ -2,12 +2,12 @@
 
 use crate::failure::Failure;
 use delta_replay::SupportError;
+use log_reading::{
+    Log, SchemaText, changes_schema, first_standing, in_force, removes_rows, standing_at, supported,
+};
 use std::alloc::Global;
 use std::io::Write;
-use table_log::{
-    Log, SchemaText, Version, changes_schema, first_standing, in_force, removes_rows, standing_at,
-    supported,
-};
+use table_log::Version;
 
 /// Adds what a read from a version on asks: the first version from which on none is missing; the schema of the commits
 /// in front of the first that is missing or can't be read, or why their table isn't read; the text of the schema in
@@ -48,7 +48,7 @@ fn tell_versions(
                 if removes_rows(actions) {
                     writeln!(out, "removes {at}")?;
                 }
-                if at > from && changes_schema(alloc, told, found)? {
+                if at > from && changes_schema(alloc, told.text, &told.schema, found)? {
                     writeln!(out, "changes {at}")?;
                 }
             }

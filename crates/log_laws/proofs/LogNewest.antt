@@ -10,7 +10,6 @@ use Rattle.delta_actions.specs.Action.{commit_info}
 use Rattle.delta_actions.specs.In.{add_in, commit_info_in, txn_in}
 use Rattle.delta_replay.specs.Keys as keys
 use Rattle.delta_replay.specs.Keys.{Key, is_of, actions_of, newest}
-use Rattle.table_log.proofs.Callers.{or_none}
 use Rattle.table_model.specs.Table.{Entry}
 use Rattle.table_store.specs.Commits.{StandFor, without_commit_info}
 use Rattle.table_store.specs.Groups.{AreTxnsAndAdds}
@@ -18,6 +17,11 @@ use Rattle.table_store.specs.Schema.{Schema}
 use Rattle.table_store.proofs.LawfulLogLemmas.{AreMadeFor}
 
 -- ---- the last of what there is
+
+-- where nothing else is there
+or_none : {A : Type 0} (a : Option A) → option_or a None ≡ a
+or_none None = refl
+or_none (Some x) = refl
 
 -- the first of what there is, whichever two are asked first
 or_regroup : {A : Type 0} (a b c : Option A) → option_or a (option_or b c) ≡ option_or (option_or a b) c

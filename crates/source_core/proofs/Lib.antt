@@ -10,4 +10,8 @@ pub mod LookedSchemas
 pub mod OffsetLemmas
 pub mod PlaceLemmas
 pub mod RestoredReads
-pub mod TailLemmas
+pub mod SourceFiles
+pub mod SourceLaws
+pub mod SourceSteps
+pub mod SourceTalks
+pub mod TurnLemmas

@@ -1,9 +1,10 @@
 -- A log whose versions are all commits, none of which takes rows away or changes the schema: a read meets its files alone.
-use Rattle.std.proofs.Common.{◌≡◌, ℕ, zero, suc, false, List, [], ◌∷◌, ◌++◌, length, map, take, Some, None, refl, sym, ap, ◌∙◌, arith, inl, inr}
-use Rattle.std.specs.Prelude.{filter, not, nat_lt, slice_get, ◌==◌, ◌&&◌, Ok}
+use Rattle.std.proofs.Common.{◌≡◌, ℕ, zero, suc, Bool, true, false, List, [], ◌∷◌, ◌++◌, length, map, take, Some, None, refl, sym, ap, ◌∙◌, arith, inl, inr}
+use Rattle.std.specs.Prelude.{filter, not, nat_lt, slice_get, ◌==◌, ◌&&◌, ◌||◌, Ok}
 use Rattle.std.specs.List.{filter_map}
 use Rattle.std.proofs.Math.Bool.{and-false}
-use Rattle.std.proofs.lemmas.Bool.{cases_Bool, le-ltb}
+use Rattle.std.proofs.lemmas.Bool.{and_parts, cases_Bool, le-ltb}
+use Rattle.std.proofs.lemmas.Bool.Decides.{nat_tests}
 use Rattle.std.proofs.lemmas.List.{map-append, length-map}
 use Rattle.delta_actions.specs.Action.{Action}
 use Rattle.delta_actions.specs.In.{meta_data_in}
@@ -11,14 +12,14 @@ use Rattle.delta_replay.specs.Keys.{last}
 use Rattle.delta_replay.specs.Support.{readable}
 use Rattle.schema_tree.specs.Tree.{Tree}
 use Rattle.store_core.specs.Objects.{Objects}
-use Rattle.table_log.specs.FromCheckpoints.{no_start}
-use Rattle.table_log.specs.InForce.{SchemaText, in_force, schema_text_at}
-use Rattle.table_log.specs.Reads.{first_from, first_standing, front, removes_rows}
+use Rattle.log_reading.specs.FromCheckpoints.{no_start}
+use Rattle.log_reading.specs.InForce.{SchemaText, in_force, schema_text_at}
+use Rattle.log_reading.specs.Reads.{first_from, first_standing, front, removes_rows}
 use Rattle.table_log.specs.Versions.{commit}
 use Rattle.table_model.specs.declared.reading.Offset.{Offset}
 use Rattle.table_store.specs.Groups.{new_files}
-use Rattle.lake_bytes.specs.Results.{◌>>=◌}
-use Rattle.source_core.specs.Tailing.{LogFile, Item, data_file, numbered, fault_of, items_from, is_before, item_before, items_at, unless_beyond, unless_gone, unless_no_file, unless_removed, actions_in, hand, handed_by, schema_for}
+use Rattle.lake_bytes.specs.Results.{refused_if, ◌>>=◌}
+use Rattle.source_core.specs.Tailing.{LogFile, Item, data_file, numbered, fault_of, items_from, is_before, item_before, items_at, unless_beyond, unless_gone, unless_no_file, unless_removed, actions_in, bad_place, hand, handed_by, is_start, schema_for}
 
 -- ---- its files
 
@@ -127,13 +128,29 @@ plain_kept (suc version) (actions ∷ commits) kept = plain_kept version commits
 pub plain_unremoved : (place : Offset) (commits : List (List Action)) → RemoveNone commits → unless_removed place (commit_at place.version commits) ≡ Ok tt
 plain_unremoved place commits kept = rw (plain_kept place.version commits kept, and-false (not (place.file == 0 && place.row == 0))) refl
 
+-- at the start of a version there is no file too few
+start_file : (place : Offset) (n : ℕ) → is_start place ≡ true → unless_no_file place n ≡ Ok tt
+start_file place n start =
+    let parts = and_parts (place.file == 0) (place.row == 0) start in
+    let file : place.file ≡ 0 = grind (arith, nat_tests, parts.0) in
+    let row : place.row ≡ 0 = grind (arith, nat_tests, parts.1) in
+    let inside : (nat_lt n place.file || (place.file == n && nat_lt 0 place.row)) ≡ false = grind (arith, nat_tests, file, row) in
+    ap (λ (b : Bool). refused_if b (bad_place place.version)) inside
+
 -- What is handed out of commits that keep what was there: rows of their files alone.
 pub plain_handed : (objects : Objects) (told : SchemaText) (commits : List (List Action)) (max : ℕ) (place : Offset) → KeepsRows commits → handed_by objects told (map commit commits) max place
     ≡ (unless_beyond place (length commits) >>= λ within. unless_no_file place (length (new_files (commit_at place.version commits))) >>= λ file.
     hand objects told.schema (record { version = length commits; file = 0; row = 0 }) max place.row [] place (map data_file (files_at place commits)))
 unfolding handed_by
-plain_handed objects told commits max place keeps =
-    rw (length-map commits commit, plain_gone place commits, plain_actions place.version place.version commits, plain_unremoved place commits keeps.0, plain_items told place commits keeps) refl
+plain_handed objects told commits max place keeps = by_start (is_start place) refl
+  where
+    by_start : (start : Bool) → is_start place ≡ start → handed_by objects told (map commit commits) max place
+        ≡ (unless_beyond place (length commits) >>= λ within. unless_no_file place (length (new_files (commit_at place.version commits))) >>= λ file.
+        hand objects told.schema (record { version = length commits; file = 0; row = 0 }) max place.row [] place (map data_file (files_at place commits)))
+    by_start true e =
+        rw (length-map commits commit, plain_gone place commits, e, start_file place 0 e, start_file place (length (new_files (commit_at place.version commits))) e, plain_items told place commits keeps) refl
+    by_start false e =
+        rw (length-map commits commit, plain_gone place commits, e, plain_actions place.version place.version commits, plain_kept place.version commits keeps.0, plain_items told place commits keeps) refl
 
 -- ---- the schema in force
 

@@ -1,17 +1,18 @@
 -- A read looks at no version before its place: it hands out the same where those count as missing.
 use Rattle.std.proofs.Common.{◌≡◌, ◌<◌, ◌≤◌, ◌+◌, ℕ, zero, suc, List, [], ◌∷◌, ◌++◌, map, Option, Some, None, refl, sym, ap, ◌∙◌, arith}
-use Rattle.std.specs.Prelude.{slice_get}
+use Rattle.std.specs.Prelude.{if◌then◌else◌, slice_get}
 use Rattle.std.proofs.lemmas.Bool.{le-ltb, lt-ltb}
 use Rattle.delta_actions.specs.Kinds.{Path}
 use Rattle.store_core.specs.Objects.{Objects}
-use Rattle.table_log.specs.FromCheckpoints.{from_version}
-use Rattle.table_log.specs.InForce.{SchemaText}
-use Rattle.table_log.specs.Reads.{first_from}
+use Rattle.log_reading.specs.FromCheckpoints.{from_version}
+use Rattle.log_reading.specs.InForce.{SchemaText}
+use Rattle.log_reading.specs.Reads.{first_from}
 use Rattle.table_log.specs.Versions.{Version, missing, unreadable, commit}
-use Rattle.table_log.proofs.Callers.{length-from_version}
+use Rattle.log_reading.proofs.Callers.{length-from_version}
 use Rattle.table_model.specs.declared.reading.Offset.{Offset}
-use Rattle.source_core.specs.Tailing.{Item, ReadRefusal, data_file, fault_of, handed_by, items_from, items_in, numbered, paths_in, unless_gone}
-use Rattle.source_core.proofs.ItemLemmas.{fault_passed, kept, kept_both}
+use Rattle.source_core.specs.Tailing.{Item, ReadRefusal, data_file, fault_of, found_at, handed_by, is_start, items_from, items_in, numbered, paths_in, unless_gone}
+use Rattle.source_core.specs.Handings.{kept}
+use Rattle.source_core.proofs.ItemLemmas.{fault_passed, kept_both}
 
 -- what stands at a place's version
 got_alike : (n at : ℕ) (versions : List Version) → n ≤ at → slice_get (from_version n versions) at ≡ slice_get versions at
@@ -64,8 +65,12 @@ module _ (told : SchemaText) (place : Offset) where
       first_passed from missing (items_from told place (suc from) (from_version n more)) (omega (arith, short))
       ∙ (items_alike n (suc from) more (omega (arith, short)) ∙ sym (first_passed from found (items_from told place (suc from) more) (omega (arith, short))))
 
+-- what stands where the read begins inside of a version
+found_alike : (n : ℕ) (place : Offset) (versions : List Version) → n ≤ place.version → found_at place (from_version n versions) ≡ found_at place versions
+found_alike n place versions le = ap (λ (found : Option Version). if is_start place then None else found) (got_alike n place.version versions le)
+
 -- What is handed out is the same.
 pub handed_alike : (objects : Objects) (told : SchemaText) (n : ℕ) (versions : List Version) (max : ℕ) (place : Offset) → n ≤ place.version → handed_by objects told (from_version n versions) max place ≡ handed_by objects told versions max place
 unfolding handed_by
 handed_alike objects told n versions max place le =
-    rw (length-from_version n versions, gone_alike place n 0 0 versions (omega arith) (omega (arith, le)), got_alike n place.version versions le, items_alike told place n 0 versions (omega (arith, le))) refl
+    rw (length-from_version n versions, gone_alike place n 0 0 versions (omega arith) (omega (arith, le)), found_alike n place versions le, items_alike told place n 0 versions (omega (arith, le))) refl

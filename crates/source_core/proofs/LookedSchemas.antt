@@ -10,12 +10,14 @@ use Rattle.delta_actions.specs.In.{meta_data_in}
 use Rattle.delta_replay.specs.Keys.{Key, at, last}
 use Rattle.delta_replay.specs.Support.{meta_data_of, readable}
 use Rattle.delta_replay.proofs.NewestTold.{meta_data_grows}
-use Rattle.table_log.specs.FromCheckpoints.{from_version, front_behind}
-use Rattle.table_log.specs.InForce.{SchemaText, first, in_force, in_force_from, schema_text_at, schema_text_of}
-use Rattle.table_log.specs.Reads.{front}
+use Rattle.log_reading.specs.FromCheckpoints.{from_version, front_behind}
+use Rattle.log_reading.specs.InForce.{SchemaText, in_force, in_force_from, schema_text_at, schema_text_of}
+use Rattle.table_log.specs.Lists.{first}
+use Rattle.log_reading.specs.Reads.{front}
 use Rattle.table_log.specs.Restoring.{Restored}
 use Rattle.table_log.specs.Versions.{Version, missing, commit}
-use Rattle.table_log.proofs.Callers.{last_told, meta_data_in_one, newest_is, or_none, or_regroup, same_behind, same_values}
+use Rattle.log_reading.proofs.Callers.{last_told, meta_data_in_one, newest_is, or_none, or_regroup}
+use Rattle.table_log.proofs.Callers.{same_behind, same_values}
 use Rattle.source_core.specs.Tailing.{unless_none}
 
 -- ---- versions before one count as missing

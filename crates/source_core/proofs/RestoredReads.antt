@@ -11,12 +11,13 @@ use Rattle.delta_replay.specs.Support.{readable}
 use Rattle.lake_bytes.specs.Results.{◌>>=◌, or_refusal}
 use Rattle.store_core.specs.Objects.{Objects, names_of}
 use Rattle.table_log.specs.Counts.{commit_count}
-use Rattle.table_log.specs.FromCheckpoints.{CheckpointSchema, Start, first_behind, first_read, first_schema, from_version, front_behind, in_force_at, later_schema, looked_at, newest_schema, no_start, schema_below, schema_by, schema_upto, start_at}
-use Rattle.table_log.specs.InForce.{SchemaText, in_force, in_force_from}
-use Rattle.table_log.specs.Reads.{front}
+use Rattle.log_reading.specs.FromCheckpoints.{CheckpointSchema, Start, first_behind, first_read, first_schema, from_version, front_behind, in_force_at, later_schema, looked_at, newest_schema, no_start, schema_below, schema_by, schema_upto, start_at}
+use Rattle.log_reading.specs.InForce.{SchemaText, in_force, in_force_from}
+use Rattle.log_reading.specs.Reads.{front}
 use Rattle.table_log.specs.Restoring.{HasSoundCheckpoints, Restored, RestoresWell, checkpoint_in, restored}
 use Rattle.table_log.specs.Versions.{Version, missing, unreadable, commit, commits_in, version_at, versions_from, versions_of}
-use Rattle.table_log.proofs.Callers.{IsCheckpointFound, SchemaParts, commit_is, found_parts, last_found, newest_found, read_parts, schema_parts, versions_long}
+use Rattle.table_log.proofs.Callers.{IsCheckpointFound, commit_is, found_parts, last_found, newest_found, read_parts, versions_long}
+use Rattle.log_reading.proofs.Callers.{SchemaParts, schema_parts}
 use Rattle.table_model.specs.declared.reading.Offset.{Offset}
 use Rattle.source_core.specs.Offsets.{offset_of}
 use Rattle.source_core.specs.Tailing.{ReadRows, ReadRefusal, bad_offset, handed_by, handed_text, read_by, schema_at, schema_for, tailed, versions_at}

@@ -1,4 +1,6 @@
+pub mod Handings
 pub mod Offsets
+pub mod SourceSessions
 pub mod TailFaults
 pub mod TailViews
 pub mod Tailing

@@ -4,8 +4,11 @@ use crate::conflicts::Contest;
 use crate::failure::Failure;
 use crate::faults::{add_turns, turn_of};
 use crate::races::race;
+use crate::reads::{Reader, begin, turn};
 use crate::sinks::{Waiting, start, step, step_without_memory};
-use crate::telling::{tell_creation, tell_faults, tell_landed, tell_object, tell_reply};
+use crate::telling::{
+    tell_checkpoint, tell_creation, tell_faults, tell_landed, tell_object, tell_reply,
+};
 use commit_core::CreateSession;
 use session_core::{Request, ask, drive};
 use std::alloc::Global;
@@ -33,12 +36,17 @@ use store_core::{Flaky, MemoryStore};
 /// - `step`: the call that it asks for is made. It tells what it asks for next, or how it ended;
 /// - `memory`: memory runs out in the call that it asks for, which isn't made. It tells how it ended;
 /// - `start ACTOR LINE`, `step ACTOR` and `memory ACTOR`: the same, of an append or a close beside others, under a name of its
-///   own.
+///   own;
+/// - `checkpoint`: the checkpoint of the newest version is put. It tells that version;
+/// - `read MAX OFFSET`: a read is begun that hands out at most so many rows. It tells what it asks for first;
+/// - `turn` and `starve`: the call that it asks for is made, or memory runs out in it. It tells what it asks for next, or the rows and
+///   the offset that it handed out, or why it didn't.
 pub fn tell_line(
     alloc: Global,
     store: &mut Flaky<MemoryStore>,
     contest: &mut Contest,
     sinks: &mut Vec<Waiting>,
+    reader: &mut Option<Reader>,
     line: &str,
     out: &mut Vec<u8>,
 ) -> Result<(), Failure> {
@@ -64,6 +72,10 @@ pub fn tell_line(
         }
         "step" => step(alloc, store, sinks, rest, out),
         "memory" => step_without_memory(alloc, sinks, rest, out),
+        "checkpoint" if rest.is_empty() => tell_checkpoint(alloc, store, out),
+        "read" => begin(alloc, reader, rest, out),
+        "turn" if rest.is_empty() => turn(alloc, store, reader, false, out),
+        "starve" if rest.is_empty() => turn(alloc, store, reader, true, out),
         _ => tell_reply(ask(alloc, store, request_of(alloc, word, rest)?), out),
     }
 }

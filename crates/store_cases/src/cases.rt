@@ -13,6 +13,7 @@ pub fn tell_cases(alloc: Global, text: &str, out: &mut Vec<u8>) -> Result<(), Fa
     let mut store = empty_store(alloc);
     let mut contest = Contest::new(alloc);
     let mut sinks = Vec::new(alloc);
+    let mut reader = None;
     let mut number = 0u64;
     for line in text.split('\n') {
         number = number.saturating_add(1);
@@ -20,9 +21,18 @@ pub fn tell_cases(alloc: Global, text: &str, out: &mut Vec<u8>) -> Result<(), Fa
             store = empty_store(alloc);
             contest = Contest::new(alloc);
             sinks = Vec::new(alloc);
+            reader = None;
             writeln!(out, "== {name}")?;
         } else if !line.is_empty() && !line.starts_with('#') {
-            match tell_line(alloc, &mut store, &mut contest, &mut sinks, line, out) {
+            match tell_line(
+                alloc,
+                &mut store,
+                &mut contest,
+                &mut sinks,
+                &mut reader,
+                line,
+                out,
+            ) {
                 Err(Failure::Misspelled) => writeln!(out, "bad line {number}")?,
                 ended => ended?,
             }

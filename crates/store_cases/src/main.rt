@@ -1,9 +1,9 @@
 //! A program that reads calls of a store which stand on standard input as cases, and prints how each ends; which commits
-//! conflict with a candidate, how the puts of a commit end, and what the append of a batch and the close of a stream ask for
-//! and tell.
+//! conflict with a candidate, how the puts of a commit end, and what the append of a batch, the close of a stream and a read
+//! ask for and tell.
 //!
 //! A line `case NAME` begins a case, with a store in which nothing stands and no candidate, and prints `== NAME`. Each other
-//! line is a call of that store, what becomes of calls, of a commit, an append or a close that is begun, or a question
+//! line is a call of that store, what becomes of calls, of a commit, an append, a close or a read that is begun, or a question
 //! (`calls.rt` lists them).
 //! Blank lines and those that begin with `#` are passed over.
 #![tactic(auto)]
@@ -14,6 +14,7 @@ mod conflicts;
 mod failure;
 mod faults;
 mod races;
+mod reads;
 mod sinks;
 mod telling;
 

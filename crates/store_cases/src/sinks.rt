@@ -179,8 +179,8 @@ fn go_on(
     }
 }
 
-// Adds a call that is asked for; of a file with the count of its bytes, of a commit with its bytes.
-fn tell_request(request: &Request, out: &mut Vec<u8>) -> Result<(), Failure> {
+/// Adds a call that is asked for; of a file with the count of its bytes, of a commit with its bytes.
+pub fn tell_request(request: &Request, out: &mut Vec<u8>) -> Result<(), Failure> {
     match request {
         Request::List => writeln!(out, "asks for the names")?,
         Request::Get(name) => writeln!(out, "asks for {name}")?,

@@ -3,8 +3,11 @@
 use crate::failure::Failure;
 use commit_core::CreateFault;
 use session_core::Reply;
+use snapshot_core::{SnapshotFault, checkpoint};
+use std::alloc::Global;
 use std::io::Write;
 use store_core::{Flaky, MemoryStore, Put, Store, StoreFault};
+use table_log::Loaded;
 
 /// Adds the answer of a call.
 pub fn tell_reply(reply: Reply, out: &mut Vec<u8>) -> Result<(), Failure> {
@@ -64,6 +67,20 @@ pub fn tell_landed(
         Ok(None) => writeln!(out, "none")?,
         Err(StoreFault::Lost) => writeln!(out, "lost")?,
         Err(StoreFault::Memory) => return Err(Failure::Memory),
+    }
+    Ok(())
+}
+
+/// Puts the checkpoint of the newest version, and adds how that ended.
+pub fn tell_checkpoint(
+    alloc: Global,
+    store: &mut Flaky<MemoryStore>,
+    out: &mut Vec<u8>,
+) -> Result<(), Failure> {
+    match checkpoint(alloc, store, true, &mut Loaded::new(alloc)) {
+        Ok(version) => writeln!(out, "checkpointed {version}")?,
+        Err(SnapshotFault::Memory) => return Err(Failure::Memory),
+        Err(fault) => writeln!(out, "{fault}")?,
     }
     Ok(())
 }

@@ -1,5 +1,5 @@
 -- What sessions ask for is good in a sound store that bears their talk, and what is answered is borne.
-use Rattle.std.proofs.Common.{◌≡◌, ◌∙◌, ◌<◌, ℕ, zero, suc, List, [], ◌∷◌, ◌++◌, length, Option, Some, None, Contains, append-nil, append_assoc, refl, sym, ap, subst, arith}
+use Rattle.std.proofs.Common.{◌≡◌, ◌∙◌, ◌<◌, ℕ, zero, suc, List, [], ◌∷◌, ◌++◌, length, Option, Some, None, Contains, refl, sym, ap, subst, arith}
 use Rattle.std.specs.Prelude.{slice_get, unwrap_or}
 use Rattle.lake_bytes.specs.Varint.{IsBytes}
 use Rattle.serde_json.specs.Data.{Items}
@@ -7,7 +7,6 @@ use Rattle.store_core.specs.Calls.{StandsAfter, put_told}
 use Rattle.store_core.specs.Objects.{Objects, object_at, with_object}
 use Rattle.store_core.specs.ObjectLaws.{listed_iff_stands, object_at-with_object_kept, object_at-with_object_same}
 use Rattle.session_core.specs.Names as sessions
-use Rattle.session_core.specs.Sessions.{AllAsked}
 use Rattle.session_core.specs.Talks.{Asked, Bears, IsBorne, Talk, Told, get_object, list_names, put_commit, put_file, told_lost, told_memory, told_object}
 use Rattle.delta_actions.specs.Commit.{IsCommit}
 use Rattle.delta_actions.specs.Names.{commit_name}
@@ -20,6 +19,7 @@ use Rattle.sink_core.specs.SinkSessions.{Point, Reaches, SinkAsks, SinkJob, Sink
 use Rattle.session_laws.specs.May.{IsValidJob, MayAsk}
 use Rattle.session_laws.specs.Rows.{IsBatchOf, IsJobCommit}
 use Rattle.session_laws.specs.Sessions.{Asks, Does, HasAsked, Job, asks, checkpoints, creates, loads, streams}
+use Rattle.session_core.proofs.Callers.{asked_more}
 use Rattle.session_laws.proofs.Callers.{batch_commit, close_commit, reached_front, reaches_some}
 use Rattle.commit_core.proofs.Callers.{bears_front}
 use Rattle.stream_model.specs.Events.{Event, IsOfBytes}
@@ -125,11 +125,6 @@ told_borne objects (put_file name bytes) = put_borne objects name bytes
 told_borne objects (put_commit version bytes) = put_borne objects (commit_name version) bytes
 
 -- ---- talks
-
--- a call more that was asked for
-asked_more : (asks_for : Talk → Asked → Type 0) (first talk : Talk) (asked : Asked) (told : Told) → AllAsked asks_for first talk → asks_for (first ++ talk) asked → AllAsked asks_for first (talk ++ (asked, told) ∷ [])
-asked_more asks_for first [] asked told all one = (subst (λ (t : Talk). asks_for t asked) (append-nil first) one, tt)
-asked_more asks_for first (call ∷ talk) asked told all one = (all.0, asked_more asks_for (first ++ call ∷ []) talk asked told all.1 (subst (λ (t : Talk). asks_for t asked) (sym (append_assoc first (call ∷ []) talk)) one))
 
 -- what a session has heard is borne, and was asked for
 pub heard_so : ((objects : Objects) (talk more : Talk) → Bears objects talk → Bears objects more → Bears objects (talk ++ more))

@@ -1,6 +1,6 @@
 use Rattle.std.proofs.Common.{ℕ, List, Contains, get_or, map, sym, ap, subst, ◌∙◌, arith}
 use Rattle.store_core.specs.Objects.{Objects}
-use Rattle.table_log.specs.Logs.{standing_by}
+use Rattle.table_log.specs.Standing.{standing_by}
 use Rattle.table_log.specs.Versions.{version_at}
 use Rattle.job_laws.specs.Looking.{files_in}
 use Rattle.lake_command.specs.Folders.{file_names}

@@ -1,5 +1,5 @@
 use Rattle.std.proofs.Common.{◌≡◌, drop, map}
-use Rattle.table_log.specs.Logs.{standing_by}
+use Rattle.table_log.specs.Standing.{standing_by}
 use Rattle.lake_command.specs.Folders.{file_names}
 use Rattle.lake_command.proofs.StandingLemmas.{AreListed}
 use Rattle.lake_command.proofs.looking.add_files_from.Given as goal

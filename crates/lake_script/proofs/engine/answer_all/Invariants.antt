@@ -3,7 +3,7 @@ use Rattle.std.specs.Prelude.{⊤}
 use Rattle.lake_script.specs.Streams.{held, write_failed}
 use Rattle.lake_script.specs.Runs.{Tells}
 use Rattle.delta_actions.specs.Commit.{lines_of}
-use Rattle.table_log.specs.LogCache.{IsCacheOf}
+use Rattle.log_reading.specs.LogCache.{IsCacheOf}
 use Rattle.table_log.specs.Restoring.{AreCheckpointsSound, RestoresWell}
 use Rattle.lake_script.specs.Told.{first_bad_from, first_bad}
 use Rattle.script_lines.specs.Splitting.{lines_left}

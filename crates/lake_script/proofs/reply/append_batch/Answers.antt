@@ -7,6 +7,7 @@ use Rattle.batch_core.specs.Refusals.{refusal_view, says}
 use Rattle.sink_core.proofs.Callers.{appended_alike, append_plan_alike}
 use Rattle.lake_script.proofs.RestoredLemmas.{append_executed, append_refusal_executed, append_refusal_told, has_append, kept_memory}
 use Rattle.lake_script.proofs.RunsLemmas.{append_short}
+use Rattle.log_reading.proofs.Callers.{past_grown}
 use Rattle.lake_script.proofs.reply.append_batch.Goals as goal
 
 pub returns-in-Ok-clause-told : goal.returns-in-Ok-clause-told
@@ -82,3 +83,15 @@ returns-in-Err-clause-short g c = λ well short.
     let items = rows_data c.args.rows in
     let step = append_plan_alike c.args.use_checkpoints objects well application c.args.number c.args.at items in
     append_short c.in-Err.fault objects application c.args.number c.args.at items short (λ large. sym step ∙ c.in-Err.ensures.large (ap Err large))
+
+pub returns-in-Ok-clause-cache : goal.returns-in-Ok-clause-cache
+returns-in-Ok-clause-cache g c = record {
+  loaded = c.in-Ok.ensures.front;
+  log = past_grown (g.S.Store.objects c.args.store.now) (g.S.Store.objects c.append.new.store) c.in-Ok.ensures.kept c.args.cache.now.log c.requires.cache.log;
+}
+
+pub returns-in-Err-clause-cache : goal.returns-in-Err-clause-cache
+returns-in-Err-clause-cache g c = record {
+  loaded = c.in-Err.ensures.front;
+  log = past_grown (g.S.Store.objects c.args.store.now) (g.S.Store.objects c.append.new.store) c.in-Err.ensures.kept c.args.cache.now.log c.requires.cache.log;
+}

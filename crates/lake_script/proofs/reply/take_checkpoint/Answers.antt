@@ -7,7 +7,7 @@ use Rattle.lake_script.specs.Sound.{IsExecuted}
 use Rattle.lake_script.specs.declared.reply.LineReply.TheVariants.{NoSnapshot}
 use Rattle.lake_script.proofs.CheckpointLemmas.{has_executed, put_executed, refusal_executed, refusal_short, refusal_told}
 use Rattle.snapshot_core.proofs.Callers.{puts_alike, refusal_alike}
-use Rattle.table_log.proofs.SoundKept.{past_grown}
+use Rattle.log_reading.proofs.Callers.{past_grown}
 use Rattle.lake_script.proofs.reply.take_checkpoint.Goals as goal
 
 pub returns-in-Ok-clause-told : goal.returns-in-Ok-clause-told

@@ -1,0 +1,12 @@
+pub mod Callers
+pub mod CommitLemmas
+pub mod KeptLogs
+pub mod LaterLemmas
+pub mod ListingLemmas
+pub mod LogLemmas
+pub mod PastLemmas
+pub mod ReadLemmas
+pub mod SearchLemmas
+pub mod StartingLemmas
+pub mod SupportLemmas
+pub mod ToldLemmas
