@@ -9,12 +9,9 @@ pub mod CloseSound
 mod Left
 mod Loaded
 mod LoadedItems
-mod KeptFiles
-mod KeptLaws
 mod NameKinds
 mod OwnSteps
 mod PutNames
-mod ReaderLaws
 mod Requests
 mod RowLines
 mod SameLogs

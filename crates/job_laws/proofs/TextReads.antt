@@ -1,11 +1,17 @@
 -- Reads by texts hand out what reads by offsets do.
-use Rattle.std.proofs.Common.{◌≡◌, ℕ, false, List, [], ◌∷◌, ◌++◌, Some, Ok, refl, sym, ap, ◌∙◌}
+use Rattle.std.proofs.Common.{◌≡◌, ℕ, false, List, [], ◌∷◌, ◌++◌, Some, Ok, refl, sym, ap, ◌∙◌, take}
+use Rattle.schema_tree.specs.Tree.{Tree}
 use Rattle.store_core.specs.Objects.{Objects}
 use Rattle.row_core.specs.Rows.{Row}
+use Rattle.table_model.specs.Reads.{position}
+use Rattle.table_model.specs.Resumed.{beginning}
+use Rattle.table_model.specs.Table.{Entry, rows}
 use Rattle.table_model.specs.declared.reading.Offset.{Offset}
 use Rattle.source_core.specs.Offsets.{offset_of}
 use Rattle.source_core.specs.Tailing.{read_by}
 use Rattle.source_core.specs.Tails.{tails}
+use Rattle.read_laws.specs.Kept.{IsKept}
+use Rattle.read_laws.proofs.Callers.{kept_reads, reads_log}
 use Rattle.job_laws.specs.TextReads.{ReadsByTexts, done, goes_on, read_at}
 
 -- a read from a text is one from the offset that it spells
@@ -21,3 +27,11 @@ as_by_offsets objects (max ∷ limits) text last _ start (goes_on next handed ro
     let answered : read_by false objects max start ≡ Ok handed = sym (read_from objects max text start spells) ∙ is in
     let others = as_by_offsets objects limits next last rows handed.next later told in
     rw answered (ap (λ (rs : List Row). handed.rows ++ rs) others.0, others.1)
+
+-- Reads by texts that begin before all rows hand out the table's rows up to where the next one begins.
+pub log_by_texts : (objects : Objects) (schema : Tree) (entries : List Entry) (limits : List ℕ) (text last : List ℕ) (out : List Row) → IsKept objects schema entries
+    → offset_of text ≡ Some beginning → ReadsByTexts objects limits text out last
+    → (next : Offset) × (offset_of last ≡ Some next) × (out ≡ take (position next entries) (rows entries))
+log_by_texts objects schema entries limits text last out kept begins by_texts =
+    let same = as_by_offsets objects limits text last out beginning by_texts begins in
+    ((tails objects limits beginning).next, same.1, same.0 ∙ reads_log objects entries (kept_reads objects schema entries kept) limits)

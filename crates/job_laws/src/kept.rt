@@ -1,27 +1,27 @@
-//! Laws on stores that keep a table, whoever put their commits: what a line is told over one, what reads over one hand
-//! out, and which stores keep one.
+//! Laws on stores that keep a table, whoever put their commits: what a line is told over one, what reads by texts hand
+//! out, and which sound stores keep one as scripts find it.
 
-ghost use Rattle.std.specs.Prelude.{◌≡◌, ◌≢◌, ◌≤◌, ℕ, false, List, [], length, take, Ok, Some};
+ghost use Rattle.std.specs.Prelude.{◌≡◌, ◌≢◌, ◌≤◌, ℕ, List, [], length, take, Some};
 ghost use Rattle.store_core.specs.Objects.{Objects};
 ghost use Rattle.delta_actions.specs.Names.{greatest_version};
 ghost use Rattle.row_core.specs.Rows.{Row};
-ghost use Rattle.table_model.specs.Reads.{position, IsPart, MayEnd};
+ghost use Rattle.table_model.specs.Reads.{position};
 ghost use Rattle.table_model.specs.Resumed.{beginning};
 ghost use Rattle.table_model.specs.Table.{Entry, rows};
 ghost use Rattle.table_model.specs.declared.reading.Offset.{Offset};
 ghost use Rattle.table_store.specs.Schema.{Schema};
 ghost use Rattle.table_store.specs.Sound.{IsSound};
 ghost use Rattle.source_core.specs.Offsets.{offset_of};
-ghost use Rattle.source_core.specs.Tailing.{ReadRows, read_by};
 ghost use Rattle.source_core.specs.Tails.{tails};
-ghost use Rattle.lake_script.specs.Keeps.{HasNoOther, IsKept, Keeps, KeepsBeside};
+ghost use Rattle.read_laws.specs.Kept.{IsKept};
+ghost use Rattle.lake_script.specs.Keeps.{HasNoOther, Keeps, KeepsBeside};
 ghost use Rattle.script_lines.specs.Lines.{Statement, asks};
 ghost use Rattle.lake_script.specs.Scripts.{reply_over};
 ghost use Rattle.lake_script.specs.Sound.{IsSoundStatement};
 ghost use Rattle.lake_script.specs.Tables as tables;
 ghost use Rattle.lake_script.specs.Tables.{State, entries_of, table};
 ghost use Rattle.lake_script.specs.Told.{IsPutHere, left_by_statement, reply_to_statement};
-ghost use Rattle.job_laws.specs.Readable.{HasReadableFiles};
+ghost use Rattle.read_laws.specs.Readable.{HasReadableFiles};
 ghost use Rattle.job_laws.specs.TextReads.{ReadsByTexts};
 
 /// Over a store that keeps a table, where a commit can have the version behind it, or nothing, a creation, an append, a
@@ -35,13 +35,6 @@ pub fn a_kept_table_is_told()
         → IsSoundStatement objects statement printed → IsPutHere (asks statement) → Keeps (left_by_statement objects statement printed) (tables.left_by_statement state statement) }
 {}
 
-/// A read over a store that keeps a table hands out the part of the table from its offset on, up to its limit or the
-/// end of the log.
-pub fn a_read_hands_out_a_part()
-    ensures { (objects : Objects) (schema : Schema) (entries : List Entry) (max : ℕ) (offset : Offset) (out : ReadRows) → IsKept objects schema entries
-        → read_by false objects max offset ≡ Ok out → IsPart max offset out.rows out.next entries × MayEnd false max out.rows out.next entries }
-{}
-
 /// Reads that follow one another by texts, each from a text that spells the offset where the one before ended (as the
 /// text that it tells does, by `source_core::offset_text`), hand out what reads by offsets do: over a store that keeps
 /// a table its rows, each once and in the order of the log, up to the offset that the last text spells.
@@ -53,11 +46,10 @@ pub fn reads_by_texts_hand_out_the_log()
         → (next : Offset) × (offset_of last ≡ Some next) × (out ≡ take (position next entries) (rows entries)) }
 {}
 
-/// A sound store with a table keeps it, where each batch's file has at most 64 MiB and 4,194,304 rows, so that what is
-/// said of reads over stores that keep a table is said of all sound ones whose files can be read; and what is said of
-/// scripts, of those in which no data file of another batch stands. Whose commits they are doesn't matter.
-pub fn a_sound_store_keeps_its_table()
-    ensures kept { (objects : Objects) (sound : IsSound objects) → sound.entries ≢ [] → HasReadableFiles objects sound.entries → IsKept objects sound.schema sound.entries }
+/// A sound store with a table, in which no data file of another batch stands, keeps it as a script finds it, where each
+/// batch's file has at most 64 MiB and 4,194,304 rows, so that what is said of scripts is said of it (`keeps`); and a
+/// store that keeps a table so keeps it where such files may stand (`beside`). Whose commits they are doesn't matter.
+pub fn a_sound_store_without_other_files_keeps_its_table()
     ensures keeps { (objects : Objects) (sound : IsSound objects) → sound.entries ≢ [] → HasReadableFiles objects sound.entries → HasNoOther objects sound.entries
         → Keeps objects (table sound.schema sound.entries) }
     ensures beside { (objects : Objects) (state : State) → Keeps objects state → KeepsBeside objects state }

@@ -4,7 +4,6 @@
 #![tactic(auto)]
 
 mod kept;
-mod readers;
 
 ghost use Rattle.std.specs.Prelude.{◌≡◌, ℕ, Bool, false, List, Ok};
 ghost use Rattle.serde_json.specs.Data.{Items};
@@ -25,11 +24,8 @@ ghost use Rattle.job_laws.specs.Looking.{LooksWithin};
 ghost use Rattle.job_laws.specs.Saved.{with_added};
 
 pub use kept::{
-    a_kept_table_is_told, a_read_hands_out_a_part, a_sound_store_keeps_its_table,
+    a_kept_table_is_told, a_sound_store_without_other_files_keeps_its_table,
     reads_by_texts_hand_out_the_log,
-};
-pub use readers::{
-    a_kept_table_has_its_files, reads_that_follow_hand_out_the_log, what_a_read_may,
 };
 
 /// Data files that a line doesn't look at don't matter to it: over the log and the files that it may look at it is told

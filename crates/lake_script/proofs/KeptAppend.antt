@@ -32,15 +32,15 @@ use Rattle.lake_script.specs.Sound.{IsSoundStatement}
 use Rattle.lake_script.specs.Tables as tables
 use Rattle.lake_script.specs.Tables.{State, nothing, table}
 use Rattle.lake_script.specs.Told.{reply_to_statement, left_by_statement, sink_reply}
-use Rattle.lake_script.specs.Keeps.{IsReadableFile, FileKept, IsKept, HasNoOther, Keeps}
-use Rattle.lake_script.proofs.KeptFile.{last_stands, last_own, same_either_way, file_read}
+use Rattle.read_laws.specs.Kept.{IsReadableFile, FileKept, IsKept}
+use Rattle.lake_script.specs.Keeps.{HasNoOther, Keeps}
+use Rattle.read_laws.proofs.Callers.{file_read, made_of, are_made, none_behind, count_kept, log_kept}
+use Rattle.lake_script.proofs.KeptFile.{last_stands, last_own, same_either_way}
 use Rattle.lake_script.proofs.KeptHolds.{append_stands}
-use Rattle.lake_script.proofs.KeptLog.{made_of, are_made, none_behind}
 use Rattle.lake_script.proofs.KeptNames.{same_name, same_file_name, batch_stands, no_file}
 use Rattle.lake_script.proofs.KeptPuts.{kept_more, no_other_more}
 use Rattle.lake_script.proofs.KeptRequest.{asked, goes_on, unless_invariant, request_is}
 use Rattle.log_laws.proofs.Callers.{log_of_nothing}
-use Rattle.lake_script.proofs.KeptVersions.{count_kept, log_kept}
 use Rattle.lake_bytes.specs.Lines.{with_newline}
 
 -- what an append does agrees with the batch that is handed in at the plain table

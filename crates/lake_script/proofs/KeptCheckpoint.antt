@@ -19,10 +19,9 @@ use Rattle.lake_script.specs.Tables.{State, nothing, table}
 use Rattle.lake_script.specs.Told as told
 use Rattle.lake_script.specs.Keeps.{HasNoOther, Keeps}
 use Rattle.table_store.proofs.LawfulLogLemmas.{AreMadeFor}
-use Rattle.lake_script.proofs.KeptLog.{made_of, are_made}
+use Rattle.read_laws.proofs.Callers.{made_of, are_made, count_kept, log_kept}
 use Rattle.log_laws.proofs.Callers.{log_checkpointable, log_meta_data, log_of_nothing}
 use Rattle.lake_script.proofs.KeptPuts.{kept_checkpoint, same_files}
-use Rattle.lake_script.proofs.KeptVersions.{count_kept, log_kept}
 use Rattle.lake_bytes.specs.Lines.{with_newline}
 
 -- a store of nothing has no checkpoint

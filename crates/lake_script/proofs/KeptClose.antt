@@ -18,19 +18,19 @@ use Rattle.script_lines.specs.Lines.{close as closes, task}
 use Rattle.lake_bytes.specs.Lines.{with_newline}
 use Rattle.lake_bytes.specs.Results.{◌>>=◌}
 use Rattle.log_laws.proofs.Callers.{log_of_nothing}
-use Rattle.lake_script.specs.Keeps.{AreFiles, IsKept, Keeps}
+use Rattle.read_laws.specs.Kept.{IsKept}
+use Rattle.lake_script.specs.Keeps.{AreFiles, Keeps}
 use Rattle.lake_script.specs.Sound.{IsSoundStatement}
 use Rattle.lake_script.specs.Tables as tables
 use Rattle.lake_script.specs.Tables.{State, nothing, table}
 use Rattle.lake_script.specs.Told.{reply_to_statement, left_by_statement, sink_reply}
 use Rattle.lake_script.proofs.KeptAppend.{version_fits}
 use Rattle.lake_script.proofs.KeptHolds.{close_stands}
-use Rattle.lake_script.proofs.KeptLog.{made_of, are_made, none_behind}
+use Rattle.read_laws.proofs.Callers.{made_of, are_made, none_behind, count_kept, log_kept}
 use Rattle.lake_script.proofs.KeptNames.{same_name}
 use Rattle.lake_script.proofs.KeptPlan.{Stays, bare, keeps, files_commit}
 use Rattle.lake_script.proofs.KeptPuts.{kept_close, no_other_close}
 use Rattle.lake_script.proofs.KeptRequest.{asked, close_request_is, unless_invariant}
-use Rattle.lake_script.proofs.KeptVersions.{count_kept, log_kept}
 
 -- ---- what a close does
 

@@ -21,7 +21,8 @@ use Rattle.lake_script.specs.Sound.{IsSoundStatement}
 use Rattle.lake_script.specs.Tables as tables
 use Rattle.lake_script.specs.Tables.{State, nothing, table, creating, with_table}
 use Rattle.lake_script.specs.Told.{reply_to_statement, left_by_statement, created_reply}
-use Rattle.lake_script.specs.Keeps.{IsKept, Keeps, KeptFrom}
+use Rattle.read_laws.specs.Kept.{IsKept, KeptFrom}
+use Rattle.lake_script.specs.Keeps.{Keeps}
 use Rattle.lake_script.proofs.KeptHolds.{creation_stands}
 use Rattle.lake_script.proofs.KeptNames.{none_unless, same_name}
 

@@ -1,14 +1,10 @@
--- The file of an application's last batch, where its number is handed in again, and how the file of a batch is read.
-use Rattle.std.proofs.Common.{◌≡◌, ℕ, List, Some, Ok, Contains, sym}
+-- The file of an application's last batch, where its number is handed in again.
+use Rattle.std.proofs.Common.{◌≡◌, ℕ, List, Some, Contains, sym}
 use Rattle.std.specs.Bool.{one_answer}
-use Rattle.parquet_file.specs.Reading.{rows_at}
-use Rattle.parquet_file.proofs.Callers.{rows_only}
-use Rattle.schema_tree.specs.Tree.{Tree}
 use Rattle.row_core.specs.Rows.{Row, same_rows}
 use Rattle.table_model.specs.Table.{Batch, Entry, batches, last_batch}
 use Rattle.row_core.proofs.Callers.{same_rows-is}
 use Rattle.table_model.proofs.Callers.{last_stands as last_is_there}
-use Rattle.lake_script.specs.Keeps.{IsReadableFile}
 
 -- ---- the last batch of an application
 
@@ -28,9 +24,3 @@ pub same_either_way : (xs ys : List Row) → same_rows xs ys ≡ same_rows ys xs
 same_either_way xs ys =
     let back = same_rows-is ys xs in
     one_answer {P = xs ≡ ys} (same_rows xs ys) (same_rows ys xs) (same_rows-is xs ys) (λ e. sym (back.0 e), λ e. back.1 (sym e))
-
--- ---- a file that is read
-
--- a batch's file is read as the batch's rows
-pub file_read : (schema : Tree) (b : Batch) (bytes : List ℕ) → IsReadableFile schema b bytes → rows_at bytes schema ≡ Ok b.rows
-file_read schema b bytes is = rows_only bytes schema b.rows is.file.within is.file.file is.limits

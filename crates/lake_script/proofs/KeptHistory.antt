@@ -21,10 +21,9 @@ use Rattle.table_log.specs.Versions.{commit}
 use Rattle.commit_core.specs.Histories.{action_told, close_told, number_told, history_from, history_in, history_of, bad_log}
 use Rattle.lake_script.specs.Tables as tables
 use Rattle.lake_script.specs.Tables.{entry_told}
-use Rattle.lake_script.specs.Keeps.{IsKept}
-use Rattle.lake_script.proofs.KeptLog.{made_of, are_made}
+use Rattle.read_laws.specs.Kept.{IsKept}
+use Rattle.read_laws.proofs.Callers.{made_of, are_made, versions_kept, has_commits}
 use Rattle.log_laws.proofs.Callers.{says_so, versions_of_nothing}
-use Rattle.lake_script.proofs.KeptVersions.{versions_kept, has_commits}
 use Rattle.lake_bytes.specs.Lines.{with_newline}
 
 -- what tells only of the commit isn't told

@@ -13,8 +13,8 @@ use Rattle.table_model.specs.Table.{Batch, Entry, creation, group, close, batche
 use Rattle.batch_core.specs.Closing.{closing}
 use Rattle.batch_core.specs.Committing.{appending}
 use Rattle.commit_core.specs.Commits.{creation as created}
-use Rattle.lake_script.specs.Keeps.{KeptFrom, IsKept}
-use Rattle.lake_script.proofs.KeptLog.{files_stand, none_behind}
+use Rattle.read_laws.specs.Kept.{KeptFrom, IsKept}
+use Rattle.read_laws.proofs.Callers.{files_stand, none_behind}
 
 -- ---- the commits that this program puts
 

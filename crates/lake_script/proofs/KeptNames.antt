@@ -13,7 +13,8 @@ use Rattle.table_model.specs.Table.{Batch, Entry, batches_of, batches, numbers_b
 use Rattle.table_model.proofs.Callers.{IsAbove, last_none, last_number, numbers_in}
 use Rattle.batch_core.specs.Committing.{file_name, greatest_number}
 use Rattle.table_log.specs.Names.{commit_name}
-use Rattle.lake_script.specs.Keeps.{IsKept, IsOwn, HasNoOther, KeptFrom, FileKept}
+use Rattle.read_laws.specs.Kept.{IsKept, KeptFrom, FileKept}
+use Rattle.lake_script.specs.Keeps.{IsOwn, HasNoOther}
 
 -- ---- the names that contracts don't look into
 

@@ -29,11 +29,11 @@ use Rattle.sink_core.specs.Appending.{EncodedBatch, AppendPlan, puts, stands, si
 use Rattle.batch_core.specs.Refusals.{SinkRefusal, stale, differs}
 use Rattle.lake_bytes.specs.Results.{◌>>=◌, refused_if}
 use Rattle.batch_core.specs.RowsIn.{rows_from, takes_rows}
-use Rattle.lake_script.specs.Keeps.{AreFiles, IsReadableFile, FileKept, HasNoOther, IsKept, Keeps, KeepsBeside}
+use Rattle.read_laws.specs.Kept.{IsReadableFile, FileKept, IsKept}
+use Rattle.lake_script.specs.Keeps.{AreFiles, HasNoOther, Keeps, KeepsBeside}
 use Rattle.lake_script.specs.Tables.{State, nothing, table, entries_of}
 use Rattle.lake_script.proofs.KeptAppend.{small_number, lawful_after, version_fits, made_with, handed_in, file_made, commit_made, step_with, step_behind, step_is}
-use Rattle.lake_script.proofs.KeptFile.{file_read}
-use Rattle.lake_script.proofs.KeptLog.{none_behind}
+use Rattle.read_laws.proofs.Callers.{file_read, none_behind}
 use Rattle.lake_script.proofs.KeptNames.{batch_stands, same_name, same_file_name}
 use Rattle.lake_script.proofs.KeptRequest.{asked, goes_on}
 use Rattle.lake_script.proofs.KeptPuts.{Stands-put, put_stands, kept_file, kept_commit}

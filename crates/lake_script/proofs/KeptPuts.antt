@@ -19,7 +19,8 @@ use Rattle.table_model.proofs.Callers.{batches-append}
 use Rattle.table_model.proofs.Kept.{close_keeps}
 use Rattle.table_store.proofs.Callers.{commit_name-data_file_name, commit_name-once, data_file_name-once}
 use Rattle.log_laws.proofs.Callers.{no_checkpoint}
-use Rattle.lake_script.specs.Keeps.{IsReadableFile, FileKept, FilesKept, KeptFrom, IsKept, IsOwn, HasNoOther}
+use Rattle.read_laws.specs.Kept.{IsReadableFile, FileKept, FilesKept, KeptFrom, IsKept}
+use Rattle.lake_script.specs.Keeps.{IsOwn, HasNoOther}
 use Rattle.lake_script.proofs.KeptNames.{first_in}
 
 -- ---- what stood still stands

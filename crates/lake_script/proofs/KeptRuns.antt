@@ -22,7 +22,8 @@ use Rattle.lake_script.specs.Tables.{State, nothing, table, entries_of, AsksTabl
 use Rattle.source_core.specs.Tailing.{tailed}
 use Rattle.lake_script.specs.Told as told
 use Rattle.lake_script.specs.Told.{tailed_reply, is_bad, UnlessBad, ArePrintedLines, IsPutHere, ArePutHere}
-use Rattle.lake_script.specs.Keeps.{IsKept, Keeps}
+use Rattle.read_laws.specs.Kept.{IsKept}
+use Rattle.lake_script.specs.Keeps.{Keeps}
 
 -- what is known of single lines
 pub record Given : Type 0 where

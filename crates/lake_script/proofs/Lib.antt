@@ -8,7 +8,6 @@ pub mod KeptFile
 pub mod KeptGrown
 pub mod KeptHistory
 pub mod KeptHolds
-pub mod KeptLog
 pub mod KeptNames
 pub mod KeptPuts
 pub mod KeptRequest
@@ -17,7 +16,6 @@ pub mod KeptScripts
 pub mod KeptPlan
 pub mod KeptTail
 pub mod KeptTails
-pub mod KeptVersions
 pub mod RestoredLemmas
 pub mod RunLemmas
 pub mod RunsLemmas

@@ -11,8 +11,9 @@ use Rattle.commit_core.specs.declared.fault.CreateFault.{CreateFault}
 use Rattle.commit_core.specs.declared.fault.CreateFault.TheVariants as create_faults
 use Rattle.sink_core.specs.SinkSessions.{AnswerEnds, SinkAsks}
 use Rattle.sink_core.proofs.SinkTalks.{created_quiet, created_told}
+use Rattle.source_core.specs.SourceSessions.{SourceAsks}
 use Rattle.session_laws.specs.May.{TellsWhatWasCreated}
-use Rattle.session_laws.specs.Sessions.{Does, HasAsked, Job, Move, asks, checkpoint, checkpoints, creates, creation, load, loads, stream, streams, tells}
+use Rattle.session_laws.specs.Sessions.{Does, HasAsked, Job, Move, asks, checkpoint, checkpoints, creates, creation, load, loads, read, reads, stream, streams, tells}
 
 -- ---- creations
 
@@ -64,14 +65,18 @@ created_row (loads job) before talk move asked does =
     λ front version bytes is. absurd (asked_last (LoadAsks job before) [] front (put_commit version bytes, told_put Created) (subst (AllAsked (LoadAsks job before) []) is asked))
 created_row (checkpoints job) before talk move asked does =
     λ front version bytes is. absurd (asked_last (CheckpointAsks job before) [] front (put_commit version bytes, told_put Created) (subst (AllAsked (CheckpointAsks job before) []) is asked))
+created_row (reads job) before talk move asked does =
+    λ front version bytes is. absurd (asked_last (SourceAsks job before) [] front (put_commit version bytes, told_put Created) (subst (AllAsked (SourceAsks job before) []) is asked))
 created_row (creates job) before talk (asks call) asked does = λ front version bytes is. absurd (creation_quiet job before talk front version bytes is call does.0)
 created_row (creates job) before talk (tells (creation (Ok done))) asked does = λ front version bytes is. (created_creation job talk front version bytes is (Ok done) before does.0).1
 created_row (creates job) before talk (tells (creation (Err fault))) asked does = λ front version bytes is. let wrong = (created_creation job talk front version bytes is (Err fault) before does.0).0 in absurd cc
 created_row (creates job) before talk (tells (load result)) asked does = absurd does.0
 created_row (creates job) before talk (tells (checkpoint result)) asked does = absurd does.0
 created_row (creates job) before talk (tells (stream end)) asked does = absurd does.0
+created_row (creates job) before talk (tells (read end)) asked does = absurd does.0
 created_row (streams job) before talk (asks call) asked does = λ front version bytes is. absurd (created_quiet job before front version bytes call (subst (λ (t : Talk). SinkAsks job before t call) is does.0))
 created_row (streams job) before talk (tells (stream end)) asked does = λ front version bytes is. created_told job before front version bytes end.answer (subst (λ (t : Talk). AnswerEnds job before t end.answer) is does.0.answer)
 created_row (streams job) before talk (tells (creation result)) asked does = absurd does.0
 created_row (streams job) before talk (tells (load result)) asked does = absurd does.0
 created_row (streams job) before talk (tells (checkpoint result)) asked does = absurd does.0
+created_row (streams job) before talk (tells (read end)) asked does = absurd does.0

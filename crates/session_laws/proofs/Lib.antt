@@ -8,6 +8,7 @@ mod LoadRows
 mod NextSteps
 mod NextVersions
 mod Puts
+mod ReadRows
 mod Ready
 mod StreamLacks
 mod StreamPuts

@@ -1,12 +1,12 @@
 -- What the put of a checkpoint leaves of sound stores.
-use Rattle.std.proofs.Common.{◌≡◌, ◌∙◌, ℕ, suc, List, ◌∷◌, ◌++◌, Option, IsSome, refl, ap, subst}
+use Rattle.std.proofs.Common.{ℕ, suc, List, Option, IsSome, refl, subst}
 use Rattle.store_core.specs.Calls.{StandsAfter}
 use Rattle.store_core.specs.Objects.{Objects, object_at}
 use Rattle.store_core.specs.declared.store.Put.{Put}
 use Rattle.store_core.specs.declared.store.Put.TheVariants.{Created, Exists}
-use Rattle.session_core.specs.Talks.{Bears, Talk, list_names, put_file, told_names, told_put}
+use Rattle.session_core.specs.Talks.{Bears, Talk, put_file, told_put}
 use Rattle.session_core.proofs.Callers.{bears_more}
-use Rattle.table_log.specs.LoadSessions.{HasListed, LoadJob}
+use Rattle.table_log.specs.LoadSessions.{LoadJob}
 use Rattle.table_log.specs.Restoring.{IsSoundCheckpoint}
 use Rattle.snapshot_core.specs.CheckpointSessions.{PutTold}
 use Rattle.snapshot_core.specs.Taking.{PutsFront}

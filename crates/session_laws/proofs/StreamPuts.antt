@@ -109,6 +109,7 @@ module _ (objects : Objects) (schema : Schema) (entries : List Entry) (sound : I
         ruled.of_job,
         puts.named ∙ file_named job.application puts.number,
         subst (λ (t : Schema). IsFileOf t bytes puts.request.rows) ruled.schema_is puts.written.is_file,
+        puts.written.limits,
       )
 
   module _ (text : IsUtf8 job.application) (talk : Talk) (borne : Bears objects talk) (known : Loaded) (tries : ℕ) (settled : Settled) (reaches : Reaches job before talk known tries (ready settled)) where

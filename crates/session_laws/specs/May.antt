@@ -14,8 +14,8 @@ use Rattle.log_laws.specs.Sound.{IsSoundStore}
 use Rattle.commit_core.specs.CreateSessions.{IsCreationOf, MayTellOfCreation}
 use Rattle.sink_core.specs.SinkLaws.{TellsCommit}
 use Rattle.sink_core.specs.SinkSessions.{IsFine}
-use Rattle.session_laws.specs.Rows.{IsCheckpointPut, IsJobCommit, IsJobFile, MayPutNext, MayTellOfCheckpoint, MayTellOfLoad, MayTellOfStream}
-use Rattle.session_laws.specs.Sessions.{HasAsked, Job, Move, Outcome, asks, checkpoint, checkpoints, creates, creation, load, loads, stream, streams, tells}
+use Rattle.session_laws.specs.Rows.{IsCheckpointPut, IsJobCommit, IsJobFile, MayPutNext, MayTellOfCheckpoint, MayTellOfLoad, MayTellOfRead, MayTellOfStream}
+use Rattle.session_laws.specs.Sessions.{HasAsked, Job, Move, Outcome, asks, checkpoint, checkpoints, creates, creation, load, loads, read, reads, stream, streams, tells}
 
 -- ---- the store, and the job
 
@@ -40,8 +40,8 @@ IsValidJob job = Unit {0}
 
 -- ---- what it may do
 
--- Lists and gets change nothing, and any may be asked for. A stream puts its batch's file and its commit, a creation its commit, and a
--- checkpoint's put a checkpoint; a commit is admissible at the version that comes next.
+-- Lists and gets change nothing, and any may be asked for; a load and a read ask for nothing else. A stream puts its batch's file and its
+-- commit, a creation its commit, and a checkpoint's put a checkpoint; a commit is admissible at the version that comes next.
 abbrev pub MayAsk : Objects → Schema → Job → Talk → Asked → Type 0
 MayAsk objects schema job talk list_names = Unit {0}
 MayAsk objects schema job talk (get_object name) = Unit {0}
@@ -51,12 +51,14 @@ MayAsk objects schema (streams job) talk (put_commit version bytes) = IsFine job
 MayAsk objects schema (creates job) talk (put_commit version bytes) = MayPutNext objects talk version bytes × IsCreationOf job bytes
 MayAsk objects schema job talk asked = ⊥
 
-abbrev pub MayTell : Objects → Schema → List Entry → Job → Talk → Outcome → Type 0
-MayTell objects schema entries (creates job) talk (creation result) = MayTellOfCreation objects job talk result
-MayTell objects schema entries (loads job) talk (load result) = MayTellOfLoad objects talk result
-MayTell objects schema entries (checkpoints job) talk (checkpoint result) = MayTellOfCheckpoint objects talk result
-MayTell objects schema entries (streams job) talk (stream end) = MayTellOfStream objects schema entries job talk end.answer
-MayTell objects schema entries job talk outcome = ⊥
+-- What it tells is so of the store, of what was known before (of a read alone), or of its talk.
+abbrev pub MayTell : Objects → Schema → List Entry → Job → (before talk : Talk) → Outcome → Type 0
+MayTell objects schema entries (creates job) before talk (creation result) = MayTellOfCreation objects job talk result
+MayTell objects schema entries (loads job) before talk (load result) = MayTellOfLoad objects talk result
+MayTell objects schema entries (checkpoints job) before talk (checkpoint result) = MayTellOfCheckpoint objects talk result
+MayTell objects schema entries (streams job) before talk (stream end) = MayTellOfStream objects schema entries job talk end.answer
+MayTell objects schema entries (reads job) before talk (read end) = MayTellOfRead objects entries job before talk end.answer
+MayTell objects schema entries job before talk outcome = ⊥
 
 -- it tells that the commit of this version was put
 abbrev pub TellsOf : (version : ℕ) → Move → Type 0
@@ -68,9 +70,9 @@ TellsOf version move = ⊥
 abbrev pub TellsWhatWasCreated : Talk → Move → Type 0
 TellsWhatWasCreated talk move = (front : Talk) (version : ℕ) (bytes : List ℕ) → talk ≡ front ++ (put_commit version bytes, told_put Created) ∷ [] → TellsOf version move
 
-abbrev pub May : Objects → Schema → List Entry → Job → Talk → Move → Type 0
-May objects schema entries job talk (asks asked) = MayAsk objects schema job talk asked
-May objects schema entries job talk (tells outcome) = MayTell objects schema entries job talk outcome
+abbrev pub May : Objects → Schema → List Entry → Job → (before talk : Talk) → Move → Type 0
+May objects schema entries job before talk (asks asked) = MayAsk objects schema job talk asked
+May objects schema entries job before talk (tells outcome) = MayTell objects schema entries job before talk outcome
 
 -- ---- a session's step
 
@@ -86,5 +88,5 @@ move_of tell (Ask request) = asks (asked_view request)
 move_of tell (Done outcome) = tells (tell outcome)
 
 -- a step is one that the job may make
-abbrev pub StepMay : {O : Type 0} → Objects → Schema → List Entry → Job → (talk : Talk) → (tell : O → Outcome) → Step O → Type 0
-StepMay objects schema entries job talk tell step = May objects schema entries job talk (move_of tell step) × TellsWhatWasCreated talk (move_of tell step)
+abbrev pub StepMay : {O : Type 0} → Objects → Schema → List Entry → Job → (before talk : Talk) → (tell : O → Outcome) → Step O → Type 0
+StepMay objects schema entries job before talk tell step = May objects schema entries job before talk (move_of tell step) × TellsWhatWasCreated talk (move_of tell step)

@@ -1,11 +1,12 @@
 -- What a session may ask for and tell in a store that bears its talk, call by call and outcome by outcome. The store holds the table of a
 -- schema with its entries.
-use Rattle.std.specs.Prelude.{◌≡◌, ◌⊎◌, ℕ, suc, ◌<◌, List, [], ◌∷◌, ◌++◌, length, true, false, Some, None, Result, Ok, Err, IsSome, string_bytes}
+use Rattle.std.specs.Prelude.{◌≡◌, ◌⊎◌, ℕ, suc, ◌<◌, List, [], ◌∷◌, ◌++◌, length, take, true, false, Some, None, Result, Ok, Err, IsSome, string_bytes}
 use Rattle.serde_json.specs.Data.{Items}
-use Rattle.store_core.specs.Objects.{Objects, object_at}
+use Rattle.store_core.specs.Objects.{HasObjectsOf, Objects, names_of, object_at}
 use Rattle.store_core.specs.declared.store.Put.TheVariants.{Exists}
 use Rattle.session_core.specs.Names.{commit_name}
-use Rattle.session_core.specs.Talks.{Talk, list_names, get_object, put_commit, told_lost, told_names, told_object, told_put}
+use Rattle.session_core.specs.Shown.{Shows}
+use Rattle.session_core.specs.Talks.{Bears, Talk, list_names, get_object, put_commit, told_lost, told_names, told_object, told_put}
 use Rattle.schema_tree.specs.Sameness.{has_fraction}
 use Rattle.parquet_file.specs.File.{KeepsLimits}
 use Rattle.delta_actions.specs.Action.{Action}
@@ -27,9 +28,10 @@ use Rattle.table_model.specs.Table.{Batch, Entry}
 use Rattle.table_model.specs.declared.table.AppendAnswer.{AppendAnswer}
 use Rattle.table_model.specs.declared.table.AppendAnswer.TheVariants as appended
 use Rattle.table_model.specs.declared.table.Closing.TheVariants as closed
-use Rattle.table_store.specs.Holds.{Stands}
+use Rattle.table_store.specs.Holds.{Holds, Stands}
 use Rattle.table_store.specs.Schema.{Schema, IsFileOf}
 use Rattle.table_store.specs.Sound.{IsAdmissible}
+use Rattle.log_laws.specs.Sound.{IsSoundStore}
 use Rattle.snapshot_core.specs.Taking.{IsLargeFor, IsTableId}
 use Rattle.snapshot_core.specs.declared.checkpoint_session.Checkpointed.{Checkpointed}
 use Rattle.snapshot_core.specs.declared.fault.SnapshotFault.{SnapshotFault}
@@ -46,6 +48,12 @@ use Rattle.sink_core.specs.SinkLaws.{versions_taken}
 use Rattle.sink_core.specs.SinkSessions.{IsFine, LosesOther, SinkJob, SinkTask, appends, asked_of, closes, fine}
 use Rattle.sink_core.specs.declared.sink_state.SinkOutcome.{SinkOutcome}
 use Rattle.sink_core.specs.declared.sink_state.SinkOutcome.TheVariants.{Already, AlreadyClosed, Closed, Committed}
+use Rattle.source_core.specs.SourceSessions.{SourceJob}
+use Rattle.source_core.specs.declared.read_state.ReadRows.{ReadRows}
+use Rattle.source_core.specs.declared.tail_fault.TailFault.{TailFault}
+use Rattle.source_core.specs.declared.tail_fault.TailFault.TheVariants as read_faults
+use Rattle.read_laws.specs.Readable.{HasReadableFiles}
+use Rattle.read_laws.specs.Readers.{MayTellOfTable}
 use Rattle.session_laws.specs.Sessions.{ends_lost}
 
 -- ---- talks
@@ -112,9 +120,9 @@ pub record IsBatchOf (schema : Schema) (job : SinkJob) (batch : Batch) : Type 0 
 abbrev pub name_of : Batch → List ℕ
 name_of batch = data_file_name batch.application batch.number
 
--- under its batch's name a file of its rows
+-- under its batch's name a file of its rows, within the limits of what is read
 abbrev pub IsJobFile : Schema → SinkJob → (name bytes : List ℕ) → Type 0
-IsJobFile schema job name bytes = (batch : Batch) × IsBatchOf schema job batch × (name ≡ name_of batch) × IsFileOf schema bytes batch.rows
+IsJobFile schema job name bytes = (batch : Batch) × IsBatchOf schema job batch × (name ≡ name_of batch) × IsFileOf schema bytes batch.rows × KeepsLimits bytes batch.rows
 
 -- these bytes are the text of these actions, and read as them
 abbrev pub IsTextOf : List ℕ → List Action → Type 0
@@ -226,3 +234,38 @@ MayTellOfStream objects schema entries job talk (Err faults.FileTooLarge) = HasL
 -- No winner of a sound store changes the schema. How numbers with a fraction in a schema's metadata are compared is left open.
 MayTellOfStream objects schema entries job talk (Err (faults.SchemaChanged version)) = (has_fraction schema ≡ true) × FoundTaken talk version × (next_version talk ≡ suc version)
 MayTellOfStream objects schema entries job talk (Err faults.Memory) = Unit {0}
+
+-- ---- what a read tells
+
+-- whichever table a store holds, each of its batches' files keeps the limits of what is read
+abbrev pub IsReadable : Objects → Type 0
+IsReadable objects = (schema : Schema) (entries : List Entry) → Holds objects schema entries → HasReadableFiles objects entries
+
+-- A store as it stood when a read's names were listed, which has grown since: it was sound, its files could be read, it bears what was known
+-- before, and the talk shows it.
+pub record WasListed (objects : Objects) (before talk : Talk) (listed : Objects) : Type 0 where
+  pub sound : IsSoundStore listed
+  pub readable : IsReadable listed
+  pub grown : HasObjectsOf listed objects
+  pub earlier : Bears listed before
+  pub lists : Lists talk (names_of listed)
+  pub shown : Shows talk listed
+
+-- of a log without versions a read tells that version 0 is missing; or that a call was lost, or memory ran out
+abbrev pub TellsOfNone : Result ReadRows TailFault → Type 0
+TellsOfNone (Err (read_faults.BadLog version)) = version ≡ 0
+TellsOfNone (Err read_faults.Lost) = Unit {0}
+TellsOfNone (Err read_faults.Memory) = Unit {0}
+TellsOfNone answer = ⊥
+
+-- Of the versions that were listed it tells a part from its offset on: as many rows as it was to hand out, or those up to the version
+-- that came next then; or that its offset is behind them, or in no file of its version.
+abbrev pub TellsOfListed : List Entry → SourceJob → Result ReadRows TailFault → Type 0
+TellsOfListed [] job answer = TellsOfNone answer
+TellsOfListed (first ∷ rest) job answer = MayTellOfTable job.max job.place (first ∷ rest) answer
+
+-- A lost call is told behind one. What else is told is so of the table's first versions, as many as were listed, where the talk shows a
+-- store as it stood then. Of other talks, by which what was listed isn't there, nothing is said: they aren't a store's that only grows.
+pub record MayTellOfRead (objects : Objects) (entries : List Entry) (job : SourceJob) (before talk : Talk) (answer : Result ReadRows TailFault) : Type 0 where
+  pub lost : answer ≡ Err read_faults.Lost → ends_lost talk ≡ true
+  pub told : (listed : Objects) → WasListed objects before talk listed → TellsOfListed (take (next_version talk) entries) job answer

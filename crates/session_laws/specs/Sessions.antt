@@ -13,14 +13,17 @@ use Rattle.commit_core.specs.CreateSessions.{CreateAsks, CreateEnds, CreateJob, 
 use Rattle.commit_core.specs.declared.fault.CreateFault.{CreateFault}
 use Rattle.sink_core.specs.SinkSessions.{SinkAsks, SinkEnds, SinkJob, is_lost_end}
 use Rattle.sink_core.specs.declared.sink_state.SinkEnd.{SinkEnd}
+use Rattle.source_core.specs.SourceSessions.{SourceAsks, SourceEnds, SourceJob, is_lost_read}
+use Rattle.source_core.specs.declared.source_session.ReadEnd.{ReadEnd}
 
--- what a session is to do: a table is created, a log is loaded, a checkpoint of its newest version is put, or a batch is appended or a
--- stream closed
+-- what a session is to do: a table is created, a log is loaded, a checkpoint of its newest version is put, a batch is appended or a
+-- stream closed, or rows are read
 pub data Job : Type 0 where
   creates : CreateJob → Job
   loads : LoadJob → Job
   checkpoints : LoadJob → Job
   streams : SinkJob → Job
+  reads : SourceJob → Job
 
 -- what it tells when it ends
 pub data Outcome : Type 0 where
@@ -28,6 +31,7 @@ pub data Outcome : Type 0 where
   load : Result Loaded LogFault → Outcome
   checkpoint : Result Checkpointed SnapshotFault → Outcome
   stream : SinkEnd → Outcome
+  read : ReadEnd → Outcome
 
 -- what it does next: it asks for a call, or tells its outcome
 pub data Move : Type 0 where
@@ -40,6 +44,7 @@ Asks (creates job) before talk asked = CreateAsks job before talk asked
 Asks (loads job) before talk asked = LoadAsks job before talk asked
 Asks (checkpoints job) before talk asked = CheckpointAsks job before talk asked
 Asks (streams job) before talk asked = SinkAsks job before talk asked
+Asks (reads job) before talk asked = SourceAsks job before talk asked
 
 -- what it tells there
 abbrev pub Ends : Job → (before talk : Talk) → Outcome → Type 0
@@ -47,6 +52,7 @@ Ends (creates job) before talk (creation result) = CreateEnds job before talk re
 Ends (loads job) before talk (load result) = LoadEnds job before talk result
 Ends (checkpoints job) before talk (checkpoint result) = CheckpointEnds job before talk result
 Ends (streams job) before talk (stream end) = SinkEnds job before talk end
+Ends (reads job) before talk (read end) = SourceEnds job before talk end
 Ends job before talk outcome = ⊥
 
 -- the outcome tells that a call was lost
@@ -55,6 +61,7 @@ is_lost (creation result) = tells_lost result
 is_lost (load result) = is_lost_load result
 is_lost (checkpoint result) = is_lost_checkpoint result
 is_lost (stream end) = is_lost_end end
+is_lost (read end) = is_lost_read end
 
 -- the answer that was given last is that the call was lost
 abbrev pub ends_lost : Talk → Bool

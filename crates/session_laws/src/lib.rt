@@ -5,5 +5,7 @@
 mod sessions;
 mod steps;
 
-pub use sessions::{what_a_checkpoint_may, what_a_load_may, what_a_session_may, what_a_stream_may};
-pub use steps::{checkpoint_step, create_step, load_step, stream_step};
+pub use sessions::{
+    what_a_checkpoint_may, what_a_load_may, what_a_read_may, what_a_session_may, what_a_stream_may,
+};
+pub use steps::{checkpoint_step, create_step, load_step, read_step, stream_step};

@@ -13,9 +13,11 @@ ghost use Rattle.snapshot_core.specs.declared.checkpoint_session.Checkpointed.{C
 ghost use Rattle.snapshot_core.specs.declared.fault.SnapshotFault.{SnapshotFault};
 ghost use Rattle.sink_core.specs.SinkSessions.{SinkAsks, SinkEnds, SinkJob};
 ghost use Rattle.sink_core.specs.declared.sink_state.SinkEnd.{SinkEnd};
+ghost use Rattle.source_core.specs.SourceSessions.{SourceAsks, SourceJob};
+ghost use Rattle.source_core.specs.declared.source_session.ReadEnd.{ReadEnd};
 ghost use Rattle.session_laws.specs.May.{BearsSession, IsValidJob, May, MayAsk, TellsWhatWasCreated};
-ghost use Rattle.session_laws.specs.Rows.{MayTellOfCheckpoint, MayTellOfLoad, MayTellOfStream};
-ghost use Rattle.session_laws.specs.Sessions.{Does, HasAsked, Job, Move, checkpoint, checkpoints, load, loads, streams, tells};
+ghost use Rattle.session_laws.specs.Rows.{MayTellOfCheckpoint, MayTellOfLoad, MayTellOfRead, MayTellOfStream};
+ghost use Rattle.session_laws.specs.Sessions.{Does, HasAsked, Job, Move, checkpoint, checkpoints, load, loads, read, reads, streams, tells};
 
 use commit_core::{what_a_commit_may, what_a_creation_may};
 
@@ -56,15 +58,27 @@ pub fn what_a_stream_may()
     what_a_commit_may();
 }
 
+/// A read of rows asks for lists and gets. It tells of a lost call behind one. Where its talk shows a store as it stood when the names were
+/// listed, which is a sound one whose files can be read and has grown since, it tells a part of the table's versions that were listed: its
+/// rows from the offset on, which end with as many as it was to hand out, or at the start of the version that came next then; or that the
+/// offset is behind them, or in no file of its version; and of a log without versions that version 0 is missing.
+pub fn what_a_read_may()
+    ensures asks { (objects : Objects) (schema : Schema) (entries : List Entry) (job : SourceJob) (before talk : Talk) (asked : Asked) → BearsSession objects schema entries (reads job) before talk
+        → SourceAsks job before talk asked → MayAsk objects schema (reads job) talk asked }
+    ensures tells { (objects : Objects) (schema : Schema) (entries : List Entry) (job : SourceJob) (before talk : Talk) (end : ReadEnd) → BearsSession objects schema entries (reads job) before talk
+        → Does (reads job) before talk (tells (read end)) → MayTellOfRead objects entries job before talk end.answer }
+{}
+
 /// What any session does next it may do, in every sound store that bears its talk. Right behind a put that created its commit it tells
 /// that, with that very version, and does nothing else.
 pub fn what_a_session_may()
     ensures may { (objects : Objects) (schema : Schema) (entries : List Entry) (job : Job) (before talk : Talk) (move : Move) → BearsSession objects schema entries job before talk → IsValidJob job → Does job before talk move
-        → May objects schema entries job talk move }
+        → May objects schema entries job before talk move }
     ensures created { (job : Job) (before talk : Talk) (move : Move) → HasAsked job before talk → Does job before talk move → TellsWhatWasCreated talk move }
 {
     what_a_creation_may();
     what_a_load_may();
     what_a_checkpoint_may();
     what_a_stream_may();
+    what_a_read_may();
 }

@@ -11,14 +11,16 @@ ghost use Rattle.snapshot_core.specs.CheckpointSessions as checkpoint_sessions;
 ghost use Rattle.commit_core.specs.CreateSessions as create_sessions;
 ghost use Rattle.sink_core.specs.SinkFits as sink_fits;
 ghost use Rattle.sink_core.specs.SinkSessions as sink_sessions;
+ghost use Rattle.source_core.specs.SourceSessions as source_sessions;
 ghost use Rattle.session_laws.specs.May.{Hears, BearsSession, StepMay};
-ghost use Rattle.session_laws.specs.Sessions.{checkpoint, checkpoints, creates, creation, load, loads, stream, streams};
+ghost use Rattle.session_laws.specs.Sessions.{checkpoint, checkpoints, creates, creation, load, loads, read, reads, stream, streams};
 
 use crate::what_a_session_may;
 use commit_core::{CreateFault, CreateSession};
 use session_core::{Reply, Session, Step};
 use sink_core::{SinkEnd, SinkSession};
 use snapshot_core::{CheckpointSession, Checkpointed, SnapshotFault};
+use source_core::{ReadEnd, SourceSession};
 use table_log::{LoadSession, Loaded, LogFault};
 
 /// The next step of a creation.
@@ -35,7 +37,7 @@ pub fn create_step(
     ensures same { create_sessions.job_of session.new ≡ create_sessions.job_of session.old }
     ensures may { (objects : Objects) (schema : Schema) (entries : List Entry) (before talk now : Talk) (asked : Option Asked) → create_sessions.CreateFits before session.old talk asked
         → Hears talk asked (option_map told_view reply) now → BearsSession objects schema entries (creates (create_sessions.job_of session.old)) before now
-        → StepMay objects schema entries (creates (create_sessions.job_of session.old)) now creation result }
+        → StepMay objects schema entries (creates (create_sessions.job_of session.old)) before now creation result }
 {
     what_a_session_may();
     session.next(reply)
@@ -52,7 +54,7 @@ pub fn load_step(session: &mut LoadSession, reply: Option<Reply>) -> Step<Result
     ensures same { load_sessions.job_of session.new ≡ load_sessions.job_of session.old }
     ensures may { (objects : Objects) (schema : Schema) (entries : List Entry) (before talk now : Talk) (asked : Option Asked) → load_sessions.LoadFits before session.old talk asked
         → Hears talk asked (option_map told_view reply) now → BearsSession objects schema entries (loads (load_sessions.job_of session.old)) before now
-        → StepMay objects schema entries (loads (load_sessions.job_of session.old)) now load result }
+        → StepMay objects schema entries (loads (load_sessions.job_of session.old)) before now load result }
 {
     what_a_session_may();
     session.next(reply)
@@ -72,7 +74,7 @@ pub fn checkpoint_step(
     ensures same { checkpoint_sessions.job_of session.new ≡ checkpoint_sessions.job_of session.old }
     ensures may { (objects : Objects) (schema : Schema) (entries : List Entry) (before talk now : Talk) (asked : Option Asked) → checkpoint_sessions.CheckpointFits before session.old talk asked
         → Hears talk asked (option_map told_view reply) now → BearsSession objects schema entries (checkpoints (checkpoint_sessions.job_of session.old)) before now
-        → StepMay objects schema entries (checkpoints (checkpoint_sessions.job_of session.old)) now checkpoint result }
+        → StepMay objects schema entries (checkpoints (checkpoint_sessions.job_of session.old)) before now checkpoint result }
 {
     what_a_session_may();
     session.next(reply)
@@ -89,7 +91,24 @@ pub fn stream_step<'r>(session: &mut SinkSession<'r>, reply: Option<Reply>) -> S
     ensures same { sink_sessions.job_of session.new ≡ sink_sessions.job_of session.old }
     ensures may { (objects : Objects) (schema : Schema) (entries : List Entry) (before talk now : Talk) (asked : Option Asked) → sink_fits.SinkFits before session.old talk asked
         → Hears talk asked (option_map told_view reply) now → BearsSession objects schema entries (streams (sink_sessions.job_of session.old)) before now
-        → StepMay objects schema entries (streams (sink_sessions.job_of session.old)) now stream result }
+        → StepMay objects schema entries (streams (sink_sessions.job_of session.old)) before now stream result }
+{
+    what_a_session_may();
+    session.next(reply)
+}
+
+/// The next step of a read of rows.
+pub fn read_step(session: &mut SourceSession, reply: Option<Reply>) -> Step<ReadEnd>
+    requires unended { source_sessions.is_ended session.old.stage ≡ false }
+    requires answered { IsReplyTo (source_sessions.awaited_at session.old.stage) (option_map told_view reply) }
+    ensures steps { Steps (λ s. source_sessions.awaited_at s.stage) (λ s. source_sessions.left_of s.stage) (λ s. source_sessions.is_ended s.stage) session.old session.new result }
+    ensures goes { (before talk : Talk) (asked : Option Asked) → source_sessions.SourceFits before session.old talk asked
+        → Goes (source_sessions.SourceFits before) (source_sessions.SourceAsks (source_sessions.job_of session.old) before) (source_sessions.SourceEnds (source_sessions.job_of session.old) before) session.new (heard talk asked (option_map told_view reply)) result }
+    ensures told { TellsLost source_sessions.is_lost_read (option_map told_view reply) result }
+    ensures same { source_sessions.job_of session.new ≡ source_sessions.job_of session.old }
+    ensures may { (objects : Objects) (schema : Schema) (entries : List Entry) (before talk now : Talk) (asked : Option Asked) → source_sessions.SourceFits before session.old talk asked
+        → Hears talk asked (option_map told_view reply) now → BearsSession objects schema entries (reads (source_sessions.job_of session.old)) before now
+        → StepMay objects schema entries (reads (source_sessions.job_of session.old)) before now read result }
 {
     what_a_session_may();
     session.next(reply)

@@ -2,5 +2,5 @@
 pub use Rattle.source_core.proofs.KeptTailPlace.{AreEntriesFound, AreFilesFound, IsEntryFound, as_many_commits}
 pub use Rattle.source_core.proofs.KeptTailSpot.{Ahead, Spot, no_file, no_row, spotted, stands}
 pub use Rattle.source_core.proofs.KeptTailWalk.{behind_all, behind_last, file_of, row_missing, rows_in, walked}
-pub use Rattle.source_core.proofs.LogFiles.{KeepsRows, RemoveNone, TellNone, TellNoneLater, commit_at, files_at, files_from, first_in_force, plain_actions, plain_first, plain_front, plain_gone, plain_handed, plain_items, plain_kept, plain_schema_for, plain_unremoved}
+pub use Rattle.source_core.proofs.LogFiles.{KeepsRows, RemoveNone, TellNone, TellNoneLater, commit_at, files_at, files_from, first_in_force, plain_actions, plain_first, plain_front, plain_gone, plain_handed, plain_items, plain_kept, plain_schema_for}
 pub use Rattle.source_core.proofs.RestoredReads.{read_alike, tailed_alike}

@@ -19,7 +19,7 @@ use Rattle.table_log.specs.Versions.{commit}
 use Rattle.table_model.specs.declared.reading.Offset.{Offset}
 use Rattle.table_store.specs.Groups.{new_files}
 use Rattle.lake_bytes.specs.Results.{refused_if, ◌>>=◌}
-use Rattle.source_core.specs.Tailing.{LogFile, Item, data_file, numbered, fault_of, items_from, is_before, item_before, items_at, unless_beyond, unless_gone, unless_no_file, unless_removed, actions_in, bad_place, hand, handed_by, is_start, schema_for}
+use Rattle.source_core.specs.Tailing.{LogFile, Item, data_file, numbered, fault_of, items_from, is_before, item_before, items_at, unless_beyond, unless_gone, unless_no_file, actions_in, bad_place, hand, handed_by, is_start, schema_for}
 
 -- ---- its files
 
@@ -124,9 +124,6 @@ pub plain_kept : (version : ℕ) (commits : List (List Action)) → RemoveNone c
 plain_kept version [] kept = refl
 plain_kept zero (actions ∷ commits) kept = kept.0
 plain_kept (suc version) (actions ∷ commits) kept = plain_kept version commits kept.1
-
-pub plain_unremoved : (place : Offset) (commits : List (List Action)) → RemoveNone commits → unless_removed place (commit_at place.version commits) ≡ Ok tt
-plain_unremoved place commits kept = rw (plain_kept place.version commits kept, and-false (not (place.file == 0 && place.row == 0))) refl
 
 -- at the start of a version there is no file too few
 start_file : (place : Offset) (n : ℕ) → is_start place ≡ true → unless_no_file place n ≡ Ok tt

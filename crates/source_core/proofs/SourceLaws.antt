@@ -22,12 +22,12 @@ shows_both : (objects : Objects) (talk more : Talk) → Shows talk objects → S
 shows_both objects [] more is others = others
 shows_both objects (call ∷ talk) more is others = (is.0, shows_both objects talk more is.1 others)
 
-module _ (job : SourceJob) (before : Talk) (listed : Objects) (known : Bears listed before) (files : HasNewFiles listed) where
+module _ (job : SourceJob) (before : Talk) (listed : Objects) (known : Bears listed before) (files : HasNewFiles job.place.version listed) where
   -- what is asked for stood when the names were listed
-  stands_then : (front : Talk) (name : List ℕ) → AsksForOne before front name → Shows front listed → IsSome (object_at listed name)
+  stands_then : (front : Talk) (name : List ℕ) → AsksForOne job before front name → Shows front listed → IsSome (object_at listed name)
   stands_then front name asks shown = by_kind (asks.sought listed known shown)
     where
-      by_kind : IsSome (object_at listed name) ⊎ IsNewFile listed name → IsSome (object_at listed name)
+      by_kind : IsSome (object_at listed name) ⊎ IsNewFile job.place.version listed name → IsSome (object_at listed name)
       by_kind (inl some) = some
       by_kind (inr new) = files name new
 

@@ -8,10 +8,10 @@ ghost use Rattle.session_core.specs.Talks.{Bears, Talk, list_names, told_names};
 ghost use Rattle.source_core.specs.SourceSessions.{HasNewFiles, SourceAsks, SourceJob};
 
 /// A read only lists the names and gets objects. Where the names were listed, it is shown the store as that stood then, whatever others
-/// put behind the list: each object that it gets stood then, if the files that the commits of that log bring did.
+/// put behind the list: each object that it gets stood then, if the files did that the commits of that log bring from its version on.
 pub fn what_a_read_is_shown()
     ensures reads { (job : SourceJob) (before talk : Talk) → AllAsked (SourceAsks job before) [] talk → AllReads talk }
     ensures shown { (job : SourceJob) (before gets : Talk) (names : List (List ℕ)) (listed : Objects) (old new : State) → AllAsked (SourceAsks job before) [] ((list_names, told_names names) ∷ gets)
-        → names ≡ names_of listed → Bears listed before → HasNewFiles listed → HasObjectsOf listed old.0 → Talked MayAnswerAmid old gets new
+        → names ≡ names_of listed → Bears listed before → HasNewFiles job.place.version listed → HasObjectsOf listed old.0 → Talked MayAnswerAmid old gets new
         → Shows ((list_names, told_names names) ∷ gets) listed }
 {}

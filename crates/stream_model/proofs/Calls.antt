@@ -18,7 +18,7 @@ use Rattle.batch_core.specs.Committing.{batch_actions}
 use Rattle.sink_core.specs.SinkSessions.{Point, Reaches, SinkAsks, SinkJob, SinkTask, appends, closes}
 use Rattle.session_laws.specs.May.{IsValidJob, MayAsk}
 use Rattle.session_laws.specs.Rows.{IsBatchOf, IsJobCommit}
-use Rattle.session_laws.specs.Sessions.{Asks, Does, HasAsked, Job, asks, checkpoints, creates, loads, streams}
+use Rattle.session_laws.specs.Sessions.{Asks, Does, HasAsked, Job, asks, checkpoints, creates, loads, reads, streams}
 use Rattle.session_core.proofs.Callers.{asked_more}
 use Rattle.session_laws.proofs.Callers.{batch_commit, close_commit, reached_front, reaches_some}
 use Rattle.commit_core.proofs.Callers.{bears_front}
@@ -88,6 +88,8 @@ module _ (events : List Event) (objects : Objects) (schema : Schema) (entries : 
   call_good (creates job) begun talk borne (put_commit version bytes) does may of_bytes = (a_commit version refl may.0.0 (made.creates job begun does.0.0 may.1), of_bytes)
   call_good (loads job) begun talk borne (put_file name bytes) does may of_bytes = absurd may
   call_good (loads job) begun talk borne (put_commit version bytes) does may of_bytes = absurd may
+  call_good (reads job) begun talk borne (put_file name bytes) does may of_bytes = absurd may
+  call_good (reads job) begun talk borne (put_commit version bytes) does may of_bytes = absurd may
 
 -- ---- what is answered
 

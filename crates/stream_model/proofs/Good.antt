@@ -26,22 +26,29 @@ use Rattle.sink_core.specs.declared.sink_state.SinkEnd.{SinkEnd}
 use Rattle.sink_core.specs.declared.sink_state.SinkOutcome.{SinkOutcome}
 use Rattle.sink_core.specs.declared.sink_state.SinkOutcome.TheVariants.{Already, AlreadyClosed, Closed, Committed}
 use Rattle.session_laws.specs.Rows.{IsBatchOf, TellsOfBatch}
-use Rattle.session_laws.specs.Sessions.{Asks, Does, HasAsked, Job, Outcome, stream, streams, tells}
+use Rattle.source_core.specs.Offsets.{offset_view}
+use Rattle.source_core.specs.SourceSessions.{SourceJob}
+use Rattle.source_core.specs.declared.read_state.ReadRows.{ReadRows}
+use Rattle.source_core.specs.declared.source_session.ReadEnd.{ReadEnd}
+use Rattle.source_core.specs.declared.tail_fault.TailFault.{TailFault}
+use Rattle.row_core.specs.Views.{row_views}
+use Rattle.session_laws.specs.Sessions.{Asks, Does, HasAsked, Job, Outcome, read, reads, stream, streams, tells}
 use Rattle.stream_model.specs.Events.{Event}
-use Rattle.stream_model.specs.Headline.{IsSoOf}
+use Rattle.stream_model.specs.Headline.{IsPartOf, IsSoOf}
 use Rattle.stream_model.specs.Puts.{IsGoodPut, Submitted, WasBegun}
 use Rattle.stream_model.specs.Worlds.{Actor, Hand, World, asking, ended, fresh, waiting}
 use Rattle.stream_model.proofs.Calls.{IsGoodCall}
-use Rattle.stream_model.proofs.Growing.{begun_more, file_more, put_grows, put_more, submitted_more}
+use Rattle.stream_model.proofs.Growing.{begun_more, put_grows, put_more, submitted_more}
 use Rattle.stream_model.proofs.Landing.{IsGoodStore, none_in}
 use Rattle.stream_model.proofs.Lacking.{AllTold, HasVersion, WasTold}
 use Rattle.stream_model.proofs.Laws.{AreLaws}
+use Rattle.stream_model.proofs.Seen.{SeesWell, seen_lasts, seen_more, store_more}
 
 -- what a session has at hand
 abbrev pub IsGoodHand : List Event → Objects → Job → Talk → Hand → Type 0
 IsGoodHand events objects job talk fresh = Unit {0}
 IsGoodHand events objects job talk (asking call) = Asks job [] talk call × HasVersion call × IsGoodCall events objects call
-IsGoodHand events objects job talk (waiting call told) = Asks job [] talk call × HasVersion call × WasTold talk call told × IsBorne objects call told
+IsGoodHand events objects job talk (waiting call told) = Asks job [] talk call × HasVersion call × WasTold talk call told × IsBorne objects call told × SeesWell events objects job (talk ++ (call, told) ∷ [])
 IsGoodHand events objects job talk (ended outcome) = Does job [] talk (tells outcome)
 
 pub record IsGoodActor (events : List Event) (objects : Objects) (actor : Actor) : Type 0 where
@@ -49,6 +56,7 @@ pub record IsGoodActor (events : List Event) (objects : Objects) (actor : Actor)
   pub borne : Bears objects actor.talk
   pub asked : HasAsked actor.job [] actor.talk
   pub told : AllTold [] actor.talk
+  pub seen : SeesWell events objects actor.job actor.talk
   pub hand : IsGoodHand events objects actor.job actor.talk actor.hand
 
 abbrev pub AreGoodPuts : List Event → Objects → Flight → Type 0
@@ -61,6 +69,10 @@ AreGoodActors events objects actors = (name : ℕ) (actor : Actor) → actors na
 abbrev pub IsToldSo : Objects → List (Job × Outcome) → Type 0
 IsToldSo objects outs = (job : SinkJob) (end : SinkEnd) → Contains outs (streams job, stream end) → (schema : Schema) (entries : List Entry) → Holds objects schema entries → IsSoOf schema entries job end.answer
 
+-- what reads handed out are parts of it
+abbrev pub AreReadSo : Objects → List (Job × Outcome) → Type 0
+AreReadSo objects outs = (job : SourceJob) (end : ReadEnd) → Contains outs (reads job, read end) → (schema : Schema) (entries : List Entry) → Holds objects schema entries → IsPartOf entries job end.answer
+
 -- each job that an outcome was told of was handed in
 abbrev pub AreHandedIn : List Event → List (Job × Outcome) → Type 0
 AreHandedIn events outs = (job : SinkJob) (end : SinkEnd) → Contains outs (streams job, stream end) → Submitted events job
@@ -71,6 +83,7 @@ pub record IsGoodWorld (events : List Event) (outs : List (Job × Outcome)) (w :
   pub actors : AreGoodActors events w.objects w.actors
   pub told : IsToldSo w.objects outs
   pub handed : AreHandedIn events outs
+  pub parts : AreReadSo w.objects outs
 
 -- ---- one event more
 
@@ -84,7 +97,7 @@ module _ (events : List Event) (event : Event) (objects : Objects) where
   hand_more : (job : Job) (talk : Talk) (hand : Hand) → IsGoodHand events objects job talk hand → IsGoodHand (events ++ event ∷ []) objects job talk hand
   hand_more job talk fresh good = tt
   hand_more job talk (asking call) good = (good.0, good.1, call_more call good.2)
-  hand_more job talk (waiting call told) good = good
+  hand_more job talk (waiting call told) good = (good.0, good.1, good.2, good.3, seen_more events event objects job (talk ++ (call, told) ∷ []) good.4)
   hand_more job talk (ended outcome) good = good
 
   actor_more : (actor : Actor) → IsGoodActor events objects actor → IsGoodActor (events ++ event ∷ []) objects actor
@@ -93,15 +106,8 @@ module _ (events : List Event) (event : Event) (objects : Objects) where
     borne = good.borne;
     asked = good.asked;
     told = good.told;
+    seen = seen_more events event objects actor.job actor.talk good.seen;
     hand = hand_more actor.job actor.talk actor.hand good.hand;
-  }
-
-  store_more : IsGoodStore events objects → IsGoodStore (events ++ event ∷ []) objects
-  store_more good = record {
-    sound = good.sound;
-    bytes = good.bytes;
-    files = λ application number bytes is. let file = good.files application number bytes is in (file.0, file.1, file_more events event file.0 _ bytes file.2);
-    submitted = λ schema entries holds b has. let one = good.submitted schema entries holds b has in (one.0, submitted_more events event one.0 one.1, one.2);
   }
 
 pub world_more : (events : List Event) (event : Event) (outs : List (Job × Outcome)) (w : World) → IsGoodWorld events outs w → IsGoodWorld (events ++ event ∷ []) outs w
@@ -111,6 +117,7 @@ world_more events event outs w good = record {
   actors = λ name actor is. actor_more events event w.objects actor (good.actors name actor is);
   told = good.told;
   handed = λ job end has. submitted_more events event job (good.handed job end has);
+  parts = good.parts;
 }
 
 -- ---- more objects
@@ -136,7 +143,7 @@ module _ (laws : AreLaws) (objects more : Objects) (sound : IsSound objects) (st
   hand_lasts : (events : List Event) (job : Job) (talk : Talk) (hand : Hand) → IsGoodHand events objects job talk hand → IsGoodHand events more job talk hand
   hand_lasts events job talk fresh good = tt
   hand_lasts events job talk (asking call) good = (good.0, good.1, call_lasts events call good.2)
-  hand_lasts events job talk (waiting call told) good = (good.0, good.1, good.2, borne_grows objects more call told grown good.3)
+  hand_lasts events job talk (waiting call told) good = (good.0, good.1, good.2, borne_grows objects more call told grown good.3, seen_lasts events objects more job (talk ++ (call, told) ∷ []) grown good.4)
   hand_lasts events job talk (ended outcome) good = good
 
   pub actor_lasts : (events : List Event) (actor : Actor) → IsGoodActor events objects actor → IsGoodActor events more actor
@@ -145,6 +152,7 @@ module _ (laws : AreLaws) (objects more : Objects) (sound : IsSound objects) (st
     borne = bears_grows objects more actor.talk grown good.borne;
     asked = good.asked;
     told = good.told;
+    seen = seen_lasts events objects more actor.job actor.talk grown good.seen;
     hand = hand_lasts events actor.job actor.talk actor.hand good.hand;
   }
 
@@ -187,3 +195,12 @@ module _ (laws : AreLaws) (objects more : Objects) (sound : IsSound objects) (st
 
   pub told_lasts : (outs : List (Job × Outcome)) → IsToldSo objects outs → IsToldSo more outs
   told_lasts outs told = λ job end has schema entries held. so_lasts schema entries held job end.answer (told job end has sound.schema sound.entries sound.holds)
+
+  part_lasts : (schema : Schema) (entries : List Entry) → Holds more schema entries → (job : SourceJob) (answer : Result ReadRows TailFault) → IsPartOf sound.entries job answer → IsPartOf entries job answer
+  part_lasts schema entries held job (Err fault) part = tt
+  part_lasts schema entries held job (Ok out) part =
+      let later = front objects more sound.schema grown schema sound.entries entries sound.lawful.begins sound.holds held in
+      subst (λ (es : List Entry). IsPartOf es job (Ok out)) (sym later.1) (laws.part_stays job.max job.place (offset_view out.next) sound.entries later.0 (row_views out.rows.items) part)
+
+  pub parts_last : (outs : List (Job × Outcome)) → AreReadSo objects outs → AreReadSo more outs
+  parts_last outs parts = λ job end has schema entries held. part_lasts schema entries held job end.answer (parts job end has sound.schema sound.entries sound.holds)

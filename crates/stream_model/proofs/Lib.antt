@@ -5,6 +5,8 @@ mod Lacking
 mod Landing
 mod Laws
 mod Once
+mod Readers
 mod Refused
 mod Running
+mod Seen
 mod Steps

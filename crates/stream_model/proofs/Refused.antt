@@ -1,10 +1,10 @@
 -- Which refusals don't come in a world, or only for some schemas.
-use Rattle.std.proofs.Common.{◌≡◌, ◌∙◌, ◌≤◌, ℕ, Bool, true, false, List, [], ◌∷◌, length, refl, sym, subst, arith}
+use Rattle.std.proofs.Common.{◌≡◌, ◌∙◌, ◌<◌, ◌≤◌, ℕ, zero, suc, Bool, true, false, List, [], ◌∷◌, length, take, refl, sym, subst, arith}
 use Rattle.std.specs.Prelude.{Err, codes}
 use Rattle.schema_tree.specs.Sameness.{has_fraction}
 use Rattle.delta_actions.specs.Action.{Action}
 use Rattle.delta_replay.specs.Support.{Unsupported, checkpointable, fault_of, has_key_inside}
-use Rattle.table_log.specs.Counts.{commit_count}
+use Rattle.table_log.specs.Counts.{commit_count, count_in}
 use Rattle.table_model.specs.Lawful.{BeginsWithCreation}
 use Rattle.table_model.specs.Table.{Entry, close, creation, group}
 use Rattle.table_store.specs.Holds.{Holds}
@@ -13,22 +13,27 @@ use Rattle.table_store.specs.Sound.{IsSound}
 use Rattle.table_store.proofs.LawfulLogLemmas.{AreMadeFor}
 use Rattle.log_laws.proofs.Callers.{count_held, log_checkpointable}
 use Rattle.session_laws.specs.May.{MayTell}
-use Rattle.session_laws.specs.Rows.{IsLogBehind, MayTellOfStream, next_version}
-use Rattle.session_laws.specs.Sessions.{Job, Outcome, checkpoints, creates, loads, streams, tells}
-use Rattle.session_laws.proofs.Callers.{IsFrontOf, front_of}
+use Rattle.source_core.specs.SourceSessions.{SourceJob}
+use Rattle.source_core.specs.declared.source_session.ReadEnd.{ReadEnd}
+use Rattle.read_laws.specs.Readers as readers
+use Rattle.session_laws.specs.Rows.{IsLogBehind, MayTellOfRead, MayTellOfStream, TellsOfListed, next_version}
+use Rattle.session_laws.specs.Sessions.{HasAsked, Job, Outcome, checkpoints, creates, loads, read, reads, streams, tells}
+use Rattle.session_laws.proofs.Callers.{IsFrontOf, front_of, listed_count}
 use Rattle.stream_model.specs.Events.{Event, HasActor}
 use Rattle.stream_model.specs.Headline.{ListsCommit, TellsBadLog, TellsSchemaChanged, TellsUnsupported, bad_checkpoint, bad_load, bad_stream, changed, unsupported}
 use Rattle.stream_model.specs.Worlds.{Actor, World, ended}
 use Rattle.stream_model.proofs.Good.{IsGoodActor, IsGoodHand, IsGoodWorld}
 use Rattle.stream_model.proofs.Lacking.{next_within, none_lacked}
 use Rattle.stream_model.proofs.Laws.{AreLaws}
+use Rattle.stream_model.proofs.Readers.{told_of_listed}
+use Rattle.stream_model.proofs.Seen.{SeesWell}
 
 module _ (laws : AreLaws) (events : List Event) (outs : List (Job × Outcome)) (w : World) (good : IsGoodWorld events outs w) (name : ℕ) (actor : Actor) (outcome : Outcome) (is : HasActor w name actor) (hand : actor.hand ≡ ended outcome) where
   own : IsGoodActor events w.objects actor
   own = good.actors name actor is
 
   -- what it told it might tell, of each table that the store is said to hold
-  may : (schema : Schema) (entries : List Entry) → Holds w.objects schema entries → MayTell w.objects schema entries actor.job actor.talk outcome
+  may : (schema : Schema) (entries : List Entry) → Holds w.objects schema entries → MayTell w.objects schema entries actor.job [] actor.talk outcome
   may schema entries holds = laws.may w.objects schema entries actor.job [] actor.talk (tells outcome) (record {
     sound = good.store.sound;
     bytes = good.store.bytes;
@@ -45,7 +50,7 @@ module _ (laws : AreLaws) (events : List Event) (outs : List (Job × Outcome)) (
       table : IsSound w.objects
       table = good.store.sound.table
 
-      by_job : (job : Job) (outcome : Outcome) → MayTell w.objects table.schema table.entries job actor.talk outcome → TellsBadLog outcome → ⊥
+      by_job : (job : Job) (outcome : Outcome) → MayTell w.objects table.schema table.entries job [] actor.talk outcome → TellsBadLog outcome → ⊥
       by_job (loads job) outcome told (bad_load version) = none_lacked actor.talk own.told listed version told
       by_job (checkpoints job) outcome told (bad_checkpoint version) = none_lacked actor.talk own.told listed version told
       by_job (streams job) outcome told (bad_stream end version is) = none_lacked actor.talk own.told listed version (subst (MayTellOfStream w.objects table.schema table.entries job actor.talk) is told)
@@ -58,17 +63,21 @@ module _ (laws : AreLaws) (events : List Event) (outs : List (Job × Outcome)) (
       by_job (creates job) outcome told (bad_load version) = told
       by_job (creates job) outcome told (bad_checkpoint version) = told
       by_job (creates job) outcome told (bad_stream end version is) = told
+      by_job (reads job) outcome told (bad_load version) = told
+      by_job (reads job) outcome told (bad_checkpoint version) = told
+      by_job (reads job) outcome told (bad_stream end version is) = told
 
   module _ (schema : Schema) (entries : List Entry) (holds : Holds w.objects schema entries) where
     -- It told that a winner changed the schema only where its metadata has a number with a fraction.
     pub schema_fraction : TellsSchemaChanged outcome → has_fraction schema ≡ true
     schema_fraction change = by_job actor.job outcome (may schema entries holds) change
       where
-        by_job : (job : Job) (outcome : Outcome) → MayTell w.objects schema entries job actor.talk outcome → TellsSchemaChanged outcome → has_fraction schema ≡ true
+        by_job : (job : Job) (outcome : Outcome) → MayTell w.objects schema entries job [] actor.talk outcome → TellsSchemaChanged outcome → has_fraction schema ≡ true
         by_job (streams job) outcome told (changed end version is) = (subst (MayTellOfStream w.objects schema entries job actor.talk) is told).0
         by_job (loads job) outcome told (changed end version is) = absurd told
         by_job (checkpoints job) outcome told (changed end version is) = absurd told
         by_job (creates job) outcome told (changed end version is) = absurd told
+        by_job (reads job) outcome told (changed end version is) = absurd told
 
     -- the log that a session read asks for no feature but for invariants
     checkpoint_barred : (log : List (List Action)) → IsLogBehind w.objects actor.talk log → (fault : Unsupported) → checkpointable log ≡ Err fault → has_key_inside (codes "delta.invariants") schema ≡ true
@@ -94,8 +103,39 @@ module _ (laws : AreLaws) (events : List Event) (outs : List (Job × Outcome)) (
     pub schema_invariants : TellsUnsupported outcome → has_key_inside (codes "delta.invariants") schema ≡ true
     schema_invariants barred = by_job actor.job outcome (may schema entries holds) barred
       where
-        by_job : (job : Job) (outcome : Outcome) → MayTell w.objects schema entries job actor.talk outcome → TellsUnsupported outcome → has_key_inside (codes "delta.invariants") schema ≡ true
+        by_job : (job : Job) (outcome : Outcome) → MayTell w.objects schema entries job [] actor.talk outcome → TellsUnsupported outcome → has_key_inside (codes "delta.invariants") schema ≡ true
         by_job (checkpoints job) outcome told (unsupported fault) = checkpoint_barred told.0 told.1 (fault_of fault) told.2
         by_job (loads job) outcome told (unsupported fault) = absurd told
         by_job (streams job) outcome told (unsupported fault) = absurd told
         by_job (creates job) outcome told (unsupported fault) = absurd told
+        by_job (reads job) outcome told (unsupported fault) = absurd told
+
+-- What a read told that listed a commit is so of the versions that it listed: it told none of the refusals but two, that a call was lost, or
+-- that memory ran out.
+pub read_told_so : (laws : AreLaws) (events : List Event) (outs : List (Job × Outcome)) (w : World) → IsGoodWorld events outs w → (name : ℕ) (actor : Actor) (job : SourceJob) (end : ReadEnd) → HasActor w name actor → actor.job ≡ reads job
+    → actor.hand ≡ ended (read end) → ListsCommit actor.talk → (schema : Schema) (entries : List Entry) → Holds w.objects schema entries → readers.MayTellOfTable job.max job.place (take (next_version actor.talk) entries) end.answer
+read_told_so laws events outs w good name actor job end is of_job hand listed schema entries holds = by_front (take (next_version actor.talk) entries) refl (told_of_listed events w.objects entries job actor.talk end.answer listed.0 listed.1 seen told)
+  where
+    own : IsGoodActor events w.objects actor
+    own = good.actors name actor is
+
+    seen : SeesWell events w.objects (reads job) actor.talk
+    seen = subst (λ (j : Job). SeesWell events w.objects j actor.talk) of_job own.seen
+
+    told : MayTellOfRead w.objects entries job [] actor.talk end.answer
+    told = subst (λ (j : Job). MayTell w.objects schema entries j [] actor.talk (read end)) of_job (may laws events outs w good name actor (read end) is hand schema entries holds)
+
+    count : next_version actor.talk ≡ count_in listed.0
+    count = listed_count job [] actor.talk listed.1.0 listed.0 (subst (λ (j : Job). HasAsked j [] actor.talk) of_job own.asked) listed.1.1
+
+    within : next_version actor.talk ≤ length entries
+    within = next_within w.objects good.store.sound.table schema entries holds actor.talk own.told own.borne
+
+    some_front : (next : ℕ) (es : List Entry) → 0 < next → next ≤ length es → take next es ≡ [] → ⊥
+    some_front zero es some long none = omega (arith, some)
+    some_front (suc next) [] some long none = omega (arith, long)
+    some_front (suc next) (e ∷ es) some long none = absurd cc
+
+    by_front : (front : List Entry) → take (next_version actor.talk) entries ≡ front → TellsOfListed front job end.answer → readers.MayTellOfTable job.max job.place front end.answer
+    by_front (first ∷ rest) is so = so
+    by_front [] is so = absurd (some_front (next_version actor.talk) entries (omega (arith, count, listed.2)) within is)

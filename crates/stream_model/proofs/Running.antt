@@ -21,6 +21,8 @@ use Rattle.stream_model.proofs.Growing.{lawful_held}
 use Rattle.stream_model.proofs.Landing.{none_in, put_grew}
 use Rattle.stream_model.proofs.Laws.{AreLaws}
 use Rattle.stream_model.proofs.Once.{stands_once}
+use Rattle.stream_model.proofs.Readers.{hands_out}
+use Rattle.stream_model.proofs.Seen.{none_seen}
 use Rattle.stream_model.proofs.Steps.{with_good, without_actor, world_acts, world_asks, world_put, world_tells}
 use Rattle.stream_model.specs.Puts.{WasBegun}
 
@@ -46,6 +48,7 @@ empty_good laws = record {
   actors = λ name actor is. absurd cc;
   told = λ job end has. absurd (none_in _ has);
   handed = λ job end has. absurd (none_in _ has);
+  parts = λ job end has. absurd (none_in _ has);
 }
 
 module _ (laws : AreLaws) where
@@ -59,6 +62,7 @@ module _ (laws : AreLaws) where
         borne = tt;
         asked = tt;
         told = tt;
+        seen = none_seen (events ++ begin name job ∷ []) w.objects job;
         hand = tt;
       })
       by_case event told later (dies name) more = without_actor (events ++ die name ∷ []) outs w name more
@@ -131,11 +135,13 @@ acknowledged_stands : (schema : Schema) (entries : List Entry) (job : SinkJob) (
 acknowledged_stands schema entries job end so (committed version is) = let told = subst (IsSoOf schema entries job) is so in (told.0, told.1, batch_at entries version told.2.0 told.0 told.2.1 told.2.2)
 acknowledged_stands schema entries job end so (already number is) = let told = subst (IsSoOf schema entries job) is so in (told.0, told.1, told.2.1)
 
-pub headline_of : (events : List Event) (outs : List (Job × Outcome)) (w : World) → IsGoodWorld events outs w → (schema : Schema) (entries : List Entry) → Holds w.objects schema entries → IsHeadline events outs schema entries
-headline_of events outs w good schema entries holds = record {
+pub headline_of : AreLaws → (events : List Event) (outs : List (Job × Outcome)) (w : World) → IsGoodWorld events outs w → (schema : Schema) (entries : List Entry) → Holds w.objects schema entries → IsHeadline events outs schema entries
+headline_of laws events outs w good schema entries holds = record {
   once = stands_once entries (lawful_held w.objects schema entries good.store.sound.table holds).rises;
   lawful = lawful_held w.objects schema entries good.store.sound.table holds;
   acknowledged = λ job end has acknowledges. let one = acknowledged_stands schema entries job end (good.told job end has schema entries holds) acknowledges in (good.handed job end has, one.0, one.1, one.2);
   submitted = λ b has. good.store.submitted schema entries holds b has;
   told = λ job end has. good.told job end has schema entries holds;
+  parts = λ job end has. good.parts job end has schema entries holds;
+  handed = hands_out laws outs entries (λ job end has. good.parts job end has schema entries holds);
 }

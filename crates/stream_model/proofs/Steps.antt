@@ -1,5 +1,5 @@
 -- What is so of a world stays so by each event.
-use Rattle.std.proofs.Common.{◌∷◌, ◌≡◌, ◌⊎◌, ℕ, ◌==◌, List, [], ◌++◌, Option, Some, None, Contains, inl, inr, ap, subst}
+use Rattle.std.proofs.Common.{◌∷◌, ◌≡◌, ◌⊎◌, ℕ, ◌==◌, List, [], ◌++◌, Option, Some, None, Contains, inl, inr, refl, ap, subst}
 use Rattle.std.specs.Prelude.{Result, Ok, Err}
 use Rattle.std.proofs.lemmas.Bool.{cases_Bool}
 use Rattle.std.proofs.lemmas.List.Elements.{Contains-append_cases, Contains-push_cases}
@@ -12,22 +12,26 @@ use Rattle.table_store.specs.Holds.{Holds}
 use Rattle.table_store.specs.Schema.{Schema}
 use Rattle.batch_core.specs.declared.fault.SinkFault.{SinkFault}
 use Rattle.batch_core.specs.declared.fault.SinkFault.TheVariants as faults
+use Rattle.source_core.specs.SourceSessions.{SourceJob}
+use Rattle.source_core.specs.declared.source_session.ReadEnd.{ReadEnd}
 use Rattle.sink_core.specs.SinkSessions.{SinkJob}
 use Rattle.sink_core.specs.declared.sink_state.SinkEnd.{SinkEnd}
 use Rattle.sink_core.specs.declared.sink_state.SinkOutcome.{SinkOutcome}
 use Rattle.sink_core.specs.declared.sink_state.SinkOutcome.TheVariants.{Already, AlreadyClosed, Closed, Committed}
 use Rattle.session_laws.specs.May.{BearsSession, MayAsk, MayTell}
 use Rattle.session_laws.specs.Rows.{MayTellOfStream}
-use Rattle.session_laws.specs.Sessions.{Asks, Does, HasAsked, Job, Outcome, asks, checkpoint, checkpoints, creates, creation, load, loads, stream, streams, tells}
+use Rattle.session_laws.specs.Sessions.{Asks, Does, HasAsked, Job, Outcome, asks, checkpoint, checkpoints, creates, creation, load, loads, read, reads, stream, streams, tells}
 use Rattle.stream_model.specs.Events.{Event, HasActor, IsOfBytes, Takes, begins_now, loses, takes, with_told}
-use Rattle.stream_model.specs.Headline.{IsSoOf}
+use Rattle.stream_model.specs.Headline.{IsPartOf, IsSoOf}
 use Rattle.stream_model.specs.Puts.{IsGoodPut, WasBegun}
 use Rattle.stream_model.specs.Worlds.{Actor, Hand, How, World, acted, asking, ended, late, left_by, lost, once, sent, short, told_by, twice, waiting, with_actor}
 use Rattle.stream_model.proofs.Calls.{IsGoodCall, call_good, heard_so, lost_borne, memory_borne, told_borne}
-use Rattle.stream_model.proofs.Good.{IsGoodActor, IsGoodHand, IsGoodWorld, actor_lasts, puts_last, told_lasts}
+use Rattle.stream_model.proofs.Good.{IsGoodActor, IsGoodHand, IsGoodWorld, actor_lasts, parts_last, puts_last, told_lasts}
 use Rattle.stream_model.proofs.Landing.{IsGoodStore, none_in, put_grew, put_lands}
 use Rattle.stream_model.proofs.Laws.{AreLaws}
 use Rattle.stream_model.proofs.Lacking.{AllTold, HasVersion, WasTold, told_more, was_told}
+use Rattle.stream_model.proofs.Readers.{read_part}
+use Rattle.stream_model.proofs.Seen.{SeesWell, none_seen, seen_left, seen_lost}
 
 -- ---- actors
 
@@ -52,6 +56,7 @@ with_good events outs w name actor good own = record {
   ];
   told = good.told;
   handed = good.handed;
+  parts = good.parts;
 }
 
 pub without_actor : (events : List Event) (outs : List (Job × Outcome)) (w : World) (name : ℕ) → IsGoodWorld events outs w → IsGoodWorld events outs (with_actor w name None)
@@ -64,6 +69,7 @@ without_actor events outs w name good = record {
   ];
   told = good.told;
   handed = good.handed;
+  parts = good.parts;
 }
 
 module _ (laws : AreLaws) where
@@ -77,6 +83,7 @@ module _ (laws : AreLaws) where
     actors = λ name actor is. actor_lasts laws w.objects more good.store.sound.table store.sound.table grown events actor (good.actors name actor is);
     told = told_lasts laws w.objects more good.store.sound.table store.sound.table grown outs good.told;
     handed = good.handed;
+    parts = parts_last laws w.objects more good.store.sound.table store.sound.table grown outs good.parts;
   }
 
   pub world_put : (events : List Event) (outs : List (Job × Outcome)) (w : World) (name bytes : List ℕ) → IsGoodWorld events outs w → IsGoodPut events w.objects name bytes → IsBytes bytes → IsGoodWorld events outs (record w { objects = with_object w.objects name bytes })
@@ -97,13 +104,14 @@ module _ (laws : AreLaws) where
   hand_asks events objects actor call is good = subst (IsGoodHand events objects actor.job actor.talk) is good.hand
 
   waits : (events : List Event) (objects : Objects) (actor : Actor) (call : Asked) (told : Told) → IsGoodActor events objects actor → Asks actor.job [] actor.talk call → HasVersion call → WasTold actor.talk call told → IsBorne objects call told
-      → IsGoodActor events objects (record actor { hand = waiting call told })
-  waits events objects actor call told good own has was borne = record {
+      → SeesWell events objects actor.job (actor.talk ++ (call, told) ∷ []) → IsGoodActor events objects (record actor { hand = waiting call told })
+  waits events objects actor call told good own has was borne seen = record {
     begun = good.begun;
     borne = good.borne;
     asked = good.asked;
     told = good.told;
-    hand = (own, has, was, borne);
+    seen = good.seen;
+    hand = (own, has, was, borne, seen);
   }
 
   module _ (events : List Event) (outs : List (Job × Outcome)) (w : World) (name : ℕ) (actor : Actor) (call : Asked) (is : w.actors name ≡ Some actor) (hand : actor.hand ≡ asking call) (good : IsGoodWorld events outs w) where
@@ -112,8 +120,8 @@ module _ (laws : AreLaws) where
     own = hand_asks events w.objects actor call hand (good.actors name actor is)
 
     -- where it is answered over these objects
-    answered : (objects : Objects) (told : Told) → IsGoodWorld events outs (record w { objects = objects }) → WasTold actor.talk call told → IsBorne objects call told → IsGoodWorld events outs (with_actor (record w { objects = objects }) name (Some (record actor { hand = waiting call told })))
-    answered objects told behind was borne = with_good events outs (record w { objects = objects }) name (record actor { hand = waiting call told }) behind (waits events objects actor call told (behind.actors name actor is) own.0 own.1 was borne)
+    answered : (objects : Objects) (told : Told) → IsGoodWorld events outs (record w { objects = objects }) → WasTold actor.talk call told → IsBorne objects call told → SeesWell events objects actor.job (actor.talk ++ (call, told) ∷ []) → IsGoodWorld events outs (with_actor (record w { objects = objects }) name (Some (record actor { hand = waiting call told })))
+    answered objects told behind was borne seen = with_good events outs (record w { objects = objects }) name (record actor { hand = waiting call told }) behind (waits events objects actor call told (behind.actors name actor is) own.0 own.1 was borne seen)
 
     -- a put in flight more
     put_sent : (put : List ℕ × List ℕ) → (asked : Asked) → IsGoodCall events w.objects asked → Contains (sent asked) put → IsGoodPut events w.objects put.0 put.1 × IsBytes put.1
@@ -138,25 +146,34 @@ module _ (laws : AreLaws) where
       actors = good.actors;
       told = good.told;
       handed = good.handed;
+      parts = good.parts;
     }
 
+    -- a read that is told nothing sees what it saw
+    lost_seen : (told : Told) → (told ≡ told_lost) ⊎ (told ≡ told_memory) → SeesWell events w.objects actor.job (actor.talk ++ (call, told) ∷ [])
+    lost_seen told none = seen_lost events w.objects actor.job actor.talk call told none own.0 (good.actors name actor is).seen
+
     pub world_acts : (how : How) → IsGoodWorld events outs (acted w name actor call how)
-    world_acts once = answered (left_by w.objects call) (told_by w.objects call) (world_call events outs w call good own.2) (was_told w.objects actor.talk good.store.sound (good.actors name actor is).borne call) (told_borne w.objects call)
+    world_acts once =
+        let here = good.actors name actor is in
+        answered (left_by w.objects call) (told_by w.objects call) (world_call events outs w call good own.2) (was_told w.objects actor.talk good.store.sound here.borne call) (told_borne w.objects call)
+        (seen_left events w.objects good.store actor.job actor.talk call own.0 here.seen)
     world_acts twice =
         let first = world_call events outs w call good own.2 in
         let there = first.actors name actor is in
         let again = hand_asks events (left_by w.objects call) actor call hand there in
         answered (left_by (left_by w.objects call) call) (told_by (left_by w.objects call) call) (world_call events outs (record w { objects = left_by w.objects call }) call first again.2)
         (was_told (left_by w.objects call) actor.talk first.store.sound there.borne call) (told_borne (left_by w.objects call) call)
-    world_acts late = with_good events outs (record w { flight = w.flight ++ sent call }) name (record actor { hand = waiting call told_lost }) call_sent (waits events w.objects actor call told_lost (good.actors name actor is) own.0 own.1 tt (lost_borne w.objects call))
-    world_acts lost = answered w.objects told_lost good tt (lost_borne w.objects call)
-    world_acts short = answered w.objects told_memory good tt (memory_borne w.objects call)
+        (seen_left events (left_by w.objects call) first.store actor.job actor.talk call own.0 there.seen)
+    world_acts late = with_good events outs (record w { flight = w.flight ++ sent call }) name (record actor { hand = waiting call told_lost }) call_sent (waits events w.objects actor call told_lost (good.actors name actor is) own.0 own.1 tt (lost_borne w.objects call) (lost_seen told_lost (inl refl)))
+    world_acts lost = answered w.objects told_lost good tt (lost_borne w.objects call) (lost_seen told_lost (inl refl))
+    world_acts short = answered w.objects told_memory good tt (memory_borne w.objects call) (lost_seen told_memory (inr refl))
 
   -- ---- a session goes on
 
-  -- the talk that it comes to is borne, was asked for, and is what it was told
-  abbrev IsGoodTalk : Objects → Job → Talk → Type 0
-  IsGoodTalk objects job now = Bears objects now × HasAsked job [] now × AllTold [] now
+  -- the talk that it comes to is borne, was asked for, and is what it was told; a read's shows what was listed
+  abbrev IsGoodTalk : List Event → Objects → Job → Talk → Type 0
+  IsGoodTalk events objects job now = Bears objects now × HasAsked job [] now × AllTold [] now × SeesWell events objects job now
 
   actor_of : (w : World) (event : Event) (name : ℕ) (actor : Actor) (now : Talk) → Takes w event name actor now → HasActor w name actor
   actor_of w event name actor now (begins_now called one is hand) = is
@@ -164,16 +181,17 @@ module _ (laws : AreLaws) where
   actor_of w event name actor now (loses called one call told is hand) = is
 
   heard_of : (events : List Event) (objects : Objects) (actor : Actor) (call : Asked) (waited told : Told) → IsGoodActor events objects actor → actor.hand ≡ waiting call waited → (WasTold actor.talk call waited → WasTold actor.talk call told) → (IsBorne objects call waited → IsBorne objects call told)
-      → IsGoodTalk objects actor.job (actor.talk ++ (call, told) ∷ [])
-  heard_of events objects actor call waited told good is was borne =
+      → (IsGoodHand events objects actor.job actor.talk (waiting call waited) → SeesWell events objects actor.job (actor.talk ++ (call, told) ∷ [])) → IsGoodTalk events objects actor.job (actor.talk ++ (call, told) ∷ [])
+  heard_of events objects actor call waited told good is was borne seen =
       let hand = subst (IsGoodHand events objects actor.job actor.talk) is good.hand in
       let so = heard_so laws.bears_both objects actor.job actor.talk call told good.borne good.asked (borne hand.3) hand.0 in
-      (so.0, so.1, told_more [] actor.talk call told good.told (was hand.2) hand.1)
+      (so.0, so.1, told_more [] actor.talk call told good.told (was hand.2) hand.1, seen hand)
 
-  taken_so : (events : List Event) (w : World) (actor : Actor) (event : Event) (name : ℕ) (now : Talk) → IsGoodActor events w.objects actor → Takes w event name actor now → IsGoodTalk w.objects actor.job now
-  taken_so events w actor event name now good (begins_now called one is hand) = (tt, tt, tt)
-  taken_so events w actor event name now good (takes called one call told is hand) = heard_of events w.objects actor call told told good hand (λ was. was) (λ borne. borne)
+  taken_so : (events : List Event) (w : World) (actor : Actor) (event : Event) (name : ℕ) (now : Talk) → IsGoodActor events w.objects actor → Takes w event name actor now → IsGoodTalk events w.objects actor.job now
+  taken_so events w actor event name now good (begins_now called one is hand) = (tt, tt, tt, none_seen events w.objects actor.job)
+  taken_so events w actor event name now good (takes called one call told is hand) = heard_of events w.objects actor call told told good hand (λ was. was) (λ borne. borne) (λ waits_so. waits_so.4)
   taken_so events w actor event name now good (loses called one call told is hand) = heard_of events w.objects actor call told told_lost good hand (λ was. tt) (λ borne. lost_borne w.objects call)
+      (λ waits_so. seen_lost events w.objects actor.job actor.talk call told_lost (inl refl) waits_so.0 good.seen)
 
   -- a commit is put as a version that one can have
   version_of : (objects : Objects) (schema : Schema) (job : Job) (now : Talk) (call : Asked) → MayAsk objects schema job now call → HasVersion call
@@ -184,12 +202,13 @@ module _ (laws : AreLaws) where
   version_of objects schema (creates job) now (put_commit version bytes) may = may.0.0.fits
   version_of objects schema (loads job) now (put_commit version bytes) may = absurd may
   version_of objects schema (checkpoints job) now (put_commit version bytes) may = absurd may
+  version_of objects schema (reads job) now (put_commit version bytes) may = absurd may
 
   module _ (events : List Event) (outs : List (Job × Outcome)) (w : World) (event : Event) (name : ℕ) (actor : Actor) (now : Talk) (taken : Takes w event name actor now) (good : IsGoodWorld events outs w) where
     acting : IsGoodActor events w.objects actor
     acting = good.actors name actor (actor_of w event name actor now taken)
 
-    so : IsGoodTalk w.objects actor.job now
+    so : IsGoodTalk events w.objects actor.job now
     so = taken_so events w actor event name now acting taken
 
     -- the store bears the session
@@ -209,6 +228,7 @@ module _ (laws : AreLaws) where
       borne = so.0;
       asked = so.1;
       told = so.2;
+      seen = so.3;
       hand = has;
     }
 
@@ -240,7 +260,7 @@ module _ (laws : AreLaws) where
     stream_so schema entries job (Err (faults.SchemaChanged version)) may = tt
     stream_so schema entries job (Err faults.Memory) may = tt
 
-    outcome_so : (schema : Schema) (entries : List Entry) (job : Job) (outcome : Outcome) → MayTell w.objects schema entries job now outcome → (one : SinkJob) (end : SinkEnd) → job ≡ streams one → outcome ≡ stream end → IsSoOf schema entries one end.answer
+    outcome_so : (schema : Schema) (entries : List Entry) (job : Job) (outcome : Outcome) → MayTell w.objects schema entries job [] now outcome → (one : SinkJob) (end : SinkEnd) → job ≡ streams one → outcome ≡ stream end → IsSoOf schema entries one end.answer
     outcome_so schema entries (streams job) (stream told) may one end of_job as_told =
         let same_job : job ≡ one = cc in
         let same_end : told ≡ end = cc in
@@ -248,9 +268,25 @@ module _ (laws : AreLaws) where
     outcome_so schema entries (streams job) (load told) may one end of_job as_told = absurd may
     outcome_so schema entries (streams job) (creation told) may one end of_job as_told = absurd may
     outcome_so schema entries (streams job) (checkpoint told) may one end of_job as_told = absurd may
+    outcome_so schema entries (streams job) (read told) may one end of_job as_told = absurd may
     outcome_so schema entries (loads job) outcome may one end of_job as_told = absurd cc
     outcome_so schema entries (creates job) outcome may one end of_job as_told = absurd cc
     outcome_so schema entries (checkpoints job) outcome may one end of_job as_told = absurd cc
+    outcome_so schema entries (reads job) outcome may one end of_job as_told = absurd cc
+
+    -- what a read tells is a part of the table
+    part_so : (schema : Schema) (entries : List Entry) (own : Job) (outcome : Outcome) → MayTell w.objects schema entries own [] now outcome → Does own [] now (tells outcome) → HasAsked own [] now → SeesWell events w.objects own now
+        → (job : SourceJob) (end : ReadEnd) → own ≡ reads job → outcome ≡ read end → IsPartOf entries job end.answer
+    part_so schema entries own outcome may does asked seen job end of_job as_told = by_read (subst IsAll of_job (subst IsTold as_told (may, does), asked, seen))
+      where
+        IsTold : Outcome → Type 0
+        IsTold told = MayTell w.objects schema entries own [] now told × Does own [] now (tells told)
+
+        IsAll : Job → Type 0
+        IsAll j = (MayTell w.objects schema entries j [] now (read end) × Does j [] now (tells (read end))) × HasAsked j [] now × SeesWell events w.objects j now
+
+        by_read : IsAll (reads job) → IsPartOf entries job end.answer
+        by_read all = read_part laws events w.objects entries job now end all.2 all.1 all.0.1.0 all.0.0
 
     pub world_tells : (outcome : Outcome) → Does actor.job [] now (tells outcome) → IsGoodWorld events (with_told outs (Some (actor.job, outcome))) (with_actor w name (Some (record { job = actor.job; talk = now; hand = ended outcome })))
     world_tells outcome does =
@@ -267,5 +303,10 @@ module _ (laws : AreLaws) where
           handed = λ job end has. elim (Contains-push_cases outs (actor.job, outcome) (streams job, stream end) has) [
             | inl was ↦ good.handed job end was
             | inr same ↦ subst (WasBegun events) (ap (λ (one : Job × Outcome). one.0) same) acting.begun
+          ];
+          parts = λ job end has schema entries holds. elim (Contains-push_cases outs (actor.job, outcome) (reads job, read end) has) [
+            | inl was ↦ good.parts job end was schema entries holds
+            | inr same ↦
+                part_so schema entries actor.job outcome (laws.may w.objects schema entries actor.job [] now (tells outcome) (amid schema entries holds) acting.begun.0.0 does) does so.1 so.3 job end (ap (λ (one : Job × Outcome). one.0) same) (ap (λ (one : Job × Outcome). one.1) same)
           ];
         }

@@ -4,7 +4,7 @@ use Rattle.lake_bytes.specs.Varint.{IsBytes}
 use Rattle.store_core.specs.Objects.{with_object}
 use Rattle.session_core.specs.Talks.{Asked, Talk, Told, put_commit, put_file, told_lost}
 use Rattle.session_laws.specs.May.{IsValidJob}
-use Rattle.session_laws.specs.Sessions.{Does, Job, Outcome, asks, checkpoints, creates, loads, streams, tells}
+use Rattle.session_laws.specs.Sessions.{Does, Job, Outcome, asks, checkpoints, creates, loads, reads, streams, tells}
 use Rattle.stream_model.specs.Worlds.{Actor, How, World, acted, asking, empty_world, ended, fresh, waiting, with_actor}
 
 -- An actor begins a session, dropping an older one, or dies; its call is answered in some way; its session goes on: it makes its first step,
@@ -23,8 +23,10 @@ first_of (creates job) = 0
 first_of (loads job) = job.first
 first_of (checkpoints job) = job.first
 first_of (streams job) = job.load.first
+first_of (reads job) = 0
 
--- a job that can begin: a stream's application is a text and a version is tried at least, and no version is known already
+-- a job that can begin: a stream's application is a text and a version is tried at least, and no version is known already; a read begins
+-- with nothing known
 abbrev pub CanBegin : Job → Type 0
 CanBegin job = IsValidJob job × (first_of job ≡ 0)
 

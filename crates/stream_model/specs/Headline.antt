@@ -1,15 +1,20 @@
 -- What is so of every world: of its store, of what was told, and of what was handed in.
-use Rattle.std.specs.Prelude.{◌≡◌, ◌<◌, ℕ, List, Contains, Some, Result, Ok, Err, slice_get}
+use Rattle.std.specs.Prelude.{◌≡◌, ◌<◌, ℕ, List, [], ◌∷◌, ◌++◌, Contains, Some, Result, Ok, Err, slice_get, sum_by, take, true}
 use Rattle.session_core.specs.Talks.{Talk}
+use Rattle.row_core.specs.Rows.{Row}
+use Rattle.row_core.specs.Views.{row_views}
 use Rattle.table_log.specs.Counts.{count_in}
 use Rattle.table_log.specs.declared.fault.LogFault.TheVariants as load_faults
 use Rattle.delta_replay.specs.declared.support.SupportFault.{SupportFault}
 use Rattle.snapshot_core.specs.declared.fault.SnapshotFault.TheVariants as checkpoint_faults
 use Rattle.table_model.specs.Appends.{TellsClose}
 use Rattle.table_model.specs.Lawful.{IsLawful}
-use Rattle.table_model.specs.Table.{Batch, Entry, batches}
+use Rattle.table_model.specs.Reads.{IsPart, is_offset, position}
+use Rattle.table_model.specs.Resumed.{beginning}
+use Rattle.table_model.specs.Table.{Batch, Entry, batches, rows}
 use Rattle.table_model.specs.declared.table.AppendAnswer.TheVariants as appended
 use Rattle.table_model.specs.declared.table.Closing.TheVariants as closed
+use Rattle.table_model.specs.declared.reading.Offset.{Offset}
 use Rattle.table_store.specs.Schema.{Schema}
 use Rattle.batch_core.specs.declared.fault.SinkFault.{SinkFault}
 use Rattle.batch_core.specs.declared.fault.SinkFault.TheVariants as faults
@@ -17,8 +22,14 @@ use Rattle.sink_core.specs.SinkSessions.{SinkJob}
 use Rattle.sink_core.specs.declared.sink_state.SinkEnd.{SinkEnd}
 use Rattle.sink_core.specs.declared.sink_state.SinkOutcome.{SinkOutcome}
 use Rattle.sink_core.specs.declared.sink_state.SinkOutcome.TheVariants.{Already, AlreadyClosed, Closed, Committed}
+use Rattle.source_core.specs.Offsets.{offset_view}
+use Rattle.source_core.specs.SourceSessions.{SourceJob}
+use Rattle.source_core.specs.declared.read_state.ReadRows.{ReadRows}
+use Rattle.source_core.specs.declared.source_session.ReadEnd.{ReadEnd}
+use Rattle.source_core.specs.declared.tail_fault.TailFault.{TailFault}
+use Rattle.read_laws.specs.Readers.{next_told, rows_told}
 use Rattle.session_laws.specs.Rows.{IsBatchOf, Lists, TellsOfBatch}
-use Rattle.session_laws.specs.Sessions.{Job, Outcome, checkpoint, load, stream, streams}
+use Rattle.session_laws.specs.Sessions.{Job, Outcome, checkpoint, load, read, reads, stream, streams}
 use Rattle.stream_model.specs.Events.{Event}
 use Rattle.stream_model.specs.Puts.{Submitted}
 
@@ -55,6 +66,11 @@ IsSoOf schema entries job (Err (faults.Stale last)) = TellsOfBatch schema entrie
 IsSoOf schema entries job (Err faults.StreamClosed) = TellsOfBatch schema entries job appended.StreamClosed
 IsSoOf schema entries job (Err fault) = Unit {0}
 
+-- What a read handed out is a part of the table, from its offset up to where the next read begins. A refused one hands out nothing.
+abbrev pub IsPartOf : List Entry → SourceJob → Result ReadRows TailFault → Type 0
+IsPartOf entries job (Ok handed) = IsPart job.max job.place (row_views handed.rows.items) (offset_view handed.next) entries
+IsPartOf entries job (Err fault) = Unit {0}
+
 -- the outcome tells that the job's batch stands: it was committed, or stood already
 pub data Acknowledges (end : SinkEnd) : Type 0 where
   committed : (version : ℕ) → end.answer ≡ Ok (Committed version) → Acknowledges end
@@ -64,12 +80,43 @@ pub data Acknowledges (end : SinkEnd) : Type 0 where
 abbrev pub StandOnce : List Batch → Type 0
 StandOnce bs = (place other : ℕ) (b c : Batch) → slice_get bs place ≡ Some b → slice_get bs other ≡ Some c → b.application ≡ c.application → b.number ≡ c.number → place ≡ other
 
+-- ---- readers
+
+-- Reads that were told, whoever made them, each from where the one before ended, the first from this offset: what a reader does that resumes
+-- at its last offset. A read that is refused leaves its offset, and one that was dropped or lost its answer isn't told.
+abbrev pub Resume : List (Job × Outcome) → Offset → List (SourceJob × ReadEnd) → Type 0
+Resume outs offset [] = Unit {0}
+Resume outs offset (one ∷ later) = Contains outs (reads one.0, read one.1) × (one.0.place ≡ offset) × Resume outs (next_told offset one.1.answer) later
+
+-- the rows that they handed out, in order
+abbrev pub rows_handed : List (SourceJob × ReadEnd) → List Row
+rows_handed [] = []
+rows_handed (one ∷ later) = rows_told one.1.answer ++ rows_handed later
+
+-- the offset that was returned last, and the first one where none was
+abbrev pub last_offset : Offset → List (SourceJob × ReadEnd) → Offset
+last_offset offset [] = offset
+last_offset offset (one ∷ later) = last_offset (next_told offset one.1.answer) later
+
+-- how many rows they were to hand out at most
+abbrev pub most_rows : List (SourceJob × ReadEnd) → ℕ
+most_rows those = sum_by (λ (one : SourceJob × ReadEnd). one.0.max) those
+
+-- What a reader was handed that began at the beginning is the table's first rows, as many as stand before its last offset; of one that began
+-- at another of the table's offsets, the rows from there up to its last. Each once, in the order of the log.
+pub record HandsOutTheLog (outs : List (Job × Outcome)) (entries : List Entry) : Type 0 where
+  pub from_beginning : (those : List (SourceJob × ReadEnd)) → Resume outs beginning those → rows_handed those ≡ take (position (last_offset beginning those) entries) (rows entries)
+  pub from_offset : (offset : Offset) (those : List (SourceJob × ReadEnd)) → is_offset offset entries ≡ true → Resume outs offset those → IsPart (most_rows those) offset (rows_handed those) (last_offset offset those) entries
+
 -- Of the table that a store holds: each batch stands once, each application's numbers rise, and none of it stands with or behind its close;
--- each batch that was acknowledged was handed in, and stands; each batch that stands was handed in, with these rows; and what a stream was
--- told of its batch or its close is so, of the outcomes that `IsSoOf` speaks of.
+-- each batch that was acknowledged was handed in, and stands; each batch that stands was handed in, with these rows; what a stream was
+-- told of its batch or its close is so, of the outcomes that `IsSoOf` speaks of; each read handed out a part of the table, and readers that
+-- resume at their last offset its rows up to there.
 pub record IsHeadline (events : List Event) (outs : List (Job × Outcome)) (schema : Schema) (entries : List Entry) : Type 0 where
   pub once : StandOnce (batches entries)
   pub lawful : IsLawful entries
   pub acknowledged : (job : SinkJob) (end : SinkEnd) → Contains outs (streams job, stream end) → Acknowledges end → Submitted events job × (b : Batch) × IsBatchOf schema job b × Contains (batches entries) b
   pub submitted : (b : Batch) → Contains (batches entries) b → (job : SinkJob) × Submitted events job × IsBatchOf schema job b
   pub told : (job : SinkJob) (end : SinkEnd) → Contains outs (streams job, stream end) → IsSoOf schema entries job end.answer
+  pub parts : (job : SourceJob) (end : ReadEnd) → Contains outs (reads job, read end) → IsPartOf entries job end.answer
+  pub handed : HandsOutTheLog outs entries

@@ -1,6 +1,6 @@
 //! What is so of every world, whatever happened in it: laws, each a function that does nothing.
 
-ghost use Rattle.std.specs.Prelude.{◌≡◌, ℕ, List, [], ◌∷◌, ◌++◌, Some, Contains, codes, true};
+ghost use Rattle.std.specs.Prelude.{◌≡◌, ℕ, List, [], ◌∷◌, ◌++◌, Some, Contains, codes, take, true};
 ghost use Rattle.schema_tree.specs.Sameness.{has_fraction};
 ghost use Rattle.delta_replay.specs.Support.{has_key_inside};
 ghost use Rattle.store_core.specs.Objects.{HasObjectsOf, Objects, object_at};
@@ -10,8 +10,12 @@ ghost use Rattle.table_model.specs.Table.{Entry};
 ghost use Rattle.table_store.specs.Holds.{Holds};
 ghost use Rattle.table_store.specs.Schema.{Schema};
 ghost use Rattle.log_laws.specs.Sound.{IsSoundStore};
+ghost use Rattle.source_core.specs.SourceSessions.{SourceJob};
+ghost use Rattle.source_core.specs.declared.source_session.ReadEnd.{ReadEnd};
+ghost use Rattle.read_laws.specs.Readers.{MayTellOfTable};
 ghost use Rattle.session_laws.specs.May.{AreBytes};
-ghost use Rattle.session_laws.specs.Sessions.{HasAsked, Job, Outcome};
+ghost use Rattle.session_laws.specs.Rows.{next_version};
+ghost use Rattle.session_laws.specs.Sessions.{HasAsked, Job, Outcome, read, reads};
 ghost use Rattle.stream_model.specs.Events.{CanBegin, Event, HasActor, IsWorldOf, Ran};
 ghost use Rattle.stream_model.specs.Headline.{IsHeadline, ListsCommit, TellsBadLog, TellsSchemaChanged, TellsUnsupported};
 ghost use Rattle.stream_model.specs.Puts.{HasTable, IsGoodPut, IsSubmittedFile};
@@ -24,6 +28,7 @@ use log_laws::{
 };
 use session_core::what_is_borne_twice_is_borne_at_once;
 use session_laws::what_a_session_may;
+use table_model::{a_part_from_the_beginning_is_a_front, parts_that_follow_are_one};
 
 /// Over every list of events, of any length and with any number of actors, from a world in which nothing stands:
 /// - the store is sound, its checkpoints too (`sound`), and each object is of numbers of eight bits (`bytes`);
@@ -36,15 +41,20 @@ use session_laws::what_a_session_may;
 ///   application's in rising number, and none with or behind its close; each batch that was acknowledged was handed in, and stands; each that
 ///   stands was handed in, with these rows; and where an append told that its batch was put as a version, stands already, is below a number
 ///   that stands (S1) or comes behind the close of its stream (S2), or a close that it was put as a version or its stream was closed already,
-///   that is so (`headline`). Of other refusals it says nothing;
+///   that is so; each read handed out a part of that table, from its offset up to where it ended, and reads that follow one another, each
+///   from where the one before ended, its rows from the first offset to the last, which from the beginning are the log's first rows, each
+///   once, in the order of the log (`headline`). Of other refusals it says nothing;
+/// - a read that has ended, and whose list had a commit, told of the versions that it listed: their rows from its offset on, as many as it was
+///   to hand out or up to the start of the version that came next then; that its offset is behind these (O2), or in no file of its version
+///   (O10); that a call was lost, or memory ran out. No other refusal of a read comes (`reads`);
 /// - a session that has ended, and whose list had a commit, didn't tell that one is missing or can't be read (`listed`); that a winner changed
 ///   the schema it told only where the schema's metadata has a number with a fraction or an exponent, `-0`, or one beyond 64 bits (`schema`),
 ///   and that a checkpoint isn't put for what the table asks of its writers only where a field has `delta.invariants` (`supported`).
 ///
 /// A put takes effect on a free name alone; when it takes effect, a get gives what stands under its name, and a list all names that stand; and
 /// all objects are put by these sessions, of numbers of eight bits, as a program's bytes are. Jobs are creations, loads, checkpoints, appends
-/// of a batch and closes; reads of rows aren't among them yet. A session begins with nothing known from an earlier one; an append's and a
-/// close's application is a text, and they try a version at least: another job can't begin.
+/// of a batch, closes and reads of rows. A session begins with nothing known from an earlier one; an append's and a close's application is a
+/// text, and they try a version at least: another job can't begin.
 pub fn every_world()
     ensures sound { (events : List Event) (outs : List (Job × Outcome)) (w : World) → IsWorldOf events outs w → IsSoundStore w.objects }
     ensures bytes { (events : List Event) (outs : List (Job × Outcome)) (w : World) → IsWorldOf events outs w → AreBytes w.objects }
@@ -59,6 +69,9 @@ pub fn every_world()
         → ListsCommit actor.talk → TellsBadLog outcome → ⊥ }
     ensures schema { (events : List Event) (outs : List (Job × Outcome)) (w : World) → IsWorldOf events outs w → (name : ℕ) (actor : Actor) (outcome : Outcome) → HasActor w name actor → actor.hand ≡ ended outcome
         → (schema : Schema) (entries : List Entry) → Holds w.objects schema entries → TellsSchemaChanged outcome → has_fraction schema ≡ true }
+    ensures reads { (events : List Event) (outs : List (Job × Outcome)) (w : World) → IsWorldOf events outs w → (name : ℕ) (actor : Actor) (job : SourceJob) (end : ReadEnd) → HasActor w name actor → actor.job ≡ reads job
+        → actor.hand ≡ ended (read end) → ListsCommit actor.talk → (schema : Schema) (entries : List Entry) → Holds w.objects schema entries
+        → MayTellOfTable job.max job.place (take (next_version actor.talk) entries) end.answer }
     ensures supported { (events : List Event) (outs : List (Job × Outcome)) (w : World) → IsWorldOf events outs w → (name : ℕ) (actor : Actor) (outcome : Outcome) → HasActor w name actor → actor.hand ≡ ended outcome
         → (schema : Schema) (entries : List Entry) → Holds w.objects schema entries → TellsUnsupported outcome → has_key_inside (codes "delta.invariants") schema ≡ true }
 {
@@ -70,6 +83,8 @@ pub fn every_world()
     a_sound_checkpoint_stays_sound();
     what_is_borne_twice_is_borne_at_once();
     what_a_session_may();
+    parts_that_follow_are_one();
+    a_part_from_the_beginning_is_a_front();
 }
 
 /// Whatever happens, an object that stands keeps its bytes (`objects`), and the log of each later world begins with the log that stood (`log`),

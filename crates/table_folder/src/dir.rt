@@ -13,8 +13,8 @@ use store_core::Put;
 /// with `.` are passed over. A name that isn't text and a file over 1 GiB fail.
 ///
 /// It needs hard links: a file is written and synced as `.new-N`, and a link then gives it its name where that is absent.
-/// A create that fails removes its `.new-N`; a run that is killed may leave one. With 1,000 of them in a folder creates
-/// fail until they are removed, which is safe only while no other process writes to the table.
+/// A create that fails removes its `.new-N`; a run that is killed may leave one, and each of those costs later creates a
+/// call. Removing them is safe only while no other process writes to the table.
 ///
 /// Of the disk nothing is claimed: this folder is never steady.
 #[derive(Drop)]

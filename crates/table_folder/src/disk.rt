@@ -15,9 +15,6 @@ use store_core::Put;
 /// The most bytes of a file that is read: 1 GiB.
 const MOST_BYTES: u64 = 1 << 30;
 
-/// How many names are tried for a file that is being written.
-const MOST_TRIES: u32 = 1_000;
-
 /// Why a call of the disk failed.
 #[derive(Drop)]
 pub(crate) enum DiskFault {
@@ -229,10 +226,10 @@ fn link_fault(error: Error) -> DiskFault {
     }
 }
 
-// Writes and syncs the bytes under a new name that begins with `.`, and tells its path. Where that fails, the file is
-// removed.
+// Writes and syncs the bytes under a new name that begins with `.`, and tells its path: the first of `.new-0`, `.new-1`, ..
+// that is free, which takes a call for each that killed runs have left. Where that fails, the file is removed.
 fn write_hidden<R: Files + AllocGlobal>(rt: &R, folder: &str, bytes: &[u8]) -> io::Result<String> {
-    for number in 0..MOST_TRIES {
+    for number in 0..u64::MAX {
         let path = format!(in rt.alloc(); "{folder}.new-{number}")?;
         match File::create_new(rt, path.as_str()) {
             Ok(mut file) => {

@@ -1,5 +1,4 @@
-use Rattle.job_laws.proofs.KeptLaws.{log_by_texts}
-use Rattle.job_laws.proofs.TextReads.{as_by_offsets}
+use Rattle.job_laws.proofs.TextReads.{as_by_offsets, log_by_texts}
 use Rattle.job_laws.proofs.kept.reads_by_texts_hand_out_the_log.Goals as goal
 
 pub returns-clause-same : goal.returns-clause-same

@@ -1,10 +1,10 @@
 use Rattle.stream_model.proofs.Laws.{AreLaws}
-use Rattle.stream_model.proofs.Refused.{no_bad_log, schema_fraction, schema_invariants}
+use Rattle.stream_model.proofs.Refused.{no_bad_log, read_told_so, schema_fraction, schema_invariants}
 use Rattle.stream_model.proofs.Running.{headline_of, world_ran}
 use Rattle.stream_model.proofs.worlds.every_world.Goals as goal
 
 -- the laws that it calls
-laws_of : goal.After-what_a_session_may → AreLaws
+laws_of : goal.After-a_part_from_the_beginning_is_a_front → AreLaws
 laws_of c = record {
   empty = c.an_empty_store_is_sound.ensures;
   commit_lands = c.an_admissible_commit_lands.ensures.now;
@@ -14,6 +14,10 @@ laws_of c = record {
   checkpoint_stays = c.a_sound_checkpoint_stays_sound.ensures;
   bears_both = c.what_is_borne_twice_is_borne_at_once.ensures;
   may = c.what_a_session_may.ensures.may;
+  part_none = c.parts_that_follow_are_one.ensures.none;
+  part_stays = c.parts_that_follow_are_one.ensures.stays;
+  parts_join = c.parts_that_follow_are_one.ensures.joined;
+  part_front = c.a_part_from_the_beginning_is_a_front.ensures.front;
 }
 
 pub returns-clause-sound : goal.returns-clause-sound
@@ -32,7 +36,7 @@ pub returns-clause-files : goal.returns-clause-files
 returns-clause-files c = λ events outs w ran. (world_ran (laws_of c) events outs w ran).store.files
 
 pub returns-clause-headline : goal.returns-clause-headline
-returns-clause-headline c = λ events outs w ran. headline_of events outs w (world_ran (laws_of c) events outs w ran)
+returns-clause-headline c = λ events outs w ran. headline_of (laws_of c) events outs w (world_ran (laws_of c) events outs w ran)
 
 pub returns-clause-listed : goal.returns-clause-listed
 returns-clause-listed c = λ events outs w ran name actor outcome is hand. no_bad_log (laws_of c) events outs w (world_ran (laws_of c) events outs w ran) name actor outcome is hand
@@ -42,3 +46,6 @@ returns-clause-schema c = λ events outs w ran name actor outcome is hand schema
 
 pub returns-clause-supported : goal.returns-clause-supported
 returns-clause-supported c = λ events outs w ran name actor outcome is hand schema entries holds. schema_invariants (laws_of c) events outs w (world_ran (laws_of c) events outs w ran) name actor outcome is hand schema entries holds
+
+pub returns-clause-reads : goal.returns-clause-reads
+returns-clause-reads c = λ events outs w ran name actor job end is of_job hand listed schema entries holds. read_told_so (laws_of c) events outs w (world_ran (laws_of c) events outs w ran) name actor job end is of_job hand listed schema entries holds

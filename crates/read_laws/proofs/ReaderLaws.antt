@@ -22,10 +22,9 @@ use Rattle.source_core.specs.declared.read_state.ReadRows as code
 use Rattle.source_core.specs.declared.tail_fault.TailFault.{TailFault}
 use Rattle.source_core.proofs.Callers.{read_alike}
 use Rattle.log_reading.specs.InForce.{SchemaText}
-use Rattle.lake_script.proofs.KeptScripts.{reads_told}
-use Rattle.lake_script.proofs.KeptTails.{IsRead, kept_reads}
-use Rattle.job_laws.specs.Readers.{Follow, IsReadAt, MayRefuse, MayTell, OneRead, job_at, next_of_all, next_told, rows_of_all, rows_told, table_of_all}
-use Rattle.job_laws.proofs.KeptLaws.{kept_part}
+use Rattle.read_laws.proofs.KeptTails.{IsRead, kept_reads}
+use Rattle.read_laws.specs.Readers.{Follow, IsReadAt, MayRefuse, MayTellOfTable, OneRead, job_at, next_of_all, next_told, rows_of_all, rows_told, table_of_all}
+use Rattle.read_laws.proofs.KeptLaws.{kept_part}
 
 -- what is told with the schema is told without it
 pair_told : (told : Result SchemaText ReadRefusal) (rest : SchemaText → Result ReadRows ReadRefusal) (schema : Tree) (handed : ReadRows)
@@ -45,7 +44,7 @@ told_without job objects schema handed is =
 
 -- What one read hands out is a part of its table, none where it is refused.
 module _ (none : (max : ℕ) (offset : Offset) (entries : List Entry) → is_offset offset entries ≡ true → IsPart max offset [] offset entries) where
-  one_part : (schema : Schema) (offset : Offset) (entries : List Entry) (r : OneRead) → is_offset offset entries ≡ true → IsReadAt schema offset entries r
+  pub one_part : (schema : Schema) (offset : Offset) (entries : List Entry) (r : OneRead) → is_offset offset entries ≡ true → IsReadAt schema offset entries r
       → IsPart r.max offset (rows_told r.end.answer) (next_told offset r.end.answer) entries
   one_part schema offset entries r within is = by_answer r.end.answer (is.told.told r.listed is.known is.shown)
     where
@@ -127,16 +126,16 @@ module _ (max : ℕ) (offset : Offset) (entries : List Entry) where
   may_refuse (tails.bad_log version) said is goes = goes is
 
 -- What a read may tell whose talk shows a store that keeps a table.
-pub read_may : (schema : Schema) (offset : Offset) (entries : List Entry) (r : OneRead) → IsReadAt schema offset entries r → MayTell r.max offset entries r.end.answer
+pub read_may : (schema : Schema) (offset : Offset) (entries : List Entry) (r : OneRead) → IsReadAt schema offset entries r → MayTellOfTable r.max offset entries r.end.answer
 read_may schema offset entries r is = by_answer r.end.answer (is.told.told r.listed is.known is.shown)
   where
     alike : read_by r.use_checkpoints r.listed r.max offset ≡ read_by false r.listed r.max offset
     alike = read_alike r.use_checkpoints r.listed is.restores r.max offset
 
-    by_answer : (answer : Result code.ReadRows TailFault) → ReadGives read_view answer (read_told (job_at offset r) r.listed) → MayTell r.max offset entries answer
+    by_answer : (answer : Result code.ReadRows TailFault) → ReadGives read_view answer (read_told (job_at offset r) r.listed) → MayTellOfTable r.max offset entries answer
     by_answer (Ok handed) gives = kept_part r.listed schema entries r.max offset (handed_view handed) is.keeps (sym alike ∙ told_without (job_at offset r) r.listed _ (handed_view handed) gives)
     by_answer (Err fault) gives =
         may_refuse r.max offset entries (refusal_view fault) (read_told (job_at offset r) r.listed) gives (λ said.
         answer_refused r.max offset entries (read r.max offset entries) (read_by false r.listed r.max offset) (refusal_view fault) (is_beyond offset entries) (is_offset offset entries) refl refl refl
-        (kept_reads reads_told r.listed schema entries is.keeps r.max offset)
+        (kept_reads r.listed schema entries is.keeps r.max offset)
         (sym alike ∙ pair_refused (schema_at r.use_checkpoints r.listed offset) (λ (t : SchemaText). handed_by r.listed t (versions_at r.use_checkpoints r.listed offset) r.max offset) (refusal_view fault) said))

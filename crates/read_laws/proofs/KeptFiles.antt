@@ -14,10 +14,10 @@ use Rattle.source_core.specs.SourceSessions.{HasNewFiles, IsNewFile}
 use Rattle.source_core.specs.Tailing.{ReadRefusal, file_rows, missing_file, or_bad_file, LogFile}
 use Rattle.source_core.proofs.Callers.{AreEntriesFound, AreFilesFound}
 use Rattle.parquet_file.specs.Reading.{rows_at}
-use Rattle.lake_script.specs.Keeps.{IsKept}
-use Rattle.lake_script.proofs.KeptLog.{are_made, made_of}
-use Rattle.lake_script.proofs.KeptTail.{entries_found}
-use Rattle.lake_script.proofs.KeptVersions.{versions_kept}
+use Rattle.read_laws.specs.Kept.{IsKept}
+use Rattle.read_laws.proofs.KeptLog.{are_made, made_of}
+use Rattle.read_laws.proofs.KeptTail.{entries_found}
+use Rattle.read_laws.proofs.KeptVersions.{versions_kept}
 
 module _ (objects : Objects) (schema : Tree) where
   -- a file whose rows are read stands
@@ -50,8 +50,8 @@ module _ (objects : Objects) (schema : Tree) where
   log_stands (entry ∷ entries) (first ∷ commits) found (suc version) actions is path among = log_stands entries commits found.1 version actions is path among
 
 -- The files of a table that is kept stand.
-pub kept_files : (objects : Objects) (schema : Tree) (entries : List Entry) → IsKept objects schema entries → HasNewFiles objects
-kept_files objects schema entries kept name new =
+pub kept_files : (objects : Objects) (schema : Tree) (entries : List Entry) → IsKept objects schema entries → (first : ℕ) → HasNewFiles first objects
+kept_files objects schema entries kept first name new =
     let commits = made_of objects schema 0 entries kept.kept in
     let found = entries_found objects schema 0 entries commits kept.kept (are_made objects schema 0 entries kept.kept) in
     let here : slice_get (map commit commits) new.version ≡ Some (commit new.actions) = ap (λ (vs : List Version). slice_get vs new.version) (sym (versions_kept objects schema entries kept)) ∙ new.stands in

@@ -4,9 +4,9 @@ use Rattle.table_model.specs.Resumed.{beginning}
 use Rattle.table_model.proofs.Callers.{beginning_is_offset}
 use Rattle.table_model.proofs.PartLemmas.{no_part}
 use Rattle.table_model.proofs.Resumed.{any_from_beginning, handed_out}
-use Rattle.job_laws.specs.Readers.{next_of_all, rows_of_all, table_of_all}
-use Rattle.job_laws.proofs.ReaderLaws.{follow_parts, limits_same, stays_offset}
-use Rattle.job_laws.proofs.readers.reads_that_follow_hand_out_the_log.Goals as goal
+use Rattle.read_laws.specs.Readers.{next_of_all, rows_of_all, table_of_all}
+use Rattle.read_laws.proofs.ReaderLaws.{follow_parts, limits_same, stays_offset}
+use Rattle.read_laws.proofs.reads_that_follow_hand_out_the_log.Goals as goal
 
 pub returns-clause-part : goal.returns-clause-part
 returns-clause-part c = λ schema reads offset entries within follow.

@@ -1,27 +1,47 @@
-//! Laws on reads as sessions that follow one another, over a store that grows between and during them.
+//! What reads tell of a store that keeps a table, whoever put its commits, and which stores keep one: single reads, and
+//! sessions of reads that follow one another while the store grows between and during them. Definitions, and laws, each a
+//! function with an empty body whose contract is the law. The product calls no code of this crate.
+#![tactic(auto)]
 
-ghost use Rattle.std.specs.Prelude.{◌≡◌, List, take, true};
-ghost use Rattle.table_model.specs.Reads.{position, is_offset, IsPart};
+ghost use Rattle.std.specs.Prelude.{◌≡◌, ◌≢◌, ℕ, false, List, [], take, true, Ok};
+ghost use Rattle.store_core.specs.Objects.{Objects};
+ghost use Rattle.table_model.specs.Reads.{position, is_offset, IsPart, MayEnd};
 ghost use Rattle.table_model.specs.Resumed.{beginning};
 ghost use Rattle.table_model.specs.Table.{Entry, rows};
 ghost use Rattle.table_model.specs.declared.reading.Offset.{Offset};
 ghost use Rattle.table_store.specs.Schema.{Schema};
-ghost use Rattle.store_core.specs.Objects.{Objects};
+ghost use Rattle.table_store.specs.Sound.{IsSound};
 ghost use Rattle.source_core.specs.SourceSessions.{HasNewFiles};
-ghost use Rattle.lake_script.specs.Keeps.{IsKept};
-ghost use Rattle.job_laws.specs.Readers.{Follow, IsReadAt, MayTell, OneRead, limit_of_all, next_of_all, rows_of_all, table_of_all};
+ghost use Rattle.source_core.specs.Tailing.{ReadRows, read_by};
+ghost use Rattle.read_laws.specs.Kept.{IsKept};
+ghost use Rattle.read_laws.specs.Readable.{HasReadableFiles};
+ghost use Rattle.read_laws.specs.Readers.{Follow, IsReadAt, MayTellOfTable, OneRead, limit_of_all, next_of_all, rows_of_all, table_of_all};
+
+/// A read over a store that keeps a table hands out the part of the table from its offset on, up to its limit or the
+/// end of the log.
+pub fn a_read_hands_out_a_part()
+    ensures { (objects : Objects) (schema : Schema) (entries : List Entry) (max : ℕ) (offset : Offset) (out : ReadRows) → IsKept objects schema entries
+        → read_by false objects max offset ≡ Ok out → IsPart max offset out.rows out.next entries × MayEnd false max out.rows out.next entries }
+{}
+
+/// A sound store with a table keeps it, where each batch's file has at most 64 MiB and 4,194,304 rows, so that what is
+/// said of reads over stores that keep a table is said of all sound ones whose files can be read. Whose commits they are
+/// doesn't matter.
+pub fn a_sound_store_keeps_its_table()
+    ensures { (objects : Objects) (sound : IsSound objects) → sound.entries ≢ [] → HasReadableFiles objects sound.entries → IsKept objects sound.schema sound.entries }
+{}
 
 /// What a read as a session may tell, whose talk shows a store that keeps a table: the part of the table from its offset on, which ends
 /// with as many rows as it was to hand out, or at the start of the version behind those that were listed; or that the offset is behind the
 /// log, or in no file of its version. From an offset of the table it is refused only where a call was lost or memory ran out.
 pub fn what_a_read_may()
-    ensures { (schema : Schema) (offset : Offset) (entries : List Entry) (r : OneRead) → IsReadAt schema offset entries r → MayTell r.max offset entries r.end.answer }
+    ensures { (schema : Schema) (offset : Offset) (entries : List Entry) (r : OneRead) → IsReadAt schema offset entries r → MayTellOfTable r.max offset entries r.end.answer }
 {}
 
 /// A store that keeps a table has all files that its commits bring, so that what a read is shown is the store as it was listed
 /// (`source_core::what_a_read_is_shown`).
 pub fn a_kept_table_has_its_files()
-    ensures { (objects : Objects) (schema : Schema) (entries : List Entry) → IsKept objects schema entries → HasNewFiles objects }
+    ensures { (objects : Objects) (schema : Schema) (entries : List Entry) → IsKept objects schema entries → (first : ℕ) → HasNewFiles first objects }
 {}
 
 /// Reads that follow one another, each from where the one before ended, hand out together the part of the table from the first

@@ -1,31 +1,24 @@
--- What is told over a store that keeps a table, and which stores keep one.
-use Rattle.std.proofs.Common.{◌≡◌, ◌≢◌, ℕ, suc, false, List, [], ◌∷◌, take, Contains, Some, Result, Ok, refl, sym, subst, arith, ◌∙◌}
+-- What a read hands out of a store that keeps a table, and which stores keep one.
+use Rattle.std.proofs.Common.{◌≡◌, ◌≢◌, ℕ, suc, false, List, [], ◌∷◌, Contains, Some, Result, Ok, refl, sym, subst, arith, ◌∙◌}
 use Rattle.std.specs.List.{AllByRecursion}
 use Rattle.std.proofs.lemmas.List.Elements.{Contains-append_left, Contains-append_right}
 use Rattle.schema_tree.specs.Tree.{Tree}
 use Rattle.store_core.specs.Objects.{Objects, object_at}
-use Rattle.row_core.specs.Rows.{Row}
 use Rattle.parquet_file.specs.File.{KeepsLimits}
 use Rattle.delta_actions.specs.Names.{data_file_name}
 use Rattle.table_model.specs.Lawful.{BeginsWithCreation}
-use Rattle.table_model.specs.Reads.{Answer, handed, beyond, bad_place, position, read, IsPart, MayEnd}
-use Rattle.table_model.specs.Resumed.{beginning}
-use Rattle.table_model.specs.Table.{Batch, Entry, creation, group, close, batches_of, batches, rows}
+use Rattle.table_model.specs.Reads.{Answer, handed, beyond, bad_place, read, IsPart, MayEnd}
+use Rattle.table_model.specs.Table.{Batch, Entry, creation, group, close, batches_of, batches}
 use Rattle.table_model.specs.declared.reading.Offset.{Offset}
 use Rattle.table_model.proofs.PartLemmas.{read_is_part, read_ends}
 use Rattle.table_store.specs.Holds.{FileStands, HoldsFrom}
 use Rattle.table_store.specs.Sound.{IsSound}
 use Rattle.table_store.proofs.HoldingEnds.{HoldsFrom-fit}
-use Rattle.source_core.specs.Offsets.{offset_of}
+use Rattle.table_store.proofs.ConflictLemmas.{Contains-first}
 use Rattle.source_core.specs.Tailing.{ReadRows, ReadRefusal, read_by}
-use Rattle.source_core.specs.Tails.{tails}
-use Rattle.lake_script.specs.Keeps.{FileKept, IsKept, KeptFrom}
-use Rattle.lake_script.proofs.KeptNames.{behind_first, first_in}
-use Rattle.lake_script.proofs.KeptScripts.{reads_told}
-use Rattle.lake_script.proofs.KeptTails.{IsRead, kept_reads, reads_log}
-use Rattle.job_laws.specs.Readable.{HasReadableFiles}
-use Rattle.job_laws.specs.TextReads.{ReadsByTexts}
-use Rattle.job_laws.proofs.TextReads.{as_by_offsets}
+use Rattle.read_laws.specs.Kept.{FileKept, IsKept, KeptFrom}
+use Rattle.read_laws.specs.Readable.{HasReadableFiles}
+use Rattle.read_laws.proofs.KeptTails.{IsRead, kept_reads}
 
 -- ---- a read is a part of the table
 
@@ -44,15 +37,7 @@ part_by (bad_place version) said max offset entries out told is says = let wrong
 pub kept_part : (objects : Objects) (schema : Tree) (entries : List Entry) (max : ℕ) (offset : Offset) (out : ReadRows) → IsKept objects schema entries → read_by false objects max offset ≡ Ok out
     → IsPart max offset out.rows out.next entries × MayEnd false max out.rows out.next entries
 kept_part objects schema entries max offset out kept says =
-    part_by (read max offset entries) (read_by false objects max offset) max offset entries out refl (kept_reads reads_told objects schema entries kept max offset) says
-
--- Reads by texts that begin before all rows hand out the table's rows up to where the next one begins.
-pub log_by_texts : (objects : Objects) (schema : Tree) (entries : List Entry) (limits : List ℕ) (text last : List ℕ) (out : List Row) → IsKept objects schema entries
-    → offset_of text ≡ Some beginning → ReadsByTexts objects limits text out last
-    → (next : Offset) × (offset_of last ≡ Some next) × (out ≡ take (position next entries) (rows entries))
-log_by_texts objects schema entries limits text last out kept begins by_texts =
-    let same = as_by_offsets objects limits text last out beginning by_texts begins in
-    ((tails objects limits beginning).next, same.1, same.0 ∙ reads_log objects entries (kept_reads reads_told objects schema entries kept) limits)
+    part_by (read max offset entries) (read_by false objects max offset) max offset entries out refl (kept_reads objects schema entries kept max offset) says
 
 -- ---- sound stores whose files can be read
 
@@ -61,7 +46,7 @@ files_kept : (objects : Objects) (schema : Tree) (bs : List Batch) → AllByRecu
     → ((b : Batch) (bytes : List ℕ) → Contains bs b → object_at objects (data_file_name b.application b.number) ≡ Some bytes → KeepsLimits bytes b.rows) → AllByRecursion (FileKept objects schema) bs
 files_kept objects schema [] stand limits = tt
 files_kept objects schema (b ∷ bs) stand limits =
-    ((stand.0.0, stand.0.1, record { file = stand.0.2; limits = limits b stand.0.0 (first_in b bs) stand.0.1 }), files_kept objects schema bs stand.1 (λ c bytes has. limits c bytes (behind_first b bs c has)))
+    ((stand.0.0, stand.0.1, record { file = stand.0.2; limits = limits b stand.0.0 (Contains-first b bs) stand.0.1 }), files_kept objects schema bs stand.1 (λ c bytes has. limits c bytes (Contains-append_right (b ∷ []) bs c has)))
 
 -- so are the entries of a table that is held
 kept_from : (objects : Objects) (schema : Tree) (version : ℕ) (entries : List Entry) → HoldsFrom objects schema version entries → HasReadableFiles objects entries → KeptFrom objects schema version entries

@@ -9,7 +9,7 @@ use Rattle.delta_actions.specs.Names.{greatest_version}
 use Rattle.table_model.specs.Table.{Batch, Entry, batches_of}
 use Rattle.table_store.specs.Holds.{FileStands}
 use Rattle.table_store.proofs.LawfulLogLemmas.{AreMadeFor}
-use Rattle.lake_script.specs.Keeps.{FileKept, KeptFrom, IsKept}
+use Rattle.read_laws.specs.Kept.{FileKept, KeptFrom, IsKept}
 
 -- No commit of the version that comes next stands.
 pub none_behind : (objects : Objects) (schema : Tree) (entries : List Entry) → IsKept objects schema entries → length entries ≤ greatest_version → object_at objects (names.commit_name (length entries)) ≡ None

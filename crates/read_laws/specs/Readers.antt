@@ -18,7 +18,7 @@ use Rattle.source_core.specs.Tailing.{ReadRefusal, bad_place, beyond_log, lost, 
 use Rattle.source_core.specs.declared.read_state.ReadRows as code
 use Rattle.source_core.specs.declared.source_session.ReadEnd.{ReadEnd}
 use Rattle.source_core.specs.declared.tail_fault.TailFault.{TailFault}
-use Rattle.lake_script.specs.Keeps.{IsKept}
+use Rattle.read_laws.specs.Kept.{IsKept}
 
 -- One read that has ended: how many rows it was to hand out at most, whether it went by checkpoints, the talk in which what it knew before
 -- was told, its own talk and its end; the objects that stood when its names were listed, and by which entries their table had grown
@@ -64,10 +64,10 @@ MayRefuse offset entries memory = Unit {0}
 MayRefuse offset entries refusal = ⊥
 
 -- What a read of a table may tell: a part of it, with as many rows as it was to hand out or up to its end; or such a refusal.
-abbrev pub MayTell : (max : ℕ) → (offset : Offset) → List Entry → Result code.ReadRows TailFault → Type 0
-MayTell max offset entries (Ok handed) =
+abbrev pub MayTellOfTable : (max : ℕ) → (offset : Offset) → List Entry → Result code.ReadRows TailFault → Type 0
+MayTellOfTable max offset entries (Ok handed) =
     IsPart max offset (row_views handed.rows.items) (offset_view handed.next) entries × MayEnd false max (row_views handed.rows.items) (offset_view handed.next) entries
-MayTell max offset entries (Err fault) = MayRefuse offset entries (refusal_view fault)
+MayTellOfTable max offset entries (Err fault) = MayRefuse offset entries (refusal_view fault)
 
 -- Reads that follow one another from an offset in a table: each next one begins where the one before ended, and its table is that one grown.
 abbrev pub Follow : Schema → List OneRead → Offset → List Entry → Type 0

@@ -1,9 +1,6 @@
 use Rattle.lake_script.proofs.KeptPlan.{beside}
-use Rattle.job_laws.proofs.KeptLaws.{sound_kept}
-use Rattle.job_laws.proofs.kept.a_sound_store_keeps_its_table.Goals as goal
-
-pub returns-clause-kept : goal.returns-clause-kept
-returns-clause-kept c = λ objects sound some limits. sound_kept objects sound some limits
+use Rattle.read_laws.proofs.Callers.{sound_kept}
+use Rattle.job_laws.proofs.kept.a_sound_store_without_other_files_keeps_its_table.Goals as goal
 
 pub returns-clause-keeps : goal.returns-clause-keeps
 returns-clause-keeps c = λ objects sound some limits own. (sound_kept objects sound some limits, own)

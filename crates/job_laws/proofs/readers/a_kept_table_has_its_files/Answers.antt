@@ -1,5 +1,0 @@
-use Rattle.job_laws.proofs.KeptFiles.{kept_files}
-use Rattle.job_laws.proofs.readers.a_kept_table_has_its_files.Goals as goal
-
-pub returns : goal.returns
-returns c = λ objects schema entries kept. kept_files objects schema entries kept

@@ -1,0 +1,8 @@
+pub mod Callers
+mod KeptFiles
+mod KeptLaws
+mod KeptLog
+mod KeptTail
+mod KeptTails
+mod KeptVersions
+mod ReaderLaws
