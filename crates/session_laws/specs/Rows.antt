@@ -259,13 +259,14 @@ TellsOfNone (Err read_faults.Memory) = Unit {0}
 TellsOfNone answer = ⊥
 
 -- Of the versions that were listed it tells a part from its offset on: as many rows as it was to hand out, or those up to the version
--- that came next then; or that its offset is behind them, or in no file of its version.
+-- that came next then; or that its offset is past their end, or in no file of its version.
 abbrev pub TellsOfListed : List Entry → SourceJob → Result ReadRows TailFault → Type 0
 TellsOfListed [] job answer = TellsOfNone answer
 TellsOfListed (first ∷ rest) job answer = MayTellOfTable job.max job.place (first ∷ rest) answer
 
--- A lost call is told behind one. What else is told is so of the table's first versions, as many as were listed, where the talk shows a
--- store as it stood then. Of other talks, by which what was listed isn't there, nothing is said: they aren't a store's that only grows.
+-- That a call was lost is told only right behind one that was. What else is told is so of the table's first versions, as many as were listed,
+-- where the talk shows a store as it stood then. Of other talks, by which what was listed isn't there, nothing is said: they aren't a
+-- store's that only grows.
 pub record MayTellOfRead (objects : Objects) (entries : List Entry) (job : SourceJob) (before talk : Talk) (answer : Result ReadRows TailFault) : Type 0 where
   pub lost : answer ≡ Err read_faults.Lost → ends_lost talk ≡ true
   pub told : (listed : Objects) → WasListed objects before talk listed → TellsOfListed (take (next_version talk) entries) job answer

@@ -20,7 +20,7 @@ use Rattle.source_core.specs.declared.read_state.ReadRows.{ReadRows}
 use Rattle.source_core.specs.declared.source_session.ReadEnd.{ReadEnd}
 use Rattle.source_core.specs.declared.tail_fault.TailFault.{TailFault}
 use Rattle.read_laws.specs.Readers.{next_told, rows_told}
-use Rattle.session_laws.specs.Rows.{Lists, MayTellOfRead, TellsOfListed, next_version}
+use Rattle.session_laws.specs.Rows.{Lists, MayTellOfRead, TellsOfListed, WasListed, next_version}
 use Rattle.session_laws.specs.Sessions.{HasAsked, Job, Outcome, read, reads}
 use Rattle.session_laws.proofs.Callers.{none_told}
 use Rattle.stream_model.specs.Events.{Event}
@@ -60,12 +60,18 @@ module _ (job : SourceJob) (end : ReadEnd) (handed : ReadRows) (is : end.answer 
   lists_first ((put_file name bytes, told) ∷ gets) asked ends = absurd asked.0
   lists_first ((put_commit version bytes, told) ∷ gets) asked ends = absurd asked.0
 
--- What it tells in a world is so of the versions that it listed.
+-- What a read was shown in a world: the store as it stood when its names were listed.
+pub was_listed : (events : List Event) (objects : Objects) (job : SourceJob) (now : Talk) (names : List (List ℕ)) → Lists now names → SeesWell events objects (reads job) now → (listed : Objects) × WasListed objects [] now listed
+was_listed events objects job now names lists seen =
+    let was = seen job refl names lists in
+    (was.listed, record { sound = was.good.sound; readable = good_readable events was.listed was.good; grown = was.grown; earlier = tt; lists = subst (Lists now) was.same lists; shown = was.shown })
+
+-- What it tells is so of the versions that it listed.
 pub told_of_listed : (events : List Event) (objects : Objects) (entries : List Entry) (job : SourceJob) (now : Talk) (answer : Result ReadRows TailFault) (names : List (List ℕ)) → Lists now names → SeesWell events objects (reads job) now → MayTellOfRead objects entries job [] now answer
     → TellsOfListed (take (next_version now) entries) job answer
 told_of_listed events objects entries job now answer names lists seen may =
-    let was = seen job refl names lists in
-    may.told was.listed (record { sound = was.good.sound; readable = good_readable events was.listed was.good; grown = was.grown; earlier = tt; lists = subst (Lists now) was.same lists; shown = was.shown })
+    let was = was_listed events objects job now names lists seen in
+    may.told was.0 was.1
 
 module _ (laws : AreLaws) where
   -- a part of the first versions is one of all

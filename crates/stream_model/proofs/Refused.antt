@@ -1,5 +1,5 @@
 -- Which refusals don't come in a world, or only for some schemas.
-use Rattle.std.proofs.Common.{◌≡◌, ◌∙◌, ◌<◌, ◌≤◌, ℕ, zero, suc, Bool, true, false, List, [], ◌∷◌, length, take, refl, sym, subst, arith}
+use Rattle.std.proofs.Common.{◌≡◌, ◌∙◌, ◌≤◌, ℕ, zero, suc, Bool, true, false, List, [], ◌∷◌, length, take, refl, sym, ap, subst, arith}
 use Rattle.std.specs.Prelude.{Err, codes}
 use Rattle.schema_tree.specs.Sameness.{has_fraction}
 use Rattle.delta_actions.specs.Action.{Action}
@@ -15,12 +15,11 @@ use Rattle.log_laws.proofs.Callers.{count_held, log_checkpointable}
 use Rattle.session_laws.specs.May.{MayTell}
 use Rattle.source_core.specs.SourceSessions.{SourceJob}
 use Rattle.source_core.specs.declared.source_session.ReadEnd.{ReadEnd}
-use Rattle.read_laws.specs.Readers as readers
-use Rattle.session_laws.specs.Rows.{IsLogBehind, MayTellOfRead, MayTellOfStream, TellsOfListed, next_version}
+use Rattle.session_laws.specs.Rows.{IsLogBehind, Lists, MayTellOfRead, MayTellOfStream, TellsOfListed, next_version}
 use Rattle.session_laws.specs.Sessions.{HasAsked, Job, Outcome, checkpoints, creates, loads, read, reads, streams, tells}
 use Rattle.session_laws.proofs.Callers.{IsFrontOf, front_of, listed_count}
 use Rattle.stream_model.specs.Events.{Event, HasActor}
-use Rattle.stream_model.specs.Headline.{ListsCommit, TellsBadLog, TellsSchemaChanged, TellsUnsupported, bad_checkpoint, bad_load, bad_stream, changed, unsupported}
+use Rattle.stream_model.specs.Headline.{IsReadSo, ListsCommit, TellsBadLog, TellsSchemaChanged, TellsUnsupported, bad_checkpoint, bad_load, bad_stream, changed, unsupported}
 use Rattle.stream_model.specs.Worlds.{Actor, World, ended}
 use Rattle.stream_model.proofs.Good.{IsGoodActor, IsGoodHand, IsGoodWorld}
 use Rattle.stream_model.proofs.Lacking.{next_within, none_lacked}
@@ -110,11 +109,15 @@ module _ (laws : AreLaws) (events : List Event) (outs : List (Job × Outcome)) (
         by_job (creates job) outcome told (unsupported fault) = absurd told
         by_job (reads job) outcome told (unsupported fault) = absurd told
 
--- What a read told that listed a commit is so of the versions that it listed: it told none of the refusals but two, that a call was lost, or
--- that memory ran out.
+-- What a read told that listed names is so of the versions that were listed: it told none of the refusals but two, that version 0 is missing
+-- where none was listed, that a call was lost, or that memory ran out.
 pub read_told_so : (laws : AreLaws) (events : List Event) (outs : List (Job × Outcome)) (w : World) → IsGoodWorld events outs w → (name : ℕ) (actor : Actor) (job : SourceJob) (end : ReadEnd) → HasActor w name actor → actor.job ≡ reads job
-    → actor.hand ≡ ended (read end) → ListsCommit actor.talk → (schema : Schema) (entries : List Entry) → Holds w.objects schema entries → readers.MayTellOfTable job.max job.place (take (next_version actor.talk) entries) end.answer
-read_told_so laws events outs w good name actor job end is of_job hand listed schema entries holds = by_front (take (next_version actor.talk) entries) refl (told_of_listed events w.objects entries job actor.talk end.answer listed.0 listed.1 seen told)
+    → actor.hand ≡ ended (read end) → (names : List (List ℕ)) → Lists actor.talk names → (schema : Schema) (entries : List Entry) → Holds w.objects schema entries → IsReadSo entries job actor.talk names end.answer
+read_told_so laws events outs w good name actor job end is of_job hand names lists schema entries holds = record {
+  stand = take_length (count_in names) entries within;
+  told = subst (λ (n : ℕ). TellsOfListed (take n entries) job end.answer) count (told_of_listed events w.objects entries job actor.talk end.answer names lists seen told);
+  lost = told.lost;
+}
   where
     own : IsGoodActor events w.objects actor
     own = good.actors name actor is
@@ -125,17 +128,13 @@ read_told_so laws events outs w good name actor job end is of_job hand listed sc
     told : MayTellOfRead w.objects entries job [] actor.talk end.answer
     told = subst (λ (j : Job). MayTell w.objects schema entries j [] actor.talk (read end)) of_job (may laws events outs w good name actor (read end) is hand schema entries holds)
 
-    count : next_version actor.talk ≡ count_in listed.0
-    count = listed_count job [] actor.talk listed.1.0 listed.0 (subst (λ (j : Job). HasAsked j [] actor.talk) of_job own.asked) listed.1.1
+    count : next_version actor.talk ≡ count_in names
+    count = listed_count job [] actor.talk lists.0 names (subst (λ (j : Job). HasAsked j [] actor.talk) of_job own.asked) lists.1
 
-    within : next_version actor.talk ≤ length entries
-    within = next_within w.objects good.store.sound.table schema entries holds actor.talk own.told own.borne
+    within : count_in names ≤ length entries
+    within = let so = next_within w.objects good.store.sound.table schema entries holds actor.talk own.told own.borne in omega (arith, count, so)
 
-    some_front : (next : ℕ) (es : List Entry) → 0 < next → next ≤ length es → take next es ≡ [] → ⊥
-    some_front zero es some long none = omega (arith, some)
-    some_front (suc next) [] some long none = omega (arith, long)
-    some_front (suc next) (e ∷ es) some long none = absurd cc
-
-    by_front : (front : List Entry) → take (next_version actor.talk) entries ≡ front → TellsOfListed front job end.answer → readers.MayTellOfTable job.max job.place front end.answer
-    by_front (first ∷ rest) is so = so
-    by_front [] is so = absurd (some_front (next_version actor.talk) entries (omega (arith, count, listed.2)) within is)
+    take_length : (n : ℕ) (es : List Entry) → n ≤ length es → length (take n es) ≡ n
+    take_length zero es short = refl
+    take_length (suc n) [] short = absurd (omega (arith, short))
+    take_length (suc n) (e ∷ es) short = ap (λ (m : ℕ). suc m) (take_length n es (omega (arith, short)))

@@ -1,5 +1,5 @@
 -- What is so of every world: of its store, of what was told, and of what was handed in.
-use Rattle.std.specs.Prelude.{◌≡◌, ◌<◌, ℕ, List, [], ◌∷◌, ◌++◌, Contains, Some, Result, Ok, Err, slice_get, sum_by, take, true}
+use Rattle.std.specs.Prelude.{◌≡◌, ◌<◌, ℕ, List, [], ◌∷◌, ◌++◌, Contains, Some, Result, Ok, Err, length, slice_get, sum_by, take, true}
 use Rattle.session_core.specs.Talks.{Talk}
 use Rattle.row_core.specs.Rows.{Row}
 use Rattle.row_core.specs.Views.{row_views}
@@ -27,9 +27,10 @@ use Rattle.source_core.specs.SourceSessions.{SourceJob}
 use Rattle.source_core.specs.declared.read_state.ReadRows.{ReadRows}
 use Rattle.source_core.specs.declared.source_session.ReadEnd.{ReadEnd}
 use Rattle.source_core.specs.declared.tail_fault.TailFault.{TailFault}
+use Rattle.source_core.specs.declared.tail_fault.TailFault.TheVariants as read_faults
 use Rattle.read_laws.specs.Readers.{next_told, rows_told}
-use Rattle.session_laws.specs.Rows.{IsBatchOf, Lists, TellsOfBatch}
-use Rattle.session_laws.specs.Sessions.{Job, Outcome, checkpoint, load, read, reads, stream, streams}
+use Rattle.session_laws.specs.Rows.{IsBatchOf, Lists, TellsOfBatch, TellsOfListed}
+use Rattle.session_laws.specs.Sessions.{Job, Outcome, checkpoint, ends_lost, load, read, reads, stream, streams}
 use Rattle.stream_model.specs.Events.{Event}
 use Rattle.stream_model.specs.Puts.{Submitted}
 
@@ -44,6 +45,14 @@ pub data TellsBadLog : Outcome → Type 0 where
   bad_load : (version : ℕ) → TellsBadLog (load (Err (load_faults.BadLog version)))
   bad_checkpoint : (version : ℕ) → TellsBadLog (checkpoint (Err (checkpoint_faults.BadLog version)))
   bad_stream : (end : SinkEnd) (version : ℕ) → end.answer ≡ Err (faults.BadLog version) → TellsBadLog (stream end)
+
+-- What a read told that listed these names is so of the table's first versions, as many as were listed, which all stand: a part of them, or
+-- why the offset is none of theirs, and where no commit was listed that version 0 is missing. That a call was lost it told only right behind
+-- one that was, and that memory ran out at any time.
+pub record IsReadSo (entries : List Entry) (job : SourceJob) (talk : Talk) (names : List (List ℕ)) (answer : Result ReadRows TailFault) : Type 0 where
+  pub stand : length (take (count_in names) entries) ≡ count_in names
+  pub told : TellsOfListed (take (count_in names) entries) job answer
+  pub lost : answer ≡ Err read_faults.Lost → ends_lost talk ≡ true
 
 -- that a winner changed the table's schema
 pub data TellsSchemaChanged : Outcome → Type 0 where
@@ -83,7 +92,7 @@ StandOnce bs = (place other : ℕ) (b c : Batch) → slice_get bs place ≡ Some
 -- ---- readers
 
 -- Reads that were told, whoever made them, each from where the one before ended, the first from this offset: what a reader does that resumes
--- at its last offset. A read that is refused leaves its offset, and one that was dropped or lost its answer isn't told.
+-- at its last offset. A read that is refused leaves its offset, as one does that lost a call; one that was dropped isn't told.
 abbrev pub Resume : List (Job × Outcome) → Offset → List (SourceJob × ReadEnd) → Type 0
 Resume outs offset [] = Unit {0}
 Resume outs offset (one ∷ later) = Contains outs (reads one.0, read one.1) × (one.0.place ≡ offset) × Resume outs (next_told offset one.1.answer) later

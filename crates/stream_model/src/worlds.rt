@@ -1,6 +1,6 @@
 //! What is so of every world, whatever happened in it: laws, each a function that does nothing.
 
-ghost use Rattle.std.specs.Prelude.{◌≡◌, ℕ, List, [], ◌∷◌, ◌++◌, Some, Contains, codes, take, true};
+ghost use Rattle.std.specs.Prelude.{◌≡◌, ℕ, List, [], ◌∷◌, ◌++◌, Some, Contains, codes, true};
 ghost use Rattle.schema_tree.specs.Sameness.{has_fraction};
 ghost use Rattle.delta_replay.specs.Support.{has_key_inside};
 ghost use Rattle.store_core.specs.Objects.{HasObjectsOf, Objects, object_at};
@@ -12,12 +12,11 @@ ghost use Rattle.table_store.specs.Schema.{Schema};
 ghost use Rattle.log_laws.specs.Sound.{IsSoundStore};
 ghost use Rattle.source_core.specs.SourceSessions.{SourceJob};
 ghost use Rattle.source_core.specs.declared.source_session.ReadEnd.{ReadEnd};
-ghost use Rattle.read_laws.specs.Readers.{MayTellOfTable};
 ghost use Rattle.session_laws.specs.May.{AreBytes};
-ghost use Rattle.session_laws.specs.Rows.{next_version};
+ghost use Rattle.session_laws.specs.Rows.{Lists, WasListed};
 ghost use Rattle.session_laws.specs.Sessions.{HasAsked, Job, Outcome, read, reads};
 ghost use Rattle.stream_model.specs.Events.{CanBegin, Event, HasActor, IsWorldOf, Ran};
-ghost use Rattle.stream_model.specs.Headline.{IsHeadline, ListsCommit, TellsBadLog, TellsSchemaChanged, TellsUnsupported};
+ghost use Rattle.stream_model.specs.Headline.{IsHeadline, IsReadSo, ListsCommit, TellsBadLog, TellsSchemaChanged, TellsUnsupported};
 ghost use Rattle.stream_model.specs.Puts.{HasTable, IsGoodPut, IsSubmittedFile};
 ghost use Rattle.stream_model.specs.Worlds.{Actor, World, ended};
 
@@ -33,7 +32,8 @@ use table_model::{a_part_from_the_beginning_is_a_front, parts_that_follow_are_on
 /// Over every list of events, of any length and with any number of actors, from a world in which nothing stands:
 /// - the store is sound, its checkpoints too (`sound`), and each object is of numbers of eight bits (`bytes`);
 /// - it bears what each session was told, each call that a session had an answer to is one that its job asks for there, and its job can begin
-///   (`borne`); so what its job does next by that talk it may do, as `what_a_session_may` has it;
+///   (`borne`); a read that listed names was shown a sound store, as it stood then, whose files can be read and which has grown since
+///   (`shown`); so what a job does next by its talk it may do, as `what_a_session_may` has it;
 /// - each put in flight may take effect at any time: it is a file of a batch that was handed in, an admissible commit of a creation or a close
 ///   that a job asks for or of such a batch, or a checkpoint of the log's commits up to its version (`flight`);
 /// - each data file has the rows of a batch of its name that was handed in, for the table that stands (`files`);
@@ -41,12 +41,13 @@ use table_model::{a_part_from_the_beginning_is_a_front, parts_that_follow_are_on
 ///   application's in rising number, and none with or behind its close; each batch that was acknowledged was handed in, and stands; each that
 ///   stands was handed in, with these rows; and where an append told that its batch was put as a version, stands already, is below a number
 ///   that stands (S1) or comes behind the close of its stream (S2), or a close that it was put as a version or its stream was closed already,
-///   that is so; each read handed out a part of that table, from its offset up to where it ended, and reads that follow one another, each
-///   from where the one before ended, its rows from the first offset to the last, which from the beginning are the log's first rows, each
-///   once, in the order of the log (`headline`). Of other refusals it says nothing;
-/// - a read that has ended, and whose list had a commit, told of the versions that it listed: their rows from its offset on, as many as it was
-///   to hand out or up to the start of the version that came next then; that its offset is behind these (O2), or in no file of its version
-///   (O10); that a call was lost, or memory ran out. No other refusal of a read comes (`reads`);
+///   that is so; each read handed out a part of that table, from its offset up to where it ended; and reads that follow one another from an
+///   offset of that table, each from where the one before ended, were handed its rows from the first offset to the last, which from the
+///   beginning are the log's first rows, each once, in the order of the log (`headline`). Of other refusals it says nothing;
+/// - a read that has ended and had listed names told of the versions that were listed, which all stand: their rows from its offset on, as many
+///   as it was to hand out or up to the start of the version that came next then; that its offset is past their end (O2), or in no file of its
+///   version (O10); where no commit was listed, that version 0 is missing (O12); that a call was lost, right behind one that was; or that
+///   memory ran out. No other refusal of a read comes (`reads`);
 /// - a session that has ended, and whose list had a commit, didn't tell that one is missing or can't be read (`listed`); that a winner changed
 ///   the schema it told only where the schema's metadata has a number with a fraction or an exponent, `-0`, or one beyond 64 bits (`schema`),
 ///   and that a checkpoint isn't put for what the table asks of its writers only where a field has `delta.invariants` (`supported`).
@@ -60,6 +61,8 @@ pub fn every_world()
     ensures bytes { (events : List Event) (outs : List (Job × Outcome)) (w : World) → IsWorldOf events outs w → AreBytes w.objects }
     ensures borne { (events : List Event) (outs : List (Job × Outcome)) (w : World) → IsWorldOf events outs w → (name : ℕ) (actor : Actor) → HasActor w name actor
         → Bears w.objects actor.talk × HasAsked actor.job [] actor.talk × CanBegin actor.job }
+    ensures shown { (events : List Event) (outs : List (Job × Outcome)) (w : World) → IsWorldOf events outs w → (name : ℕ) (actor : Actor) (job : SourceJob) → HasActor w name actor → actor.job ≡ reads job
+        → (names : List (List ℕ)) → Lists actor.talk names → (listed : Objects) × WasListed w.objects [] actor.talk listed }
     ensures flight { (events : List Event) (outs : List (Job × Outcome)) (w : World) → IsWorldOf events outs w → (put : List ℕ × List ℕ) → Contains w.flight put → IsGoodPut events w.objects put.0 put.1 }
     ensures files { (events : List Event) (outs : List (Job × Outcome)) (w : World) → IsWorldOf events outs w
         → (application : List ℕ) (number : ℕ) (bytes : List ℕ) → object_at w.objects (data_file_name application number) ≡ Some bytes
@@ -70,8 +73,8 @@ pub fn every_world()
     ensures schema { (events : List Event) (outs : List (Job × Outcome)) (w : World) → IsWorldOf events outs w → (name : ℕ) (actor : Actor) (outcome : Outcome) → HasActor w name actor → actor.hand ≡ ended outcome
         → (schema : Schema) (entries : List Entry) → Holds w.objects schema entries → TellsSchemaChanged outcome → has_fraction schema ≡ true }
     ensures reads { (events : List Event) (outs : List (Job × Outcome)) (w : World) → IsWorldOf events outs w → (name : ℕ) (actor : Actor) (job : SourceJob) (end : ReadEnd) → HasActor w name actor → actor.job ≡ reads job
-        → actor.hand ≡ ended (read end) → ListsCommit actor.talk → (schema : Schema) (entries : List Entry) → Holds w.objects schema entries
-        → MayTellOfTable job.max job.place (take (next_version actor.talk) entries) end.answer }
+        → actor.hand ≡ ended (read end) → (names : List (List ℕ)) → Lists actor.talk names → (schema : Schema) (entries : List Entry) → Holds w.objects schema entries
+        → IsReadSo entries job actor.talk names end.answer }
     ensures supported { (events : List Event) (outs : List (Job × Outcome)) (w : World) → IsWorldOf events outs w → (name : ℕ) (actor : Actor) (outcome : Outcome) → HasActor w name actor → actor.hand ≡ ended outcome
         → (schema : Schema) (entries : List Entry) → Holds w.objects schema entries → TellsUnsupported outcome → has_key_inside (codes "delta.invariants") schema ≡ true }
 {

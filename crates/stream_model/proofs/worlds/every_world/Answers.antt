@@ -1,4 +1,8 @@
+use Rattle.std.proofs.Common.{subst}
+use Rattle.session_laws.specs.Sessions.{Job}
 use Rattle.stream_model.proofs.Laws.{AreLaws}
+use Rattle.stream_model.proofs.Readers.{was_listed}
+use Rattle.stream_model.proofs.Seen.{SeesWell}
 use Rattle.stream_model.proofs.Refused.{no_bad_log, read_told_so, schema_fraction, schema_invariants}
 use Rattle.stream_model.proofs.Running.{headline_of, world_ran}
 use Rattle.stream_model.proofs.worlds.every_world.Goals as goal
@@ -48,4 +52,8 @@ pub returns-clause-supported : goal.returns-clause-supported
 returns-clause-supported c = λ events outs w ran name actor outcome is hand schema entries holds. schema_invariants (laws_of c) events outs w (world_ran (laws_of c) events outs w ran) name actor outcome is hand schema entries holds
 
 pub returns-clause-reads : goal.returns-clause-reads
-returns-clause-reads c = λ events outs w ran name actor job end is of_job hand listed schema entries holds. read_told_so (laws_of c) events outs w (world_ran (laws_of c) events outs w ran) name actor job end is of_job hand listed schema entries holds
+returns-clause-reads c = λ events outs w ran name actor job end is of_job hand names lists schema entries holds. read_told_so (laws_of c) events outs w (world_ran (laws_of c) events outs w ran) name actor job end is of_job hand names lists schema entries holds
+
+pub returns-clause-shown : goal.returns-clause-shown
+returns-clause-shown c = λ events outs w ran name actor job is of_job names lists.
+    was_listed events w.objects job actor.talk names lists (subst (λ (j : Job). SeesWell events w.objects j actor.talk) of_job ((world_ran (laws_of c) events outs w ran).actors name actor is).seen)
