@@ -59,7 +59,9 @@ def main():
     seen = {}
     while run.poll() is None:
         for pid, _, start, seconds, words, folder in below(run.pid, list(processes())):
-            seen[(pid, start)] = (seconds, *kind(words, folder))
+            # One that has ended, and that nobody has waited for yet, has no words any more.
+            before = seen.get((pid, start))
+            seen[(pid, start)] = (seconds, *(before[1:] if before and not words[0] else kind(words, folder)))
         time.sleep(1)
     checks, edits = {}, {}
     for seconds, crate, is_edit in seen.values():

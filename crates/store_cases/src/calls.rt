@@ -1,18 +1,50 @@
 //! The lines of a case.
 
-use crate::conflicts::Contest;
+ghost use Rattle.std.specs.Prelude.{◌<◌, ◌^◌, IfOk};
+
+use crate::conflicts::{Contest, tell_contest};
 use crate::failure::Failure;
 use crate::faults::{add_turns, turn_of};
-use crate::races::race;
-use crate::reads::{Reader, begin, turn};
-use crate::sinks::{Waiting, start, step, step_without_memory};
-use crate::telling::{
-    tell_checkpoint, tell_creation, tell_faults, tell_landed, tell_object, tell_reply,
-};
-use commit_core::CreateSession;
-use session_core::{Request, ask, drive};
+use crate::reads::{Reader, tell_read};
+use crate::sinks::{Sinks, tell_sink};
+use crate::telling::{tell_checkpoint, tell_landed, tell_reply, tell_standing};
+use crate::waiting::{Ending, finish};
+use commit_core::{CreateFault, CreateSession};
+use session_core::{Request, ask};
 use std::alloc::Global;
-use store_core::{Flaky, MemoryStore};
+use std::collections::BTreeMap;
+use store_core::{Flaky, MemoryStore, Store};
+
+/// What a case has.
+pub struct Case {
+    store: Flaky<MemoryStore>,
+    contest: Contest,
+    sinks: Sinks,
+    reader: Reader,
+}
+
+impl Case {
+    /// A store in which nothing stands, and which loses no call yet, no candidate, and nothing that waits.
+    pub fn new(alloc: Global) -> Case {
+        Case {
+            store: Flaky::new(alloc, MemoryStore::new(alloc), Vec::new(alloc)),
+            contest: Contest::new(alloc),
+            sinks: BTreeMap::new(alloc),
+            reader: None,
+        }
+    }
+}
+
+impl Drop for Case {
+    fn drop(self) {
+        let Case {
+            store: _,
+            contest: _,
+            sinks: _,
+            reader: _,
+        } = self;
+    }
+}
 
 /// Does what a line says, and adds how it ended:
 ///
@@ -43,60 +75,79 @@ use store_core::{Flaky, MemoryStore};
 ///   the offset that it handed out, or why it didn't.
 pub fn tell_line(
     alloc: Global,
-    store: &mut Flaky<MemoryStore>,
-    contest: &mut Contest,
-    sinks: &mut Vec<Waiting>,
-    reader: &mut Option<Reader>,
+    case: &mut Case,
     line: &str,
-    out: &mut Vec<u8>,
+    out: &mut String,
 ) -> Result<(), Failure> {
     let (word, rest) = line.split_once(' ').unwrap_or((line, ""));
+    let store = &mut case.store;
+    match word {
+        "turns" | "arm" | "land" | "faults" | "object" => {
+            tell_fault(alloc, store, word, rest, out)
+        }
+        "action" | "candidate" | "conflict" | "race" => {
+            tell_contest(alloc, store, &mut case.contest, word, rest, out)
+        }
+        "append" | "close" | "start" | "step" | "memory" => {
+            tell_sink(alloc, store, &mut case.sinks, line, out)
+        }
+        "read" | "turn" | "starve" => { tell_read(alloc, store, &mut case.reader, word, rest, out) }
+        "create" => create(alloc, store, rest, out),
+        "checkpoint" if rest.is_empty() => tell_checkpoint(alloc, store, out),
+        _ => {
+            let request = request_of(alloc, word, rest)?;
+            Ok(tell_reply(alloc, &ask(alloc, store, request), out)?)
+        }
+    }
+}
+
+// Does what a line says of what becomes of calls, or of what stands below, and adds how it ended.
+fn tell_fault(
+    alloc: Global,
+    store: &mut Flaky<MemoryStore>,
+    word: &str,
+    rest: &str,
+    out: &mut String,
+) -> Result<(), Failure> {
     match word {
         "turns" => add_turns(alloc, store, rest),
         "arm" => {
             store.arm(turn_of(rest)?);
             Ok(())
         }
-        "create" => create(alloc, store, rest, out),
         "land" => tell_landed(store.land(rest.parse()?), out),
-        "faults" if rest.is_empty() => tell_faults(store, out),
-        "object" => tell_object(store, rest, out),
-        "action" => contest.add_action(rest),
-        "candidate" => contest.make_candidate(alloc, rest),
-        "conflict" if rest.is_empty() => contest.tell_conflict(alloc, out),
-        "race" => race(alloc, store, contest, rest, out),
-        "append" | "close" => start(alloc, sinks, "", line, out),
-        "start" => {
-            let (actor, job) = rest.split_once(' ').ok_or(Failure::Misspelled)?;
-            start(alloc, sinks, actor, job, out)
-        }
-        "step" => step(alloc, store, sinks, rest, out),
-        "memory" => step_without_memory(alloc, sinks, rest, out),
-        "checkpoint" if rest.is_empty() => tell_checkpoint(alloc, store, out),
-        "read" => begin(alloc, reader, rest, out),
-        "turn" if rest.is_empty() => turn(alloc, store, reader, false, out),
-        "starve" if rest.is_empty() => turn(alloc, store, reader, true, out),
-        _ => tell_reply(ask(alloc, store, request_of(alloc, word, rest)?), out),
+        "faults" if rest.is_empty() => Ok(writeln!(out, "faults {}", store.faults())?),
+        "object" => tell_standing(alloc, store, rest, out),
+        _ => Err(Failure::Misspelled),
     }
 }
 
 // The call that a line asks for.
 fn request_of(alloc: Global, word: &str, rest: &str) -> Result<Request, Failure> {
+    if word == "list" && rest.is_empty() {
+        return Ok(Request::List);
+    }
+    if word == "get" {
+        return Ok(Request::Get(String::from_str(alloc, rest)?));
+    }
+    let (under, text) = rest.split_once(' ').ok_or(Failure::Misspelled)?;
+    let bytes = text.as_bytes().to_vec(alloc)?;
     match word {
-        "list" if rest.is_empty() => Ok(Request::List),
-        "get" => Ok(Request::Get(String::from_str(alloc, rest)?)),
-        "put" => {
-            let (name, text) = rest.split_once(' ').ok_or(Failure::Misspelled)?;
-            let name = String::from_str(alloc, name)?;
-            Ok(Request::PutFile(name, text.as_bytes().to_vec(alloc)?))
-        }
-        "commit" => {
-            let (version, text) = rest.split_once(' ').ok_or(Failure::Misspelled)?;
-            let version = version.parse()?;
-            Ok(Request::PutCommit(version, text.as_bytes().to_vec(alloc)?))
-        }
+        "put" => Ok(Request::PutFile(String::from_str(alloc, under)?, bytes)),
+        "commit" => Ok(Request::PutCommit(under.parse()?, bytes)),
         _ => Err(Failure::Misspelled),
     }
+}
+
+/// The moment that a word spells.
+pub fn moment(word: &str) -> Result<u64, Failure>
+    ensures { IfOk result (λ at. at < 2 ^ 63) }
+{
+    let at: u64 = word.parse()?;
+    if at >= 1 << 63 {
+        return Err(Failure::Misspelled);
+    }
+    Ok(at)
 }
 
 // Drives the creation of a table, and adds how it ended.
@@ -104,16 +155,23 @@ fn create(
     alloc: Global,
     store: &mut Flaky<MemoryStore>,
     text: &str,
-    out: &mut Vec<u8>,
+    out: &mut String,
 ) -> Result<(), Failure> {
     let (id, rest) = text.split_once(' ').ok_or(Failure::Misspelled)?;
     let (at, schema) = rest.split_once(' ').ok_or(Failure::Misspelled)?;
-    let at: u64 = at.parse()?;
-    if at >= 1 << 63 {
-        return Err(Failure::Misspelled);
-    }
+    let at = moment(at)?;
     let id = String::from_str(alloc, id)?;
     let schema = String::from_str(alloc, schema)?;
-    let mut session = CreateSession::new(alloc, id, at, schema);
-    tell_creation(drive(alloc, store, &mut session), out)
+    let session = CreateSession::new(alloc, id, at, schema);
+    finish(alloc, store, session, out)
+}
+
+impl Ending for Result<(), CreateFault> {
+    fn tell(&self, _alloc: Global, _is_short: bool, out: &mut String) -> Result<(), Failure> {
+        match self {
+            Ok(()) => writeln!(out, "created")?,
+            Err(fault) => writeln!(out, "refused {fault}")?,
+        }
+        Ok(())
+    }
 }

@@ -1,23 +1,18 @@
 //! Which commits conflict with a candidate.
 
 use crate::failure::Failure;
+use crate::races::race;
 use commit_core::{Candidate, conflict};
 use delta_actions::{Action, ActionFault, read_commit};
 use std::alloc::Global;
-use std::io::Write;
+use std::mem;
+use store_core::{Flaky, MemoryStore};
 
-/// A commit that is to be put: its candidate, and its bytes.
-#[derive(Drop)]
-pub struct Contender {
-    pub candidate: Candidate,
-    pub bytes: Vec<u8>,
-}
-
-/// The lines of the commit that is begun, and the candidate that commits are compared with.
+/// The lines of the commit that is begun, and the candidate that commits are compared with, beside the bytes of its commit.
 #[derive(Drop)]
 pub struct Contest {
     lines: Vec<u8>,
-    contender: Option<Contender>,
+    pub contender: Option<(Candidate, Vec<u8>)>,
 }
 
 impl Contest {
@@ -29,16 +24,16 @@ impl Contest {
         }
     }
 
-    /// Adds a line to the commit that is begun.
-    pub fn add_action(&mut self, line: &str) -> Result<(), Failure> {
+    // Adds a line to the commit that is begun.
+    fn add_action(&mut self, line: &str) -> Result<(), Failure> {
         self.lines.extend_from_slice(line.as_bytes())?;
         self.lines.push(b'\n')?;
         Ok(())
     }
 
-    /// Makes the commit that is begun the candidate. Each word names something more that it reads: `application=ID` or
-    /// `domain=NAME`.
-    pub fn make_candidate(&mut self, alloc: Global, words: &str) -> Result<(), Failure> {
+    // Makes the commit that is begun the candidate. Each word names something more that it reads: `application=ID` or
+    // `domain=NAME`.
+    fn make_candidate(&mut self, alloc: Global, words: &str) -> Result<(), Failure> {
         let mut applications = Vec::new(alloc);
         let mut domains = Vec::new(alloc);
         for word in words.split(' ') {
@@ -50,35 +45,49 @@ impl Contest {
                 return Err(Failure::Misspelled);
             }
         }
-        let bytes = self.lines.clone()?;
-        let actions = take_actions(alloc, &mut self.lines)?;
+        let bytes = mem::replace(&mut self.lines, Vec::new(alloc));
+        let actions = actions_of(alloc, &bytes)?;
         let candidate = Candidate::new(alloc, actions, applications, domains)?;
-        self.contender = Some(Contender { candidate, bytes });
+        self.contender = Some((candidate, bytes));
         Ok(())
     }
 
-    /// Adds what of the commit that is begun conflicts with the candidate.
-    pub fn tell_conflict(&mut self, alloc: Global, out: &mut Vec<u8>) -> Result<(), Failure> {
-        let commit = take_actions(alloc, &mut self.lines)?;
-        let contender = self.contender.as_ref().ok_or(Failure::Misspelled)?;
-        match conflict(&contender.candidate, &commit) {
+    // Adds what of the commit that is begun conflicts with the candidate.
+    fn tell_conflict(&mut self, alloc: Global, out: &mut String) -> Result<(), Failure> {
+        let bytes = mem::replace(&mut self.lines, Vec::new(alloc));
+        let commit = actions_of(alloc, &bytes)?;
+        let Some((candidate, _)) = &self.contender else {
+            return Err(Failure::Misspelled);
+        };
+        match conflict(candidate, &commit) {
             Some(found) => writeln!(out, "conflict {found}")?,
             None => writeln!(out, "no conflict")?,
         }
         Ok(())
     }
+}
 
-    /// The candidate with its bytes, which is none any more.
-    pub fn take_contender(&mut self) -> Option<Contender> {
-        self.contender.take()
+/// Does what a line of a contest says, and adds how it ended.
+pub fn tell_contest(
+    alloc: Global,
+    store: &mut Flaky<MemoryStore>,
+    contest: &mut Contest,
+    word: &str,
+    rest: &str,
+    out: &mut String,
+) -> Result<(), Failure> {
+    match word {
+        "action" => contest.add_action(rest),
+        "candidate" => contest.make_candidate(alloc, rest),
+        "conflict" if rest.is_empty() => contest.tell_conflict(alloc, out),
+        "race" => race(alloc, store, contest, rest, out),
+        _ => Err(Failure::Misspelled),
     }
 }
 
-// The actions of a commit's lines, of which none is left.
-fn take_actions(alloc: Global, lines: &mut Vec<u8>) -> Result<Vec<Action>, Failure> {
-    let read = read_commit(alloc, lines);
-    lines.clear();
-    match read {
+// The actions of a commit's bytes.
+fn actions_of(alloc: Global, bytes: &[u8]) -> Result<Vec<Action>, Failure> {
+    match read_commit(alloc, bytes) {
         Ok(actions) => Ok(actions),
         Err(ActionFault::Memory) => Err(Failure::Memory),
         Err(_fault) => Err(Failure::Misspelled),

@@ -2,18 +2,14 @@
 
 use json_text::TextError;
 use std::alloc::{AllocError, AllocFailed};
-use std::io;
 use std::num::ParseIntError;
-use thiserror::Error;
 
 /// Why a line of a case can't be told.
-#[derive(Clone, Copy, Debug, PartialEq, Eq, Error)]
+#[derive(Clone, Copy)]
 pub enum Failure {
     /// A growth of memory was refused.
-    #[error("out of memory")]
     Memory,
     /// The line is none of a case.
-    #[error("a line is misspelled")]
     Misspelled,
 }
 
@@ -25,13 +21,6 @@ impl From<AllocError> for Failure {
 
 impl<T: Drop> From<AllocFailed<T>> for Failure {
     fn from(_error: AllocFailed<T>) -> Failure {
-        Failure::Memory
-    }
-}
-
-impl From<io::Error> for Failure {
-    // A write into memory fails for want of memory alone.
-    fn from(_error: io::Error) -> Failure {
         Failure::Memory
     }
 }

@@ -27,8 +27,5 @@ pub fn add_turns(
     for word in words.split(' ') {
         turns.push(turn_of(word)?)?;
     }
-    for turn in turns {
-        store.turns.push(turn)?;
-    }
-    Ok(())
+    Ok(store.turns.append(&mut turns)?)
 }

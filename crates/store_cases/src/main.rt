@@ -17,21 +17,15 @@ mod races;
 mod reads;
 mod sinks;
 mod telling;
+mod waiting;
 
 use std::io;
-use std::io::{Read, Write};
-use std::process::ExitCode;
 
-fn main(rt: HostRuntime) -> io::Result<ExitCode> {
+fn main(rt: HostRuntime) -> io::Result<()> {
     let text = io::read_to_string(rt.alloc(), rt.stdin())?;
-    let mut told = Vec::new(rt.alloc());
+    let mut told = String::new(rt.alloc());
     let ended = cases::tell_cases(rt.alloc(), text.as_str(), &mut told);
-    rt.stdout().write_all(&told)?;
-    match ended {
-        Ok(()) => Ok(ExitCode::SUCCESS),
-        Err(failure) => {
-            eprintln!(rt; "{failure}")?;
-            Ok(ExitCode::FAILURE)
-        }
-    }
+    print!(rt; "{told}")?;
+    ended?;
+    Ok(())
 }

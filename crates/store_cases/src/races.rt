@@ -1,11 +1,10 @@
 //! The puts of a commit at version after version, past those that stand there.
 
-use crate::conflicts::{Contender, Contest};
+use crate::conflicts::Contest;
 use crate::failure::Failure;
+use crate::waiting::{Ending, finish};
 use commit_core::{CommitFault, CommitOutcome, CommitSession};
-use session_core::drive;
 use std::alloc::Global;
-use std::io::Write;
 use store_core::{Flaky, MemoryStore};
 
 /// Drives the puts of the candidate's commit: the version that is tried first and how many are tried stand in the text. Adds
@@ -15,7 +14,7 @@ pub fn race(
     store: &mut Flaky<MemoryStore>,
     contest: &mut Contest,
     text: &str,
-    out: &mut Vec<u8>,
+    out: &mut String,
 ) -> Result<(), Failure> {
     let (version, tries) = text.split_once(' ').ok_or(Failure::Misspelled)?;
     let version: u64 = version.parse()?;
@@ -23,32 +22,36 @@ pub fn race(
     if tries == 0 {
         return Err(Failure::Misspelled);
     }
-    let Contender { candidate, bytes } = contest.take_contender().ok_or(Failure::Misspelled)?;
-    let mut session = CommitSession::new(alloc, candidate, bytes, version, tries);
-    tell_race(drive(alloc, store, &mut session), out)
+    let Some((candidate, bytes)) = contest.contender.take() else {
+        return Err(Failure::Misspelled);
+    };
+    let session = CommitSession::new(alloc, candidate, bytes, version, tries);
+    finish(alloc, store, session, out)
 }
 
-// Adds how a race ended, and how many winners were met.
-fn tell_race(ended: Result<CommitOutcome, CommitFault>, out: &mut Vec<u8>) -> Result<(), Failure> {
-    match ended {
-        Ok(CommitOutcome::Committed { version, winners }) => {
-            writeln!(out, "committed {version} past {}", winners.len())?
-        }
-        Ok(CommitOutcome::Conflicted { version, winners }) => {
-            writeln!(out, "conflicted {version} past {}", winners.len())?
-        }
-        Ok(CommitOutcome::Contended { newest, winners }) => {
-            writeln!(out, "contended {newest} past {}", winners.len())?
-        }
-        Err(CommitFault::BadLog { version }) => writeln!(out, "bad log {version}")?,
-        Err(CommitFault::PastLimit) => writeln!(out, "past limit")?,
-        Err(
-            CommitFault::Lost {
-                version: Some(version),
-            },
-        ) => writeln!(out, "lost put {version}")?,
-        Err(CommitFault::Lost { version: None }) => writeln!(out, "lost get")?,
-        Err(CommitFault::Memory) => return Err(Failure::Memory),
+impl Ending for Result<CommitOutcome, CommitFault> {
+    fn tell(&self, _alloc: Global, _is_short: bool, out: &mut String) -> Result<(), Failure> {
+        let (word, version, winners) = match self {
+            Ok(CommitOutcome::Committed { version, winners }) => ("committed", *version, winners),
+            Ok(CommitOutcome::Conflicted { version, winners }) => ("conflicted", *version, winners),
+            Ok(CommitOutcome::Contended { newest, winners }) => ("contended", *newest, winners),
+            Err(fault) => return tell_fault(fault, out),
+        };
+        let met = winners.len();
+        Ok(writeln!(out, "{word} {version} past {met}")?)
+    }
+}
+
+// Adds why a race ended without an outcome.
+fn tell_fault(fault: &CommitFault, out: &mut String) -> Result<(), Failure> {
+    match fault {
+        CommitFault::BadLog { version } => writeln!(out, "bad log {version}")?,
+        CommitFault::PastLimit => writeln!(out, "past limit")?,
+        CommitFault::Lost {
+            version: Some(version),
+        } => writeln!(out, "lost put {version}")?,
+        CommitFault::Lost { version: None } => writeln!(out, "lost get")?,
+        CommitFault::Memory => return Err(Failure::Memory),
     }
     Ok(())
 }
