@@ -9,4 +9,5 @@ pub mod Passes
 pub mod Picked
 pub mod Same
 pub mod StreamLemmas
+pub mod Told
 pub mod Whole

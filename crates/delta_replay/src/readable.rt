@@ -1,10 +1,10 @@
 //! Whether a table is read: what its protocol asks of a reader, and its schema.
 
-ghost use Rattle.std.specs.Prelude.{List, map, option_map, string_bytes};
+ghost use Rattle.std.specs.Prelude.{List, IfOk, map, option_map, string_bytes};
 ghost use Rattle.lake_bytes.specs.Outcome.{Gives};
 ghost use Rattle.schema_tree.specs.Schema.{tree_of};
 ghost use Rattle.delta_actions.specs.Action.{Action, meta_data_view, protocol_view};
-ghost use Rattle.delta_replay.specs.Snapshots.{IsSnapshotOf};
+ghost use Rattle.delta_replay.specs.Snapshots.{IsSnapshotOf, TellsSchema};
 ghost use Rattle.delta_replay.specs.Support.{first_unknown, is_known_to_readers, readable, readable_by, readable_protocol, says, schema_told, unless_unknown};
 
 use crate::features::{is_known_to_readers, unknown_feature};
@@ -17,9 +17,10 @@ use std::alloc::Global;
 impl Snapshot {
     /// The schema of the table, if it is read, by [`supports_read`] with the newest protocol and metadata.
     pub fn supports_read(&self, alloc: Global) -> Result<Schema<Global>, SupportError>
-        ensures { (log : List (List Action)) → IsSnapshotOf log self.now → Gives says tree_of result (readable log) }
+        ensures read { (log : List (List Action)) → IsSnapshotOf log self.now → Gives says tree_of result (readable log) }
+        ensures told { IfOk result (λ schema. TellsSchema self.now (tree_of schema)) }
     {
-        supports_read(alloc, self.protocol(), self.meta_data())
+        supports_read(alloc, self.protocol(), self.meta_data.as_ref())
     }
 }
 

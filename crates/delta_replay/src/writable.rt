@@ -8,7 +8,7 @@ ghost use Rattle.schema_tree.specs.Tree.{fields_of};
 ghost use Rattle.schema_tree.specs.View.{field_views, metadata_of};
 ghost use Rattle.schema_tree.specs.View as trees;
 ghost use Rattle.delta_actions.specs.Action.{Action, protocol_view};
-ghost use Rattle.delta_replay.specs.Snapshots.{IsSnapshotOf};
+ghost use Rattle.delta_replay.specs.Snapshots.{IsSnapshotOf, TellsSchema};
 ghost use Rattle.delta_replay.specs.Support.{checkpointable, first_unknown, has_feature, has_key_inside, have_key_inside, is_known_to_writers, says, unless_unknown, writable, writable_protocol};
 
 use crate::features::{is_known_to_writers, unknown_feature};
@@ -29,7 +29,8 @@ impl Snapshot {
     /// feature, C3 for the first other feature, and C3 `invariants` for a field that has them; `Memory` where memory
     /// runs out. The time is linear in the protocol and the schema's text.
     pub fn supports_write(&self, alloc: Global) -> Result<Schema<Global>, SupportError>
-        ensures { (log : List (List Action)) → IsSnapshotOf log self.now → Gives says tree_of result (writable log) }
+        ensures written { (log : List (List Action)) → IsSnapshotOf log self.now → Gives says tree_of result (writable log) }
+        ensures told { IfOk result (λ schema. TellsSchema self.now (tree_of schema)) }
     {
         let schema = self.supports_read(alloc)?;
         let Some(protocol) = self.protocol() else {

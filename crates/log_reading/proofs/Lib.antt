@@ -1,6 +1,7 @@
 pub mod Callers
 pub mod CommitLemmas
 pub mod KeptLogs
+pub mod KnownLemmas
 pub mod LaterLemmas
 pub mod ListingLemmas
 pub mod LogLemmas

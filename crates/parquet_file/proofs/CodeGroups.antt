@@ -3,9 +3,10 @@ use Rattle.std.proofs.Common.{◌≡◌, ℕ, zero, suc, pos, ◌+◌, ◌<◌, 
 use Rattle.std.specs.List.{list_all}
 use Rattle.std.specs.Ordering.{int_eq}
 use Rattle.std.proofs.lemmas.Bool.{eqb-true, and_parts}
+use Rattle.lake_bytes.specs.Outcome.{Said, IsSaid}
 use Rattle.lake_bytes.specs.Results.{◌>>=◌, or_refusal, refused_as, refused_if}
 use Rattle.lake_bytes.specs.Varint.{IsBytes}
-use Rattle.lake_bytes.proofs.Callers.{with_front}
+use Rattle.lake_bytes.proofs.Callers.{said_too, with_front}
 use Rattle.row_core.specs.Rows.{Row}
 use Rattle.schema_tree.specs.Tree.{Tree}
 use Rattle.shred.specs.Assembly.{assembled, cells_of_columns, heads, row_count, row_made, rows_made}
@@ -52,6 +53,11 @@ columns_counted given group (l ∷ ls) cs fits e =
     rw (sym whole, column_counted given group l b.0 fits b.1, columns_counted given group ls k.0 fits k.1) refl
 
 -- ---- the rows of a group
+
+pub group_refused : (said : Said FileFault) (given : List ℕ) (t : Tree) (shape : Shape) (group : RowGroup) (ls : List LeafIn) → ls ≡ leaves_in t shape
+    → IsSaid said (columns_at given group.columns ls) → IsSaid said (rows_of_group given t shape group)
+unfolding rows_of_group
+group_refused said given t shape group ls are h = said_too said (columns_at given group.columns ls) (rows_of_group given t shape group) (λ e refused. rw (sym are, refused) refl) h
 
 pub group_uncounted : (given : List ℕ) (t : Tree) (shape : Shape) (group : RowGroup) (ls : List LeafIn) (cs : List Column) → IsBytes given → ls ≡ leaves_in t shape
     → columns_at given group.columns ls ≡ Ok cs → are_counted group ls ≡ false → rows_of_group given t shape group ≡ Err CountMismatch

@@ -10,6 +10,10 @@ pub mod FittedShapes
 pub mod ColumnsWhole
 pub mod StructForms
 pub mod FooterForms
+pub mod FlatRows
+pub mod FlatShapes
+pub mod TestedColumns
+pub mod PassedRows
 pub mod FooterElements
 pub mod GroupRows
 pub mod GroupSteps

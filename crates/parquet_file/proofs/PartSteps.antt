@@ -72,6 +72,18 @@ part_done {A} first most old now rest total skip wanted k none =
     let all : with_front k.done rest ≡ Ok k.done = rw none (ap (λ (l : List A). Ok l) (append-nil k.done)) in
     (k.done, sym k.read ∙ all, k.kept)
 
+-- no more of the rest are wanted
+pub part_stops : {A E : Type 0} (first most : ℕ) (old now others : List A) (rest total : Result (List A) E)
+    (skip wanted : ℕ) → KeptSoFar first most old now rest total skip wanted → rest ≡ Ok others → wanted ≡ 0
+    → (all : List A) × (total ≡ Ok all) × (now ≡ old ++ part_of first most all)
+part_stops {A} first most old now others rest total skip wanted k read none =
+    let part = part_of first most k.done in
+    let last : most - length part ≡ 0 = omega (arith, k.needed, none) in
+    let same : part_of first most (k.done ++ others) ≡ part =
+    part_behind first most k.done others
+    ∙ ap (λ (n : ℕ). part ++ part_of (first - length k.done) n others) last ∙ append-nil part in
+    (k.done ++ others, sym k.read ∙ rw read refl, k.kept ∙ ap (λ (l : List A). old ++ l) (sym same))
+
 pub part_fails : {A B E : Type 0} (said : Said E) (one : Result B E) (first most : ℕ) (old now : List A)
     (rest total : Result (List A) E) (skip wanted : ℕ) → KeptSoFar first most old now rest total skip wanted
     → ((e : E) → one ≡ Err e → rest ≡ Err e) → IsSaid said one → IsSaid said total

@@ -22,12 +22,14 @@ use Rattle.parquet_footer.specs.declared.fault.FileFault.{FileFault}
 use Rattle.parquet_footer.specs.declared.fault.FileFault.TheVariants.{SchemaMismatch}
 use Rattle.parquet_pages.specs.declared.reader.ColumnReader.{ColumnReader}
 use Rattle.parquet_schema.specs.Leaves.{LeafIn}
-use Rattle.parquet_file.specs.Internal.{levels_of, AreAllLeft, ArePartsOf, HasLevels}
+use Rattle.parquet_file.specs.Internal.{is_flat, levels_of, AreAllLeft, ArePartsOf, AreSound, HasLevels}
 use Rattle.parquet_file.specs.Reading.{has_rows}
 use Rattle.parquet_file.proofs.CodeGroups.{assembled_many}
 use Rattle.parquet_file.proofs.ColumnParts.{left_even, parts_are, parts_plain}
+use Rattle.parquet_file.proofs.FlatRows.{flat_rows}
 use Rattle.parquet_file.proofs.GroupSteps.{given_ok}
-use Rattle.parquet_file.proofs.PartSteps.{KeptSoFar, part_begun, part_done, part_fails, part_goes_on}
+use Rattle.parquet_file.proofs.PartSteps.{KeptSoFar, part_begun, part_done, part_fails, part_goes_on, part_stops}
+use Rattle.parquet_file.proofs.TestedColumns.{rests_sound}
 
 -- ---- the rows at hand
 
@@ -56,13 +58,13 @@ front_parts first most n shape ls ps cs same even less few h =
 
 -- ---- whole columns
 
-whole_count : (rows : ℕ) (ws : List (List Step)) (cs : List Column) → 0 < length ws → AllZip (IsWhole rows) ws cs
+pub whole_count : (rows : ℕ) (ws : List (List Step)) (cs : List Column) → 0 < length ws → AllZip (IsWhole rows) ws cs
     → row_count cs ≡ rows
 whole_count rows [] cs some whole = absurd (omega (arith, some))
 whole_count rows (w ∷ ws) [] some whole = absurd whole
 whole_count rows (w ∷ ws) (c ∷ cs) some whole = whole.0.levels_each
 
-whole_even : (rows : ℕ) (ws : List (List Step)) (cs : List Column) → AllZip (IsWhole rows) ws cs
+pub whole_even : (rows : ℕ) (ws : List (List Step)) (cs : List Column) → AllZip (IsWhole rows) ws cs
     → AllZip (IsWhole (row_count cs)) ws cs
 whole_even rows [] [] whole = tt
 whole_even rows [] (c ∷ cs) whole = absurd whole
@@ -92,7 +94,7 @@ whole_cells rows (w ∷ ws) (c ∷ cs) whole =
     (cells_in (highest w) c.levels c.values ∷ others.0, rw (levels, values, others.1) refl)
 
 -- no rows are made of columns without levels
-none_made : (shape : Shape) (cs : List Column) → 0 < length (ways shape) → AllZip (IsWhole 0) (ways shape) cs
+pub none_made : (shape : Shape) (cs : List Column) → 0 < length (ways shape) → AllZip (IsWhole 0) (ways shape) cs
     → assembled shape cs ≡ Ok []
 unfolding assembled
 none_made shape cs some whole =
@@ -112,20 +114,23 @@ pub record RowsLeft (shape : Shape) (ls : List LeafIn) (given : List Column) (rs
   pub columns : List Column
   pub held : AreAllLeft ls rs columns
   pub whole : AllZip (IsWhole left) (ways shape) columns
+  pub sound : AreSound (levels_of ls) columns
   pub kept : KeptSoFar first most old now (rows_in shape columns) (rows_in shape given) skip wanted
 
 pub rows_begun : (shape : Shape) (ls : List LeafIn) (given : List Column) (rs : List ColumnReader) (first most : ℕ)
     (old : List Row) (count : ℕ) → levels_of ls ≡ map highest (ways shape) → AreAllLeft ls rs given
-    → list_all (has_rows count) given ≡ true → RowsLeft shape ls given rs first most old old count first most
-rows_begun shape ls given rs first most old count same held all = record {
+    → list_all (has_rows count) given ≡ true → AreSound (levels_of ls) given
+    → RowsLeft shape ls given rs first most old old count first most
+rows_begun shape ls given rs first most old count same held all sound = record {
   columns = given;
   held = held;
   whole = left_even count ls rs given (ways shape) same held all;
+  sound = sound;
   kept = part_begun first most old (rows_in shape given);
 }
 
 -- there are ways where there are leaves
-some_ways : (shape : Shape) (ls : List LeafIn) → levels_of ls ≡ map highest (ways shape) → 0 < length ls
+pub some_ways : (shape : Shape) (ls : List LeafIn) → levels_of ls ≡ map highest (ways shape) → 0 < length ls
     → 0 < length (ways shape)
 some_ways shape ls same some = omega (
   arith,
@@ -135,7 +140,7 @@ some_ways shape ls same some = omega (
   length-map (ways shape) highest,
 )
 
-rows_behind : (whole part rest : Result (List Row) Fault) (one : List Row) → whole ≡ both part rest → part ≡ Ok one
+pub rows_behind : (whole part rest : Result (List Row) Fault) (one : List Row) → whole ≡ both part rest → part ≡ Ok one
     → refused_as (λ fault. SchemaMismatch) whole ≡ with_front one (refused_as (λ fault. SchemaMismatch) rest)
 rows_behind whole part (Ok others) one is made = rw (is, made) refl
 rows_behind whole part (Err fault) one is made = rw (is, made) refl
@@ -164,6 +169,16 @@ module _ {shape : Shape} {ls : List LeafIn} {given : List Column} {rs : List Col
       let nothing : rows_in shape k.columns ≡ Ok [] =
       rw (none_made shape k.columns (some_ways shape ls same some) whole) refl in
       part_done first most old now (rows_in shape k.columns) (rows_in shape given) skip wanted k.kept nothing
+
+  -- No more rows are wanted, and those that are left can be made.
+  pub rows_stop : is_flat shape ≡ true → wanted ≡ 0
+      → (all : List Row) × (rows_in shape given ≡ Ok all) × (now ≡ old ++ part_of first most all)
+  rows_stop flat none =
+      let sound : AreSound (map highest (ways shape)) k.columns =
+      subst (λ (tops : List ℕ). AreSound tops k.columns) same k.sound in
+      let rest = flat_rows shape k.columns flat left_are_even sound in
+      part_stops first most old now rest.0 (rows_in shape k.columns) (rows_in shape given) skip wanted k.kept
+      (rw rest.1 refl) none
 
   module _ (n : ℕ) (less : n ≤ left) where
     abbrev front : List Column
@@ -219,6 +234,7 @@ module _ {shape : Shape} {ls : List LeafIn} {given : List Column} {rs : List Col
           columns = rest;
           held = held;
           whole = subst (λ (n : ℕ). AllZip (IsWhole n) (ways shape) rest) (sym lefts) rest_whole;
+          sound = rests_sound n (levels_of ls) k.columns k.sound;
           kept = part_goes_on first most old now new one (rows_in shape k.columns) (rows_in shape rest)
               (rows_in shape given) skip wanted skip_now wanted_now k.kept behind added.2
               (omega (arith, skips, many)) (omega (arith, wants, grown));

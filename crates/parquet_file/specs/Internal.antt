@@ -1,5 +1,5 @@
 -- What private contracts speak of.
-use Rattle.std.specs.Prelude.{◌≡◌, ℕ, ◌<◌, ◌≤◌, pos, All, List, [], ◌∷◌, length, map, ◌==◌, not, Bool, false, Option, Some, None, Result, Ok}
+use Rattle.std.specs.Prelude.{◌≡◌, ℕ, ◌<◌, ◌≤◌, pos, All, List, [], ◌∷◌, length, map, ◌==◌, ◌&&◌, not, Bool, true, false, Option, Some, None, Result, Ok}
 use Rattle.std.specs.List.{list_all}
 use Rattle.std.specs.Ordering.{int_eq}
 use Rattle.lake_bytes.specs.Results.{◌>>=◌, or_refusal, refused_if}
@@ -11,7 +11,8 @@ use Rattle.row_core.specs.Rows.{Row}
 use Rattle.row_core.specs.declared.value.Value.{Value}
 use Rattle.schema_tree.specs.Tree.{Tree}
 use Rattle.shred.specs.Columns.{Column, column}
-use Rattle.shred.specs.Shape.{Shape}
+use Rattle.shred.specs.Parts.{ArePlain}
+use Rattle.shred.specs.Shape.{Shape, leaf, struct, Fields, no_fields, field}
 use Rattle.shred.specs.Ways.{Step, highest, ways}
 use Rattle.shred.specs.declared.columns.ColumnPart.{ColumnPart}
 use Rattle.parquet_pages.specs.Held.{at_hand, AreLeft}
@@ -76,3 +77,29 @@ column_along way rows = column_or_none (column way rows)
 
 abbrev pub columns_along : List (List Step) → List Row → List Column
 columns_along ways rows = map (λ way. column_along way rows) ways
+
+-- ---- rows whose columns stand side by side
+
+abbrev pub is_leaf : Shape → Bool
+is_leaf leaf = true
+is_leaf (struct fs) = false
+
+abbrev pub are_leaves : Fields → Bool
+are_leaves no_fields = true
+are_leaves (field name optional s fs) = is_leaf s && are_leaves fs
+
+-- no field is a struct
+abbrev pub is_flat : Shape → Bool
+is_flat leaf = false
+is_flat (struct fs) = are_leaves fs
+
+-- No level is above the highest, and no value is null or a struct.
+pub record IsSound (top : ℕ) (c : Column) : Type 0 where
+  pub below : All (λ level. level ≤ top) c.levels
+  pub plain : ArePlain c
+
+-- each column is sound, one for each highest level
+abbrev pub AreSound : List ℕ → List Column → Type 0
+AreSound [] [] = Unit {0}
+AreSound (top ∷ tops) (c ∷ cs) = IsSound top c × AreSound tops cs
+AreSound _ _ = ⊥

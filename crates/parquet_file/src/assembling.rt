@@ -13,10 +13,11 @@ ghost use Rattle.parquet_footer.specs.Outcome.{FileGives};
 ghost use Rattle.parquet_footer.specs.declared.fault.FileFault.TheVariants.{SchemaMismatch};
 ghost use Rattle.parquet_pages.specs.Outcome.{FindsWhere};
 ghost use Rattle.parquet_schema.specs.Leaves.{LeafIn};
-ghost use Rattle.parquet_file.specs.Internal.{levels_of, AreAllLeft, AreAtHand, ArePartsOf, HasLevels};
+ghost use Rattle.parquet_file.specs.Internal.{levels_of, AreAllLeft, AreAtHand, ArePartsOf, AreSound, HasLevels};
 ghost use Rattle.parquet_file.specs.Outcome.{AddsPart};
 ghost use Rattle.parquet_file.specs.Reading.{has_rows};
 
+use crate::flat::is_flat;
 use parquet_footer::{FileError, FileFault};
 use parquet_pages::ColumnReader;
 use row_core::Value;
@@ -27,7 +28,8 @@ use std::alloc::Global;
 const ROWS_AT_A_TIME: u64 = 4_096;
 
 /// Adds at most `most` of so many rows, from the one of the number `first` on; the readers, one for each leaf, have their
-/// columns left. P8 where the columns are those of no rows.
+/// columns left. P8 where the columns are those of no rows. Where no field is a struct the pages behind these rows
+/// aren't looked at.
 pub(crate) fn add_rows(
     alloc: Global,
     shape: &Shape,
@@ -39,14 +41,18 @@ pub(crate) fn add_rows(
 ) -> Result<(), FileError>
     ensures { (leaves : List LeafIn) (given : List columns.Column) → AreAllLeft leaves readers.old given
         → levels_of leaves ≡ map highest (ways (shape_view shape.now)) → 0 < length leaves
-        → list_all (has_rows count) given ≡ true
+        → list_all (has_rows count) given ≡ true → AreSound (levels_of leaves) given
         → AddsPart first most (refused_as (λ fault. SchemaMismatch) (assembled (shape_view shape.now) given))
         (row_views rows.old.items) result (row_views rows.new.items) }
 {
     let mut left = count;
     let mut skip = first;
     let mut wanted = most;
+    let is_flat = is_flat(shape);
     while left > 0 {
+        if is_flat && wanted == 0 {
+            return Ok(());
+        }
         let at_hand = rows_at_hand(alloc, readers, left.min(ROWS_AT_A_TIME))?;
         if at_hand == 0 {
             return Ok(());

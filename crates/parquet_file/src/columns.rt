@@ -1,101 +1,68 @@
 //! The columns of a row group.
 
-ghost use Rattle.std.specs.Prelude.{◌≡◌, List, map, option_map, string_bytes, Ok, Err, IfOk};
+ghost use Rattle.std.specs.Prelude.{◌≡◌, map, option_map, string_bytes};
 ghost use Rattle.lake_bytes.specs.Reading.{IsReading};
-ghost use Rattle.shred.specs.Columns.{Column};
+ghost use Rattle.shred.specs.Parts.{cut_off, rests};
 ghost use Rattle.parquet_footer.specs.Views.{chunk_view, chunk_views, group_view};
-ghost use Rattle.parquet_footer.specs.declared.fault.FileFault.{FileFault};
 ghost use Rattle.parquet_pages.specs.Held.{AreLeft};
-ghost use Rattle.parquet_pages.specs.Outcome.{FindsWhere};
+ghost use Rattle.parquet_pages.specs.Outcome.{GivesWhere};
+ghost use Rattle.parquet_pages.specs.Pages.{highest};
 ghost use Rattle.thrift_core.specs.View.{texts_view};
 ghost use Rattle.parquet_schema.specs.Views.{leaf_view, leaf_views};
-ghost use Rattle.parquet_file.specs.Internal.{are_counted, is_counted, plain_chunk_named, AreAllLeft};
-ghost use Rattle.parquet_file.specs.Outcome.{Tests};
+ghost use Rattle.parquet_file.specs.Internal.{are_counted, is_counted, levels_of, plain_chunk_named, AreAllLeft};
 ghost use Rattle.parquet_file.specs.Reading.{chunk_named, column_at, columns_at, same_path};
 ghost use Rattle.parquet_pages.specs.Views.{leaf_view as pages_view};
 ghost use Rattle.parquet_file.specs.File.{leaf_of};
 
 use parquet_footer::{ColumnChunk, FileError, FileFault, RowGroup};
-use parquet_pages::{ColumnReader, Leaf, test_chunk};
+use parquet_pages::{ColumnReader, Leaf};
 use parquet_schema::FileLeaf;
 use std::alloc::{Allocator, Global};
 
 /// CompressionCodec UNCOMPRESSED.
 pub(crate) const UNCOMPRESSED: i64 = 0;
 
-/// The readers of the leaves' chunks, in order. P8 where there is no chunk of a leaf, P3 for its codec, P6 for its place.
-pub(crate) fn open_columns<'a, A: Allocator>(
+/// Tests the columns of the leaves, in order, and gives the readers of what stands behind so many of their cells. P8
+/// where there is no chunk of a leaf, P3 for its codec, P6 for its place, and then for its pages. The time is linear in
+/// the bytes of the pages; the page of each leaf in which those cells end is read again.
+pub(crate) fn tested_columns<'a, A: Allocator>(
     alloc: Global,
     bytes: &'a [u8],
     chunks: &[ColumnChunk<A>],
     leaves: &'a [FileLeaf],
+    passed: u64,
 ) -> Result<Vec<ColumnReader<'a>>, FileError>
-    ensures { (columns : List Column) → columns_at bytes.now (chunk_views chunks.now) (leaf_views leaves.now) ≡ Ok columns
-        → FindsWhere (λ readers. AreAllLeft (leaf_views leaves.now) readers.items columns) result }
+    ensures { GivesWhere (λ readers columns. AreAllLeft (leaf_views leaves.now) readers.items
+        (rests passed (levels_of (leaf_views leaves.now)) columns)) result
+        (columns_at bytes.now (chunk_views chunks.now) (leaf_views leaves.now)) }
 {
     let mut readers = Vec::with_capacity(alloc, leaves.len())?;
     for leaf in leaves {
-        readers.push(open_column(alloc, bytes, chunks, leaf)?)?;
+        readers.push(tested_column(alloc, bytes, chunks, leaf, passed)?)?;
     }
     Ok(readers)
 }
 
-/// The reader of a leaf's chunk.
 #[tactic(auto, unfolding(crate::specs::Reading::column_at))]
-fn open_column<'a, A: Allocator>(
+fn tested_column<'a, A: Allocator>(
     alloc: Global,
     bytes: &'a [u8],
     chunks: &[ColumnChunk<A>],
     leaf: &'a FileLeaf,
-) -> Result<ColumnReader<'a>, FileFault>
-    ensures left { IfOk result (λ reader. (column : Column)
-        → column_at bytes.now (chunk_views chunks.now) (leaf_view leaf.now) ≡ Ok column
-        → AreLeft (leaf_of (leaf_view leaf.now)) reader column) }
-    ensures refused { (fault : FileFault) → result ≡ Err fault
-        → column_at bytes.now (chunk_views chunks.now) (leaf_view leaf.now) ≡ Err fault }
+    passed: u64,
+) -> Result<ColumnReader<'a>, FileError>
+    ensures { GivesWhere (λ reader column. AreLeft (leaf_of (leaf_view leaf.now)) reader
+        (cut_off passed (highest (leaf_of (leaf_view leaf.now))) column)) result
+        (column_at bytes.now (chunk_views chunks.now) (leaf_view leaf.now)) }
 {
     let chunk = plain_chunk(chunks, leaf)?;
-    ColumnReader::open(
+    ColumnReader::tested(
         alloc,
         pages_of(leaf),
         bytes,
         chunk.data_page_offset,
         chunk.num_values,
-    )
-}
-
-/// Tests the columns of the leaves, in order, and keeps nothing of them. The time is linear in the bytes of their
-/// pages.
-pub(crate) fn test_columns<A: Allocator>(
-    alloc: Global,
-    bytes: &[u8],
-    chunks: &[ColumnChunk<A>],
-    leaves: &[FileLeaf],
-) -> Result<(), FileError>
-    ensures { Tests (columns_at bytes.now (chunk_views chunks.now) (leaf_views leaves.now)) result }
-{
-    for leaf in leaves {
-        test_column(alloc, bytes, chunks, leaf)?;
-    }
-    Ok(())
-}
-
-#[tactic(auto, unfolding(crate::specs::Reading::column_at))]
-fn test_column<A: Allocator>(
-    alloc: Global,
-    bytes: &[u8],
-    chunks: &[ColumnChunk<A>],
-    leaf: &FileLeaf,
-) -> Result<(), FileError>
-    ensures { Tests (column_at bytes.now (chunk_views chunks.now) (leaf_view leaf.now)) result }
-{
-    let chunk = plain_chunk(chunks, leaf)?;
-    test_chunk(
-        alloc,
-        &pages_of(leaf),
-        bytes,
-        chunk.data_page_offset,
-        chunk.num_values,
+        passed,
     )
 }
 

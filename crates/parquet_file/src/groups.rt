@@ -11,7 +11,8 @@ ghost use Rattle.parquet_file.specs.Outcome.{AddsPart, Tests};
 ghost use Rattle.parquet_file.specs.Reading.{claimed_rows, rows_of_group, rows_of_groups};
 
 use crate::assembling::add_rows;
-use crate::columns::{are_counted, open_columns, test_columns};
+use crate::columns::{are_counted, tested_columns};
+use crate::flat::rows_to_pass;
 use parquet_footer::{FileError, FileFault, RowGroup};
 use parquet_schema::FileShape;
 use row_core::Value;
@@ -74,7 +75,8 @@ pub(crate) fn add_groups<A: Allocator>(
 }
 
 /// Adds at most `most` rows of a group, from the one of the number `first` on. All its pages are tested first, leaf by
-/// leaf, and read again for the rows, of each leaf one page at a time.
+/// leaf, and read again for the rows, of each leaf one page at a time: where no field is a struct only the pages in
+/// which these rows stand, and else all of them.
 #[tactic(auto, unfolding(crate::specs::Reading::rows_of_group))]
 fn add_group<A: Allocator>(
     alloc: Global,
@@ -89,19 +91,19 @@ fn add_group<A: Allocator>(
         → AddsPart first most (rows_of_group bytes.now t (shape_view file.now.shape) (group_view group.now))
         (row_views rows.old.items) result (row_views rows.new.items) }
 {
-    test_columns(alloc, bytes, &group.columns, &file.leaves)?;
+    // A proof knows a number's range once it is read.
+    let num_rows = group.num_rows;
+    let passed = rows_to_pass(&file.shape, num_rows, first);
+    let mut readers = tested_columns(alloc, bytes, &group.columns, &file.leaves, passed)?;
     if !are_counted(group, &file.leaves) {
         return Err(FileFault::CountMismatch.into());
     }
-    let mut readers = open_columns(alloc, bytes, &group.columns, &file.leaves)?;
-    // A proof knows a number's range once it is read.
-    let num_rows = group.num_rows;
     add_rows(
         alloc,
         &file.shape,
-        num_rows,
+        num_rows - passed,
         &mut readers,
-        first,
+        first - passed,
         most,
         rows,
     )

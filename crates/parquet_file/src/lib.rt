@@ -6,6 +6,7 @@ mod assembling;
 mod columns;
 mod data_file;
 mod error;
+mod flat;
 mod forms;
 mod groups;
 mod laws;

@@ -68,11 +68,12 @@ pub fn read_rows<A: Allocator, H: Allocator + Copy>(
 /// Reads at most `most` rows of a file, from the one of the number `first` on, and how many there are (Apache Parquet,
 /// File Format). The whole file is tested, with the faults of [`read_rows`] in the same order, and in the same memories.
 ///
-/// The time is linear in the footer's bytes, the headers and levels of the pages of each group, their runs of levels,
-/// their pages and each 4,096 of their rows times the leaves, the bytes of columns of texts, bytes, and numbers of one or
-/// two bytes, and the rows that are given times the leaves; other values of a fixed size cost nothing. Beside the footer
-/// the memory holds the rows that are given, and of each leaf the levels of one page, as runs, and the cells of the rows
-/// that are made of the pages at hand.
+/// The time is linear in the footer's bytes, the headers and levels of the pages of each group, the bytes of columns of
+/// texts, bytes, and numbers of one or two bytes, and the rows that are given times the leaves; other values of a fixed
+/// size cost nothing. Each page is gone through once, and once more where a row that is given stands in it; of a group
+/// in front the last page of each leaf is too. Where the table has a struct, all pages are, with their runs of levels
+/// and each 4,096 of their rows times the leaves. Beside the footer the memory holds the rows that are given, and of
+/// each leaf the levels of one page, as runs, and the cells of the rows that are made of the pages at hand.
 pub fn read_part<A: Allocator, H: Allocator + Copy>(
     alloc: Global,
     heap: H,

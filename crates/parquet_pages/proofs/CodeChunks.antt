@@ -82,7 +82,7 @@ next_page l given most i place (suc left) next c lt some h =
     let k : most - i ≡ suc (most - (i + 1)) = omega arith in
     rw (k, h) refl
 
-no_page_left : (l : Leaf) (given : List ℕ) (most place left : ℕ) → left ≡ 0
+pub no_page_left : (l : Leaf) (given : List ℕ) (most place left : ℕ) → left ≡ 0
     → pages_at most l given place left ≡ Ok no_cells
 unfolding pages_at
 no_page_left l given most place left none = rw none refl

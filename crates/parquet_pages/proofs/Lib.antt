@@ -21,4 +21,7 @@ pub mod PlainFound
 pub mod PlainOnly
 pub mod PlainParts
 pub mod TruthParts
+pub mod PassedCells
+pub mod UsualFields
+pub mod SoundCells
 pub mod Callers

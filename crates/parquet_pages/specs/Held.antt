@@ -1,5 +1,5 @@
 -- What a reader of a column's pages has left.
-use Rattle.std.specs.Prelude.{◌≡◌, ℕ, ◌<◌, ◌≤◌, ◌^◌, List, [], length, drop, All, true, Result, Ok, Err}
+use Rattle.std.specs.Prelude.{◌≡◌, ℕ, ◌+◌, ◌<◌, ◌≤◌, ◌^◌, List, [], length, drop, All, true, Result, Ok, Err}
 use Rattle.lake_bytes.specs.Hybrid.{values_of}
 use Rattle.row_core.specs.Rows.{Value}
 use Rattle.shred.specs.Columns.{Column}
@@ -11,6 +11,7 @@ use Rattle.parquet_pages.specs.Pages.{highest, is_proper, joined, present}
 use Rattle.parquet_pages.specs.Plain.{plain_at}
 use Rattle.parquet_pages.specs.Reading.{pages_at}
 use Rattle.parquet_pages.specs.Views.{leaf_view}
+use Rattle.parquet_pages.specs.declared.chunk.Mark.{Mark}
 use Rattle.parquet_pages.specs.declared.reader.ColumnReader.{ColumnReader}
 use Rattle.parquet_pages.specs.declared.types.LeafType.{LeafType}
 use Rattle.parquet_pages.specs.declared.values.PlainReader.{PlainReader}
@@ -59,3 +60,15 @@ abbrev pub Fills : pages.Leaf → Column → Result ℕ FileError → ColumnRead
 Fills l c (Ok count) r = IsFilled l r count c
 Fills l c (Err errors.Memory) r = AreLeft l r c
 Fills l c (Err (errors.Fault fault)) r = ⊥
+
+-- Of a column of so many levels the cells behind the mark are in the pages from there on; at most so many stand before it.
+pub record IsMark (l : pages.Leaf) (given : List ℕ) (count before : ℕ) (mark : Mark) (c : Column) : Type 0 where
+  pub front : Column
+  pub behind : Column
+  pub parts : c ≡ joined front behind
+  pub value_each : present (highest l) front.levels ≡ length front.values
+  pub many : length front.levels + mark.left ≡ count
+  pub few_before : length front.levels ≤ before
+  pub most : ℕ
+  pub few : most ≤ length given
+  pub read : pages_at most l given mark.place mark.left ≡ Ok behind

@@ -9,3 +9,4 @@ pub mod Outcome
 pub mod Internal
 pub mod Parts
 pub mod Held
+pub mod Usual

@@ -1,8 +1,9 @@
 //! The pages of a column chunk.
 
-ghost use Rattle.std.specs.Prelude.{◌≡◌, length, IfOk, ⊤};
+ghost use Rattle.std.specs.Prelude.{◌≡◌, ◌≤◌, ◌<◌, length, IfOk, ⊤};
 ghost use Rattle.lake_bytes.specs.Reading.{IsReading};
 ghost use Rattle.shred.specs.Columns as columns;
+ghost use Rattle.parquet_pages.specs.Held.{IsMark};
 ghost use Rattle.parquet_pages.specs.Outcome.{FindsWhere, GivesWhere};
 ghost use Rattle.parquet_pages.specs.Pages.{ChunkHolds, Suits};
 ghost use Rattle.parquet_pages.specs.Reading.{chunk_at, first_place, pages_at};
@@ -40,8 +41,7 @@ pub fn test_chunk(
     chunk_passes(alloc, leaf, bytes, stated, num_values)
 }
 
-/// Tests a chunk, in the order of the tests.
-#[tactic(auto, unfolding(crate::specs::Reading::chunk_at))]
+/// Tests a chunk, and keeps no place.
 fn chunk_passes(
     alloc: Global,
     leaf: &Leaf,
@@ -51,11 +51,35 @@ fn chunk_passes(
 ) -> Result<(), FileError>
     ensures exact { GivesWhere (λ x c. ⊤) result (chunk_at (leaf_view leaf.now) bytes.now stated num_values) }
 {
+    mark_in_chunk(alloc, leaf, bytes, stated, num_values, 0)?;
+    Ok(())
+}
+
+/// Where a page of a chunk begins, and how many values it and those behind it have.
+#[derive(Clone, Copy)]
+pub(crate) struct Mark {
+    pub(crate) place: usize,
+    pub(crate) left: u64,
+}
+
+/// Tests a chunk, in the order of the tests, and marks the last of its pages that at most so many cells stand before.
+#[tactic(auto, unfolding(crate::specs::Reading::chunk_at))]
+pub(crate) fn mark_in_chunk(
+    alloc: Global,
+    leaf: &Leaf,
+    bytes: &[u8],
+    stated: i64,
+    num_values: u64,
+    before: u64,
+) -> Result<Mark, FileError>
+    ensures { GivesWhere (IsMark (leaf_view leaf.now) bytes.now num_values before) result
+        (chunk_at (leaf_view leaf.now) bytes.now stated num_values) }
+{
     if num_values == 0 {
-        return Ok(());
+        return Ok(Mark { place: 0, left: 0 });
     }
     let place = first_place(stated)?;
-    test_pages(alloc, leaf, bytes, place, num_values)
+    test_pages(alloc, leaf, bytes, place, num_values, before)
 }
 
 /// The place of a chunk's first page, which isn't before byte 4.
@@ -69,23 +93,36 @@ pub fn first_place(stated: i64) -> Result<usize, FileFault>
     Ok(stated as usize)
 }
 
-/// Tests the pages from a place on, up to so many values.
+/// The next mark, where no more cells stand before it than may, and else the one that stands.
+fn later_mark(mark: Mark, next: Mark, passed: u64, before: u64) -> Mark
+    ensures later { passed ≤ before → result ≡ next }
+    ensures same { before < passed → result ≡ mark }
+{
+    if passed <= before { next } else { mark }
+}
+
+/// Tests the pages from a place on, up to so many values, and marks the last one that at most so many cells stand before.
 fn test_pages(
     alloc: Global,
     leaf: &Leaf,
     bytes: &[u8],
     place: usize,
     count: u64,
-) -> Result<(), FileError>
-    ensures { GivesWhere (λ x c. ⊤) result (pages_at (length bytes.now) (leaf_view leaf.now) bytes.now place count) }
+    before: u64,
+) -> Result<Mark, FileError>
+    ensures { GivesWhere (IsMark (leaf_view leaf.now) bytes.now count before) result
+        (pages_at (length bytes.now) (leaf_view leaf.now) bytes.now place count) }
 {
     let mut place = place;
     let mut left = count;
+    let mut mark = Mark { place, left };
     // Each page takes a byte at least.
     for _page in 0..bytes.len() {
         if left == 0 {
-            return Ok(());
+            return Ok(mark);
         }
+        let passed = count.saturating_sub(left);
+        mark = later_mark(mark, Mark { place, left }, passed, before);
         let page = read_page(alloc, leaf, bytes, place, left)?;
         left -= page.num_values();
         place = page.next();
@@ -93,5 +130,5 @@ fn test_pages(
     if left > 0 {
         return Err(FileFault::BadOffset.into());
     }
-    Ok(())
+    Ok(mark)
 }

@@ -10,6 +10,7 @@ ghost use Rattle.parquet_pages.specs.Views.{content_view, header_view};
 ghost use Rattle.parquet_footer.specs.declared.fault.FileFault.TheVariants.{BadPage};
 
 use crate::enums::{DATA_PAGE, DICTIONARY_PAGE};
+use crate::usual::usual_header;
 use lake_bytes::Cursor;
 use parquet_footer::{FileError, FileFault};
 use std::alloc::Global;
@@ -56,9 +57,28 @@ pub enum PageContent {
 /// levels is looked at where the column has levels.
 ///
 /// P11 where it can't be read, lacks a field that is needed (TH4), or has a negative count (B3). The time is linear in
-/// its bytes.
-#[tactic(auto, unfolding(crate::specs::Reading::header_at))]
+/// its bytes. The header of a data page with no field but the usual ones takes no memory.
 pub fn read_header(
+    alloc: Global,
+    bytes: &[u8],
+    has_levels: bool,
+) -> Result<(PageHeader, &[u8]), FileError>
+    ensures exact { FileGives (λ x. (header_view x.0, x.1.now)) result (header_at has_levels bytes.now) }
+    ensures behind { IfOk result (λ x. length x.1.now ≤ length bytes.now) }
+{
+    let mut cursor = Cursor::new(bytes);
+    if let Some(usual) = usual_header(&mut cursor) {
+        return match usual.header(has_levels) {
+            Ok(header) => Ok((header, cursor.left())),
+            Err(fault) => Err(FileError::Fault(bad_page(fault))),
+        };
+    }
+    read_any_header(alloc, bytes, has_levels)
+}
+
+/// The header of a page with any fields, which are read as a tree.
+#[tactic(auto, unfolding(crate::specs::Reading::header_at))]
+fn read_any_header(
     alloc: Global,
     bytes: &[u8],
     has_levels: bool,

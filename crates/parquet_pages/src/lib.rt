@@ -14,6 +14,7 @@ mod plain;
 mod reader;
 mod testing;
 mod types;
+mod usual;
 mod values;
 
 pub use chunk::{first_place, test_chunk};

@@ -6,14 +6,14 @@ ghost use Rattle.shred.specs.Columns as columns;
 ghost use Rattle.shred.specs.Parts.{cut_off};
 ghost use Rattle.parquet_footer.specs.declared.fault.FileFault.{FileFault};
 ghost use Rattle.parquet_pages.specs.Held.{at_hand, AreLeft, Fills, HoldsPage};
-ghost use Rattle.parquet_pages.specs.Outcome.{FindsWhere};
+ghost use Rattle.parquet_pages.specs.Outcome.{FindsWhere, GivesWhere};
 ghost use Rattle.parquet_pages.specs.Pages as pages;
 ghost use Rattle.parquet_pages.specs.Pages.{highest};
 ghost use Rattle.parquet_pages.specs.Parts.{IsPartOf, cut_cells};
 ghost use Rattle.parquet_pages.specs.Reading.{chunk_at, page_at};
 ghost use Rattle.parquet_pages.specs.Views.{leaf_view};
 
-use crate::chunk::first_place;
+use crate::chunk::{first_place, mark_in_chunk};
 use crate::leaf::Leaf;
 use crate::levels::present;
 use crate::pages::{add_levels, read_page};
@@ -79,6 +79,60 @@ impl<'a> ColumnReader<'a> {
             count: 0,
             values: PlainReader::none(leaf.leaf_type),
         })
+    }
+
+    /// Tests a chunk as [`test_chunk`](crate::test_chunk) does, with its faults, and gives the reader of what stands behind
+    /// so many of its cells.
+    ///
+    /// The time is linear in the bytes of the pages, and in the runs of levels, texts and bytes of the page in which those
+    /// cells end, which is read again.
+    pub fn tested(
+        alloc: Global,
+        leaf: Leaf<'a>,
+        bytes: &'a [u8],
+        stated: i64,
+        num_values: u64,
+        passed: u64,
+    ) -> Result<ColumnReader<'a>, FileError>
+        // The column behind those cells is left, or the fault is the first one of the chunk.
+        ensures { GivesWhere (λ reader c. AreLeft (leaf_view leaf.entry) reader
+            (cut_off passed (highest (leaf_view leaf.entry)) c)) result
+            (chunk_at (leaf_view leaf.entry) bytes.now stated num_values) }
+    {
+        let mark = mark_in_chunk(alloc, &leaf, bytes, stated, num_values, passed)?;
+        let mut reader = ColumnReader {
+            leaf,
+            bytes,
+            place: mark.place,
+            left: mark.left,
+            levels: VecDeque::new(alloc),
+            count: 0,
+            values: PlainReader::none(leaf.leaf_type),
+        };
+        let before = num_values.saturating_sub(mark.left);
+        reader.pass(alloc, passed.saturating_sub(before))?;
+        Ok(reader)
+    }
+
+    /// Passes so many cells, or all that are left. Of what is left where memory runs out nothing is said.
+    ///
+    /// The time is linear in the bytes of the pages that they stand in.
+    pub fn pass(&mut self, alloc: Global, count: u64) -> Result<(), FileError>
+        // The column behind those cells is left, unless memory runs out.
+        ensures passed { (l : pages.Leaf) (c : columns.Column) → AreLeft l self.old c
+            → FindsWhere (λ _. AreLeft l self.new (cut_off count (highest l) c)) result }
+    {
+        let mut wanted = count;
+        while wanted > 0 {
+            let at_hand = self.fill(alloc)?;
+            if at_hand == 0 {
+                return Ok(());
+            }
+            let cells = wanted.min(at_hand);
+            let _part = self.take(alloc, cells, cells, 0)?;
+            wanted -= cells;
+        }
+        Ok(())
     }
 
     /// Goes on to the next page with cells, where all cells of the page at hand were taken: how many cells are at hand

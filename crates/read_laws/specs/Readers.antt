@@ -20,12 +20,13 @@ use Rattle.source_core.specs.declared.source_session.ReadEnd.{ReadEnd}
 use Rattle.source_core.specs.declared.tail_fault.TailFault.{TailFault}
 use Rattle.read_laws.specs.Kept.{IsKept}
 
--- One read that has ended: how many rows it was to hand out at most, whether it went by checkpoints, the talk in which what it knew before
--- was told, its own talk and its end; the objects that stood when its names were listed, and by which entries their table had grown
+-- One read that has ended: how many rows it was to hand out at most, whether it went by checkpoints, the versions that it knew before and
+-- the talk in which they were told, its own talk and its end; the objects that stood when its names were listed, and by which entries their table had grown
 -- since the read before.
 pub record OneRead : Type 0 where
   pub max : ℕ
   pub use_checkpoints : Bool
+  pub known : List ℕ
   pub before : Talk
   pub talk : Talk
   pub end : ReadEnd
@@ -44,7 +45,7 @@ next_told offset (Err fault) = offset
 
 -- what a read at an offset is to do
 abbrev pub job_at : Offset → OneRead → SourceJob
-job_at offset r = record { place = offset; max = r.max; use_checkpoints = r.use_checkpoints }
+job_at offset r = record { place = offset; max = r.max; use_checkpoints = r.use_checkpoints; known = r.known }
 
 -- The read from this offset told what its session tells behind its talk. The talk shows the objects that were listed, which keep the table of
 -- these entries; where checkpoints are used, they are sound.
@@ -55,7 +56,7 @@ pub record IsReadAt (schema : Schema) (offset : Offset) (entries : List Entry) (
   pub restores : RestoresWell r.use_checkpoints r.listed
   pub keeps : IsKept r.listed schema entries
 
--- what a refusal says of an offset: it is behind the log, or in no file of its version; or a call was lost, or memory ran out
+-- what a refusal says of an offset: it is past the log's end, or in no file of its version; or a call was lost, or memory ran out
 abbrev pub MayRefuse : (offset : Offset) → List Entry → ReadRefusal → Type 0
 MayRefuse offset entries (beyond_log next) = (is_beyond offset entries ≡ true) × (next ≡ length entries)
 MayRefuse offset entries (bad_place version) = (is_beyond offset entries ≡ false) × (is_offset offset entries ≡ false) × (version ≡ offset.version)

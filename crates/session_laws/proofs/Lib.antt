@@ -7,6 +7,7 @@ mod Lacks
 mod LoadRows
 mod NextSteps
 mod NextVersions
+mod PlainWinners
 mod Puts
 mod ReadRows
 mod Ready

@@ -126,7 +126,7 @@ module _ (objects : Objects) (schema : Schema) (entries : List Entry) (sound : I
     of_table (first ∷ rest) is =
         let some : table.entries ≢ [] = λ none. let wrong = sym is ∙ none in absurd cc in
         let kept : IsKept listed table.schema (first ∷ rest) = subst (IsKept listed table.schema) is (sound_kept listed table some (was.readable table.schema table.entries table.holds)) in
-        read_may table.schema job.place (first ∷ rest) (record { max = job.max; use_checkpoints = job.use_checkpoints; before = before; talk = talk; end = end; listed = listed; more = [] })
+        read_may table.schema job.place (first ∷ rest) (record { max = job.max; use_checkpoints = job.use_checkpoints; known = job.known; before = before; talk = talk; end = end; listed = listed; more = [] })
         (record { known = was.earlier; shown = was.shown; told = ends; restores = restores; keeps = kept })
 
     told_of_listed : TellsOfListed (take (next_version talk) entries) job end.answer

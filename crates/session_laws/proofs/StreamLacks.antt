@@ -125,5 +125,5 @@ module _ (objects : Objects) (schema : Schema) (entries : List Entry) (sound : I
   stream_tells (Err faults.BadApp) ends = ends.1
   stream_tells (Err faults.TooLarge) ends = too_large_tells objects schema entries sound holds job before known_before talk borne ends
   stream_tells (Err faults.FileTooLarge) ends = file_too_large_tells objects schema entries sound holds job before known_before talk borne ends
-  stream_tells (Err (faults.SchemaChanged version)) ends = schema_tells objects schema entries sound holds job before known_before talk borne version ends
+  stream_tells (Err (faults.SchemaChanged version)) ends = schema_tells objects schema entries sound holds job before known_before talk borne tells version ends
   stream_tells (Err faults.Memory) ends = tt

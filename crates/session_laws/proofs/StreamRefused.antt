@@ -1,5 +1,5 @@
 -- Why a stream's session does nothing more: what it tells is so of the table, of the rules over the commits that are known, or of its talk.
-use Rattle.std.proofs.Common.{◌≡◌, ◌∙◌, ◌⊎◌, ◌<◌, ℕ, suc, List, [], ◌∷◌, ◌++◌, Bool, true, false, Option, Some, None, Result, Ok, Err, IsSome, append_assoc, inl, inr, refl, sym, ap, ap₂, subst, arith}
+use Rattle.std.proofs.Common.{◌≡◌, ◌∙◌, ◌⊎◌, ◌<◌, ◌≤◌, ℕ, suc, List, [], ◌∷◌, ◌++◌, Bool, true, false, Option, Some, None, Result, Ok, Err, IsSome, append_assoc, inl, inr, refl, sym, ap, ap₂, subst, arith}
 use Rattle.std.specs.Str.{IsUtf8}
 use Rattle.serde_json.specs.Data.{Items}
 use Rattle.lake_bytes.specs.Results.{◌>>=◌, refused_as}
@@ -8,7 +8,6 @@ use Rattle.store_core.specs.declared.store.Put.TheVariants.{Exists}
 use Rattle.session_core.specs.Names.{commit_name}
 use Rattle.session_core.specs.Talks.{Bears, Talk, get_object, put_commit, put_file, told_lost, told_object, told_put}
 use Rattle.session_core.proofs.Callers.{bears_more}
-use Rattle.schema_tree.specs.Sameness.{has_fraction}
 use Rattle.schema_tree.specs.Tree.{Tree}
 use Rattle.parquet_file.specs.File.{KeepsLimits}
 use Rattle.delta_actions.specs.Action.{Action}
@@ -28,19 +27,23 @@ use Rattle.table_store.specs.Schema.{Schema, IsFileOf}
 use Rattle.log_laws.specs.Sound.{IsSoundStore}
 use Rattle.table_store.proofs.HoldingSchema.{only_table}
 use Rattle.sink_core.proofs.ReachLemmas.{reaches_fine}
-use Rattle.commit_core.specs.CommitSessions.{ComesTo, put_told, taken}
-use Rattle.commit_core.proofs.Callers.{bears_front}
+use Rattle.commit_core.specs.CommitSessions.{ComesTo, CommitEnds, CommitJob, HoldsOfCommit, commits_view, put_told, taken}
+use Rattle.commit_core.specs.declared.commit_fault.CommitFault.{CommitFault}
+use Rattle.commit_core.specs.declared.commit_state.CommitOutcome.{CommitOutcome}
+use Rattle.commit_core.specs.declared.commit_state.CommitOutcome.TheVariants as outcomes
+use Rattle.commit_core.proofs.Callers.{bears_end, bears_front}
 use Rattle.batch_core.specs.Refusals.{SinkRefusal, read_only, refusal_view, stale, stream_closed}
 use Rattle.batch_core.specs.Requests.{SinkRequest, close_behind, has_same, numbered, request_behind}
 use Rattle.batch_core.specs.declared.fault.SinkFault.TheVariants as faults
 use Rattle.batch_core.specs.RowsIn.{rows_from}
 use Rattle.batch_core.proofs.Callers.{IsOfNumber, asked_parts, close_parts, reads_as_file, refused_parts}
 use Rattle.sink_core.specs.SinkSessions as sinks
-use Rattle.sink_core.specs.SinkSessions.{AnswerEnds, HasLooked, HoldsOf, IsWrittenOtherwise, LooksAt, Point, Reaches, Settled, SinkJob, SinkTask, appends, asked_of, closes, conflicts, file_of, goes_on, loaded, race_of, ready, repeated, rules, settles}
+use Rattle.sink_core.specs.SinkSessions.{AnswerEnds, HasLooked, HoldsOf, LooksAt, Point, Reaches, Settled, SinkJob, SinkTask, appends, asked_of, closes, conflicts, file_of, goes_on, loaded, race_of, ready, repeated, rules, settles, tell_metadata}
 use Rattle.session_laws.specs.Rows.{FoundTaken, GotNone, HasLargeFile, HasOtherFile, IsBatchOf, LosesCommit, RulesSay, TellsOfBatch, name_of, next_version}
 use Rattle.session_laws.proofs.Entries.{batch_file}
 use Rattle.session_laws.proofs.Fronts.{IsKnownFront, reached_front}
 use Rattle.session_laws.proofs.NextVersions.{in_race_next, reaches_next, reaches_some}
+use Rattle.session_laws.proofs.PlainWinners.{plain_commits}
 use Rattle.session_laws.proofs.Ready.{batch_by, file_named, ready_for, ruled_batch}
 use Rattle.session_laws.proofs.TableAnswers.{again_answer, closed_answer, stale_answer, written_front}
 
@@ -179,49 +182,19 @@ module _ (objects : Objects) (schema : Schema) (entries : List Entry) (sound : I
 
   -- ---- the schema
 
-  -- what is settled has the table's own schema
-  settled_own : (known : Loaded) (tries : ℕ) (point : Point) (settled : Settled) → point ≡ rules (Some settled) → Reaches job before talk known tries point → settled.schema ≡ schema
-  settled_own known tries point settled is (loaded _ _ fine load) = absurd cc
-  settled_own known tries point settled is (settles front calls _ _ _ request size reaches asked new settled_so reads talked) = absurd cc
-  settled_own known tries point settled is (goes_on _ _ _ other reaches asked) = absurd cc
-  settled_own known tries point settled is (conflicts front race _ old _ some left newest other winners reaches few ends talked rest next front_known) =
-      let same : other ≡ settled = cc in
-      let own = bears_front objects front race (subst (Bears objects) talked borne) in
-      let wants = ready_for job before front old some other (ready other) refl reaches in
-      let here = reached_front objects schema entries sound holds job before front old some (ready other) known_before own reaches in
-      let written = asked_written job old.next here.log wants.request (wants.asked here.log here.snapshot) in
-      ap (λ (s : Settled). s.schema) (sym same) ∙ (sym wants.schema ∙ written_front objects schema entries old.next here.log here.front wants.request.schema written)
-
-  -- behind winners the last of them was found taken
-  winner_met : (known : Loaded) (tries : ℕ) (point : Point) (settled : Settled) → point ≡ rules (Some settled) → Reaches job before talk known tries point → (version : ℕ) → known.next ≡ suc version → FoundTaken talk version
-  winner_met known tries point settled is (loaded _ _ fine load) version next = absurd cc
-  winner_met known tries point settled is (settles front calls _ _ _ request size reaches asked new settled_so reads talked) version next = absurd cc
-  winner_met known tries point settled is (goes_on _ _ _ other reaches asked) version next = absurd cc
-  winner_met known tries point settled is (conflicts front race _ old _ some left newest other winners reaches few ends talked rest later front_known) version next =
-      let put = race_of job other old.next some in
-      let got : Talk = (get_object (commit_name newest), told_object (Some ends.1.bytes)) ∷ [] in
-      let met = taken put.version put.bytes ends.2.winners in
-      let whole : talk ≡ (front ++ met) ++ (put_commit newest put.bytes, told_put Exists) ∷ got = talked ∙ (ap (λ (t : Talk). front ++ t) ends.2.told ∙ sym (append_assoc front met ((put_commit newest put.bytes, told_put Exists) ∷ got))) in
-      let same : newest ≡ version = omega (arith, later, next) in
-      subst (λ (v : ℕ). FoundTaken talk v) same (front ++ met, put.bytes, got, whole)
-
-  -- No winner changes it, as far as schemas are compared.
-  pub schema_tells : (version : ℕ) → AnswerEnds job before talk (Err (faults.SchemaChanged version)) → (has_fraction schema ≡ true) × FoundTaken talk version × (next_version talk ≡ suc version)
-  schema_tells version (settled, is) =
-      let here = known_here is.known is.tries (rules (Some settled)) is.reaches in
-      let says : IsWrittenOtherwise settled.schema here.log = (is.says here.log here.snapshot).1 in
-      let now : says.0 ≡ schema = written_front objects schema entries is.known.next here.log here.front says.0 says.1 in
-      let was : settled.schema ≡ schema = settled_own is.known is.tries (rules (Some settled)) settled refl is.reaches in
-      let next = reaches_next job before talk is.known is.tries (rules (Some settled)) is.reaches in
-      let at = (is.says here.log here.snapshot).0 in (
-        by_fraction (has_fraction schema) refl (λ plain. says.2 (ap has_fraction was ∙ plain) (was ∙ sym now)),
-        winner_met is.known is.tries (rules (Some settled)) settled refl is.reaches version at,
-        sym next ∙ at,
-      )
-    where
-      by_fraction : (fraction : Bool) → has_fraction schema ≡ fraction → (has_fraction schema ≡ false → ⊥) → has_fraction schema ≡ true
-      by_fraction true has not_plain = has
-      by_fraction false has not_plain = absurd (not_plain has)
+  -- no winner has a metadata
+  pub schema_tells : ((put : CommitJob) (race : Talk) (result : Result CommitOutcome CommitFault) → Bears objects race → CommitEnds put before race result → HoldsOfCommit objects put result) → (version : ℕ) → AnswerEnds job before talk (Err (faults.SchemaChanged version)) → ⊥
+  schema_tells tells version ends =
+      let r = ends.1 in
+      let put = race_of job r.settled r.known.next r.tries in
+      let winners = r.holds.1 in
+      let raced = bears_end objects r.front r.race (subst (Bears objects) r.talked borne) in
+      let held = tells put r.race (Ok (outcomes.Conflicted r.holds.0 winners)) raced r.holds.2 in
+      let some : 0 < r.known.next = reaches_some job before r.front r.known r.tries (ready r.settled) r.reaches in
+      let last : r.holds.0 ≤ greatest_version = r.holds.2.5 in
+      let plain : tell_metadata (commits_view winners) ≡ false = plain_commits objects sound.table r.known.next (commits_view winners) some (omega (arith, held.1, last)) held.0 in
+      let wrong : true ≡ false = sym r.holds.3 ∙ plain in
+      absurd cc
 
   -- ---- its talk
 

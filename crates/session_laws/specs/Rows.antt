@@ -7,7 +7,6 @@ use Rattle.store_core.specs.declared.store.Put.TheVariants.{Exists}
 use Rattle.session_core.specs.Names.{commit_name}
 use Rattle.session_core.specs.Shown.{Shows}
 use Rattle.session_core.specs.Talks.{Bears, Talk, list_names, get_object, put_commit, told_lost, told_names, told_object, told_put}
-use Rattle.schema_tree.specs.Sameness.{has_fraction}
 use Rattle.parquet_file.specs.File.{KeepsLimits}
 use Rattle.delta_actions.specs.Action.{Action}
 use Rattle.delta_actions.specs.Commit.{IsCommit}
@@ -231,8 +230,8 @@ MayTellOfStream objects schema entries job talk (Err faults.BadApp) = fine job �
 -- a limit of the job's, or there is no version any more that a commit can have
 MayTellOfStream objects schema entries job talk (Err faults.TooLarge) = (fine job ≡ Err (refusal_view faults.TooLarge)) ⊎ (greatest_version < next_version talk)
 MayTellOfStream objects schema entries job talk (Err faults.FileTooLarge) = HasLargeFile objects job talk
--- No winner of a sound store changes the schema. How numbers with a fraction in a schema's metadata are compared is left open.
-MayTellOfStream objects schema entries job talk (Err (faults.SchemaChanged version)) = (has_fraction schema ≡ true) × FoundTaken talk version × (next_version talk ≡ suc version)
+-- no winner of a sound store has a metadata
+MayTellOfStream objects schema entries job talk (Err (faults.SchemaChanged version)) = ⊥
 MayTellOfStream objects schema entries job talk (Err faults.Memory) = Unit {0}
 
 -- ---- what a read tells

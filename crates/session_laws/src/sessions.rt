@@ -47,8 +47,7 @@ pub fn what_a_checkpoint_may()
 /// the batch's; that no file of its rows stands under its name, of those within the limits of what is read, or that nothing was got
 /// there. Or it is so of their talk: that as many versions were taken as may be tried, and the last of them; which call was lost;
 /// which commit is lacked. Or the rules say so of the commits that were listed and of the winners. That a winner changed the schema
-/// is told only behind one, and only where the schema's metadata has a number with a fraction or an exponent, `-0`, or one beyond 64
-/// bits. Of want of memory nothing is said.
+/// isn't told. Of want of memory nothing is said.
 pub fn what_a_stream_may()
     ensures asks { (objects : Objects) (schema : Schema) (entries : List Entry) (job : SinkJob) (before talk : Talk) (asked : Asked) → BearsSession objects schema entries (streams job) before talk → IsValidJob (streams job)
         → SinkAsks job before talk asked → MayAsk objects schema (streams job) talk asked }

@@ -338,7 +338,7 @@ module _ (application : List ℕ) (number : ℕ) (items : Items) (at tries : ℕ
         let looked = ends.1 in
         let here = after_looked talk told may looked.front (string_bytes other) ends.0 looked.found looked.looks looked.talked looked.is in
         refused application number at old.0 new.0 (differs (string_bytes other)) (faults.Differs other) plan here.0 here.1 refl
-    appended talk told may asked (Err (faults.SchemaChanged version)) never ends = let none = (ruled_quiet job before old bears some new talk ends.1.known ends.1.tries (Some ends.0) ends.1.reaches told).2 in absurd cc
+    appended talk told may asked (Err (faults.SchemaChanged version)) never ends = let none = (ruled_quiet job before old bears some new talk ends.0.1.known ends.0.1.tries (Some ends.0.0) ends.0.1.reaches told).2 in absurd cc
     appended talk told may asked (Err (faults.Contended newest)) never (inl ends) = let given = (quiet_reaches job before old bears some talk ends.0 0 (ready ends.1) ends.2 new told).given in absurd (omega (arith, given, some))
     appended talk told may asked (Err (faults.Contended newest)) never (inr race) = absurd (raced_quiet job before old bears some _ new talk race told asked (Ok (outcomes.Contended newest race.holds.0)) race.holds.1).3
     appended talk told may asked (Err (faults.Lost version)) never ends = absurd (never version refl)

@@ -240,7 +240,7 @@ module _ (application : List ℕ) (at tries : ℕ) (use_checkpoints : Bool) (fir
     closed_so talk told may asked (Err (faults.Stale last)) never ends = after_rules talk told may _ (faults.Stale last) ends.1.known ends.1.tries ends.0 ends.1.reaches (λ log is. (ends.1.says log is).1) refl
     closed_so talk told may asked (Err faults.StreamClosed) never ends = after_rules talk told may _ faults.StreamClosed ends.1.known ends.1.tries ends.0 ends.1.reaches (λ log is. (ends.1.says log is).1) refl
     closed_so talk told may asked (Err (faults.Differs other)) never ends = absurd (never_looked (string_bytes other) ends.0 ends.1.front ends.1.looks)
-    closed_so talk told may asked (Err (faults.SchemaChanged version)) never ends = let none = (ruled_quiet job before old bears some new talk ends.1.known ends.1.tries (Some ends.0) ends.1.reaches told).2 in absurd cc
+    closed_so talk told may asked (Err (faults.SchemaChanged version)) never ends = let none = (ruled_quiet job before old bears some new talk ends.0.1.known ends.0.1.tries (Some ends.0.0) ends.0.1.reaches told).2 in absurd cc
     closed_so talk told may asked (Err (faults.Contended newest)) never (inl ends) = let given = (quiet_reaches job before old bears some talk ends.0 0 (ready ends.1) ends.2 new told).given in absurd (omega (arith, given, some))
     closed_so talk told may asked (Err (faults.Contended newest)) never (inr race) = absurd (raced_quiet job before old bears some _ new talk race told asked (Ok (outcomes.Contended newest race.holds.0)) race.holds.1).3
     closed_so talk told may asked (Err (faults.Lost version)) never ends = absurd (never version refl)

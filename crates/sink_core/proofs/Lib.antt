@@ -12,4 +12,5 @@ pub mod ReachLemmas
 pub mod RestoredAppends
 pub mod SinkCounts
 pub mod SinkTalks
+pub mod ToldSchemas
 pub mod WinnerLemmas

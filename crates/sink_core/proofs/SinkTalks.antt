@@ -282,7 +282,7 @@ module _ (job : SinkJob) (before talk : Talk) (version : ℕ) (bytes : List ℕ)
   created_told (Err (faults.Stale last)) ends = at_no_point ends.1.known ends.1.tries (rules ends.0) ends.1.reaches
   created_told (Err faults.StreamClosed) ends = at_no_point ends.1.known ends.1.tries (rules ends.0) ends.1.reaches
   created_told (Err (faults.Differs name)) ends = looks_never ends.1.front _ ends.1.found ends.1.talked
-  created_told (Err (faults.SchemaChanged at)) ends = at_no_point ends.1.known ends.1.tries (rules (Some ends.0)) ends.1.reaches
+  created_told (Err (faults.SchemaChanged at)) ends = at_no_point ends.0.1.known ends.0.1.tries (rules (Some ends.0.0)) ends.0.1.reaches
   created_told (Err (faults.Contended newest)) (inl ready_for) = at_no_point ready_for.0 0 (ready ready_for.1) ready_for.2
   created_told (Err (faults.Contended newest)) (inr r) = race_never _ r (suc newest) (commits_view r.holds.0) [] r.holds.1.0 (inl refl)
   created_told (Err (faults.Lost (Some at))) r = race_never _ r at r.holds.0 (put_told (race_of job r.settled r.known.next r.tries) at told_lost) r.holds.1 (inr (inl (told_lost, (λ e. absurd cc), refl)))

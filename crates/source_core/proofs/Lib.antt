@@ -4,6 +4,7 @@ pub mod ItemLemmas
 pub mod KeptTailPlace
 pub mod KeptTailSpot
 pub mod KeptTailWalk
+pub mod KnownCommits
 pub mod LogFiles
 pub mod LookedReads
 pub mod LookedSchemas

@@ -1,7 +1,6 @@
 -- Which refusals don't come in a world, or only for some schemas.
 use Rattle.std.proofs.Common.{◌≡◌, ◌∙◌, ◌≤◌, ℕ, zero, suc, Bool, true, false, List, [], ◌∷◌, length, take, refl, sym, ap, subst, arith}
 use Rattle.std.specs.Prelude.{Err, codes}
-use Rattle.schema_tree.specs.Sameness.{has_fraction}
 use Rattle.delta_actions.specs.Action.{Action}
 use Rattle.delta_replay.specs.Support.{Unsupported, checkpointable, fault_of, has_key_inside}
 use Rattle.table_log.specs.Counts.{commit_count, count_in}
@@ -66,18 +65,21 @@ module _ (laws : AreLaws) (events : List Event) (outs : List (Job × Outcome)) (
       by_job (reads job) outcome told (bad_checkpoint version) = told
       by_job (reads job) outcome told (bad_stream end version is) = told
 
-  module _ (schema : Schema) (entries : List Entry) (holds : Holds w.objects schema entries) where
-    -- It told that a winner changed the schema only where its metadata has a number with a fraction.
-    pub schema_fraction : TellsSchemaChanged outcome → has_fraction schema ≡ true
-    schema_fraction change = by_job actor.job outcome (may schema entries holds) change
-      where
-        by_job : (job : Job) (outcome : Outcome) → MayTell w.objects schema entries job [] actor.talk outcome → TellsSchemaChanged outcome → has_fraction schema ≡ true
-        by_job (streams job) outcome told (changed end version is) = (subst (MayTellOfStream w.objects schema entries job actor.talk) is told).0
-        by_job (loads job) outcome told (changed end version is) = absurd told
-        by_job (checkpoints job) outcome told (changed end version is) = absurd told
-        by_job (creates job) outcome told (changed end version is) = absurd told
-        by_job (reads job) outcome told (changed end version is) = absurd told
+  -- It didn't tell that a winner changed the schema.
+  pub schema_stays : TellsSchemaChanged outcome → ⊥
+  schema_stays change = by_job actor.job outcome (may table.schema table.entries table.holds) change
+    where
+      table : IsSound w.objects
+      table = good.store.sound.table
 
+      by_job : (job : Job) (outcome : Outcome) → MayTell w.objects table.schema table.entries job [] actor.talk outcome → TellsSchemaChanged outcome → ⊥
+      by_job (streams job) outcome told (changed end version is) = subst (MayTellOfStream w.objects table.schema table.entries job actor.talk) is told
+      by_job (loads job) outcome told (changed end version is) = told
+      by_job (checkpoints job) outcome told (changed end version is) = told
+      by_job (creates job) outcome told (changed end version is) = told
+      by_job (reads job) outcome told (changed end version is) = told
+
+  module _ (schema : Schema) (entries : List Entry) (holds : Holds w.objects schema entries) where
     -- the log that a session read asks for no feature but for invariants
     checkpoint_barred : (log : List (List Action)) → IsLogBehind w.objects actor.talk log → (fault : Unsupported) → checkpointable log ≡ Err fault → has_key_inside (codes "delta.invariants") schema ≡ true
     checkpoint_barred log stand fault refused = by_firsts front.firsts front.made front.lawful.begins front.long

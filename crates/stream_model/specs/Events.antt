@@ -1,5 +1,5 @@
 -- What may happen in a world: one event after the other, from a world in which nothing stands.
-use Rattle.std.specs.Prelude.{◌≡◌, ◌⊎◌, ℕ, List, [], ◌∷◌, ◌++◌, Option, None, Some, slice_get}
+use Rattle.std.specs.Prelude.{◌≡◌, ◌⊎◌, ℕ, List, [], ◌∷◌, ◌++◌, length, Option, None, Some, slice_get}
 use Rattle.lake_bytes.specs.Varint.{IsBytes}
 use Rattle.store_core.specs.Objects.{with_object}
 use Rattle.session_core.specs.Talks.{Asked, Talk, Told, put_commit, put_file, told_lost}
@@ -17,18 +17,18 @@ pub data Event : Type 0 where
   lose_answer : (name : ℕ) → Event
   land : (place : ℕ) → Event
 
--- the first version that a job has still to read
-abbrev pub first_of : Job → ℕ
-first_of (creates job) = 0
-first_of (loads job) = job.first
-first_of (checkpoints job) = job.first
-first_of (streams job) = job.load.first
-first_of (reads job) = 0
+-- how many versions of the log a job knows before it begins
+abbrev pub known_of : Job → ℕ
+known_of (creates job) = 0
+known_of (loads job) = job.known
+known_of (checkpoints job) = job.known
+known_of (streams job) = job.load.known
+known_of (reads job) = length job.known
 
 -- a job that can begin: a stream's application is a text and a version is tried at least, and no version is known already; a read begins
 -- with nothing known
 abbrev pub CanBegin : Job → Type 0
-CanBegin job = IsValidJob job × (first_of job ≡ 0)
+CanBegin job = IsValidJob job × (known_of job ≡ 0)
 
 -- the actor of a number
 abbrev pub HasActor : World → ℕ → Actor → Type 0

@@ -1,7 +1,6 @@
 //! What is so of every world, whatever happened in it: laws, each a function that does nothing.
 
 ghost use Rattle.std.specs.Prelude.{◌≡◌, ℕ, List, [], ◌∷◌, ◌++◌, Some, Contains, codes, true};
-ghost use Rattle.schema_tree.specs.Sameness.{has_fraction};
 ghost use Rattle.delta_replay.specs.Support.{has_key_inside};
 ghost use Rattle.store_core.specs.Objects.{HasObjectsOf, Objects, object_at};
 ghost use Rattle.session_core.specs.Talks.{Bears};
@@ -48,9 +47,9 @@ use table_model::{a_part_from_the_beginning_is_a_front, parts_that_follow_are_on
 ///   as it was to hand out or up to the start of the version that came next then; that its offset is past their end (O2), or in no file of its
 ///   version (O10); where no commit was listed, that version 0 is missing (O12); that a call was lost, right behind one that was; or that
 ///   memory ran out. No other refusal of a read comes (`reads`);
-/// - a session that has ended, and whose list had a commit, didn't tell that one is missing or can't be read (`listed`); that a winner changed
-///   the schema it told only where the schema's metadata has a number with a fraction or an exponent, `-0`, or one beyond 64 bits (`schema`),
-///   and that a checkpoint isn't put for what the table asks of its writers only where a field has `delta.invariants` (`supported`).
+/// - a session that has ended, and whose list had a commit, didn't tell that one is missing or can't be read (`listed`); none told that a
+///   winner changed the schema (`schema`); and that a checkpoint isn't put for what the table asks of its writers one told only where a field
+///   has `delta.invariants` (`supported`).
 ///
 /// A put takes effect on a free name alone; when it takes effect, a get gives what stands under its name, and a list all names that stand; and
 /// all objects are put by these sessions, of numbers of eight bits, as a program's bytes are. Jobs are creations, loads, checkpoints, appends
@@ -71,7 +70,7 @@ pub fn every_world()
     ensures listed { (events : List Event) (outs : List (Job × Outcome)) (w : World) → IsWorldOf events outs w → (name : ℕ) (actor : Actor) (outcome : Outcome) → HasActor w name actor → actor.hand ≡ ended outcome
         → ListsCommit actor.talk → TellsBadLog outcome → ⊥ }
     ensures schema { (events : List Event) (outs : List (Job × Outcome)) (w : World) → IsWorldOf events outs w → (name : ℕ) (actor : Actor) (outcome : Outcome) → HasActor w name actor → actor.hand ≡ ended outcome
-        → (schema : Schema) (entries : List Entry) → Holds w.objects schema entries → TellsSchemaChanged outcome → has_fraction schema ≡ true }
+        → TellsSchemaChanged outcome → ⊥ }
     ensures reads { (events : List Event) (outs : List (Job × Outcome)) (w : World) → IsWorldOf events outs w → (name : ℕ) (actor : Actor) (job : SourceJob) (end : ReadEnd) → HasActor w name actor → actor.job ≡ reads job
         → actor.hand ≡ ended (read end) → (names : List (List ℕ)) → Lists actor.talk names → (schema : Schema) (entries : List Entry) → Holds w.objects schema entries
         → IsReadSo entries job actor.talk names end.answer }

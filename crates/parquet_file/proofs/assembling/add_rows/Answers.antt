@@ -1,32 +1,38 @@
-use Rattle.std.proofs.Common.{◌-◌, ◌≤◌, ◌<◌, arith}
+use Rattle.std.proofs.Common.{◌≡◌, ◌-◌, ◌≤◌, ◌<◌, true, sym, ◌∙◌, arith}
 use Rattle.std.proofs.lemmas.List.{length-map}
 use Rattle.std.proofs.lemmas.Result.{err_from_is_err_and}
 use Rattle.row_core.specs.Views.{row_views, value_view}
 use Rattle.shred.specs.Views.{shape_view}
 use Rattle.parquet_footer.specs.Outcome.{says}
-use Rattle.parquet_file.proofs.RowsAtHand.{are_enough, left_are_even, left_levels, rows_begun, rows_done, rows_fail, rows_go_on}
+use Rattle.parquet_file.specs.Internal.{is_flat}
+use Rattle.parquet_file.proofs.RowsAtHand.{are_enough, left_are_even, left_levels, rows_begun, rows_done, rows_fail, rows_go_on, rows_stop}
 use Rattle.parquet_file.proofs.assembling.add_rows.Goals as goal
 
 pub loop-left-init : goal.loop-left-init
-loop-left-init c = λ leaves given held same some all.
+loop-left-init c = λ leaves given held same some all sound.
     let shape = shape_view c.args.shape.now in
     let old = row_views c.args.rows.now.items in
-    rows_begun shape leaves given c.args.readers.now c.args.first c.args.most old c.args.count same held all
+    rows_begun shape leaves given c.args.readers.now c.args.first c.args.most old c.args.count same held all sound
+
+pub returns-then-wanted-eq0 : goal.returns-then-wanted-eq0
+returns-then-wanted-eq0 c = λ leaves given held same some all sound.
+    let flat : is_flat (shape_view c.args.shape.now) ≡ true = sym c.is_flat-is_flat.ensures ∙ c.if-is_flat.true in
+    rows_stop (c.loop-left.invariant leaves given held same some all sound) same some flat c.if-wanted-eq0.true
 
 -- not reached: some rows are left, so no column is without levels
 pub returns-then-at_hand-eq0 : goal.returns-then-at_hand-eq0
-returns-then-at_hand-eq0 c = λ leaves given held same some all.
-    let k = c.loop-left.invariant leaves given held same some all in
+returns-then-at_hand-eq0 c = λ leaves given held same some all sound.
+    let k = c.loop-left.invariant leaves given held same some all sound in
     let hand = c.in_ok-at_hand.ensures.at_hand leaves k.columns k.held in
     let wanted : 0 < c.min.result = omega (arith, c.min.ensures, c.loop-left-test.true) in
     let more = hand.2 wanted (left_levels k same some c.loop-left-test.true) in
     absurd (omega (arith, more, c.if-at_hand-eq0.true))
 
 pub returns-in_err-add_rows_at_hand : goal.returns-in_err-add_rows_at_hand
-returns-in_err-add_rows_at_hand c = λ leaves given held same some all.
+returns-in_err-add_rows_at_hand c = λ leaves given held same some all sound.
     let n = c.in_ok-at_hand.at_hand in
     let few : n ≤ c.loop-left.left = omega (arith, c.in_ok-at_hand.ensures.few, c.min.ensures) in
-    let k = c.loop-left.invariant leaves given held same some all in
+    let k = c.loop-left.invariant leaves given held same some all sound in
     let hand = c.in_ok-at_hand.ensures.at_hand leaves k.columns k.held in
     let even = left_are_even k same some in
     let enough = are_enough k same some n few in
@@ -37,10 +43,10 @@ returns-in_err-add_rows_at_hand c = λ leaves given held same some all.
     rw (p.1, p.2) (rows_fail k same some n few (says e) said)
 
 pub loop-left-preserved : goal.loop-left-preserved
-loop-left-preserved c = λ leaves given held same some all.
+loop-left-preserved c = λ leaves given held same some all sound.
     let n = c.in_ok-at_hand.at_hand in
     let few : n ≤ c.loop-left.left = omega (arith, c.in_ok-at_hand.ensures.few, c.min.ensures) in
-    let k = c.loop-left.invariant leaves given held same some all in
+    let k = c.loop-left.invariant leaves given held same some all sound in
     let hand = c.in_ok-at_hand.ensures.at_hand leaves k.columns k.held in
     let even = left_are_even k same some in
     let enough = are_enough k same some n few in
@@ -67,6 +73,6 @@ loop-left-preserved c = λ leaves given held same some all.
     ))
 
 pub returns : goal.returns
-returns c = λ leaves given held same some all.
+returns c = λ leaves given held same some all sound.
     let none = c.loop-left-test.false in
-    rows_done (c.loop-left.invariant leaves given held same some all) same some (omega (arith, none))
+    rows_done (c.loop-left.invariant leaves given held same some all sound) same some (omega (arith, none))

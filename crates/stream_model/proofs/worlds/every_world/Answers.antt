@@ -3,7 +3,7 @@ use Rattle.session_laws.specs.Sessions.{Job}
 use Rattle.stream_model.proofs.Laws.{AreLaws}
 use Rattle.stream_model.proofs.Readers.{was_listed}
 use Rattle.stream_model.proofs.Seen.{SeesWell}
-use Rattle.stream_model.proofs.Refused.{no_bad_log, read_told_so, schema_fraction, schema_invariants}
+use Rattle.stream_model.proofs.Refused.{no_bad_log, read_told_so, schema_invariants, schema_stays}
 use Rattle.stream_model.proofs.Running.{headline_of, world_ran}
 use Rattle.stream_model.proofs.worlds.every_world.Goals as goal
 
@@ -46,7 +46,7 @@ pub returns-clause-listed : goal.returns-clause-listed
 returns-clause-listed c = λ events outs w ran name actor outcome is hand. no_bad_log (laws_of c) events outs w (world_ran (laws_of c) events outs w ran) name actor outcome is hand
 
 pub returns-clause-schema : goal.returns-clause-schema
-returns-clause-schema c = λ events outs w ran name actor outcome is hand schema entries holds. schema_fraction (laws_of c) events outs w (world_ran (laws_of c) events outs w ran) name actor outcome is hand schema entries holds
+returns-clause-schema c = λ events outs w ran name actor outcome is hand. schema_stays (laws_of c) events outs w (world_ran (laws_of c) events outs w ran) name actor outcome is hand
 
 pub returns-clause-supported : goal.returns-clause-supported
 returns-clause-supported c = λ events outs w ran name actor outcome is hand schema entries holds. schema_invariants (laws_of c) events outs w (world_ran (laws_of c) events outs w ran) name actor outcome is hand schema entries holds
