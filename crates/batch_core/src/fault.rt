@@ -12,7 +12,7 @@ use table_log::LogFault;
 use thiserror::Error;
 
 /// Why a sink refuses to append a batch of rows, or to close a stream. Its texts are written by hand, so that contracts know them.
-#[derive(Debug, Drop, Error)]
+#[derive(Debug, Error)]
 pub enum SinkFault {
     /// The application's id has no bytes, or over 64.
     BadApp,
@@ -41,6 +41,27 @@ pub enum SinkFault {
     Lost { version: Option<u64> },
     /// A growth was refused, and no put is known to have created the commit.
     Memory,
+}
+
+// One call where it is dropped, in place of all that it may hold: functions that hold one are much shorter to prove.
+impl Drop for SinkFault {
+    fn drop(self) {
+        match self {
+            SinkFault::BadApp => {}
+            SinkFault::TooLarge => {}
+            SinkFault::FileTooLarge => {}
+            SinkFault::BadLog { version: _ } => {}
+            SinkFault::ReadOnly { fault: _ } => {}
+            SinkFault::BadRow { index: _, fault: _ } => {}
+            SinkFault::Stale { last: _ } => {}
+            SinkFault::StreamClosed => {}
+            SinkFault::Differs { name: _ } => {}
+            SinkFault::SchemaChanged { version: _ } => {}
+            SinkFault::Contended { newest: _ } => {}
+            SinkFault::Lost { version: _ } => {}
+            SinkFault::Memory => {}
+        }
+    }
 }
 
 impl Display for SinkFault {

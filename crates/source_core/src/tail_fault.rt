@@ -12,7 +12,7 @@ use thiserror::Error;
 
 /// Why a read hands out nothing. The offset stands. Its texts are written by hand, so that contracts
 /// know them.
-#[derive(Debug, Drop, Error)]
+#[derive(Debug, Error)]
 pub enum TailFault {
     /// The offset's text is no offset.
     BadOffsetText,
@@ -58,6 +58,30 @@ pub enum TailFault {
     Lost,
     /// A growth was refused.
     Memory,
+}
+
+// One call where it is dropped, in place of all that it may hold: functions that hold one are much shorter to prove.
+impl Drop for TailFault {
+    fn drop(self) {
+        match self {
+            TailFault::BadOffsetText => {}
+            TailFault::Unsupported { fault: _ } => {}
+            TailFault::BeyondLog { next: _ } => {}
+            TailFault::VersionGone { first: _ } => {}
+            TailFault::RowsRemoved { version: _ } => {}
+            TailFault::SchemaChanged { version: _ } => {}
+            TailFault::BadPlace { version: _ } => {}
+            TailFault::MissingFile { path: _ } => {}
+            TailFault::BadFile {
+                version: _,
+                file: _,
+                fault: _,
+            } => {}
+            TailFault::BadLog { version: _ } => {}
+            TailFault::Lost => {}
+            TailFault::Memory => {}
+        }
+    }
 }
 
 impl Display for TailFault {

@@ -25,8 +25,8 @@ known_of (checkpoints job) = job.known
 known_of (streams job) = job.load.known
 known_of (reads job) = length job.known
 
--- a job that can begin: a stream's application is a text and a version is tried at least, and no version is known already; a read begins
--- with nothing known
+-- a job that can begin: a stream's application is a text and a version is tried at least, and no version is known already. Of the name of
+-- a checkpoint from which none is known nothing is asked.
 abbrev pub CanBegin : Job → Type 0
 CanBegin job = IsValidJob job × (known_of job ≡ 0)
 

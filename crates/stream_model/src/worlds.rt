@@ -48,7 +48,7 @@ use table_model::{a_part_from_the_beginning_is_a_front, parts_that_follow_are_on
 ///   version (O10); where no commit was listed, that version 0 is missing (O12); that a call was lost, right behind one that was; or that
 ///   memory ran out. No other refusal of a read comes (`reads`);
 /// - a session that has ended, and whose list had a commit, didn't tell that one is missing or can't be read (`listed`); none told that a
-///   winner changed the schema (`schema`); and that a checkpoint isn't put for what the table asks of its writers one told only where a field
+///   winner changed the schema (`schema`); and one told that a checkpoint isn't put for what the table asks of its writers only where a field
 ///   has `delta.invariants` (`supported`).
 ///
 /// A put takes effect on a free name alone; when it takes effect, a get gives what stands under its name, and a list all names that stand; and
