@@ -1,4 +1,5 @@
 mod Calls
+mod Effects
 mod Good
 mod Growing
 mod Lacking

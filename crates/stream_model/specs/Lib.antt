@@ -1,3 +1,4 @@
+pub mod Effects
 pub mod Events
 pub mod Headline
 pub mod Puts

@@ -4,4 +4,4 @@
 
 mod worlds;
 
-pub use worlds::{every_world, what_stands_in_a_world_stays};
+pub use worlds::{an_event_that_fits_has_its_effect, every_world, what_stands_in_a_world_stays};

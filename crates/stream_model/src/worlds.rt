@@ -1,6 +1,6 @@
 //! What is so of every world, whatever happened in it: laws, each a function that does nothing.
 
-ghost use Rattle.std.specs.Prelude.{◌≡◌, ℕ, List, [], ◌∷◌, ◌++◌, Some, Contains, codes, true};
+ghost use Rattle.std.specs.Prelude.{◌≡◌, ℕ, List, [], ◌∷◌, ◌++◌, None, Option, Some, Contains, codes, true};
 ghost use Rattle.delta_replay.specs.Support.{has_key_inside};
 ghost use Rattle.store_core.specs.Objects.{HasObjectsOf, Objects, object_at};
 ghost use Rattle.session_core.specs.Talks.{Bears};
@@ -14,7 +14,8 @@ ghost use Rattle.source_core.specs.declared.source_session.ReadEnd.{ReadEnd};
 ghost use Rattle.session_laws.specs.May.{AreBytes};
 ghost use Rattle.session_laws.specs.Rows.{Lists, WasListed};
 ghost use Rattle.session_laws.specs.Sessions.{HasAsked, Job, Outcome, read, reads};
-ghost use Rattle.stream_model.specs.Events.{CanBegin, Event, HasActor, IsWorldOf, Ran};
+ghost use Rattle.stream_model.specs.Effects.{HasEffect};
+ghost use Rattle.stream_model.specs.Events.{CanBegin, Event, Fits, HasActor, Happens, IsWorldOf, Ran};
 ghost use Rattle.stream_model.specs.Headline.{IsHeadline, IsReadSo, ListsCommit, TellsBadLog, TellsSchemaChanged, TellsUnsupported};
 ghost use Rattle.stream_model.specs.Puts.{HasTable, IsGoodPut, IsSubmittedFile};
 ghost use Rattle.stream_model.specs.Worlds.{Actor, World, ended};
@@ -103,3 +104,11 @@ pub fn what_stands_in_a_world_stays()
     every_world();
     a_sound_table_grows_at_its_end();
 }
+
+/// An event that fits a world has its effect there (`effect`): an actor begins, or is gone; its call is answered just so, and what it puts stands
+/// or is in flight; its session makes a step, by the answer that waits or by the loss of it; a put in flight takes effect, where its name is
+/// free, and stays in flight. One that doesn't fit changes nothing, and tells nothing (`nothing`).
+pub fn an_event_that_fits_has_its_effect()
+    ensures effect { (w later : World) (event : Event) (told : Option (Job × Outcome)) → Happens w event told later → Fits w event → HasEffect w event later }
+    ensures nothing { (w later : World) (event : Event) (told : Option (Job × Outcome)) → Happens w event told later → (Fits w event → ⊥) → (later ≡ w) × (told ≡ None) }
+{}
