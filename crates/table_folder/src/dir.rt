@@ -9,8 +9,8 @@ use std::alloc::AllocError;
 use std::rt::Files;
 use store_core::Put;
 
-/// A table's folder on a disk: its plain files and those of `_delta_log` in it. Links, other folders and names that begin
-/// with `.` are passed over. A name that isn't text and a file over 1 GiB fail.
+/// A table's folder on a disk: its plain files and those of `_delta_log` in it. Links, other folders, names that begin
+/// with `.` and those that aren't UTF-8 are passed over. A file over 1 GiB fails.
 ///
 /// It needs hard links: a file is written and synced as `.new-N`, and a link then gives it its name where that is absent.
 /// A create that fails removes its `.new-N`; a run that is killed may leave one, and each of those costs later creates a
@@ -97,7 +97,8 @@ impl<R: Files + AllocGlobal + Clone + Drop> Folder for DirFolder<R> {
         self.counted(names)
     }
 
-    /// Reads the file, of at most 1 GiB. A name that is no table file's is absent.
+    /// Reads the file, of at most 1 GiB. A name that is no table file's is absent. A file of the log fails where it is
+    /// absent: only those that were listed are read, and a log without one of them would be another one.
     fn read(&mut self, name: &str) -> Result<Option<Vec<u8>>, FolderFault> {
         if !is_table_name(name) {
             return Ok(None);
@@ -105,6 +106,10 @@ impl<R: Files + AllocGlobal + Clone + Drop> Folder for DirFolder<R> {
         let refused = String::from_str(self.rt.alloc(), name)?;
         let (_, path) = self.paths(name)?;
         let bytes = match file_bytes(&self.rt, path.as_str()) {
+            Ok(None) if name.starts_with(LOG) => Err(FolderFault::Failed {
+                name: refused,
+                reason: Reason::Gone,
+            }),
             Ok(bytes) => Ok(bytes),
             Err(DiskFault::Failed(reason)) => Err(FolderFault::Failed {
                 name: refused,

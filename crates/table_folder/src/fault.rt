@@ -18,8 +18,8 @@ use thiserror::Error;
 /// hand, so that contracts know them.
 #[derive(Debug, Drop, Error)]
 pub enum FolderFault {
-    /// The call failed: at the file of this name, or at the folder, by its path. `-` stands for a name that isn't
-    /// text. A create may have made the file, with all its bytes.
+    /// The call failed: at the file of this name, or at the folder, by its path. A create may have made the file, with
+    /// all its bytes.
     Failed { name: String, reason: Reason },
     /// Memory ran out, and nothing changed.
     Memory,
@@ -55,7 +55,7 @@ impl<T: Drop> From<AllocFailed<T>> for FolderFault {
 /// Why a table wasn't loaded.
 #[derive(Debug, Drop, Error)]
 pub enum LoadFault {
-    /// The first file that can't be loaded, or the folder, by its path. `-` stands for a name that isn't text.
+    /// The first file that can't be loaded, or the folder, by its path.
     NotLoaded { name: String, reason: Reason },
     /// Memory ran out.
     Memory,
