@@ -1,6 +1,6 @@
 PREFIX ?= $(HOME)/.local
 
-.PHONY: bench demo inspect install lake model test times
+.PHONY: bench demo folder inspect install lake model test times
 
 # Runs the stored script of the program without a proof, and shows each line before its replies.
 demo:
@@ -24,6 +24,11 @@ inspect:
 # Times the built program on a few scripts and folders; run `make lake` before it.
 bench:
 	@scripts/bench.sh
+
+# Tries the built program on folders in a temporary directory, in at most two minutes: kills, calls that fail, and processes
+# that race; with Python 3.11, without a package. Run `make lake` before it.
+folder:
+	@python3 scripts/folder/try_folders.py
 
 # Compares the stored answers of cases with those of an independent model, in Python 3.11 without a package, and looks
 # that none of them says that memory was refused.

@@ -10,8 +10,10 @@ use clap::builder::ValueParser;
 use clap::{Arg, Command};
 use std::alloc::{AllocError, Global};
 
-/// What `--version` prints behind the program's name: the product's version, and the toolchain that proved it.
-const VERSION: &str = "0.1.0 (rattle-kit-13f logic dac8208d650f15bf)";
+/// What `--version` prints behind the program's name: the product's version, which is that of its sources, and the
+/// toolchain that they are made for. A program can't tell whether it was built from proved crates.
+const VERSION: &str =
+    "0.1.0 (made for the Rattle kit of logic dac8208d650f15bf; claims no proof of this build)";
 
 const ABOUT: &str = "Exactly-once batches in a Delta Lake table";
 
@@ -47,8 +49,14 @@ const APPEND: &str = help!(
      A batch that stands already is told as such and not written again, so a job that died may append again.\n\
      Numbers of an application rise; gaps are allowed. A batch has at most 65,536 rows.\n\
      \n\
+     The input is taken as it is: one that is cut at a line's end is a smaller batch, and an empty one is a batch\n\
+     without rows, which uses its number up. So hand in a whole file, and no pipe whose producer may die.\n\
+     Without --at the batch states the moment 0, and a tool that drops old applications by `lastUpdated` may\n\
+     drop this one.\n\
+     \n\
      Example:\n  \
-       echo '{\"id\":1}' | lake append orders shop-7 0\n\
+       echo '{\"id\":1}' > batch\n  \
+       lake append orders shop-7 0 --at $(date +%s%3N) < batch\n\
      \n\
      Prints: Committed VERSION, or Already NUMBER where the same rows stand under that number\n\
      Exit status: 0 the batch stands, 1 refused (the reply says why), 2 words or a line that can't be read\n  \
@@ -138,7 +146,7 @@ fn at<'a>(alloc: Global) -> Arg<'a>
         0,
         999_999_999_999_999,
         "0",
-        "The moment of the commit, in milliseconds since 1970-01-01",
+        "The moment of the commit, in milliseconds since 1970-01-01; $(date +%s%3N) is now",
     )
 }
 

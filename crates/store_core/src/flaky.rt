@@ -167,8 +167,9 @@ impl<S: Store> Flaky<S> {
         }
     }
 
-    // A put goes in flight, and is told as lost; or memory runs out, and nothing is sent.
-    fn send(&mut self, name: &str, bytes: Vec<u8>) -> Result<Put, StoreFault>
+    /// A put that goes in flight, behind those that were sent before: it has no effect yet, and `land` lets it take effect.
+    /// It is told as lost; or memory runs out, and nothing is sent. It meets no turn.
+    pub fn send(&mut self, name: &str, bytes: Vec<u8>) -> Result<Put, StoreFault>
         ensures sent { SendsLate name.now bytes.items result (puts_sent self.old) (puts_sent self.new) }
         ensures kept { (self.new.store ≡ self.old.store) × (turns_left self.new ≡ turns_left self.old) }
         ensures armed { self.new.armed ≡ self.old.armed }

@@ -97,7 +97,8 @@ impl<R: Files + AllocGlobal + Clone + Drop> Folder for DirFolder<R> {
         self.counted(names)
     }
 
-    /// Reads the file, of at most 1 GiB. A name that is no table file's is absent.
+    /// Reads the file, of at most 1 GiB. A name that is no table file's is absent. A file of the log fails where it is
+    /// absent: only those that were listed are read, and a log without one of them would be another one.
     fn read(&mut self, name: &str) -> Result<Option<Vec<u8>>, FolderFault> {
         if !is_table_name(name) {
             return Ok(None);
@@ -105,6 +106,10 @@ impl<R: Files + AllocGlobal + Clone + Drop> Folder for DirFolder<R> {
         let refused = String::from_str(self.rt.alloc(), name)?;
         let (_, path) = self.paths(name)?;
         let bytes = match file_bytes(&self.rt, path.as_str()) {
+            Ok(None) if name.starts_with(LOG) => Err(FolderFault::Failed {
+                name: refused,
+                reason: Reason::Gone,
+            }),
             Ok(bytes) => Ok(bytes),
             Err(DiskFault::Failed(reason)) => Err(FolderFault::Failed {
                 name: refused,

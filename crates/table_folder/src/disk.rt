@@ -2,6 +2,7 @@
 ghost use Rattle.std.specs.Prelude.{IfOk, IfSome, IsTrue, OnOk, All, map, string_bytes};
 ghost use Rattle.table_folder.specs.Names.{is_table_name};
 
+use crate::gaps::has_gap;
 use crate::naming::{LOG, is_table_name};
 use crate::reason::reason_of;
 use crate::{FolderFault, Reason};
@@ -14,6 +15,9 @@ use store_core::Put;
 
 /// The most bytes of a file that is read: 1 GiB.
 const MOST_BYTES: u64 = 1 << 30;
+
+/// How often a folder is listed again at most, where the commits that were listed have a gap.
+const MOST_REPEATS: u64 = 3;
 
 /// Why a call of the disk failed.
 #[derive(Drop)]
@@ -39,9 +43,27 @@ impl From<AllocError> for DiskFault {
 
 /// The names of the plain files of a folder and of its log's folder, in the order of their bytes. Links, other folders
 /// and names that begin with `.` are passed over; the log's folder may be absent. The log is listed first, so a commit of
-/// another writer comes with the data files that were made before it. Both folders are synced before the names are told,
-/// so that what a killed run has named lasts before anything is built on it.
+/// another writer comes with the data files that were made before it.
+/// Both folders are synced before the names are told, so that what a killed run has named lasts before anything is built
+/// on it. A listing isn't a moment: while another writer puts commits it may miss one and have the next. So a folder whose
+/// commits have a gap is listed again, a few times at most.
 pub(crate) fn table_names<R: Files + AllocGlobal + Clone + Drop>(
+    rt: &R,
+    folder: &str,
+) -> Result<Vec<String>, FolderFault>
+    ensures { IfOk result (λ names. All (λ name. IsTrue (is_table_name name)) (map string_bytes names.items)) }
+{
+    for _ in 0..MOST_REPEATS {
+        let names = listed_names(rt, folder)?;
+        if !has_gap(&names) {
+            return Ok(names);
+        }
+    }
+    listed_names(rt, folder)
+}
+
+// The names that one listing tells.
+fn listed_names<R: Files + AllocGlobal + Clone + Drop>(
     rt: &R,
     folder: &str,
 ) -> Result<Vec<String>, FolderFault>
@@ -164,6 +186,9 @@ pub(crate) fn file_bytes<R: Files + AllocGlobal>(
     rt: &R,
     path: &str,
 ) -> Result<Option<Vec<u8>>, DiskFault> {
+    if path.as_bytes().contains(&0) {
+        return Ok(None);
+    }
     match fs::symlink_metadata(rt, path) {
         Ok(metadata) if !metadata.is_file() => return Ok(None),
         Ok(metadata) if metadata.len() > MOST_BYTES => return Err(too_large()),
@@ -180,12 +205,9 @@ pub(crate) fn file_bytes<R: Files + AllocGlobal>(
     Ok(Some(bytes))
 }
 
-// Whether an error tells that nothing stands under a name.
+// Whether an error tells that nothing stands under a name. `InvalidInput` doesn't: a disk may say it of what stands.
 fn is_absent(kind: ErrorKind) -> bool {
-    matches!(
-        kind,
-        ErrorKind::NotFound | ErrorKind::InvalidFilename | ErrorKind::InvalidInput
-    )
+    matches!(kind, ErrorKind::NotFound | ErrorKind::InvalidFilename)
 }
 
 fn too_large() -> DiskFault {

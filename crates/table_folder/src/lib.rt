@@ -10,6 +10,7 @@ mod dir;
 mod disk;
 mod fault;
 mod folder;
+mod gaps;
 mod kind;
 mod loading;
 mod memory;

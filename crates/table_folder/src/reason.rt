@@ -20,6 +20,8 @@ pub enum Reason {
     NotText,
     /// The name stands already, put by another writer.
     Taken,
+    /// The file was listed, and isn't there any more.
+    Gone,
     /// The file system has no hard links.
     NoLinks,
     /// None of these.
@@ -38,6 +40,7 @@ impl Reason {
             Reason::TooLarge => "a file may have 1 GiB at most",
             Reason::NotText => "a name in the folder isn't UTF-8",
             Reason::Taken => "another process put it meanwhile: run the same command again",
+            Reason::Gone => "it was there when the folder was listed: run the same command again",
             Reason::NoLinks => "the file system has no hard links, which writing a table needs",
             Reason::Other => return None,
         };
@@ -45,7 +48,8 @@ impl Reason {
     }
 }
 
-// What a disk's error tells. That a file is over 1 GiB, a name isn't text, or links are lacking is told by the call.
+// What a disk's error tells. That a file is over 1 GiB or gone, a name isn't text, or links are lacking is told by the
+// call.
 pub(crate) fn reason_of(kind: ErrorKind) -> Reason {
     match kind {
         ErrorKind::NotFound => Reason::Missing,

@@ -1,7 +1,7 @@
 use Rattle.std.proofs.Common.{IsTrue, string_bytes}
 use Rattle.std.proofs.lemmas.Map.Views.{All-map-IsPermutation}
 use Rattle.table_folder.specs.Names.{is_table_name}
-use Rattle.table_folder.proofs.disk.table_names.Goals as goal
+use Rattle.table_folder.proofs.disk.listed_names.Goals as goal
 
 pub returns : goal.returns
 returns g c =
