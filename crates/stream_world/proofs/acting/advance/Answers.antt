@@ -1,0 +1,18 @@
+use Rattle.std.proofs.Common.{[]}
+use Rattle.stream_world.proofs.Hands.{ready_asks}
+use Rattle.stream_world.specs.Sessions.{awaited}
+use Rattle.stream_world.proofs.acting.advance.Goals as goal
+
+pub invariant_of-asking : goal.invariant_of-asking
+invariant_of-asking c =
+    let steps = rw c.in-Ask.is at c.next.ensures.steps in
+    record { unended = steps.2; ready = ready_asks (awaited c.next.new.self) c.in-Ask.request steps.0 }
+
+pub returns-in-Ask : goal.returns-in-Ask
+returns-in-Ask c = (
+  c.next.ensures.same,
+  ((λ talk asked fit. rw c.in-Ask.is at (c.next.ensures.goes [] talk asked fit)), (rw c.in-Ask.is at c.next.ensures.told), c.are_bytes_put.ensures),
+)
+
+pub returns-in-Done : goal.returns-in-Done
+returns-in-Done c = ((λ talk asked fit. rw c.in-Done.is at (c.next.ensures.goes [] talk asked fit)), (rw c.in-Done.is at c.next.ensures.told))

@@ -1,0 +1,7 @@
+pub mod Acting
+pub mod Calling
+pub mod Hands
+pub mod Jobs
+pub mod Sessions
+pub mod Standing
+pub mod Running

@@ -1,0 +1,131 @@
+-- Which world a world of the code stands for, and what became of it by an event.
+use Rattle.std.specs.Prelude.{◌≡◌, ◌⊎◌, ℕ, [], Option, None, Some, Result, Ok, Err, option_and_then, Bool, true, false}
+use Rattle.std.specs.declared.alloc.AllocError.{AllocError}
+use Rattle.std.specs.BTreeMap.{get}
+use Rattle.std.specs.Ordering.{nat_cmp}
+use Rattle.store_core.specs.Calls.{Flight}
+use Rattle.store_core.specs.Objects.{Objects}
+use Rattle.store_core.specs.Turns.{puts_sent}
+use Rattle.store_core.specs.declared.fault.StoreFault.{StoreFault}
+use Rattle.store_core.specs.declared.fault.StoreFault.TheVariants.{Lost, Memory}
+use Rattle.store_core.specs.declared.store.Put.{Put}
+use Rattle.session_core.specs.Talks.{Asked, Talk, Told, asked_view, told_view}
+use Rattle.session_laws.specs.Sessions.{Job, Outcome}
+use Rattle.stream_model.specs.Events.{Event, Happens, answer, lose_answer}
+use Rattle.stream_model.specs.Worlds.{Actor, Hand, How, World, asking, ended, flight_how, fresh, left_how, short, told_how, waiting}
+use Rattle.stream_world.specs.Jobs.{IsMetAs}
+use Rattle.stream_world.specs.Sessions.{SessionFits, job_of, outcome_view}
+use Rattle.stream_world.specs.declared.actor.Actor as code_actor
+use Rattle.stream_world.specs.declared.actor.Hand as code_hand
+use Rattle.stream_world.specs.declared.actor.Hand.TheVariants as hands
+use Rattle.stream_world.specs.declared.table_session.Outcome as code_outcome
+use Rattle.stream_world.specs.declared.world.World as code_world
+
+-- ---- actors
+
+-- the call for whose answer an actor waits
+abbrev pub call_of : Hand → Option Asked
+call_of fresh = None
+call_of (asking call) = Some call
+call_of (waiting call told) = Some call
+call_of (ended outcome) = None
+
+-- what it has at hand is the same, behind this talk
+abbrev pub HandStands : code_hand.Hand → Talk → Hand → Type 0
+HandStands hands.Fresh talk fresh = talk ≡ []
+HandStands (hands.Asks request) talk (asking call) = asked_view request ≡ call
+HandStands (hands.Waits reply) talk (waiting call told) = told_view reply ≡ told
+HandStands hand talk plain = ⊥
+
+-- an actor of the code, and one of a world: the session does the same job, may have had that talk, and has the same at hand
+pub record ActorStands (actor : code_actor.Actor) (plain : Actor) : Type 0 where
+  pub job : job_of actor.session ≡ plain.job
+  pub fit : SessionFits [] actor.session plain.talk (call_of plain.hand)
+  pub hand : HandStands actor.hand plain.talk plain.hand
+
+abbrev pub HasEnded : Hand → Type 0
+HasEnded (ended outcome) = Unit {0}
+HasEnded hand = ⊥
+
+-- of an actor whose session has ended the code keeps nothing
+abbrev pub SlotStands : Option code_actor.Actor → Option Actor → Type 0
+SlotStands (Some actor) (Some plain) = ActorStands actor plain
+SlotStands (Some actor) None = ⊥
+SlotStands None (Some plain) = HasEnded plain.hand
+SlotStands None None = Unit {0}
+
+-- ---- worlds
+
+-- what is kept of the actor of a number
+abbrev pub slot_at : {S : Type 0} → code_world.World S → ℕ → Option code_actor.Actor
+slot_at world name = option_and_then (λ slot. slot) (get nat_cmp world.actors name)
+
+-- a world of the code stands for one: its objects, its puts in flight and its actors are the same
+pub record WorldStands {S : Type 0} (stored : S → Objects) (world : code_world.World S) (w : World) : Type 0 where
+  pub objects : w.objects ≡ stored world.store.store
+  pub flight : w.flight ≡ puts_sent world.store
+  pub actors : (name : ℕ) → SlotStands (slot_at world name) (w.actors name)
+
+-- the world in which nobody acts and nothing is in flight
+abbrev pub quiet_world : Objects → World
+quiet_world objects = record { objects = objects; flight = []; actors = λ name. None }
+
+-- ---- what happened
+
+-- what is told, with the job of the session that told it
+abbrev pub TellsAs : Option code_outcome.Outcome → Option (Job × Outcome) → Type 0
+TellsAs None None = Unit {0}
+TellsAs (Some outcome) (Some told) = told.1 ≡ outcome_view outcome
+TellsAs outcome told = ⊥
+
+-- A call is answered in this way, or memory ran out in it: what is told, and what stands and is in flight then.
+pub record Meets (how : How) (call : Asked) (told : Told) (objects : Objects) (flight : Flight) (objects_new : Objects) (flight_new : Flight) : Type 0 where
+  pub met : How
+  pub is : (met ≡ how) ⊎ (met ≡ short)
+  pub told_so : told ≡ told_how met objects call
+  pub left : objects_new ≡ left_how met objects call
+  pub in_flight : flight_new ≡ flight_how met flight call
+
+-- What became of a world by an event of the actor of a number, for whom this is kept then.
+pub record Becomes (w : World) (event : Event) (name : ℕ) (outcome : Option code_outcome.Outcome) (objects : Objects) (flight : Flight) (slot : Option code_actor.Actor) : Type 0 where
+  pub met : Event
+  pub is : IsMetAs event met
+  pub told : Option (Job × Outcome)
+  pub tells : TellsAs outcome told
+  pub later : World
+  pub happens : Happens w met told later
+  pub objects_now : later.objects ≡ objects
+  pub flight_now : later.flight ≡ flight
+  pub slot_now : SlotStands slot (later.actors name)
+  pub others : (other : ℕ) → (other ≡ name → ⊥) → later.actors other ≡ w.actors other
+
+-- What happened to a world by an event, for which the world of the code stands then.
+pub record HasHappened {S : Type 0} (objects : S → Objects) (w : World) (event : Event) (outcome : Option code_outcome.Outcome) (world : code_world.World S) : Type 0 where
+  pub met : Event
+  pub is : IsMetAs event met
+  pub told : Option (Job × Outcome)
+  pub tells : TellsAs outcome told
+  pub later : World
+  pub happens : Happens w met told later
+  pub stands : WorldStands objects world later
+
+-- The same of an event that may find no memory to begin with: then nothing has happened.
+abbrev pub StepsTo : {S : Type 0} → (objects : S → Objects) → World → Event → Result (Option code_outcome.Outcome) AllocError → code_world.World S → Type 0
+StepsTo objects w event (Ok outcome) world = HasHappened objects w event outcome world
+StepsTo objects w event (Err fault) world = WorldStands objects world w
+
+-- the same of a beginning, which tells nothing
+abbrev pub BeginsAs : {S : Type 0} → (objects : S → Objects) → World → Event → Result (Unit {0}) AllocError → code_world.World S → Type 0
+BeginsAs objects w event (Ok done) world = HasHappened objects w event None world
+BeginsAs objects w event (Err fault) world = WorldStands objects world w
+
+-- and of a landing over a store that loses no call
+abbrev pub LandsAs : {S : Type 0} → (objects : S → Objects) → World → Event → Result (Option Put) StoreFault → code_world.World S → Type 0
+LandsAs objects w event (Ok found) world = HasHappened objects w event None world
+LandsAs objects w event (Err Memory) world = WorldStands objects world w
+LandsAs objects w event (Err Lost) world = ⊥
+
+-- the event by which a session takes the answer that waits, or the loss of it
+abbrev pub taking : (name : ℕ) → (is_lost : Bool) → Event
+taking name true = lose_answer name
+taking name false = answer name

@@ -1,0 +1,71 @@
+//! How a call of a session is answered.
+
+ghost use Rattle.std.specs.Prelude.{◌≡◌};
+ghost use Rattle.store_core.specs.Turns.{puts_sent};
+ghost use Rattle.session_core.specs.Talks.{IsAnswerOf, asked_view, kind_of, told_view};
+ghost use Rattle.stream_world.specs.Calling.{IsSentCall, again, sent_told};
+ghost use Rattle.stream_world.specs.Jobs.{how_view};
+ghost use Rattle.stream_world.specs.Standing.{Meets};
+
+use crate::event::How;
+use session_core::{Reply, Request, ask, commit_name};
+use std::alloc::Global;
+use store_core::{Flaky, Put, Store, StoreFault};
+
+/// Answers a call in this way, or finds no memory for it. Where it takes effect, the store below is asked, and no turn is met.
+pub(crate) fn answer<S: Store>(
+    alloc: Global,
+    store: &mut Flaky<S>,
+    request: Request,
+    how: How,
+) -> Reply
+    ensures kind { IsAnswerOf (kind_of (asked_view request)) (told_view result) }
+    ensures meets { S.is_reliable store.old.store
+        → Meets (how_view how) (asked_view request) (told_view result) (S.objects store.old.store) (puts_sent store.old) (S.objects store.new.store) (puts_sent store.new) }
+    ensures reliable { S.is_reliable store.old.store → S.is_reliable store.new.store }
+{
+    match how {
+        How::Once => ask(alloc, &mut store.store, request),
+        How::Twice => asked_again(ask(alloc, &mut store.store, request)),
+        How::Late => send(alloc, store, request),
+        How::Lost => Reply::Lost,
+        How::Short => Reply::Memory,
+    }
+}
+
+// What is told of a call that takes effect once more, where this was told of it before: of a put that its name stands.
+fn asked_again(reply: Reply) -> Reply
+    ensures { told_view result ≡ again (told_view reply) }
+{
+    match reply {
+        Reply::Put(_put) => Reply::Put(Put::Exists),
+        reply => reply,
+    }
+}
+
+// A put goes in flight, and is told as lost; a list or a get is lost.
+fn send<S: Store>(alloc: Global, store: &mut Flaky<S>, request: Request) -> Reply
+    ensures sent { IsSentCall (asked_view request) (told_view result) (puts_sent store.old) (puts_sent store.new) }
+    ensures store { store.new.store ≡ store.old.store }
+{
+    match request {
+        Request::PutFile(name, bytes) => sent(store.send(&name, bytes)),
+        Request::PutCommit(version, bytes) => match commit_name(alloc, version) {
+            Ok(name) => sent(store.send(&name, bytes)),
+            Err(_error) => Reply::Memory,
+        },
+        Request::List => Reply::Lost,
+        Request::Get(_name) => Reply::Lost,
+    }
+}
+
+// What is told of a put that went in flight, or for which memory ran out.
+fn sent(answer: Result<Put, StoreFault>) -> Reply
+    ensures { told_view result ≡ sent_told answer }
+{
+    match answer {
+        Ok(put) => Reply::Put(put),
+        Err(StoreFault::Lost) => Reply::Lost,
+        Err(StoreFault::Memory) => Reply::Memory,
+    }
+}

@@ -1,0 +1,46 @@
+//! What an actor is to do.
+
+ghost use Rattle.std.specs.Prelude.{◌<◌, ◌≤◌, ◌^◌};
+
+use sink_core::SinkTask;
+use source_core::Offset;
+
+/// A table that is to be created. The moment is in milliseconds since 1970-01-01.
+#[derive(Drop)]
+pub struct Creation {
+    pub id: String,
+    pub at: u64,
+    pub schema: String,
+    pub ghost timely: { at < 2 ^ 63 },
+}
+
+/// What is to be done to an application's stream, at a moment in milliseconds since 1970-01-01. So many versions are tried
+/// at most.
+#[derive(Drop)]
+pub struct StreamJob {
+    pub application: String,
+    pub task: SinkTask<'static>,
+    pub at: u64,
+    pub tries: u64,
+    pub use_checkpoints: bool,
+    pub ghost timely: { at < 2 ^ 63 },
+    pub ghost some: { 1 ≤ tries },
+}
+
+/// What an actor is to do. With `use_checkpoints` the log is read by its checkpoints.
+#[derive(Drop)]
+pub enum Job {
+    Create(Creation),
+    Load {
+        use_checkpoints: bool,
+    },
+    Checkpoint {
+        use_checkpoints: bool,
+    },
+    Stream(StreamJob),
+    Read {
+        place: Offset,
+        max: u64,
+        use_checkpoints: bool,
+    },
+}

@@ -1,0 +1,20 @@
+//! A world in code: actors, each with a session, that act on one store, event by event; and what was told by a list of events.
+//!
+//! It does just what `stream_model` says may happen in a world, so what is so of every world is so of this one.
+#![tactic(auto)]
+
+mod acting;
+mod actor;
+mod beginning;
+mod calling;
+mod event;
+mod job;
+mod running;
+mod table_session;
+mod world;
+
+pub use event::{Event, How};
+pub use job::{Creation, Job, StreamJob};
+pub use running::{Ran, run};
+pub use table_session::{Outcome, TableSession};
+pub use world::World;

@@ -1,0 +1,45 @@
+//! Lists of events, and what was told by them.
+
+ghost use Rattle.std.specs.Prelude.{◌≡◌, [], IfOk, length};
+ghost use Rattle.stream_world.specs.Running.{HasRun, IsTold};
+
+use crate::event::Event;
+use crate::table_session::Outcome;
+use crate::world::World;
+use std::alloc::{AllocError, Global};
+use store_core::Store;
+use stream_model::every_world;
+
+/// What a list of events came to.
+#[derive(Drop)]
+pub struct Ran<S> {
+    /// The world behind the last event.
+    pub world: World<S>,
+    /// For each event, what a session told that ended by it.
+    pub told: Vec<Option<Outcome>>,
+}
+
+/// Lets events happen one after the other, over a store in which nobody acts yet. Fails where memory runs out in a beginning, in a landing
+/// or for what is told.
+///
+/// Over an empty store that loses no call, what is left is sound, and what was told is so: each batch that was acknowledged stands in the log
+/// once, every batch at most once and as submitted, each application's in rising number and none after its close; and what a reader was
+/// handed that resumes at its last offset is exactly the log's rows up to that offset, once each, in log order.
+pub fn run<S: Store + Drop>(
+    alloc: Global,
+    store: S,
+    events: Vec<Event>,
+) -> Result<Ran<S>, AllocError>
+    ensures each { IfOk result (λ ran. length ran.told.items ≡ length events.items) }
+    ensures happens { S.is_reliable store → IfOk result (λ ran. HasRun S.objects (S.objects store) events.items ran.told.items ran.world) }
+    ensures headline { S.is_reliable store → S.objects store ≡ [] → IfOk result (λ ran. IsTold S.objects events.items ran.told.items ran.world) }
+{
+    every_world();
+    let mut world = World::new(alloc, store);
+    let mut told = Vec::with_capacity(alloc, events.len())?;
+    for event in events {
+        let outcome = world.step(event)?;
+        told.push(outcome)?;
+    }
+    Ok(Ran { world, told })
+}

@@ -1,0 +1,129 @@
+//! A world: a store, and the actors that act on it.
+
+ghost use Rattle.std.specs.Prelude.{◌≡◌, None};
+ghost use Rattle.stream_model.specs.Events.{act, begin, die, land};
+ghost use Rattle.stream_model.specs.Worlds as worlds;
+
+use crate::acting;
+use crate::actor::{Actor, Hand};
+use crate::beginning::session_of;
+use crate::event::{Event, How};
+use crate::job::Job;
+use crate::table_session::Outcome;
+use std::alloc::{AllocError, Global};
+use std::collections::BTreeMap;
+use store_core::{Flaky, Put, Store, StoreFault};
+
+/// Actors that act on one store, which keeps the puts in flight. An actor that waits costs nothing. An event takes the time of the
+/// step or the call that it is, and the logarithm of how many actors there were.
+#[derive(Drop)]
+pub struct World<S> {
+    pub(crate) alloc: Global,
+    /// The store, with the puts in flight.
+    pub store: Flaky<S>,
+    /// By number, each actor whose session hasn't ended. A place may be empty.
+    pub actors: BTreeMap<u64, Option<Actor>>,
+}
+
+impl<S: Store> World<S> {
+    ghost use Rattle.stream_world.specs.Jobs.{event_view, how_view, job_view};
+    ghost use Rattle.stream_world.specs.Standing.{BeginsAs, HasHappened, LandsAs, StepsTo, WorldStands, quiet_world, taking};
+
+    /// A world over a store, in which nobody acts yet and nothing is in flight.
+    pub fn new(alloc: Global, store: S) -> World<S>
+        ensures store { result.store.store ≡ store }
+        ensures stands { WorldStands S.objects result (quiet_world (S.objects store)) }
+    {
+        World {
+            alloc,
+            store: Flaky::new(alloc, store, Vec::new(alloc)),
+            actors: BTreeMap::new(alloc),
+        }
+    }
+
+    /// Lets an event happen, and returns what a session told that ended by it. An event that doesn't fit changes nothing. Fails where
+    /// memory runs out in a beginning or a landing, and then nothing has happened; in a call that is made, the session is told so.
+    pub fn step(&mut self, event: Event) -> Result<Option<Outcome>, AllocError>
+        ensures happens { S.is_reliable self.old.store.store → (w : worlds.World) → WorldStands S.objects self.old w → StepsTo S.objects w (event_view event) result self.new }
+        ensures reliable { S.is_reliable self.old.store.store → S.is_reliable self.new.store.store }
+    {
+        match event {
+            Event::Begin { actor, job } => {
+                self.begin(actor, job)?;
+                Ok(None)
+            }
+            Event::Die { actor } => {
+                self.die(actor);
+                Ok(None)
+            }
+            Event::Act { actor, how } => {
+                self.act(actor, how);
+                Ok(None)
+            }
+            Event::Answer { actor } => Ok(self.go_on(actor, false)),
+            Event::LoseAnswer { actor } => Ok(self.go_on(actor, true)),
+            Event::Land { place } => match self.land(place) {
+                Ok(_put) => Ok(None),
+                Err(StoreFault::Memory) => Err(AllocError),
+                Err(StoreFault::Lost) => Ok(None),
+            },
+        }
+    }
+
+    /// An actor begins a session, in place of an older one; nothing is asked for yet. Fails where memory runs out, and then nothing has
+    /// happened.
+    pub fn begin(&mut self, actor: u64, job: Job) -> Result<(), AllocError>
+        ensures happens { (w : worlds.World) → WorldStands S.objects self.old w → BeginsAs S.objects w (begin actor (job_view job)) result self.new }
+        ensures store { self.new.store ≡ self.old.store }
+    {
+        let session = session_of(self.alloc, job);
+        let begun = Actor {
+            session,
+            hand: Hand::Fresh,
+        };
+        let _before = self.actors.insert(actor, Some(begun))?;
+        Ok(())
+    }
+
+    /// An actor's session is dropped.
+    pub fn die(&mut self, actor: u64)
+        ensures happens { (w : worlds.World) → WorldStands S.objects self.old w → HasHappened S.objects w (die actor) None self.new }
+        ensures store { self.new.store ≡ self.old.store }
+    {
+        if let Some(slot) = self.actors.get_mut(&actor) {
+            *slot = None;
+        }
+    }
+
+    /// The call that an actor's session asks for is answered in this way, if it asks for one.
+    pub fn act(&mut self, actor: u64, how: How)
+        ensures happens { S.is_reliable self.old.store.store → (w : worlds.World) → WorldStands S.objects self.old w → HasHappened S.objects w (act actor (how_view how)) None self.new }
+        ensures reliable { S.is_reliable self.old.store.store → S.is_reliable self.new.store.store }
+    {
+        if let Some(slot) = self.actors.get_mut(&actor) {
+            acting::act(self.alloc, &mut self.store, slot, how);
+        }
+    }
+
+    /// An actor's session makes its first step, or takes the answer that waits, or that the call was lost in place of it. Returns what it
+    /// tells where it ends.
+    pub fn go_on(&mut self, actor: u64, is_lost: bool) -> Option<Outcome>
+        ensures happens { (w : worlds.World) → WorldStands S.objects self.old w → HasHappened S.objects w (taking actor is_lost) result self.new }
+        ensures store { self.new.store ≡ self.old.store }
+    {
+        match self.actors.get_mut(&actor) {
+            Some(slot) => acting::go_on(slot, is_lost),
+            None => None,
+        }
+    }
+
+    /// The put in flight of a number, from 0 in the order in which they were sent, takes effect: `Created` where its name was absent,
+    /// `Exists` where it stood. It stays in flight. `None` where none of that number is. Fails where memory runs out, and then nothing has
+    /// happened, or where the store loses the put.
+    pub fn land(&mut self, place: usize) -> Result<Option<Put>, StoreFault>
+        ensures happens { S.is_reliable self.old.store.store → (w : worlds.World) → WorldStands S.objects self.old w → LandsAs S.objects w (land place) result self.new }
+        ensures reliable { S.is_reliable self.old.store.store → S.is_reliable self.new.store.store }
+    {
+        self.store.land(place)
+    }
+}
