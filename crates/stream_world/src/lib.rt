@@ -13,6 +13,7 @@ mod running;
 mod table_session;
 mod world;
 
+pub use actor::{Actor, Hand};
 pub use event::{Event, How};
 pub use job::{Creation, Job, StreamJob};
 pub use running::{Ran, run};
