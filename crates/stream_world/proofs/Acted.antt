@@ -1,5 +1,5 @@
 -- A call of an actor, as what happens in a world.
-use Rattle.std.proofs.Common.{◌≡◌, ◌⊎◌, ℕ, [], Option, Some, None, refl, sym, ◌∙◌, ap, subst, inl, inr}
+use Rattle.std.proofs.Common.{◌≡◌, ℕ, [], Option, Some, None, refl, sym, ◌∙◌, ap, subst}
 use Rattle.store_core.specs.Calls.{Flight}
 use Rattle.store_core.specs.Objects.{Objects}
 use Rattle.session_core.specs.Talks.{Asked, Talk, asked_view, told_view}
@@ -7,8 +7,7 @@ use Rattle.session_core.specs.declared.asking.Reply.{Reply}
 use Rattle.session_core.specs.declared.asking.Request.{Request}
 use Rattle.session_laws.specs.Sessions.{Job}
 use Rattle.stream_model.specs.Events.{Fits, HasActor, act, acts}
-use Rattle.stream_model.specs.Worlds.{Actor, Hand, How, World, acted, asking, ended, fresh, short, told_how, waiting}
-use Rattle.stream_world.specs.Jobs.{IsMetAs}
+use Rattle.stream_model.specs.Worlds.{Actor, Hand, How, World, acted, asking, ended, fresh, told_how, waiting}
 use Rattle.stream_world.specs.Sessions.{SessionFits, job_of}
 use Rattle.stream_world.specs.Standing.{ActorStands, Becomes, HandStands, HasEnded, Meets, SlotStands}
 use Rattle.stream_world.specs.declared.actor.Actor as code
@@ -16,11 +15,6 @@ use Rattle.stream_world.specs.declared.actor.Hand as code_hand
 use Rattle.stream_world.specs.declared.actor.Hand.TheVariants as hands
 use Rattle.stream_world.proofs.Places.{actor_other, actor_there}
 use Rattle.stream_world.proofs.Steps.{nothing_became, stands_alike}
-
--- a call is met by the event that lets it be, or memory ran out
-met_call : (name : ℕ) (how met : How) → (met ≡ how) ⊎ (met ≡ short) → IsMetAs (act name how) (act name met)
-met_call name how met (inl is) = inl (ap (act name) is)
-met_call name how met (inr is) = inr (ap (act name) is)
 
 -- an actor asks for a call
 asks_so : (w : World) (name : ℕ) (job : Job) (talk : Talk) (p : Hand) (how : How) (actor later : code.Actor) (request : Request) (reply : Reply) (objects : Objects) (flight : Flight)
@@ -39,7 +33,7 @@ asks_so w name job talk (asking call) how actor later request reply objects flig
     } in
     record {
       met = act name met;
-      is = met_call name how met meets_call.is;
+      is = (met, meets_call.is, refl);
       told = None;
       tells = tt;
       later = acted w name plain call met;

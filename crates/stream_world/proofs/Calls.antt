@@ -14,6 +14,7 @@ use Rattle.session_core.specs.Talks.{Asked, Told, get_object, list_names, put_co
 use Rattle.delta_actions.specs.Names as actions
 use Rattle.stream_model.specs.Worlds.{How, left_by, once, short, told_by, twice}
 use Rattle.stream_world.specs.Calling.{IsSentCall, again, sent_told}
+use Rattle.stream_world.specs.Jobs.{IsMetIn}
 use Rattle.stream_world.specs.Standing.{Meets}
 
 -- the two names of a commit are one
@@ -50,15 +51,15 @@ answered old new (put_commit version bytes) (told_object found) is = absurd is
 answered old new (put_commit version bytes) told_lost is = absurd is
 
 -- memory ran out in a call
-short_met : (how : How) (call : Asked) (told : Told) (old new : Objects) (flight later : Flight) → told ≡ told_memory → new ≡ old → later ≡ flight → Meets how call told old flight new later
-short_met how call told old new flight later told_so left in_flight = record { met = short; is = inr refl; told_so = told_so; left = left; in_flight = in_flight }
+short_met : (how : How) → IsMetIn how short → (call : Asked) (told : Told) (old new : Objects) (flight later : Flight) → told ≡ told_memory → new ≡ old → later ≡ flight → Meets how call told old flight new later
+short_met how is call told old new flight later told_so left in_flight = record { met = short; is = is; told_so = told_so; left = left; in_flight = in_flight }
 
 -- a call takes effect
 pub once_met : (call : Asked) (told : Told) (old new : State) (flight : Flight) → Answers old call told new → Meets once call told old.0 flight new.0 flight
 once_met call told old new flight is = by_cases (answered old new call told is)
   where
     by_cases : IsAnswered old.0 call told new.0 → Meets once call told old.0 flight new.0 flight
-    by_cases (memory told_so left) = short_met once call told old.0 new.0 flight flight told_so left refl
+    by_cases (memory told_so left) = short_met once (inr refl) call told old.0 new.0 flight flight told_so left refl
     by_cases (effect told_so left) = record { met = once; is = inl refl; told_so = told_so; left = left; in_flight = refl }
 
 -- the second of two calls is told that the name stands, if it is a put, and changes nothing
@@ -84,7 +85,7 @@ pub twice_met : (call : Asked) (told second : Told) (old new : State) (flight : 
 twice_met call told second old new flight is second_is = by_cases (answered old new call told is)
   where
     by_cases : IsAnswered old.0 call told new.0 → Meets twice call second old.0 flight new.0 flight
-    by_cases (memory told_so left) = short_met twice call second old.0 new.0 flight flight (second_is ∙ ap again told_so) left refl
+    by_cases (memory told_so left) = short_met twice (inr refl) call second old.0 new.0 flight flight (second_is ∙ ap again told_so) left refl
     by_cases (effect told_so left) =
         record { met = twice; is = inl refl; told_so = second_is ∙ (ap again told_so ∙ told_again old.0 call); left = left ∙ sym (left_again old.0 call); in_flight = refl }
 

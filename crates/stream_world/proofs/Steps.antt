@@ -9,9 +9,10 @@ use Rattle.session_core.specs.declared.asking.Reply.{Reply}
 use Rattle.session_core.specs.declared.asking.Reply.TheVariants as replies
 use Rattle.session_laws.specs.Sessions.{Asks, Does, Ends, Job, Outcome, asks, ends_lost, is_lost, tells}
 use Rattle.stream_model.specs.Events.{Event, Fits, HasActor, Takes, act, answer, begin, begins_now, die, ends, goes_on, land, lose_answer, loses, nothing_happens, takes}
-use Rattle.stream_model.specs.Worlds.{Actor, Hand, World, asking, ended, fresh, waiting, with_actor}
+use Rattle.stream_model.specs.Worlds.{Actor, Hand, How, World, asking, ended, fresh, waiting, with_actor}
+use Rattle.stream_model.specs.Worlds as worlds
 use Rattle.stream_world.specs.Acting.{AsksNext, GoesOnAs, HasNext, TellsNext}
-use Rattle.stream_world.specs.Jobs.{IsMetAs}
+use Rattle.stream_world.specs.Jobs.{IsMetAs, IsMetIn}
 use Rattle.stream_world.specs.Sessions.{SessionFits, job_of, outcome_view}
 use Rattle.stream_world.specs.Standing.{ActorStands, Becomes, HandStands, HasEnded, SlotStands, call_of, taking}
 use Rattle.stream_world.specs.declared.actor.Actor as code
@@ -23,11 +24,18 @@ use Rattle.stream_world.proofs.Places.{actor_other, actor_there}
 
 -- ---- events
 
+met_in : (how : How) → IsMetIn how how
+met_in worlds.once = inl refl
+met_in worlds.twice = inl refl
+met_in worlds.late = inl refl
+met_in worlds.lost = refl
+met_in worlds.short = inl refl
+
 -- an event is met as it is
 pub met_so : (event : Event) → IsMetAs event event
 met_so (begin name job) = refl
 met_so (die name) = refl
-met_so (act name how) = inl refl
+met_so (act name how) = (how, met_in how, refl)
 met_so (answer name) = refl
 met_so (lose_answer name) = refl
 met_so (land place) = refl

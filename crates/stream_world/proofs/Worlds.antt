@@ -1,12 +1,12 @@
 -- What an event of the code is in a world.
-use Rattle.std.proofs.Common.{◌≡◌, ◌≤◌, ◌<◌, ◌⊎◌, ℕ, List, [], length, slice_get, get_or, Option, Some, None, Result, Ok, Err, option_and_then, refl, sym, ◌∙◌, ap, subst, inl, inr}
+use Rattle.std.proofs.Common.{◌≡◌, ◌≤◌, ◌<◌, ◌⊎◌, ℕ, List, [], length, slice_get, get_or, Option, Some, None, Result, Ok, Err, option_and_then, option_map, IfOk, refl, sym, ◌∙◌, ap, subst, inl, inr}
 use Rattle.std.proofs.lemmas.Bool.{cases_eq}
 use Rattle.std.proofs.lemmas.Option.{slice_get_cases}
 use Rattle.std.specs.BTreeMap.{BTreeMap, IsUnchanged, UpdatesBy, get, is_at}
 use Rattle.std.specs.Map.{lookup}
 use Rattle.std.specs.Ordering.{nat_cmp}
-use Rattle.store_core.specs.Calls.{Flight}
-use Rattle.store_core.specs.Objects.{Objects, with_object}
+use Rattle.store_core.specs.Calls.{Flight, put_told}
+use Rattle.store_core.specs.Objects.{Objects, object_at, with_object}
 use Rattle.store_core.specs.Turns.{HasLandedAs, puts_sent}
 use Rattle.store_core.specs.declared.fault.StoreFault.{StoreFault}
 use Rattle.store_core.specs.declared.fault.StoreFault.TheVariants.{Lost, Memory}
@@ -16,7 +16,7 @@ use Rattle.session_laws.specs.Sessions.{Job}
 use Rattle.stream_model.specs.Events.{CanBegin, Event, Fits, begin, begins, die, dies, land, lands, nothing_happens}
 use Rattle.stream_model.specs.Worlds.{Actor, World, fresh, with_actor}
 use Rattle.stream_world.specs.Sessions.{SessionFits, job_of}
-use Rattle.stream_world.specs.Standing.{ActorStands, Becomes, HandStands, HasHappened, LandsAs, SlotStands, WorldStands, slot_at}
+use Rattle.stream_world.specs.Standing.{ActorStands, Becomes, HandStands, HasHappened, LandsAs, SlotStands, WorldStands, landing_told, slot_at}
 use Rattle.stream_world.specs.declared.actor.Actor as code
 use Rattle.stream_world.specs.declared.actor.Hand as code_hand
 use Rattle.stream_world.specs.declared.actor.Hand.TheVariants as hands
@@ -30,6 +30,10 @@ kept_there m name slot found = ap (option_and_then (λ s. s)) found
 
 pub kept_nowhere : (m : BTreeMap ℕ (Option code.Actor)) (name : ℕ) → get nat_cmp m name ≡ None → kept m name ≡ None
 kept_nowhere m name found = ap (option_and_then (λ s. s)) found
+
+-- what a put is told in a world
+abbrev told_in : World → List ℕ × List ℕ → Put
+told_in w put = put_told (object_at w.objects put.0)
 
 module _ {S : Type 0} (objects : S → Objects) (old new : code_world.World S) (w : World) (stands : WorldStands objects old w) where
   -- What became of a world by an event of one actor is what happened, where its place was written.
@@ -136,8 +140,9 @@ module _ {S : Type 0} (objects : S → Objects) (old new : code_world.World S) (
   pub landed_as : (in_flight : S → Flight) (place : ℕ) (result : Result (Option Put) StoreFault) → new.actors ≡ old.actors
       → (length (puts_sent old.store) ≤ place → (result ≡ Ok None) × (new.store ≡ old.store))
       → ((name bytes : List ℕ) → slice_get (puts_sent old.store) place ≡ Some (name, bytes) → HasLandedAs name bytes result (objects old.store.store, in_flight old.store.store) (objects new.store.store, in_flight new.store.store))
-      → (result ≡ Err Lost → ⊥) → puts_sent new.store ≡ puts_sent old.store → LandsAs objects w (land place) result new
-  landed_as in_flight place result actors nothing landed never sent = by_place (slice_get_cases (puts_sent old.store) place).1
+      → ((name bytes : List ℕ) → slice_get (puts_sent old.store) place ≡ Some (name, bytes) → IfOk result (λ told. told ≡ Some (put_told (object_at (objects old.store.store) name))))
+      → (result ≡ Err Lost → ⊥) → puts_sent new.store ≡ puts_sent old.store → LandsAs objects w place result new
+  landed_as in_flight place result actors nothing landed told never sent = by_place (slice_get_cases (puts_sent old.store) place).1
     where
       actors_now : (later : World) → later.actors ≡ w.actors → (name : ℕ) → SlotStands (slot_at new name) (later.actors name)
       actors_now later same name =
@@ -158,26 +163,35 @@ module _ {S : Type 0} (objects : S → Objects) (old new : code_world.World S) (
         };
       }
 
+      told_there : (put : List ℕ × List ℕ) → slice_get (puts_sent old.store) place ≡ Some put → (found : Put) → result ≡ Ok (Some found) → Some found ≡ landing_told w place
+      told_there put is found same =
+          let tells : Some found ≡ Some (put_told (object_at (objects old.store.store) put.0)) = subst (λ (r : Result (Option Put) StoreFault). IfOk r (λ t. t ≡ Some (put_told (object_at (objects old.store.store) put.0)))) same (told put.0 put.1 is) in
+          let there : slice_get w.flight place ≡ Some put = subst (λ (flight : Flight). slice_get flight place ≡ Some put) (sym stands.flight) is in
+          tells ∙ (ap (λ (o : Objects). Some (put_told (object_at o put.0))) (sym stands.objects) ∙ ap (option_map (told_in w)) (sym there))
+
       by_result : (put : List ℕ × List ℕ) → slice_get (puts_sent old.store) place ≡ Some put → (r : Result (Option Put) StoreFault) → result ≡ r
-          → HasLandedAs put.0 put.1 r (objects old.store.store, in_flight old.store.store) (objects new.store.store, in_flight new.store.store) → LandsAs objects w (land place) r new
+          → HasLandedAs put.0 put.1 r (objects old.store.store, in_flight old.store.store) (objects new.store.store, in_flight new.store.store) → LandsAs objects w place r new
       by_result put is (Ok None) same so = absurd so
-      by_result put is (Ok (Some Created)) same so = taken put is so.0.0
-      by_result put is (Ok (Some Exists)) same so = taken put is so.0.0
+      by_result put is (Ok (Some Created)) same so = (told_there put is Created same, taken put is so.0.0)
+      by_result put is (Ok (Some Exists)) same so = (told_there put is Exists same, taken put is so.0.0)
       by_result put is (Err Lost) same so = never same
       by_result put is (Err Memory) same so = record { objects = stands.objects ∙ sym so.0; flight = stands.flight ∙ sym sent; actors = actors_now w refl }
 
       by_place : ((put : List ℕ × List ℕ) × (place < length (puts_sent old.store)) × (slice_get (puts_sent old.store) place ≡ Some put) × (get_or (puts_sent old.store) place put ≡ put)) ⊎ ((length (puts_sent old.store) ≤ place) × (slice_get (puts_sent old.store) place ≡ None))
-          → LandsAs objects w (land place) result new
+          → LandsAs objects w place result new
       by_place (inl (put, within, is, same)) = by_result put is result refl (landed put.0 put.1 is)
-      by_place (inr (past, none)) = subst (λ r. LandsAs objects w (land place) r new) (sym (nothing past).0) (record {
-        met = land place;
-        is = refl;
-        told = None;
-        tells = tt;
-        later = w;
-        happens = nothing_happens (land place) unfit;
-        stands = record { objects = stands.objects ∙ ap (λ s. objects s.store) (sym (nothing past).1); flight = stands.flight ∙ sym sent; actors = actors_now w refl };
-      })
+      by_place (inr (past, none)) = subst (λ r. LandsAs objects w place r new) (sym (nothing past).0) (
+        ap (option_map (told_in w)) (sym (subst (λ (flight : Flight). slice_get flight place ≡ None) (sym stands.flight) none)),
+        record {
+          met = land place;
+          is = refl;
+          told = None;
+          tells = tt;
+          later = w;
+          happens = nothing_happens (land place) unfit;
+          stands = record { objects = stands.objects ∙ ap (λ s. objects s.store) (sym (nothing past).1); flight = stands.flight ∙ sym sent; actors = actors_now w refl };
+        },
+      )
         where
           unfit : Fits w (land place) → ⊥
           unfit (put, is) = let there : slice_get (puts_sent old.store) place ≡ Some put = subst (λ (flight : Flight). slice_get flight place ≡ Some put) stands.flight is in absurd cc

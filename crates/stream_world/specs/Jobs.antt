@@ -50,7 +50,12 @@ event_view (events.Answer actor) = answer actor
 event_view (events.LoseAnswer actor) = lose_answer actor
 event_view (events.Land place) = land place
 
--- A call is met by the event that lets it be, or memory ran out in it; any other event is what it is.
+-- A call is answered in the way that it is to be, or memory ran out in it; one that is to be lost takes none.
+abbrev pub IsMetIn : (how met : How) → Type 0
+IsMetIn lost met = met ≡ lost
+IsMetIn how met = (met ≡ how) ⊎ (met ≡ short)
+
+-- A call is met so; any other event is what it is.
 abbrev pub IsMetAs : (event met : Event) → Type 0
-IsMetAs (act name how) met = (met ≡ act name how) ⊎ (met ≡ act name short)
+IsMetAs (act name how) met = (one : How) × IsMetIn how one × (met ≡ act name one)
 IsMetAs event met = met ≡ event

@@ -1,19 +1,19 @@
 -- Which world a world of the code stands for, and what became of it by an event.
-use Rattle.std.specs.Prelude.{◌≡◌, ◌⊎◌, ℕ, [], Option, None, Some, Result, Ok, Err, option_and_then, Bool, true, false}
+use Rattle.std.specs.Prelude.{◌≡◌, ℕ, List, [], Option, None, Some, Result, Ok, Err, option_and_then, option_map, slice_get, Bool, true, false}
 use Rattle.std.specs.declared.alloc.AllocError.{AllocError}
 use Rattle.std.specs.BTreeMap.{get}
 use Rattle.std.specs.Ordering.{nat_cmp}
-use Rattle.store_core.specs.Calls.{Flight}
-use Rattle.store_core.specs.Objects.{Objects}
+use Rattle.store_core.specs.Calls.{Flight, put_told}
+use Rattle.store_core.specs.Objects.{Objects, object_at}
 use Rattle.store_core.specs.Turns.{puts_sent}
 use Rattle.store_core.specs.declared.fault.StoreFault.{StoreFault}
 use Rattle.store_core.specs.declared.fault.StoreFault.TheVariants.{Lost, Memory}
 use Rattle.store_core.specs.declared.store.Put.{Put}
 use Rattle.session_core.specs.Talks.{Asked, Talk, Told, asked_view, told_view}
 use Rattle.session_laws.specs.Sessions.{Job, Outcome}
-use Rattle.stream_model.specs.Events.{Event, Happens, answer, lose_answer}
-use Rattle.stream_model.specs.Worlds.{Actor, Hand, How, World, asking, ended, flight_how, fresh, left_how, short, told_how, waiting}
-use Rattle.stream_world.specs.Jobs.{IsMetAs}
+use Rattle.stream_model.specs.Events.{Event, Happens, answer, begin, land, lose_answer}
+use Rattle.stream_model.specs.Worlds.{Actor, Hand, How, World, asking, ended, flight_how, fresh, left_how, told_how, waiting}
+use Rattle.stream_world.specs.Jobs.{IsMetAs, IsMetIn}
 use Rattle.stream_world.specs.Sessions.{SessionFits, job_of, outcome_view}
 use Rattle.stream_world.specs.declared.actor.Actor as code_actor
 use Rattle.stream_world.specs.declared.actor.Hand as code_hand
@@ -81,7 +81,7 @@ TellsAs outcome told = ⊥
 -- A call is answered in this way, or memory ran out in it: what is told, and what stands and is in flight then.
 pub record Meets (how : How) (call : Asked) (told : Told) (objects : Objects) (flight : Flight) (objects_new : Objects) (flight_new : Flight) : Type 0 where
   pub met : How
-  pub is : (met ≡ how) ⊎ (met ≡ short)
+  pub is : IsMetIn how met
   pub told_so : told ≡ told_how met objects call
   pub left : objects_new ≡ left_how met objects call
   pub in_flight : flight_new ≡ flight_how met flight call
@@ -109,21 +109,31 @@ pub record HasHappened {S : Type 0} (objects : S → Objects) (w : World) (event
   pub happens : Happens w met told later
   pub stands : WorldStands objects world later
 
+-- the events that take memory themselves: for an actor's place, or for the copy of a put that lands
+abbrev pub TakesMemory : Event → Type 0
+TakesMemory (begin name job) = Unit {0}
+TakesMemory (land place) = Unit {0}
+TakesMemory event = ⊥
+
 -- The same of an event that may find no memory to begin with: then nothing has happened.
 abbrev pub StepsTo : {S : Type 0} → (objects : S → Objects) → World → Event → Result (Option code_outcome.Outcome) AllocError → code_world.World S → Type 0
 StepsTo objects w event (Ok outcome) world = HasHappened objects w event outcome world
-StepsTo objects w event (Err fault) world = WorldStands objects world w
+StepsTo objects w event (Err fault) world = TakesMemory event × WorldStands objects world w
 
 -- the same of a beginning, which tells nothing
 abbrev pub BeginsAs : {S : Type 0} → (objects : S → Objects) → World → Event → Result (Unit {0}) AllocError → code_world.World S → Type 0
 BeginsAs objects w event (Ok done) world = HasHappened objects w event None world
 BeginsAs objects w event (Err fault) world = WorldStands objects world w
 
+-- what a put in flight is told that takes effect: whether its name was absent, or stood; nothing, where none of that number is in flight
+abbrev pub landing_told : World → (place : ℕ) → Option Put
+landing_told w place = option_map (λ (put : List ℕ × List ℕ). put_told (object_at w.objects put.0)) (slice_get w.flight place)
+
 -- and of a landing over a store that loses no call
-abbrev pub LandsAs : {S : Type 0} → (objects : S → Objects) → World → Event → Result (Option Put) StoreFault → code_world.World S → Type 0
-LandsAs objects w event (Ok found) world = HasHappened objects w event None world
-LandsAs objects w event (Err Memory) world = WorldStands objects world w
-LandsAs objects w event (Err Lost) world = ⊥
+abbrev pub LandsAs : {S : Type 0} → (objects : S → Objects) → World → (place : ℕ) → Result (Option Put) StoreFault → code_world.World S → Type 0
+LandsAs objects w place (Ok found) world = (found ≡ landing_told w place) × HasHappened objects w (land place) None world
+LandsAs objects w place (Err Memory) world = WorldStands objects world w
+LandsAs objects w place (Err Lost) world = ⊥
 
 -- the event by which a session takes the answer that waits, or the loss of it
 abbrev pub taking : (name : ℕ) → (is_lost : Bool) → Event

@@ -2,7 +2,7 @@
 
 use crate::job::Job;
 
-/// How a call is answered.
+/// How a call is answered, if there is memory for it: else that memory ran out waits.
 #[derive(Clone, Copy, Debug, PartialEq, Eq)]
 pub enum How {
     /// It takes effect, and its answer waits.

@@ -14,8 +14,8 @@ use std::alloc::{AllocError, Global};
 use std::collections::BTreeMap;
 use store_core::{Flaky, Put, Store, StoreFault};
 
-/// Actors that act on one store, which keeps the puts in flight. An actor that waits costs nothing. An event takes the time of the
-/// step or the call that it is, and the logarithm of how many actors there were.
+/// Actors that act on one store, which keeps the puts in flight. An actor that waits takes no time. An event takes the time of the
+/// step or the call that it is, with what it drops or copies, and the logarithm of how many actors there were.
 #[derive(Drop)]
 pub struct World<S> {
     pub(crate) alloc: Global,
@@ -29,7 +29,7 @@ impl<S: Store> World<S> {
     ghost use Rattle.stream_world.specs.Jobs.{event_view, how_view, job_view};
     ghost use Rattle.stream_world.specs.Standing.{BeginsAs, HasHappened, LandsAs, StepsTo, WorldStands, quiet_world, taking};
 
-    /// A world over a store, in which nobody acts yet and nothing is in flight.
+    /// A world over a store, in which nobody acts yet and no put was sent.
     pub fn new(alloc: Global, store: S) -> World<S>
         ensures store { result.store.store ≡ store }
         ensures stands { WorldStands S.objects result (quiet_world (S.objects store)) }
@@ -43,6 +43,7 @@ impl<S: Store> World<S> {
 
     /// Lets an event happen, and returns what a session told that ended by it. An event that doesn't fit changes nothing. Fails where
     /// memory runs out in a beginning or a landing, and then nothing has happened; in a call that is made, the session is told so.
+    /// A landing that the store loses tells nothing.
     pub fn step(&mut self, event: Event) -> Result<Option<Outcome>, AllocError>
         ensures happens { S.is_reliable self.old.store.store → (w : worlds.World) → WorldStands S.objects self.old w → StepsTo S.objects w (event_view event) result self.new }
         ensures reliable { S.is_reliable self.old.store.store → S.is_reliable self.new.store.store }
@@ -121,7 +122,7 @@ impl<S: Store> World<S> {
     /// `Exists` where it stood. It stays in flight. `None` where none of that number is. Fails where memory runs out, and then nothing has
     /// happened, or where the store loses the put.
     pub fn land(&mut self, place: usize) -> Result<Option<Put>, StoreFault>
-        ensures happens { S.is_reliable self.old.store.store → (w : worlds.World) → WorldStands S.objects self.old w → LandsAs S.objects w (land place) result self.new }
+        ensures happens { S.is_reliable self.old.store.store → (w : worlds.World) → WorldStands S.objects self.old w → LandsAs S.objects w place result self.new }
         ensures reliable { S.is_reliable self.old.store.store → S.is_reliable self.new.store.store }
     {
         self.store.land(place)

@@ -2,20 +2,22 @@ use Rattle.std.proofs.Common.{None, ap, subst, sym}
 use Rattle.std.proofs.lemmas.Result.{err_from_is_err_and}
 use Rattle.stream_model.specs.Events.{Event}
 use Rattle.stream_world.specs.Jobs.{event_view}
-use Rattle.stream_world.specs.Standing.{HasHappened}
+use Rattle.stream_world.specs.Standing.{HasHappened, TakesMemory}
+use Rattle.stream_world.specs.declared.event.Event as code_event
 use Rattle.stream_world.proofs.world.World.step.Goals as goal
 
 pub returns-in_err-begin-in-Begin-clause-happens : goal.returns-in_err-begin-in-Begin-clause-happens
 returns-in_err-begin-in-Begin-clause-happens g c = λ reliable w stands.
     let p = err_from_is_err_and c.from_residual.result c.from_residual.ensures.1 in
-    rw p.1 (c.in_err-begin-in-Begin.ensures.happens w stands)
+    rw p.1 (subst (λ (e : code_event.Event). TakesMemory (event_view e)) (sym c.in-Begin.is) tt, c.in_err-begin-in-Begin.ensures.happens w stands)
 
 pub returns-in-Ok-clause-happens : goal.returns-in-Ok-clause-happens
 returns-in-Ok-clause-happens g c = λ reliable w stands.
-    subst (λ (e : Event). HasHappened g.S.Store.objects w e None c.land.new.self) (sym (ap event_view c.in-Land.is)) (c.in-Ok.ensures.happens reliable w stands)
+    subst (λ (e : Event). HasHappened g.S.Store.objects w e None c.land.new.self) (sym (ap event_view c.in-Land.is)) (c.in-Ok.ensures.happens reliable w stands).1
 
 pub returns-in-Err-Memory-clause-happens : goal.returns-in-Err-Memory-clause-happens
-returns-in-Err-Memory-clause-happens g c = λ reliable w stands. rw c.in-Err-Memory.field-0-is at c.in-Err-Memory.ensures.happens reliable w stands
+returns-in-Err-Memory-clause-happens g c = λ reliable w stands.
+    (subst (λ (e : code_event.Event). TakesMemory (event_view e)) (sym c.in-Land.is) tt, rw c.in-Err-Memory.field-0-is at c.in-Err-Memory.ensures.happens reliable w stands)
 
 pub returns-in-Err-Lost-clause-happens : goal.returns-in-Err-Lost-clause-happens
 returns-in-Err-Lost-clause-happens g c = λ reliable w stands. absurd (rw c.in-Err-Lost.field-0-is at c.in-Err-Lost.ensures.happens reliable w stands)
