@@ -1,0 +1,5 @@
+pub mod Below
+pub mod Following
+pub mod Lines
+pub mod Named
+pub mod Walked

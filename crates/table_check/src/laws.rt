@@ -1,0 +1,79 @@
+//! Laws of the versions below which a store is sound, and of a walk over its log, each a function with an empty body
+//! whose contract is the law.
+
+ghost use Rattle.std.specs.Prelude.{◌≡◌, ◌≤◌, ℕ, suc, List, [], ◌∷◌, ◌++◌, Some, None};
+ghost use Rattle.std.specs.List.{AllByRecursion};
+ghost use Rattle.delta_actions.specs.Action.{Action};
+ghost use Rattle.delta_actions.specs.Commit.{IsCommit};
+ghost use Rattle.delta_actions.specs.Names.{commit_name, greatest_version};
+ghost use Rattle.delta_actions.specs.Printing.{IsPrintable};
+ghost use Rattle.delta_checkpoint.specs.Checkpoints.{IsCheckpoint};
+ghost use Rattle.log_laws.specs.Sound.{IsSoundStore};
+ghost use Rattle.store_core.specs.Objects.{Objects, names_of, object_at};
+ghost use Rattle.table_log.specs.Restoring.{IsSoundCheckpoint, checkpoint_version};
+ghost use Rattle.table_model.specs.Lawful.{IsLawful, IsWellGrouped};
+ghost use Rattle.table_model.specs.Table.{Batch, Entry, creation, group, close};
+ghost use Rattle.table_store.specs.Commits.{IsCommitOf};
+ghost use Rattle.table_store.specs.Holds.{FilesStand};
+ghost use Rattle.table_store.specs.Schema.{Schema};
+ghost use Rattle.table_check.specs.Below.{AreCheckpointsSoundBelow, IsFirstUnsound, IsSoundBelow};
+ghost use Rattle.table_check.specs.Following.{IsNewBatch, MayFollow};
+ghost use Rattle.table_check.specs.Lines.{AreLinesOf};
+ghost use Rattle.table_check.specs.Named.{least_named};
+ghost use Rattle.table_check.specs.Walked.{IsWalked};
+
+/// A store is sound exactly where it is sound below the version behind the greatest that a commit can have, so below
+/// each version. What is sound below a version is so below each lesser one. So a store has one first unsound version at
+/// most, and none where it is sound.
+pub fn a_store_has_at_most_one_first_unsound_version()
+    ensures whole { (objects : Objects) → IsSoundBelow objects (suc greatest_version) → IsSoundStore objects }
+    ensures sound { (objects : Objects) (version : ℕ) → IsSoundStore objects → IsSoundBelow objects version }
+    ensures lesser { (objects : Objects) (version other : ℕ) → version ≤ other → IsSoundBelow objects other → IsSoundBelow objects version }
+    ensures once { (objects : Objects) (version other : ℕ) → IsFirstUnsound objects version → IsFirstUnsound objects other → version ≡ other }
+    ensures broken { (objects : Objects) (version : ℕ) → IsFirstUnsound objects version → IsSoundStore objects → ⊥ }
+{}
+
+/// Behind a lawful table that was created a group may stand exactly where it has at least one batch, its batches are of
+/// different applications, each has a number above its application's last one, and its stream is open. A close always
+/// may, and a creation never.
+pub fn a_lawful_table_goes_on()
+    ensures group { (later : List Entry) (bs : List Batch) → IsLawful (creation ∷ later) → IsWellGrouped (group bs) → AllByRecursion (IsNewBatch (creation ∷ later)) bs → IsLawful ((creation ∷ later) ++ group bs ∷ []) }
+    ensures new { (entries : List Entry) (bs : List Batch) → IsLawful (entries ++ group bs ∷ []) → IsWellGrouped (group bs) × AllByRecursion (IsNewBatch entries) bs }
+    ensures closed { (application : List ℕ) (later : List Entry) → IsLawful (creation ∷ later) → IsLawful ((creation ∷ later) ++ close application ∷ []) }
+    ensures created { (later : List Entry) → IsLawful ((creation ∷ later) ++ creation ∷ []) → ⊥ }
+{}
+
+/// A walk over a log begins with the commit of a creation, and goes on with the next version's commit, of an entry that
+/// may follow and whose files stand. The actions of each of these commits can be printed. A checkpoint of the commits
+/// that were walked over, of the last one's version, is a sound one. Where the checkpoints of the versions below one
+/// are sound, and this version's too, those of the versions below the next are.
+pub fn a_walk_goes_on()
+    ensures begins { (objects : Objects) (schema : Schema) (bytes : List ℕ) (made : List Action) → object_at objects (commit_name 0) ≡ Some bytes → IsCommitOf schema creation bytes → IsCommit bytes made
+        → AllByRecursion IsPrintable made → IsWalked objects schema 1 (made ∷ []) }
+    ensures goes_on { (objects : Objects) (schema : Schema) (version : ℕ) (log : List (List Action)) → IsWalked objects schema version log → (entry : Entry) (bytes : List ℕ) (made : List Action)
+        → object_at objects (commit_name version) ≡ Some bytes → IsCommitOf schema entry bytes → IsCommit bytes made → AllByRecursion IsPrintable made → FilesStand objects schema entry → MayFollow log entry
+        → IsWalked objects schema (suc version) (log ++ made ∷ []) }
+    ensures checkpoint { (objects : Objects) (schema : Schema) (version : ℕ) (log : List (List Action)) (bytes : List ℕ) → IsWalked objects schema (suc version) log → IsCheckpoint bytes version log
+        → IsSoundCheckpoint objects version bytes }
+    ensures checkpoints { (objects : Objects) (version : ℕ) → AreCheckpointsSoundBelow objects version
+        → ((name bytes : List ℕ) → checkpoint_version name ≡ Some version → object_at objects name ≡ Some bytes → IsSoundCheckpoint objects version bytes) → AreCheckpointsSoundBelow objects (suc version) }
+{}
+
+/// A walk over the versions below one, whose checkpoints are sound too: the store is sound if no object has the name of
+/// a commit or checkpoint of that version or a later one, and that version is at most the one behind the greatest that
+/// a commit can have. If there are such names, the store is sound below the least of their versions. By a walk alone,
+/// the store is sound below a version up to that one if its checkpoints of the versions below this version are.
+pub fn a_walk_ends()
+    ensures sound { (objects : Objects) (schema : Schema) (version : ℕ) (log : List (List Action)) → IsWalked objects schema version log → AreCheckpointsSoundBelow objects version → version ≤ suc greatest_version
+        → least_named version (names_of objects) ≡ None → IsSoundStore objects }
+    ensures least { (objects : Objects) (schema : Schema) (version least : ℕ) (log : List (List Action)) → IsWalked objects schema version log → AreCheckpointsSoundBelow objects version
+        → least_named version (names_of objects) ≡ Some least → IsSoundBelow objects least }
+    ensures below { (objects : Objects) (schema : Schema) (version next : ℕ) (log : List (List Action)) → IsWalked objects schema next log → version ≤ next → AreCheckpointsSoundBelow objects version → IsSoundBelow objects version }
+{}
+
+/// Bytes whose actions have the same printed lines as those of a checkpoint, in any order, are a checkpoint of the same
+/// version and log.
+pub fn a_checkpoint_is_one_in_any_order()
+    ensures { (bytes others : List ℕ) (version : ℕ) (log : List (List Action)) (lines : List (List ℕ)) (actions own : List Action) → IsCommit bytes actions → IsCommit others own → AreLinesOf lines actions → AreLinesOf lines own
+        → IsCheckpoint others version log → IsCheckpoint bytes version log }
+{}
