@@ -2,7 +2,7 @@
 use Rattle.std.specs.Prelude.{ℕ, List, ◌++◌, Option, None, Some, codes}
 use Rattle.std.specs.Fmt.{decimal}
 use Rattle.lake_script.specs.declared.faults.Fault.{Fault}
-use Rattle.lake_script.specs.declared.faults.Fault.TheVariants.{NotYet, NoSuchName, NotRead, NotWritten}
+use Rattle.lake_script.specs.declared.faults.Fault.TheVariants.{NotYet, NoSuchName, NoActor, NotRead, NotWritten}
 use Rattle.sink_core.specs.declared.sink_state.SinkOutcome.{SinkOutcome}
 use Rattle.sink_core.specs.declared.sink_state.SinkOutcome.TheVariants.{Committed, Already, Closed, AlreadyClosed}
 use Rattle.lake_bytes.specs.Lines.{with_newline}
@@ -11,6 +11,7 @@ use Rattle.lake_bytes.specs.Lines.{with_newline}
 abbrev pub fault_text : Fault → List ℕ
 fault_text NotYet = codes "N1 NotYet"
 fault_text NoSuchName = codes "Q1 NoSuchName"
+fault_text NoActor = codes "Q2 NoActor"
 fault_text NotRead = codes "F3 NotRead"
 fault_text NotWritten = codes "F4 NotWritten"
 

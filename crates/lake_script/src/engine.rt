@@ -47,6 +47,14 @@ pub struct Outcome {
 }
 
 impl Outcome {
+    /// A run that ended so, and whether a growth was refused on the way or an object would have passed 64 MiB.
+    pub fn new(end: End, is_short: bool) -> Outcome
+        ensures end { result.end ≡ end }
+        ensures short { fell_short result ≡ is_short }
+    {
+        Outcome { end, is_short }
+    }
+
     /// Whether a growth was refused on the way, or a commit, a data file or a checkpoint would have
     /// passed 64 MiB. A run that ends by itself may have met one: its lines that did are told so.
     pub fn short(&self) -> bool

@@ -12,8 +12,10 @@ use thiserror::Error;
 pub enum Fault {
     /// The line asks for what isn't there yet.
     NotYet,
-    /// No object stands under the name.
+    /// No object stands under the name, or no put of that number is in flight.
     NoSuchName,
+    /// No actor of that name has a session that hasn't ended.
+    NoActor,
     /// A read of the input failed, or the input passes its bounds. No line was run.
     NotRead,
     /// A reply could not be written. What was written stands.
@@ -27,6 +29,7 @@ impl Display for Fault {
         f.write_str(match self {
             Fault::NotYet => "N1 NotYet",
             Fault::NoSuchName => "Q1 NoSuchName",
+            Fault::NoActor => "Q2 NoActor",
             Fault::NotRead => "F3 NotRead",
             Fault::NotWritten => "F4 NotWritten",
         })
