@@ -1,8 +1,8 @@
 # Shows a script line by line, each line before its replies: awk -f scripts/replies.awk SCRIPT REPLIES
 #
-# A line has one reply line, but for these: `tail` (rows, up to `next` or a refusal), `history` (a line a version, and a
-# refusal where it ends with one) and `show` (the lines of a commit). Blank lines and comments have none. It ends with
-# status 1 where replies are left over or missing.
+# A line has one reply line, but for these: `tail`, and a line of an actor that ends its read (rows, up to `next` or a
+# refusal), `history` (a line a version, and a refusal where it ends with one) and `show` (the lines of a commit). Blank
+# lines, comments and `fault` have none. It ends with status 1 where replies are left over or missing.
 
 # The first file is the script, the second one what it is told.
 NR == FNR { script[++lines] = $0; next }
@@ -40,7 +40,8 @@ END {
         print short(script[i])
         if (script[i] ~ /^#/ || script[i] ~ /^[ \t\r]*$/) continue
         if (told[at + 1] == "bad line " i) { give(); break }
-        if (script[i] ~ /^tail /) give_rows()
+        if (script[i] ~ /^fault /) continue
+        if (script[i] ~ /^tail / || script[i] ~ /^(until|step|finish) / && told[at + 1] ~ /^\{/) give_rows()
         else if (script[i] == "history") give_history(0)
         else if (script[i] ~ /^show /) give_commit()
         else give()
