@@ -1,0 +1,282 @@
+"""Whether the replies to a script say what they have to of batches and reads, by the replies alone.
+
+The script ends with `history` and a `tail` of all rows. No model of stores or sessions stands behind this:
+each acknowledged batch stands in the log once, every batch at most once and with rows that were handed in
+under its number, numbers of an application rise, none stands behind its close, and each read got just the
+rows of the log between its two offsets. Readers that go on where they ended got a front of the rows.
+"""
+
+from collections import Counter
+from typing import Any, NamedTuple
+import json
+
+from script_lines import Append, Close, Job, Plain, Start, Tail
+from script_lines import line as line_of
+from table import Offset, offset_of
+
+DECODER = json.JSONDecoder()
+Row = dict[str, Any]
+
+
+class Broken(Exception):
+    """What isn't as it has to be."""
+
+
+class Read(NamedTuple):
+    """A read that was told rows: by whom, from where, how many at most, its rows, and where it ended."""
+
+    reader: str
+    start: Offset
+    limit: int
+    rows: list[Row]
+    end: Offset
+
+
+class Entry(NamedTuple):
+    """A version: the batch of an application, or its close where there is no number."""
+
+    application: str
+    number: int | None
+
+
+def need(holds: bool, text: str) -> None:
+    """Refuses what doesn't hold."""
+    if not holds:
+        raise Broken(text)
+
+
+class Replies:
+    """Replies, taken one after the other."""
+
+    def __init__(self, told: list[str]) -> None:
+        self.told = told
+        self.place = 0
+
+    def one(self) -> str:
+        """The next reply line."""
+        need(self.place < len(self.told), "replies are missing")
+        self.place += 1
+        return self.told[self.place - 1]
+
+    def read(self) -> list[str]:
+        """The lines of a read: rows up to `next`, or a refusal."""
+        lines = [self.one()]
+        while lines[-1].startswith("{"):
+            lines.append(self.one())
+        return lines
+
+    def history(self) -> list[Entry | None]:
+        """The entries of a history, None for a creation."""
+        entries: list[Entry | None] = []
+        while self.place < len(self.told):
+            version, _, rest = self.told[self.place].partition(" ")
+            if version != str(len(entries)):
+                break
+            entries.append(entry_of(rest))
+            self.place += 1
+        return entries
+
+
+def entry_of(text: str) -> Entry | None:
+    """What a history tells behind a version."""
+    if not text:
+        return None
+    word, _, rest = text.partition(" ")
+    application, end = DECODER.raw_decode(rest)
+    need(word in ("txn", "close"), f"a history tells {text}")
+    return Entry(application, int(rest[end:]) if word == "txn" else None)
+
+
+class Talk:
+    """All that was handed in and told: submissions, outcomes, reads, and at the end the history and the rows."""
+
+    def __init__(self, script: list[str], told: list[str]) -> None:
+        self.replies = Replies(told)
+        self.jobs: dict[str, Job] = {}
+        self.submitted: dict[tuple[str, int], list[list[Row]]] = {}
+        self.outcomes: list[tuple[Job, str]] = []
+        self.reads: list[Read] = []
+        self.asked: dict[str, list[tuple[Offset, Offset | None]]] = {}
+        self.entries: list[Entry | None] = []
+        for text in script:
+            if text and not text.startswith("#"):
+                self.take(text)
+        need(self.replies.place == len(told), "replies are left over")
+
+    def take(self, text: str) -> None:
+        """Takes a line and its reply."""
+        line = line_of(text)
+        if isinstance(line, Start):
+            need(self.replies.one() == "ok", f"{text}: not ok")
+            self.jobs[line.actor] = line.job
+            self.submit(line.job)
+        elif isinstance(line, Plain):
+            self.plain(line)
+        elif isinstance(line, Tail):
+            self.end("", line, self.replies.read())
+        else:
+            self.submit(line)
+            self.end("", line, [self.replies.one()])
+
+    def plain(self, line: Plain) -> None:
+        """Takes a line that is no job."""
+        if line.word == "history":
+            self.entries = self.replies.history()
+        elif line.word == "die":
+            self.jobs.pop(line.arguments[0], None)
+            self.replies.one()
+        elif line.word in ("until", "step", "finish"):
+            actor = line.arguments[0]
+            told = self.replies.read()
+            if told != ["ok"] and told != ["refused Q2 NoActor"]:
+                need(actor in self.jobs, f"{actor} has no job, and was told {told[-1]}")
+                self.end(actor, self.jobs.pop(actor), told)
+        elif line.word != "fault":
+            self.replies.one()
+
+    def submit(self, job: Any) -> None:
+        """Keeps the rows of a batch that was handed in."""
+        if isinstance(job, Append):
+            rows = self.submitted.setdefault((job.application, job.number), [])
+            if job.values not in rows:
+                rows.append(job.values)
+
+    def end(self, actor: str, job: Any, told: list[str]) -> None:
+        """Keeps what a job was told at its end."""
+        self.outcomes.append((job, told[-1]))
+        if not isinstance(job, Tail) or told[-1].startswith("refused O7"):
+            return
+        start, end = offset_of(job.offset), None
+        if told[-1].startswith("next "):
+            end = offset_of(told[-1].removeprefix("next "))
+            self.reads.append(Read(actor, start, job.limit, [json.loads(row) for row in told[:-1]], end))
+        self.asked.setdefault(actor, []).append((start, end))
+
+
+class Facts:
+    """What the history and the last read tell: entries, and which rows each version has."""
+
+    def __init__(self, talk: Talk) -> None:
+        self.entries = talk.entries
+        self.versions = {entry: version for version, entry in enumerate(talk.entries) if entry}
+        last = talk.reads[-1]
+        need(last.start == (0, 0, 0) and last.end == (len(talk.entries), 0, 0), "the last read isn't of all rows")
+        self.rows = last.rows
+        self.acknowledged: dict[tuple[str, int], list[Row]] = {}
+        for job, told in talk.outcomes:
+            if isinstance(job, Append) and told.startswith(("Committed ", "Already ")):
+                key = job.application, job.number
+                need(self.acknowledged.setdefault(key, job.values) == job.values, f"two batches of {key}")
+        self.starts = self.divided(talk)
+
+    def divided(self, talk: Talk) -> list[int]:
+        """Where the rows of each version begin: each batch has rows that were handed in under its number."""
+        starts = [0]
+        for entry in self.entries:
+            place = starts[-1]
+            lists = [[]]
+            if entry is not None and entry.number is not None:
+                key = entry.application, entry.number
+                lists = [self.acknowledged[key]] if key in self.acknowledged else talk.submitted.get(key, [])
+            fitting = {len(rows) for rows in lists if self.rows[place : place + len(rows)] == rows}
+            # Rows are all different, so of several lists that fit only an empty one is a part of another.
+            need(bool(fitting), f"the rows of {entry} were not handed in")
+            starts.append(place + max(fitting))
+        need(starts[-1] == len(self.rows), "rows are left over")
+        return starts
+
+    def position(self, offset: Offset) -> int:
+        """How many rows stand in front of a place."""
+        version, file, row = offset
+        if version >= len(self.entries):
+            need(offset == (len(self.entries), 0, 0), f"{offset.text()} is no place")
+            return len(self.rows)
+        start, end = self.starts[version], self.starts[version + 1]
+        place = (start if file == 0 else end) + row
+        need(place <= end, f"{offset.text()} is no place")
+        return place
+
+
+def headline(script: list[str], told: list[str]) -> str:
+    """What was found, in a line; Broken where something isn't as it has to be."""
+    talk = Talk(script, told)
+    facts = Facts(talk)
+    test_log(facts)
+    for job, reply in talk.outcomes:
+        test_outcome(facts, job, reply)
+    for read in talk.reads:
+        test_read(facts, read)
+    readers = test_readers(facts, talk)
+    kinds = Counter(" ".join(word for word in reply.split(" ")[:2]) if reply.startswith("refused")
+                    else reply.split(" ")[0] for _, reply in talk.outcomes)
+    told_kinds = ", ".join(f"{kind} {count}" for kind, count in sorted(kinds.items()))
+    batches = sum(entry is not None and entry.number is not None for entry in facts.entries)
+    return (
+        f"{len(facts.entries)} versions, {batches} batches of {len(facts.rows)} rows, "
+        f"{len(facts.acknowledged)} acknowledged, {readers} readers that went on; {told_kinds}"
+    )
+
+
+def test_log(facts: Facts) -> None:
+    """Each batch stands once, numbers rise, and none stands behind its close."""
+    last: dict[str, int] = {}
+    closed: set[str] = set()
+    for version, entry in enumerate(facts.entries):
+        need((entry is None) == (version == 0), f"version {version} is {entry}")
+        if entry is None:
+            continue
+        need(entry.application not in closed, f"{entry} stands behind its close")
+        if entry.number is None:
+            closed.add(entry.application)
+        else:
+            need(entry.number > last.get(entry.application, -1), f"{entry} doesn't rise")
+            last[entry.application] = entry.number
+    for key in facts.acknowledged:
+        need(Entry(*key) in facts.versions, f"{key} was acknowledged and doesn't stand")
+
+
+def test_outcome(facts: Facts, job: Job, reply: str) -> None:
+    """Whether the log says what a job was told."""
+    words = reply.split(" ")
+    count = int(words[-1]) if words[-1].isdigit() else -1
+    if isinstance(job, Append):
+        own, end = Entry(job.application, job.number), Entry(job.application, None)
+        if words[0] == "Committed":
+            need(facts.versions.get(own) == count, f"{own}: {reply}")
+        elif words[0] == "Already":
+            need(job.number == count and own in facts.versions, f"{own}: {reply}")
+        elif words[1] == "S1":
+            need(job.number < count and Entry(job.application, count) in facts.versions, f"{own}: {reply}")
+        elif words[1] == "S2":
+            need(end in facts.versions and own not in facts.versions, f"{own}: {reply}")
+    elif isinstance(job, Close):
+        own = Entry(job.application, None)
+        if words[0] == "Closed":
+            need(facts.versions.get(own) == count, f"{own}: {reply}")
+        elif words[0] == "AlreadyClosed":
+            need(own in facts.versions, f"{own}: {reply}")
+    if words[0] in ("Checkpointed", "refused") and words[1] in ("S4", str(count)):
+        need(0 <= count < len(facts.entries), f"{reply} of {len(facts.entries)} versions")
+
+
+def test_read(facts: Facts, read: Read) -> None:
+    """Whether a read got the rows between its offsets, and as many as it was to get."""
+    start, end = facts.position(read.start), facts.position(read.end)
+    need(read.rows == facts.rows[start:end], f"a read from {read.start.text()} got other rows")
+    is_end = read.end.file == read.end.row == 0 and len(read.rows) < read.limit
+    need(len(read.rows) == read.limit or is_end, f"a read from {read.start.text()} ended early")
+
+
+def test_readers(facts: Facts, talk: Talk) -> int:
+    """How many readers began at the beginning and went on where they ended: each got a front of the rows."""
+    count = 0
+    for reader, asked in talk.asked.items():
+        place, goes_on = Offset(0, 0, 0), reader != ""
+        for start, end in asked:
+            goes_on = goes_on and start == place
+            place = end if end is not None and goes_on else place
+        if goes_on:
+            handed = [row for read in talk.reads if read.reader == reader for row in read.rows]
+            need(handed == facts.rows[: facts.position(place)], f"{reader} got other rows than a front")
+            count += 1
+    return count
