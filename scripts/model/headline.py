@@ -149,7 +149,8 @@ class Talk:
         start, end = offset_of(job.offset), None
         if told[-1].startswith("next "):
             end = offset_of(told[-1].removeprefix("next "))
-            self.reads.append(Read(actor, start, job.limit, [json.loads(row) for row in told[:-1]], end))
+            rows = [json.loads(row) for row in told[:-1]]
+            self.reads.append(Read(actor, start, job.limit, rows, end))
         self.asked.setdefault(actor, []).append((start, end))
 
 
@@ -160,7 +161,8 @@ class Facts:
         self.entries = talk.entries
         self.versions = {entry: version for version, entry in enumerate(talk.entries) if entry}
         last = talk.reads[-1]
-        need(last.start == (0, 0, 0) and last.end == (len(talk.entries), 0, 0), "the last read isn't of all rows")
+        is_whole = last.start == (0, 0, 0) and last.end == (len(talk.entries), 0, 0)
+        need(is_whole, "the last read isn't of all rows")
         self.rows = last.rows
         self.acknowledged: dict[tuple[str, int], list[Row]] = {}
         for job, told in talk.outcomes:
@@ -174,10 +176,11 @@ class Facts:
         starts = [0]
         for entry in self.entries:
             place = starts[-1]
-            lists = [[]]
+            lists: list[list[Row]] = [[]]
             if entry is not None and entry.number is not None:
                 key = entry.application, entry.number
-                lists = [self.acknowledged[key]] if key in self.acknowledged else talk.submitted.get(key, [])
+                own = self.acknowledged.get(key)
+                lists = talk.submitted.get(key, []) if own is None else [own]
             fitting = {len(rows) for rows in lists if self.rows[place : place + len(rows)] == rows}
             # Rows are all different, so of several lists that fit only an empty one is a part of another.
             need(bool(fitting), f"the rows of {entry} were not handed in")
@@ -207,14 +210,19 @@ def headline(script: list[str], told: list[str]) -> str:
     for read in talk.reads:
         test_read(facts, read)
     readers = test_readers(facts, talk)
-    kinds = Counter(" ".join(word for word in reply.split(" ")[:2]) if reply.startswith("refused")
-                    else reply.split(" ")[0] for _, reply in talk.outcomes)
-    told_kinds = ", ".join(f"{kind} {count}" for kind, count in sorted(kinds.items()))
+    counts = Counter(kind_of(reply) for _, reply in talk.outcomes)
+    told_kinds = ", ".join(f"{kind} {count}" for kind, count in sorted(counts.items()))
     batches = sum(entry is not None and entry.number is not None for entry in facts.entries)
     return (
         f"{len(facts.entries)} versions, {batches} batches of {len(facts.rows)} rows, "
         f"{len(facts.acknowledged)} acknowledged, {readers} readers that went on; {told_kinds}"
     )
+
+
+def kind_of(reply: str) -> str:
+    """The kind of a reply: its first word, and the code of a refusal."""
+    words = reply.split(" ")
+    return words[1] if words[0] == "refused" else words[0]
 
 
 def test_log(facts: Facts) -> None:
@@ -237,26 +245,24 @@ def test_log(facts: Facts) -> None:
 
 def test_outcome(facts: Facts, job: Job, reply: str) -> None:
     """Whether the log says what a job was told."""
-    words = reply.split(" ")
-    count = int(words[-1]) if words[-1].isdigit() else -1
-    if isinstance(job, Append):
-        own, end = Entry(job.application, job.number), Entry(job.application, None)
-        if words[0] == "Committed":
-            need(facts.versions.get(own) == count, f"{own}: {reply}")
-        elif words[0] == "Already":
-            need(job.number == count and own in facts.versions, f"{own}: {reply}")
-        elif words[1] == "S1":
-            need(job.number < count and Entry(job.application, count) in facts.versions, f"{own}: {reply}")
-        elif words[1] == "S2":
-            need(end in facts.versions and own not in facts.versions, f"{own}: {reply}")
-    elif isinstance(job, Close):
-        own = Entry(job.application, None)
-        if words[0] == "Closed":
-            need(facts.versions.get(own) == count, f"{own}: {reply}")
-        elif words[0] == "AlreadyClosed":
-            need(own in facts.versions, f"{own}: {reply}")
-    if words[0] in ("Checkpointed", "refused") and words[1] in ("S4", str(count)):
+    kind = kind_of(reply)
+    last_word = reply.split(" ")[-1]
+    count = int(last_word) if last_word.isdigit() else -1
+    if kind in ("Checkpointed", "S4"):
         need(0 <= count < len(facts.entries), f"{reply} of {len(facts.entries)} versions")
+    if not isinstance(job, Append | Close):
+        return
+    number = job.number if isinstance(job, Append) else None
+    own = facts.versions.get(Entry(job.application, number))
+    holds = {
+        "Committed": own == count,
+        "Closed": own == count,
+        "Already": own is not None and number == count,
+        "AlreadyClosed": own is not None,
+        "S1": number is not None and number < count and Entry(job.application, count) in facts.versions,
+        "S2": own is None and Entry(job.application, None) in facts.versions,
+    }
+    need(holds.get(kind, True), f"{job.application} {number}: {reply}")
 
 
 def test_read(facts: Facts, read: Read) -> None:

@@ -1,13 +1,15 @@
 """Random scripts of several actors over one table, and a check of what they were told.
 
 `schedules.py SEED COUNT` prints a script of about COUNT lines, the same one for each seed; `--versions N`
-bounds how many versions its log gets. `schedules.py --answer SCRIPT` prints the replies of this model.
+says about how many versions its log gets. `schedules.py --answer SCRIPT` prints the replies of this model.
 `schedules.py --check SCRIPT REPLIES` compares replies with the model's, and then tests by the replies alone
-that batches and reads are as they have to be; it ends with status 1 where one isn't.
+that batches and reads are as they have to be; it ends with status 1 where one isn't. With `--no-checkpoint`
+each of them is of logs that are read from version 0.
 """
 
 from pathlib import Path
 from random import Random
+import argparse
 import sys
 
 from headline import Broken, headline
@@ -43,11 +45,11 @@ class Stream:
 class Schedule:
     """A script that is made line by line, and a world that answers it meanwhile."""
 
-    def __init__(self, seed: int, count: int, versions: int) -> None:
+    def __init__(self, seed: int, count: int, versions: int, restores: bool) -> None:
         self.random = Random(seed)
         self.count = count
         self.versions = versions
-        self.world = World({}, True)
+        self.world = World({}, restores)
         self.lines: list[str] = []
         self.named = 0
         self.row = 0
@@ -196,7 +198,7 @@ class Schedule:
 
     def is_in_order(self, reader: str) -> bool:
         """Whether a read's calls have one order: where a checkpoint may stand behind its place they may have others."""
-        checkpoints = self.world.store.checkpoints
+        checkpoints = self.world.store.checkpoints if self.world.restores else []
         return not checkpoints or version_of(checkpoints[-1]) < self.offsets[reader].version
 
     def land(self) -> None:
@@ -229,9 +231,9 @@ def lines_in(path: str) -> list[str]:
     return Path(path).read_bytes().decode().removesuffix("\n").split("\n")
 
 
-def check(script: list[str], told: list[str]) -> str:
+def check(script: list[str], told: list[str], restores: bool) -> str:
     """What was checked of a script's replies, in a line; Broken where something isn't as it has to be."""
-    world = World({}, True)
+    world = World({}, restores)
     place = 0
     for number, line in enumerate(script, 1):
         if line and not line.startswith("#"):
@@ -247,23 +249,37 @@ def check(script: list[str], told: list[str]) -> str:
     return f"{len(script)} lines, {len(told)} replies are the model's; {headline(script, told)}"
 
 
-def main(words: list[str]) -> int:
-    """Does what the words say."""
-    if len(words) == 3 and words[0] == "--check":
-        try:
-            print(check(lines_in(words[1]), lines_in(words[2])))
-        except Broken as broken:
-            print(broken)
-            return 1
-        return 0
-    if len(words) == 2 and words[0] == "--answer":
-        print("\n".join(World({}, True).answers("\n".join(lines_in(words[1])))[0]))
-        return 0
-    seed, count = int(words[0]), int(words[1])
-    versions = int(words[3]) if words[2:3] == ["--versions"] else min(count // 10 + 20, 2_000)
-    print("\n".join(Schedule(seed, count, versions).script()))
+def arguments() -> argparse.Namespace:
+    """The arguments of the program."""
+    parser = argparse.ArgumentParser(description="Random scripts of several actors, and a check of their replies.")
+    parser.add_argument("seed", type=int, nargs="?", default=1)
+    parser.add_argument("count", type=int, nargs="?", default=10_000)
+    parser.add_argument("--versions", type=int, help="about how many versions the log gets")
+    parser.add_argument("--answer", metavar="SCRIPT", help="print the model's replies to a script")
+    parser.add_argument("--check", nargs=2, metavar=("SCRIPT", "REPLIES"), help="check the replies to a script")
+    parser.add_argument("--no-checkpoint", action="store_true", help="of logs that are read from version 0")
+    return parser.parse_args()
+
+
+def main() -> int:
+    """Does what the arguments say."""
+    given = arguments()
+    restores = not given.no_checkpoint
+    try:
+        if given.check:
+            script, told = map(lines_in, given.check)
+            print(check(script, told, restores))
+        elif given.answer:
+            told, _ = World({}, restores).answers("\n".join(lines_in(given.answer)))
+            print("\n".join(told))
+        else:
+            versions = given.versions or min(given.count // 10 + 20, 2_000)
+            print("\n".join(Schedule(given.seed, given.count, versions, restores).script()))
+    except Broken as broken:
+        print(broken)
+        return 1
     return 0
 
 
 if __name__ == "__main__":
-    sys.exit(main(sys.argv[1:]))
+    sys.exit(main())

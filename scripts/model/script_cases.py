@@ -97,7 +97,7 @@ def last_lines(lines: list[str], count: int) -> list[str]:
 
 
 def replies(case: ScriptCase, restores: bool) -> tuple[list[str], str, Table | Log | World]:
-    """The replies to a script, how it ended, and what answered: a table or a log where it knows all lines, or a world."""
+    """The replies to a script, how it ended, and what answered: a world where no table or log knows all lines."""
     try:
         script = case.script.decode()
     except UnicodeDecodeError as error:
