@@ -5,6 +5,7 @@ import re
 
 from log import Log
 from table import NotModelled, json_value
+from world import World
 
 # The places of each command behind its folder, its options, and whether one has to be given.
 AT = {"at": False}
@@ -118,6 +119,14 @@ def kind(name: str) -> int:
     return 1 if COMMIT.fullmatch(name) else 2 if CHECKPOINT.fullmatch(name) else 0
 
 
+def script_lines(run: Run) -> list[str]:
+    """What a script tells, which has a store of its own, and its status."""
+    if run.words[1:] not in ([], ["--no-checkpoint"]):
+        raise NotModelled("words that are refused")
+    told, end = World({}, len(run.words) == 1).answers(run.input.decode())
+    return [*told, "status 0" if end == "Done" else "status 2"]
+
+
 class Folder:
     """A table's folder: its files, and what commands tell of them."""
 
@@ -127,6 +136,8 @@ class Folder:
 
     def answer(self, run: Run) -> list[str]:
         """The lines that a command writes, its status, and what stands on standard error."""
+        if run.words[:1] == ["script"]:
+            return script_lines(run)
         command = command_of(run.words)
         self.known.add(command.folder)
         if len(self.known) > 1 or command.folder.endswith("!"):
