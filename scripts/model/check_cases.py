@@ -19,6 +19,7 @@ from pages import page_lines
 from parquet_reader import ReadFault, read_file
 from parquet_writer import write_file
 from script_cases import script_answer, script_cases
+from session_cases import session_answer, session_cases
 from table import NotModelled, RowFault
 from table import compact, json_value, row_of, schema_of, unsupported_column
 
@@ -86,7 +87,7 @@ def stored_scripts(lines: list[str]) -> dict[str, list[str]]:
         elif stored:
             answer.append(line)
         else:
-            raise SystemExit("lake_cases: a stored line stands before the first answer")
+            raise SystemExit("a stored line stands before the first answer")
     return stored
 
 
@@ -99,6 +100,18 @@ def check_scripts() -> Tally:
         tally.compare(name, partial(script_answer, case), stored.pop(case.name, []))
     if stored:
         raise SystemExit("lake_cases: a stored answer is left over")
+    return tally
+
+
+def check_sessions() -> Tally:
+    """Compares the cases of `crates/store_cases`."""
+    tally = Tally()
+    stored = stored_scripts(lines_of("store_cases", "stdout"))
+    for case in session_cases(lines_of("store_cases", "stdin")):
+        name = f"store_cases: {case.name}"
+        tally.compare(name, partial(session_answer, case), stored.pop(case.name, []))
+    if stored:
+        raise SystemExit("store_cases: a stored answer is left over")
     return tally
 
 
@@ -396,7 +409,12 @@ def main() -> int:
     for refusal in refusals:
         print("memory was refused,", refusal)
     total = Tally()
-    checks = {"lake_cases": check_scripts, "byte_cases": check_lines, "lake_inspect": check_tool}
+    checks = {
+        "lake_cases": check_scripts,
+        "store_cases": check_sessions,
+        "byte_cases": check_lines,
+        "lake_inspect": check_tool,
+    }
     for crate, check in checks.items():
         tally = check()
         print(f"{crate}: {tally}")
