@@ -231,8 +231,8 @@ def lines_in(path: str) -> list[str]:
     return Path(path).read_bytes().decode().removesuffix("\n").split("\n")
 
 
-def check(script: list[str], told: list[str], restores: bool) -> str:
-    """What was checked of a script's replies, in a line; Broken where something isn't as it has to be."""
+def compare(script: list[str], told: list[str], restores: bool) -> str:
+    """How many replies there are, which all are the model's; Broken where one isn't."""
     world = World({}, restores)
     place = 0
     for number, line in enumerate(script, 1):
@@ -246,7 +246,19 @@ def check(script: list[str], told: list[str], restores: bool) -> str:
             place += len(mine)
     if place != len(told):
         raise Broken(f"reply {place + 1} is left over: {told[place]}")
-    return f"{len(script)} lines, {len(told)} replies are the model's; {headline(script, told)}"
+    return f"{len(script)} lines, {len(told)} replies are the model's"
+
+
+def check(script: list[str], told: list[str], restores: bool) -> bool:
+    """Checks a script's replies in two ways, tells what was found, and whether all is as it has to be."""
+    is_sound = True
+    for test in (lambda: compare(script, told, restores), lambda: headline(script, told)):
+        try:
+            print(test())
+        except Broken as broken:
+            is_sound = False
+            print(f"broken: {broken}")
+    return is_sound
 
 
 def arguments() -> argparse.Namespace:
@@ -265,19 +277,15 @@ def main() -> int:
     """Does what the arguments say."""
     given = arguments()
     restores = not given.no_checkpoint
-    try:
-        if given.check:
-            script, told = map(lines_in, given.check)
-            print(check(script, told, restores))
-        elif given.answer:
-            told, _ = World({}, restores).answers("\n".join(lines_in(given.answer)))
-            print("\n".join(told))
-        else:
-            versions = given.versions or min(given.count // 10 + 20, 2_000)
-            print("\n".join(Schedule(given.seed, given.count, versions, restores).script()))
-    except Broken as broken:
-        print(broken)
-        return 1
+    if given.check:
+        script, told = map(lines_in, given.check)
+        return 0 if check(script, told, restores) else 1
+    if given.answer:
+        told, _ = World({}, restores).answers("\n".join(lines_in(given.answer)))
+        print("\n".join(told))
+        return 0
+    versions = given.versions or min(given.count // 10 + 20, 2_000)
+    print("\n".join(Schedule(given.seed, given.count, versions, restores).script()))
     return 0
 
 
