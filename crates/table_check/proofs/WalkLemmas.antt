@@ -54,7 +54,7 @@ module _ (objects : Objects) where
   }
 
   module _ (schema : Schema) (version : ℕ) (log : List (List Action)) (walked : IsWalked objects schema version log) where
-    made_for : AreMadeFor objects schema (creation ∷ walked.later) log
+    pub made_for : AreMadeFor objects schema (creation ∷ walked.later) log
     made_for = front_made objects schema (creation ∷ walked.later) log walked.stand (subst (λ (v : ℕ). commits_in 0 (versions_from v 0 objects) ≡ Ok log) (sym walked.at) walked.read)
 
     -- what is new in the log is new in the table
