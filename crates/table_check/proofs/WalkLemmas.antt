@@ -6,7 +6,6 @@ use Rattle.std.proofs.lemmas.Simd.{map-map}
 use Rattle.delta_actions.specs.Action.{Action}
 use Rattle.delta_actions.specs.Commit.{IsCommit}
 use Rattle.delta_actions.specs.Names as names
-use Rattle.delta_actions.specs.Names.{greatest_version}
 use Rattle.delta_actions.specs.Printing.{IsPrintable}
 use Rattle.delta_checkpoint.specs.Checkpoints.{IsCheckpoint}
 use Rattle.delta_replay.specs.Keys.{last_number}
@@ -17,7 +16,7 @@ use Rattle.table_log.specs.Versions.{commits_in, versions_from}
 use Rattle.table_log.proofs.Callers.{front_behind, of_commit}
 use Rattle.table_model.specs.Lawful.{IsLawful, IsWellGrouped}
 use Rattle.table_model.specs.Table as tables
-use Rattle.table_model.specs.Table.{Batch, Entry, creation, group, close, last_batch}
+use Rattle.table_model.specs.Table.{Batch, Entry, creation, group, close}
 use Rattle.table_model.proofs.Callers.{last_number as last_of_numbers, new_is_lawful}
 use Rattle.table_model.proofs.Kept.{each_push}
 use Rattle.table_store.specs.Commits.{IsCommitOf}
