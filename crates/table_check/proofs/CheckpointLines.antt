@@ -59,7 +59,7 @@ one_at_most None = omega arith
 one_at_most (Some action) = omega arith
 
 -- those of a key stand among the others
-among_others : (key : Key) (actions : List Action) → filter (is_of key) (filter (λ action. not (is_metadata action)) actions) ≡ filter (is_of key) actions
+pub among_others : (key : Key) (actions : List Action) → filter (is_of key) (filter (λ action. not (is_metadata action)) actions) ≡ filter (is_of key) actions
 among_others key actions = kept_of_kept (is_of key) (λ action. not (is_metadata action)) actions (λ action among is. other_with_key key action is)
 
 -- ---- the same actions in another order

@@ -1,6 +1,10 @@
 pub mod CheckpointLines
+pub mod CheckpointSame
 pub mod Counts
 pub mod LawfulNext
 pub mod NameLists
+pub mod NoFloats
 pub mod WalkEnds
+pub mod WalkGaps
 pub mod WalkLemmas
+pub mod WalkStops

@@ -61,7 +61,7 @@ told_from from (Some v) version is =
     ]
 
 -- the lesser is one of the two
-one_of : (one other : Option ℕ) (least : ℕ) → lesser one other ≡ Some least → (one ≡ Some least) ⊎ (other ≡ Some least)
+pub one_of : (one other : Option ℕ) (least : ℕ) → lesser one other ≡ Some least → (one ≡ Some least) ⊎ (other ≡ Some least)
 one_of None other least is = inr is
 one_of (Some one) None least is = inl is
 one_of (Some one) (Some other) least is =

@@ -6,7 +6,6 @@ use Rattle.std.proofs.lemmas.Simd.{map-map}
 use Rattle.delta_actions.specs.Action.{Action}
 use Rattle.delta_actions.specs.Commit.{IsCommit}
 use Rattle.delta_actions.specs.Names as names
-use Rattle.delta_actions.specs.Names.{greatest_version}
 use Rattle.delta_actions.specs.Printing.{IsPrintable}
 use Rattle.delta_checkpoint.specs.Checkpoints.{IsCheckpoint}
 use Rattle.delta_replay.specs.Keys.{last_number}
@@ -17,7 +16,7 @@ use Rattle.table_log.specs.Versions.{commits_in, versions_from}
 use Rattle.table_log.proofs.Callers.{front_behind, of_commit}
 use Rattle.table_model.specs.Lawful.{IsLawful, IsWellGrouped}
 use Rattle.table_model.specs.Table as tables
-use Rattle.table_model.specs.Table.{Batch, Entry, creation, group, close, last_batch}
+use Rattle.table_model.specs.Table.{Batch, Entry, creation, group, close}
 use Rattle.table_model.proofs.Callers.{last_number as last_of_numbers, new_is_lawful}
 use Rattle.table_model.proofs.Kept.{each_push}
 use Rattle.table_store.specs.Commits.{IsCommitOf}
@@ -54,7 +53,7 @@ module _ (objects : Objects) where
   }
 
   module _ (schema : Schema) (version : ℕ) (log : List (List Action)) (walked : IsWalked objects schema version log) where
-    made_for : AreMadeFor objects schema (creation ∷ walked.later) log
+    pub made_for : AreMadeFor objects schema (creation ∷ walked.later) log
     made_for = front_made objects schema (creation ∷ walked.later) log walked.stand (subst (λ (v : ℕ). commits_in 0 (versions_from v 0 objects) ≡ Ok log) (sym walked.at) walked.read)
 
     -- what is new in the log is new in the table

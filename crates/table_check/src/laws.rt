@@ -2,7 +2,11 @@
 //! whose contract is the law.
 
 ghost use Rattle.std.specs.Prelude.{◌≡◌, ◌≤◌, ℕ, suc, List, [], ◌∷◌, ◌++◌, Some, None};
+ghost use Rattle.std.specs.Cmp.Lexicographic.{slice_cmp};
 ghost use Rattle.std.specs.List.{AllByRecursion};
+ghost use Rattle.std.specs.List.Sorted.{IsSorted};
+ghost use Rattle.std.specs.Ordering.{nat_cmp};
+ghost use Rattle.std.specs.Str.{IsUtf8};
 ghost use Rattle.delta_actions.specs.Action.{Action};
 ghost use Rattle.delta_actions.specs.Commit.{IsCommit};
 ghost use Rattle.delta_actions.specs.Names.{commit_name, greatest_version};
@@ -13,7 +17,8 @@ ghost use Rattle.store_core.specs.Objects.{Objects, names_of, object_at};
 ghost use Rattle.table_log.specs.Restoring.{IsSoundCheckpoint, checkpoint_version};
 ghost use Rattle.table_model.specs.Lawful.{IsLawful, IsWellGrouped};
 ghost use Rattle.table_model.specs.Table.{Batch, Entry, creation, group, close};
-ghost use Rattle.table_store.specs.Commits.{IsCommitOf};
+ghost use Rattle.table_store.specs.Commits.{IsCommitOf, StandFor, without_commit_info};
+ghost use Rattle.table_store.specs.Groups.{numbers};
 ghost use Rattle.table_store.specs.Holds.{FilesStand};
 ghost use Rattle.table_store.specs.Schema.{Schema};
 ghost use Rattle.table_check.specs.Below.{AreCheckpointsSoundBelow, IsFirstUnsound, IsSoundBelow};
@@ -76,4 +81,41 @@ pub fn a_walk_ends()
 pub fn a_checkpoint_is_one_in_any_order()
     ensures { (bytes others : List ℕ) (version : ℕ) (log : List (List Action)) (lines : List (List ℕ)) (actions own : List Action) → IsCommit bytes actions → IsCommit others own → AreLinesOf lines actions → AreLinesOf lines own
         → IsCheckpoint others version log → IsCheckpoint bytes version log }
+{}
+
+/// Where the first commit is no creation's, the store is unsound at version 0. Behind a walk it is unsound at the next
+/// version, where what stands there is no commit, or a commit of no entry that may follow and whose files stand. (The
+/// applications of the commit's numbers are text.)
+pub fn a_walk_stops()
+    ensures created { (objects : Objects) (bytes : List ℕ) → object_at objects (commit_name 0) ≡ Some bytes → ((schema : Schema) → IsCommitOf schema creation bytes → ⊥) → IsSoundBelow objects 1 → ⊥ }
+    ensures read { (objects : Objects) (schema : Schema) (version : ℕ) (log : List (List Action)) (bytes : List ℕ) → IsWalked objects schema version log → version ≤ greatest_version → object_at objects (commit_name version) ≡ Some bytes
+        → ((made : List Action) → IsCommit bytes made → ⊥) → IsSoundBelow objects (suc version) → ⊥ }
+    ensures follows { (objects : Objects) (schema : Schema) (version : ℕ) (log : List (List Action)) (bytes : List ℕ) (made : List Action) → IsWalked objects schema version log → version ≤ greatest_version
+        → object_at objects (commit_name version) ≡ Some bytes → IsCommit bytes made → AllByRecursion (λ n. IsUtf8 n.0) (numbers (without_commit_info made))
+        → ((entry : Entry) → StandFor schema entry (without_commit_info made) → FilesStand objects schema entry → MayFollow log entry → ⊥) → IsSoundBelow objects (suc version) → ⊥ }
+{}
+
+/// Where a version has no commit, a commit or a checkpoint of that version or a later one makes the store unsound: the
+/// least version that such a name tells is unsound. Behind a walk so is its last version, where what has the name of a
+/// checkpoint of it isn't one of the commits that were walked over.
+pub fn a_store_has_no_other_commits_and_checkpoints()
+    ensures gap { (objects : Objects) (from least : ℕ) → object_at objects (commit_name from) ≡ None → least_named from (names_of objects) ≡ Some least → IsSoundBelow objects (suc least) → ⊥ }
+    ensures checkpoint { (objects : Objects) (schema : Schema) (version : ℕ) (log : List (List Action)) (name bytes : List ℕ) → IsWalked objects schema (suc version) log → checkpoint_version name ≡ Some version
+        → object_at objects name ≡ Some bytes → (IsCheckpoint bytes version log → ⊥) → IsSoundBelow objects (suc version) → ⊥ }
+{}
+
+/// Each store is sound below version 0, and below the least version that names of commits and checkpoints tell. Where
+/// they tell none it is sound.
+pub fn a_store_begins_soundly()
+    ensures zero { (objects : Objects) → IsSoundBelow objects 0 }
+    ensures least { (objects : Objects) (least : ℕ) → least_named 0 (names_of objects) ≡ Some least → IsSoundBelow objects least }
+    ensures sound { (objects : Objects) → least_named 0 (names_of objects) ≡ None → IsSoundStore objects }
+{}
+
+/// Two checkpoints of one version and log, whose actions can be printed, have the same printed lines, once these are in
+/// the order of their bytes.
+pub fn a_checkpoint_has_one_list_of_lines()
+    ensures { (bytes others : List ℕ) (version : ℕ) (log : List (List Action)) (lines own_lines : List (List ℕ)) (actions own : List Action) → IsCommit bytes actions → IsCommit others own
+        → AllByRecursion IsPrintable actions → AllByRecursion IsPrintable own → AreLinesOf lines actions → AreLinesOf own_lines own → IsSorted (slice_cmp nat_cmp) lines → IsSorted (slice_cmp nat_cmp) own_lines
+        → IsCheckpoint bytes version log → IsCheckpoint others version log → lines ≡ own_lines }
 {}

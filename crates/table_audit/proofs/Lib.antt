@@ -1,0 +1,7 @@
+pub mod CheckpointParts
+pub mod EndParts
+pub mod FileReads
+pub mod GroupParts
+pub mod ListParts
+pub mod NumberParts
+pub mod WalkParts

@@ -1,0 +1,15 @@
+use Rattle.std.proofs.Common.{◌≡◌, ℕ, List, Some, refl, sym, subst, ◌∙◌}
+use Rattle.schema_tree.specs.Schema.{tree_of}
+use Rattle.store_core.specs.Objects.{object_at}
+use Rattle.table_store.specs.Schema.{IsFileOf}
+use Rattle.table_store.proofs.HeldLemmas.{read_at}
+use Rattle.table_store.proofs.HoldingOne.{some_is}
+use Rattle.table_audit.proofs.file.wrong_file.Goals as goal
+
+pub returns-in-Ok-Some-clause-breaks : goal.returns-in-Ok-Some-clause-breaks
+returns-in-Ok-Some-clause-breaks g c = λ rows stand.
+    let objects = g.S.Store.objects c.args.store.now in
+    let there : object_at objects c.args.name.now ≡ Some c.in-Some.bytes.items = read_at objects _ _ _ (Some c.in-Some.bytes) c.in_ok-bytes.ensures.object refl c.in-Some.is in
+    let same : stand.0 ≡ c.deref.result.now = some_is stand.0 c.in-Some.bytes.items (sym stand.1 ∙ there) ∙ sym c.deref.ensures.value in
+    let none = rw c.in-Ok-Some.field-0-is at c.in-Ok-Some.ensures.breaks in
+    none rows (subst (λ (b : List ℕ). IsFileOf (tree_of c.args.schema.now) b rows) same stand.2)

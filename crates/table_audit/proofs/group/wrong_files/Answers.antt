@@ -1,0 +1,73 @@
+use Rattle.std.proofs.Common.{◌≡◌, ◌<◌, ◌+◌, ◌++◌, ◌∷◌, [], List, ℕ, Bor, length, get_or, map, take, refl, sym, ap, subst, ◌∙◌, arith}
+use Rattle.std.specs.List.{AllByRecursion}
+use Rattle.std.proofs.lemmas.List.{get_or-map, length-map, take_all}
+use Rattle.delta_actions.specs.Action.{AddAction}
+use Rattle.delta_actions.specs.declared.action.Add.{Add}
+use Rattle.delta_actions.specs.declared.action.Txn.{Txn}
+use Rattle.schema_tree.specs.Schema.{tree_of}
+use Rattle.table_store.specs.Groups.{AreFilesOf}
+use Rattle.table_store.proofs.GroupLemmas.{all_push, files_count, files_push, map_turn}
+use Rattle.table_audit.specs.Entries.{HasFile}
+use Rattle.table_audit.proofs.GroupParts.{all_at, file_at, file_of, number_of}
+use Rattle.table_audit.proofs.group.wrong_files.Goals as goal
+
+pub returns-then-txns-adds-clause-breaks : goal.returns-then-txns-adds-clause-breaks
+returns-then-txns-adds-clause-breaks g c = λ have.
+    c.if-txns-adds.true (sym (length-map c.args.txns.now number_of) ∙ (files_count _ _ have.0 ∙ length-map c.args.adds.now file_of))
+
+pub returns-in-Some-clause-breaks : goal.returns-in-Some-clause-breaks
+returns-in-Some-clause-breaks g c = λ have.
+    let txns = c.args.txns.now in
+    let adds = c.args.adds.now in
+    let i = c.loop-i.i in
+    let x = c.index-txns-i.result in
+    let y = c.index-adds-i.result in
+    let objects = g.S.Store.objects c.args.store.now in
+    let schema = tree_of c.args.schema.now in
+    let n = number_of x in
+    let file = file_of y in
+    let count : length txns ≡ length adds = sym (length-map txns number_of) ∙ (files_count _ _ have.0 ∙ length-map adds file_of) in
+    let at_n : n ≡ get_or (map number_of txns) i n = ap number_of c.index-txns-i.is ∙ sym (get_or-map number_of txns i x n (omega (arith, c.loop-i-test.true))) in
+    let at_file : file ≡ get_or (map file_of adds) i file = ap file_of c.index-adds-i.is ∙ sym (get_or-map file_of adds i y file (omega (arith, c.loop-i-test.true, count))) in
+    let low : i < length (map number_of txns) = omega (arith, c.loop-i-test.true, length-map txns number_of) in
+    let key = file_at (map number_of txns) (map file_of adds) i n file have.0 low at_n at_file in
+    let has : HasFile objects schema n = all_at (HasFile objects schema) (map number_of txns) i n have.1 low at_n in
+    (rw (c.in-Some.is, c.loop-i.invariant.untouched) at c.in_ok-reason.ensures.breaks) key.0 key.1 has
+
+pub loop-i-preserved : goal.loop-i-preserved
+loop-i-preserved g c =
+    let txns = c.args.txns.now in
+    let adds = c.args.adds.now in
+    let i = c.loop-i.i in
+    let x = c.index-txns-i.result in
+    let y = c.index-adds-i.result in
+    let objects = g.S.Store.objects c.args.store.now in
+    let schema = tree_of c.args.schema.now in
+    let n = number_of x in
+    let file = file_of y in
+    let count : length txns ≡ length adds = omega (arith, c.if-txns-adds.false) in
+    let seen_n = map_turn number_of txns i (i + 1) x (omega (arith, c.loop-i-test.true)) refl c.index-txns-i.is in
+    let seen_f = map_turn file_of adds i (i + 1) y (omega (arith, c.loop-i-test.true, count)) refl c.index-adds-i.is in
+    let named = rw c.in_default.is at c.in_ok-reason.ensures.named in
+    let new_rows = rw c.in_default.is at c.in_ok-reason.ensures.new_rows in
+    let has : HasFile objects schema n = rw (c.in_default.is, c.loop-i.invariant.untouched) at c.in_ok-reason.ensures.stands in
+    record {
+      untouched = c.wrong_batch.ensures.untouched ∙ c.loop-i.invariant.untouched;
+      reliable = λ reliable. c.wrong_batch.ensures.reliable (c.loop-i.invariant.reliable reliable);
+      named = subst (λ (ms : List (List ℕ × ℕ)). AreFilesOf ms (map file_of (take (i + 1) adds))) (sym seen_n)
+          (subst (λ (fs : List AddAction). AreFilesOf (map number_of (take i txns) ++ n ∷ []) fs) (sym seen_f) (files_push (map number_of (take i txns)) (map file_of (take i adds)) n file c.loop-i.invariant.named named new_rows));
+      stand = subst (AllByRecursion (HasFile objects schema)) (sym seen_n) (all_push (HasFile objects schema) (map number_of (take i txns)) n c.loop-i.invariant.stand has);
+    }
+
+pub returns-clause-stand : goal.returns-clause-stand
+returns-clause-stand g c =
+    let txns = c.args.txns.now in
+    let adds = c.args.adds.now in
+    let objects = g.S.Store.objects c.args.store.now in
+    let schema = tree_of c.args.schema.now in
+    let count : length txns ≡ length adds = omega (arith, c.if-txns-adds.false) in
+    let all_n : take c.loop-i.i txns ≡ txns = take_all c.loop-i.i txns (omega (arith, c.loop-i-test.false)) in
+    let all_f : take c.loop-i.i adds ≡ adds = take_all c.loop-i.i adds (omega (arith, c.loop-i-test.false, count)) in (
+      subst (λ (ts : List (Bor Txn)). AreFilesOf (map number_of ts) (map file_of adds)) all_n (subst (λ (files : List (Bor Add)). AreFilesOf (map number_of (take c.loop-i.i txns)) (map file_of files)) all_f c.loop-i.invariant.named),
+      subst (λ (ts : List (Bor Txn)). AllByRecursion (HasFile objects schema) (map number_of ts)) all_n c.loop-i.invariant.stand,
+    )

@@ -1,0 +1,16 @@
+use Rattle.std.proofs.Common.{◌≡◌, map, take}
+use Rattle.std.specs.List.{AllByRecursion}
+use Rattle.schema_tree.specs.Schema.{tree_of}
+use Rattle.table_store.specs.Groups.{AreFilesOf}
+use Rattle.table_audit.specs.Entries.{HasFile}
+use Rattle.table_audit.proofs.GroupParts.{file_of, number_of}
+use Rattle.table_audit.proofs.group.wrong_files.Given as goal
+
+-- the files of the numbers that were seen are added, and stand
+abbrev pub invariant-loop-i : goal.invariant-loop-i
+invariant-loop-i g l = record {
+  untouched : g.S.Store.objects l.store ≡ g.S.Store.objects l.fn.store;
+  reliable : g.S.Store.is_reliable l.fn.store → g.S.Store.is_reliable l.store;
+  named : AreFilesOf (map number_of (take l.i l.txns)) (map file_of (take l.i l.adds));
+  stand : AllByRecursion (HasFile (g.S.Store.objects l.fn.store) (tree_of l.fn.schema)) (map number_of (take l.i l.txns));
+}

@@ -1,0 +1,5 @@
+pub mod Entries
+pub mod Faults
+pub mod Lines
+pub mod Listed
+pub mod Walks

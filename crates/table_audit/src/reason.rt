@@ -1,0 +1,120 @@
+//! What makes a store unsound.
+
+use delta_actions::ActionFault;
+use parquet_footer::FileFault;
+use std::fmt;
+use std::fmt::{Display, Formatter};
+use thiserror::Error;
+
+/// The first unsound version of a store, and why it is unsound.
+#[derive(Debug, Drop)]
+pub struct Unsound {
+    /// The least version whose commit, file or checkpoint breaks the store.
+    pub version: u64,
+    /// What breaks it.
+    pub reason: Reason,
+}
+
+/// What makes a version unsound.
+#[derive(Debug, Drop, Error)]
+pub enum Reason {
+    /// A line of the commit can't be read.
+    BadCommit {
+        version: u64,
+        fault: ActionFault,
+    },
+    /// The first commit is no creation of a table.
+    NoCreation,
+    /// The commit's actions are neither a group of batches nor the close of a stream.
+    NoEntry {
+        version: u64,
+    },
+    /// A group has two batches of one application.
+    Twice {
+        version: u64,
+        application: String,
+    },
+    /// A batch's number isn't above its application's last one.
+    NotAbove {
+        number: u64,
+        application: String,
+        last: u64,
+    },
+    /// A batch stands behind the close of its stream.
+    Closed {
+        number: u64,
+        application: String,
+    },
+    /// The file that is added isn't the one of its batch, or brings no new rows.
+    OtherFile {
+        number: u64,
+        application: String,
+    },
+    /// A batch's file doesn't stand.
+    NoFile {
+        name: String,
+    },
+    /// A batch's file isn't one of the table's.
+    BadFile {
+        name: String,
+        fault: FileFault,
+    },
+    /// A commit stands behind a version that has none.
+    CommitBehindGap {
+        version: u64,
+    },
+    /// A checkpoint is of a version without a commit.
+    CheckpointBehindGap {
+        name: String,
+    },
+    /// A line of a checkpoint can't be read.
+    BadCheckpoint {
+        name: String,
+        fault: ActionFault,
+    },
+    /// A checkpoint isn't that of its version.
+    OtherCheckpoint {
+        name: String,
+    },
+}
+
+impl Display for Reason {
+    fn fmt<W: fmt::Write>(&self, f: &mut Formatter<W>) -> fmt::Result {
+        match self {
+            Reason::BadCommit { version, fault } => write!(f, "commit {version}: {fault}"),
+            Reason::NoCreation => f.write_str("commit 0: no creation of a table"),
+            Reason::NoEntry { version } => write!(f, "commit {version}: no group and no close"),
+            Reason::Twice {
+                version,
+                application,
+            } => write!(f, "commit {version}: \"{application}\" stands twice"),
+            Reason::NotAbove {
+                number,
+                application,
+                last,
+            } => write!(
+                f,
+                "number {number} of \"{application}\" is not above {last}"
+            ),
+            Reason::Closed {
+                number,
+                application,
+            } => write!(
+                f,
+                "number {number} of \"{application}\" is behind its close"
+            ),
+            Reason::OtherFile {
+                number,
+                application,
+            } => write!(f, "number {number} of \"{application}\" adds another file"),
+            Reason::NoFile { name } => write!(f, "file {name}: missing"),
+            Reason::BadFile { name, fault } => write!(f, "file {name}: {fault}"),
+            Reason::CommitBehindGap { version } => write!(f, "commit {version} behind a gap"),
+            Reason::CheckpointBehindGap { name } => write!(f, "checkpoint {name}: no commit"),
+            Reason::BadCheckpoint { name, fault } => write!(f, "checkpoint {name}: {fault}"),
+            Reason::OtherCheckpoint { name } => {
+                write!(f, "checkpoint {name}: not that of its version")
+            }
+        }
+    }
+}
