@@ -1,5 +1,5 @@
 -- What a command writes, from what its script's run tells.
-use Rattle.std.proofs.Common.{◌≡◌, ◌≢◌, ◌<◌, ◌≤◌, ◌+◌, ℕ, suc, length, inl, inr, arith, List, [], Option, Some, None, IfSome, refl, subst, ap}
+use Rattle.std.proofs.Common.{◌≡◌, ◌≢◌, ◌<◌, ◌≤◌, ◌+◌, ℕ, suc, Bool, length, inl, inr, arith, List, [], Option, Some, None, IfSome, refl, subst, ap}
 use Rattle.std.specs.Io.KnownBytes.{Appends}
 use Rattle.std.proofs.lemmas.Bool.{cases_lt}
 use Rattle.delta_actions.specs.Commit.{lines_of}
@@ -18,7 +18,10 @@ use Rattle.lake_words.specs.Asked.{Spells, replaying, restoring}
 use Rattle.lake_words.specs.declared.command.Command.{Command}
 use Rattle.lake_words.specs.declared.command.Command.TheVariants.{Table}
 use Rattle.lake_words.specs.declared.command.TableCommand.{TableCommand}
+use Rattle.lake_command.specs.Scripts.{IsPlayedOver, IsPlayedSo}
 use Rattle.lake_command.specs.Status.{status_of}
+use Rattle.world_script.specs.Playing.{PlaysSo, PlaysText}
+use Rattle.world_script.specs.Scenes.{first_scene}
 
 -- what is written over nothing is what the script is told
 tells_of_run : (old new : Option (List ℕ)) (text : List ℕ) (before after : Objects) → before ≡ [] → IsScriptRun before text old new after → Tells old new (IsTold [] text)
@@ -72,6 +75,36 @@ short_of_run Done input old new before fine run empty = subst (λ objects. IfSom
 short_of_run (BadLine number) input old new before fine run empty = subst (λ objects. IfSome input (λ text. Tells old new (FallsShort 1 objects (lines_of text)))) empty run
 short_of_run NotRead input old new before fine run empty = absurd (fine refl)
 short_of_run NotWritten input old new before fine run empty = absurd (fine refl)
+
+-- what is so of a text that is like this, from what a run that isn't refused tells of one
+pub of_such : (end : End) (input : Option (List ℕ)) (Is P Q : List ℕ → Type 0) → status_of end ≢ 1 → ((text : List ℕ) → input ≡ Some text → Finishes end (λ _. IfSome (Some text) P) → Q text)
+    → Finishes end (λ _. IfSome input (λ text. Is text → P text)) → IfSome input (λ text. Is text → Q text)
+of_such Done None Is P Q fine so run = tt
+of_such Done (Some text) Is P Q fine so run = λ is. so text refl (run is)
+of_such (BadLine number) None Is P Q fine so run = tt
+of_such (BadLine number) (Some text) Is P Q fine so run = λ is. so text refl (run is)
+of_such NotRead input Is P Q fine so run = absurd (fine refl)
+of_such NotWritten input Is P Q fine so run = absurd (fine refl)
+
+-- what a run that isn't refused has told
+has_told : (end : End) (P : Type 0) → status_of end ≢ 1 → Finishes end (λ _. P) → P
+has_told Done P fine run = run
+has_told (BadLine number) P fine run = run
+has_told NotRead P fine run = absurd (fine refl)
+has_told NotWritten P fine run = absurd (fine refl)
+
+-- what is written of a text with actors over nothing
+pub played_of_run : (end : End) (old new : Option (List ℕ)) (text : List ℕ) (before after : Objects) (uses : Bool) → status_of end ≢ 1 → before ≡ []
+    → Finishes end (λ _. Tells old new (λ written. PlaysText (first_scene before uses) text written after)) → Tells old new (IsPlayedOver text)
+played_of_run end old new text before after uses fine empty run =
+    let told = has_told end _ fine run in
+    (told.0, told.1, (uses, after, subst (λ (o : Objects). PlaysText (first_scene o uses) text told.0 after) empty told.2))
+
+pub so_of_run : (end : End) (old new : Option (List ℕ)) (text : List ℕ) (after : Objects) (uses : Bool) → status_of end ≢ 1
+    → Finishes end (λ _. ArePutHere (lines_of text) → Tells old new (λ written. PlaysSo (first_scene [] uses) text written after)) → ArePutHere (lines_of text) → Tells old new (IsPlayedSo text)
+so_of_run end old new text after uses fine run here =
+    let told = has_told end _ fine run here in
+    (told.0, told.1, (uses, after, told.2))
 
 -- words that ask for a script ask for no job on a folder
 pub no_job : (words : List (List ℕ)) (c : Command) (t : TableCommand) → Spells words c → Table t ≡ c → ⊥

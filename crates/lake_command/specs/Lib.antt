@@ -2,3 +2,4 @@ pub mod Failures
 pub mod Folders
 pub mod Status
 pub mod Endings
+pub mod Scripts

@@ -15,6 +15,8 @@ ghost use Rattle.lake_words.specs.Asked.{Spells, Work, table, work_view};
 ghost use Rattle.lake_words.specs.Spelling.{SpellsJob};
 ghost use Rattle.lake_command.specs.Endings.{TellsJob};
 ghost use Rattle.lake_command.specs.Folders.{reads_input};
+ghost use Rattle.lake_command.specs.Scripts.{IsPlayedOver, IsPlayedSo};
+ghost use Rattle.world_script.specs.Words.{needs_world};
 ghost use Rattle.lake_words.specs.Words.{commands};
 
 use crate::exit::{DONE, Exit, MISUSED, REFUSED};
@@ -22,7 +24,7 @@ use crate::failure::Failure;
 use crate::telling::{table_command, tell_failure};
 use clap::Error;
 use clap::error::ErrorKind;
-use lake_script::{End, Fault, Input, Output, RefusalText, run};
+use lake_script::{End, Fault, Input, Output, RefusalText};
 use lake_words::{Command, TableCommand, read_words};
 use std::alloc::AllocError;
 use std::convert::AsStr;
@@ -30,6 +32,7 @@ use std::io::{Read, Write};
 use std::rt::Files;
 use store_core::MemoryStore;
 use table_folder::{DirFolder, LoadFault};
+use world_script::run;
 
 // The status of words that ask for help, that are refused, or that were too much to read.
 fn misused(error: &Error) -> u8
@@ -96,27 +99,37 @@ pub fn command<H: Files + AllocGlobal + Clone + Drop, S: AsStr, R: Read, W: Writ
     output: &mut Output<W>,
     err: &mut E,
 ) -> Exit
-    // A script that isn't refused writes what it is told, for some texts that the schemas of its lines
+    // A script without actors that isn't refused writes what it is told, for some texts that the schemas of its lines
     // are printed as, its checkpoints and its snapshots; the lines that met a refused growth are told so.
     ensures told { (c : Command) → Spells (map S.text words.now) c → result.status ≢ REFUSED → result.is_short ≡ false
-        → IfSome (unread R.remaining input.old) (λ text.
-        Tells (held W.contents output.old) (W.contents output.new.writer) (IsTold [] text)) }
+        → IfSome (unread R.remaining input.old) (λ text. needs_world text ≡ false
+        → Tells (held W.contents output.old) (W.contents output.new.writer) (IsTold [] text)) }
     // Where no line shows an object, tells the snapshot or puts another tool's commit, that is what the
     // plain table tells.
     ensures tables { (c : Command) → Spells (map S.text words.now) c → result.status ≢ REFUSED → result.is_short ≡ false
-        → IfSome (unread R.remaining input.old) (λ text. AreOfTable (lines_of text)
+        → IfSome (unread R.remaining input.old) (λ text. needs_world text ≡ false → AreOfTable (lines_of text)
         → Appends (held W.contents output.old) (W.contents output.new.writer) (expected_by_table nothing text)) }
     // Where none puts another tool's commit, that is what the plain table tells, but for what is shown.
     ensures shown { (c : Command) → Spells (map S.text words.now) c → result.status ≢ REFUSED → result.is_short ≡ false
-        → IfSome (unread R.remaining input.old) (λ text. ArePutHere (lines_of text)
+        → IfSome (unread R.remaining input.old) (λ text. needs_world text ≡ false → ArePutHere (lines_of text)
         → IsExpectedOver (held W.contents output.old) (W.contents output.new.writer) nothing [] (lines_of text)) }
     // It is short only where a reply that is written tells so.
     ensures short { (c : Command) → Spells (map S.text words.now) c → result.status ≢ REFUSED → result.is_short ≡ true
-        → IfSome (unread R.remaining input.old) (λ text.
-        Tells (held W.contents output.old) (W.contents output.new.writer) (FallsShort 1 [] (lines_of text))) }
+        → IfSome (unread R.remaining input.old) (λ text. needs_world text ≡ false
+        → Tells (held W.contents output.old) (W.contents output.new.writer) (FallsShort 1 [] (lines_of text))) }
     ensures tells { (c : Command) → Spells (map S.text words.now) c → result.status ≢ REFUSED
-        → IfSome (unread R.remaining input.old) (λ text.
-        Tells (held W.contents output.old) (W.contents output.new.writer) (MayBeTold [] text)) }
+        → IfSome (unread R.remaining input.old) (λ text. needs_world text ≡ false
+        → Tells (held W.contents output.old) (W.contents output.new.writer) (MayBeTold [] text)) }
+    // Where it has actors, each of its lines does what it asks for in a world, and is told that.
+    ensures plays { (c : Command) → Spells (map S.text words.now) c → result.status ≢ REFUSED
+        → IfSome (unread R.remaining input.old) (λ text. needs_world text ≡ true
+        → Tells (held W.contents output.old) (W.contents output.new.writer) (IsPlayedOver text)) }
+    // Where none of them puts another tool's commit, what is told there is so of the table that stands then: each batch that was acknowledged
+    // stands in the log once, every batch at most once and as submitted, each application's in rising number and none after its close; and
+    // what a reader was handed that resumes at its last offset is exactly the log's rows up to that offset, once each, in log order.
+    ensures headline { (c : Command) → Spells (map S.text words.now) c → result.status ≢ REFUSED
+        → IfSome (unread R.remaining input.old) (λ text. needs_world text ≡ true → ArePutHere (lines_of text)
+        → Tells (held W.contents output.old) (W.contents output.new.writer) (IsPlayedSo text)) }
     ensures status { (c : Command) → Spells (map S.text words.now) c → result.status ≢ REFUSED
         → IfSome (unread R.remaining input.old) (λ text. result.status ≡ status_at (first_bad text)) }
 
@@ -141,11 +154,11 @@ pub fn command<H: Files + AllocGlobal + Clone + Drop, S: AsStr, R: Read, W: Writ
     match read_words(alloc, words) {
         Ok(Command::Table(command)) => command_on_disk(rt, command, input, output, err),
         Ok(Command::Script { use_checkpoints }) => {
-            let mut store = MemoryStore::new(alloc);
-            let outcome = run(alloc, input, output, &mut store, use_checkpoints);
+            let store = MemoryStore::new(alloc);
+            let ran = run(alloc, input, output, store, use_checkpoints);
             Exit {
-                status: ended(outcome.end, err),
-                is_short: outcome.short(),
+                status: ended(ran.outcome.end, err),
+                is_short: ran.outcome.short(),
             }
         }
         Err(error) => {

@@ -101,7 +101,7 @@ fn answer<S: Store, W: Write>(
     ensures broken { result ≡ Err OutputError.Broken → write_failed output.new ≡ true }
     ensures memory { result ≡ Err OutputError.Memory → write_failed output.new ≡ write_failed output.old }
 {
-    match reading_of(alloc, line, scratch)? {
+    match reading_of(alloc, line, scratch, false)? {
         Reading::Skipped => Ok(true),
         Reading::Bad => {
             output.say(format_args!("bad line {number}"))?;

@@ -16,7 +16,7 @@ ghost use Rattle.lake_script.specs.Sound.{IsExecuted};
 ghost use Rattle.lake_script.specs.Streams.{held, waiting, write_failed, StandsIn};
 ghost use Rattle.source_core.specs.Tailing.{tailed};
 ghost use Rattle.lake_script.specs.Told.{shown, in_hex, tailed_reply};
-ghost use Rattle.lake_script.specs.Tries.{SetsTries};
+ghost use Rattle.lake_script.specs.Tries.{IsLook, SetsTries};
 
 use crate::faults::{Fault, RefusalText};
 use crate::foreign::put_line;
@@ -438,6 +438,8 @@ pub fn execute<S: Store>(
     ensures told { S.is_reliable store.old → RestoresWell use_checkpoints (S.objects store.old) → Executes (S.objects store.old) (statement_view line.entry) (reply_text result) (S.objects store.new) }
     // However it ends, what it puts is well made.
     ensures grows { S.is_reliable store.old → RestoresWell use_checkpoints (S.objects store.old) → MayPut (S.objects store.old) (statement_view line.entry) (S.objects store.new) }
+    // A line that only looks leaves the objects as they are, whatever checkpoints stand.
+    ensures looks { IsLook (statement_view line.entry) → S.objects store.new ≡ S.objects store.old }
     // A reply is short only where it tells so.
     ensures short { RestoresWell use_checkpoints (S.objects store.old) → is_short result ≡ true → IsShort (S.objects store.old) (statement_view line.entry) (reply_text result) }
     ensures reliable { S.is_reliable store.old → S.is_reliable store.new }

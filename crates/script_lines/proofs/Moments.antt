@@ -4,9 +4,10 @@ use Rattle.std.proofs.lemmas.Bool.{cases_Bool, cond-true, cond-false, and_parts,
 use Rattle.script_lines.specs.declared.verb.Verb.{Verb}
 use Rattle.script_lines.specs.declared.verb.Verb.TheVariants as verb
 use Rattle.lake_bytes.specs.Options.{◌>>=◌}
+use Rattle.script_lines.specs.Names.{verb_of}
 use Rattle.script_lines.specs.Fields.{word_and_rest, number_of, number_between, moment_of, max_of, array_of}
 use Rattle.delta_actions.specs.Commit.{is_blank}
-use Rattle.script_lines.specs.Lines.{Statement, append_head, append_from, close_from, tail_from, Task, IsTimelyTask, IsTimely, append, close, tail, create, task, show, tries, fault, start, step, land, foreign, asks, asked, bare_statement, statement_from, statement_split, statement_of, create_from, start_from, step_from, foreign_from, text_of, is_comment, reading_of}
+use Rattle.script_lines.specs.Lines.{Statement, append_head, append_from, close_from, tail_from, Task, IsTimelyTask, IsTimely, append, close, checkpoint, tail, bare_task, task_from, task_of, task_split, create, task, show, tries, fault, start, step, land, foreign, asks, asked, bare_statement, statement_from, statement_split, statement_of, create_from, start_from, step_from, foreign_from, text_of, is_comment, reading_of}
 
 kept_high : (low high : ℕ) (found : Option ℕ) (n : ℕ) → (found >>= λ m. if nat_le low m && nat_le m high then Some m else None) ≡ Some n → n ≤ high
 kept_high low high None n h = cc
@@ -86,10 +87,58 @@ create_timely text w h =
     (λ moment v _ h2. bind_timely (moment_of moment.0) _
     (λ at x is h3. some_timely (create id.0 at moment.1) x (moment_small moment.0 at is) h3) v h2) u h1) w h
 
+bare_task_timely : (v : Verb) (t : Task) → bare_task v ≡ Some t → IsTimelyTask t
+bare_task_timely verb.Create t h = cc
+bare_task_timely verb.Append t h = cc
+bare_task_timely verb.Close t h = cc
+bare_task_timely verb.Checkpoint t h = some_all IsTimelyTask checkpoint t tt h
+bare_task_timely verb.Snapshot t h = cc
+bare_task_timely verb.History t h = cc
+bare_task_timely verb.Tail t h = cc
+bare_task_timely verb.Show t h = cc
+bare_task_timely verb.Hex t h = cc
+bare_task_timely verb.Tries t h = cc
+bare_task_timely verb.Fault t h = cc
+bare_task_timely verb.Start t h = cc
+bare_task_timely verb.Until t h = cc
+bare_task_timely verb.Step t h = cc
+bare_task_timely verb.Finish t h = cc
+bare_task_timely verb.Die t h = cc
+bare_task_timely verb.Land t h = cc
+bare_task_timely verb.Foreign t h = cc
+
+task_from_timely : (v : Verb) (text : List ℕ) (t : Task) → task_from v text ≡ Some t → IsTimelyTask t
+task_from_timely verb.Create text t h = cc
+task_from_timely verb.Append text t h = append_timely text t h
+task_from_timely verb.Close text t h = close_timely text t h
+task_from_timely verb.Checkpoint text t h = cc
+task_from_timely verb.Snapshot text t h = cc
+task_from_timely verb.History text t h = cc
+task_from_timely verb.Tail text t h = tail_timely text t h
+task_from_timely verb.Show text t h = cc
+task_from_timely verb.Hex text t h = cc
+task_from_timely verb.Tries text t h = cc
+task_from_timely verb.Fault text t h = cc
+task_from_timely verb.Start text t h = cc
+task_from_timely verb.Until text t h = cc
+task_from_timely verb.Step text t h = cc
+task_from_timely verb.Finish text t h = cc
+task_from_timely verb.Die text t h = cc
+task_from_timely verb.Land text t h = cc
+task_from_timely verb.Foreign text t h = cc
+
+split_task_timely : (text : List ℕ) (split : Option (List ℕ × List ℕ)) (t : Task) → task_split text split ≡ Some t → IsTimelyTask t
+split_task_timely text None t h = bind_all IsTimelyTask (verb_of text) bare_task (λ v u _ h1. bare_task_timely v u h1) t h
+split_task_timely text (Some p) t h = bind_all IsTimelyTask (verb_of p.0) (λ v. task_from v p.1) (λ v u _ h1. task_from_timely v p.1 u h1) t h
+
+spelled_timely : (text : List ℕ) (t : Task) → task_of text ≡ Some t → IsTimelyTask t
+unfolding task_of
+spelled_timely text t h = split_task_timely text (word_and_rest text) t h
+
 start_timely : (text : List ℕ) (w : Statement) → start_from text ≡ Some w → IsTimely w
 unfolding start_from
 start_timely text w h =
-    bind_timely (word_and_rest text) _ (λ actor u _ h1. bind_timely _ _ (λ job x _ h2. some_timely (start actor.0 job) x tt h2) u h1) w h
+    bind_timely (word_and_rest text) _ (λ actor u _ h1. bind_timely (task_of actor.1) _ (λ job x is h2. some_timely (start actor.0 job) x (spelled_timely actor.1 job is) h2) u h1) w h
 
 step_timely : (text : List ℕ) (w : Statement) → step_from text ≡ Some w → IsTimely w
 unfolding step_from

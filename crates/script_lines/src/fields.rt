@@ -1,10 +1,11 @@
 // The fields of a line: words, numbers, and arrays.
 ghost use Rattle.std.specs.Prelude.{◌≡◌, option_map};
+ghost use Rattle.json_text.specs.Rows.{array_data, rows_data};
 ghost use Rattle.json_text.specs.View.{items_view};
 ghost use Rattle.script_lines.specs.Fields.{LineGives, word_and_rest, number_of, number_between, moment_of, max_of, tries_of, array_of};
 
 use json::Scratch;
-use json_text::{TextError, Value, value_in};
+use json_text::{ArrayText, JsonRows, TextError, Value, value_in};
 use std::alloc::Global;
 
 /// Why a line could not be read.
@@ -78,5 +79,33 @@ pub fn array_of<'a>(
         Ok(Value::Array(items)) => Ok(items),
         Ok(_) | Err(TextError::Malformed) => Err(FieldError::Malformed),
         Err(TextError::Memory) => Err(FieldError::Memory),
+    }
+}
+
+// The members of a JSON array, which owns its text.
+#[tactic(auto, unfolding(crate::specs::Fields::array_of))]
+fn owned_array(alloc: Global, text: &str) -> Result<ArrayText, FieldError>
+    ensures { LineGives array_data result (array_of text.now) }
+{
+    match ArrayText::from_text(alloc, text) {
+        Ok(array) => Ok(array),
+        Err(TextError::Malformed) => Err(FieldError::Malformed),
+        Err(TextError::Memory) => Err(FieldError::Memory),
+    }
+}
+
+/// The members of a JSON array as rows, which borrow the text, or own it.
+pub fn rows_of<'a>(
+    alloc: Global,
+    text: &'a str,
+    scratch: &'a mut Scratch,
+    is_owned: bool,
+) -> Result<JsonRows<'a>, FieldError>
+    ensures { LineGives rows_data result (array_of text.now) }
+{
+    if is_owned {
+        Ok(JsonRows::Array(owned_array(alloc, text)?))
+    } else {
+        Ok(JsonRows::Values(array_of(alloc, text, scratch)?))
     }
 }

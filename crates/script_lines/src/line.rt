@@ -3,7 +3,7 @@ ghost use Rattle.std.specs.Prelude.{◌≡◌, option_map};
 ghost use Rattle.script_lines.specs.Fields.{LineGives};
 ghost use Rattle.script_lines.specs.Lines.{task_view, statement_view, append_head, append_from, close_from, tail_from, task_from, bare_task, task_of, create_from, start_from, step_from, foreign_from, bare_statement, counted_from, plain_from, statement_from, statement_of};
 
-use crate::fields::{FieldError, array_of, max_of, moment_of, number_of, tries_of, word_and_rest};
+use crate::fields::{FieldError, max_of, moment_of, number_of, rows_of, tries_of, word_and_rest};
 use crate::kind::Kind;
 use crate::verb::Verb;
 use json::Scratch;
@@ -115,11 +115,12 @@ fn append_from<'a>(
     alloc: Global,
     text: &'a str,
     scratch: &'a mut Scratch,
+    is_owned: bool,
 ) -> Result<Job<'a>, FieldError>
     ensures { LineGives task_view result (append_from text.now) }
 {
     let (application, number, at, rows) = append_head(text).ok_or(FieldError::Malformed)?;
-    let rows = JsonRows::Values(array_of(alloc, rows, scratch)?);
+    let rows = rows_of(alloc, rows, scratch, is_owned)?;
     Ok(Job::Append {
         application,
         number,
@@ -151,11 +152,12 @@ fn task_from<'a>(
     verb: Verb,
     text: &'a str,
     scratch: &'a mut Scratch,
+    is_owned: bool,
 ) -> Result<Job<'a>, FieldError>
     ensures { LineGives task_view result (task_from verb text.now) }
 {
     match verb {
-        Verb::Append => append_from(alloc, text, scratch),
+        Verb::Append => append_from(alloc, text, scratch, is_owned),
         Verb::Close => close_from(text).ok_or(FieldError::Malformed),
         Verb::Tail => tail_from(text).ok_or(FieldError::Malformed),
         _ => Err(FieldError::Malformed),
@@ -176,13 +178,14 @@ fn task_of<'a>(
     alloc: Global,
     text: &'a str,
     scratch: &'a mut Scratch,
+    is_owned: bool,
 ) -> Result<Job<'a>, FieldError>
     ensures { LineGives task_view result (task_of text.now) }
 {
     match word_and_rest(text) {
         Some((word, rest)) => {
             let verb = Verb::from_word(word).ok_or(FieldError::Malformed)?;
-            task_from(alloc, verb, rest, scratch)
+            task_from(alloc, verb, rest, scratch, is_owned)
         }
         None => {
             let verb = Verb::from_word(text).ok_or(FieldError::Malformed)?;
@@ -206,11 +209,12 @@ fn start_from<'a>(
     alloc: Global,
     text: &'a str,
     scratch: &'a mut Scratch,
+    is_owned: bool,
 ) -> Result<Line<'a>, FieldError>
     ensures { LineGives statement_view result (start_from text.now) }
 {
     let (actor, job) = word_and_rest(text).ok_or(FieldError::Malformed)?;
-    let job = task_of(alloc, job, scratch)?;
+    let job = task_of(alloc, job, scratch, is_owned)?;
     Ok(Line::Start { actor, job })
 }
 
@@ -286,31 +290,33 @@ fn line_from<'a>(
     verb: Verb,
     text: &'a str,
     scratch: &'a mut Scratch,
+    is_owned: bool,
 ) -> Result<Line<'a>, FieldError>
     ensures { LineGives statement_view result (statement_from verb text.now) }
 {
     match verb {
         Verb::Append | Verb::Close | Verb::Tail => {
-            Ok(Line::Job(task_from(alloc, verb, text, scratch)?))
+            Ok(Line::Job(task_from(alloc, verb, text, scratch, is_owned)?))
         }
-        Verb::Start => start_from(alloc, text, scratch),
+        Verb::Start => start_from(alloc, text, scratch, is_owned),
         _ => plain_line(verb, text).ok_or(FieldError::Malformed),
     }
 }
 
-/// Reads the text of a line that is neither blank nor a comment.
+/// Reads the text of a line that is neither blank nor a comment. Rows that are to be owned outlive the line.
 #[tactic(auto, unfolding(crate::specs::Lines::statement_of))]
 pub fn parse_line<'a>(
     alloc: Global,
     text: &'a str,
     scratch: &'a mut Scratch,
+    is_owned: bool,
 ) -> Result<Line<'a>, FieldError>
     ensures { LineGives statement_view result (statement_of text.now) }
 {
     match word_and_rest(text) {
         Some((word, rest)) => {
             let verb = Verb::from_word(word).ok_or(FieldError::Malformed)?;
-            line_from(alloc, verb, rest, scratch)
+            line_from(alloc, verb, rest, scratch, is_owned)
         }
         None => {
             let verb = Verb::from_word(text).ok_or(FieldError::Malformed)?;

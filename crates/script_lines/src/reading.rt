@@ -37,7 +37,8 @@ fn is_blank(bytes: &[u8]) -> bool
 /// Reads one line, which is given without the newline behind it. It is skipped where it is blank (spaces, tabs and carriage
 /// returns alone) or begins with `#`, and bad where it isn't UTF-8 or spells no line. Numbers are below 2^64, moments at most
 /// 999,999,999,999,999 milliseconds, `max` at most 65,536 and a count of tries from 1 to 64. What it asks for borrows the
-/// line, and `scratch` where texts had escapes.
+/// line, and `scratch` where texts had escapes; but rows that are to be owned are kept as the text of their array
+/// ([`JsonRows::Array`](json_text::JsonRows)), which is read again when its turn comes.
 ///
 /// Takes time linear in the line. The only error is that a growth was refused.
 #[tactic(auto, unfolding(crate::specs::Lines::reading_of))]
@@ -45,6 +46,7 @@ pub fn reading_of<'a>(
     alloc: Global,
     bytes: &'a [u8],
     scratch: &'a mut Scratch,
+    is_owned: bool,
 ) -> Result<Reading<'a>, AllocError>
     ensures { IfOk result (λ reading. reading_view reading ≡ reading_of bytes.now) }
 {
@@ -54,7 +56,7 @@ pub fn reading_of<'a>(
     let Some(text) = text_of(bytes) else {
         return Ok(Reading::Bad);
     };
-    match parse_line(alloc, text, scratch) {
+    match parse_line(alloc, text, scratch, is_owned) {
         Ok(line) => Ok(Reading::Asks(line)),
         Err(FieldError::Malformed) => Ok(Reading::Bad),
         Err(FieldError::Memory) => Err(AllocError),

@@ -1,11 +1,12 @@
 -- What a session has at hand fits the call that it waits for.
-use Rattle.std.proofs.Common.{◌≡◌, Bool, true, false, Option, Some, None, Ok, option_map, refl, sym, subst}
+use Rattle.std.proofs.Common.{◌≡◌, Bool, true, false, Option, Some, None, Ok, Err, option_map, refl, sym, subst}
 use Rattle.session_core.specs.Talks.{IsAnswerOf, IsReplyTo, Kind, Told, asked_view, getting, kind_of, listing, putting, told_lost, told_memory, told_names, told_object, told_put, told_view}
 use Rattle.session_core.specs.declared.asking.Reply.{Reply}
 use Rattle.session_core.specs.declared.asking.Reply.TheVariants as replies
 use Rattle.session_core.specs.declared.asking.Request.{Request}
 use Rattle.stream_world.specs.Acting.{HasNext}
 use Rattle.stream_world.specs.Hands.{is_answer_of, is_at_hand, is_kind}
+use Rattle.stream_world.specs.Left.{takes_hand}
 use Rattle.stream_world.specs.declared.actor.Hand.{Hand}
 use Rattle.stream_world.specs.declared.actor.Hand.TheVariants.{Fresh, Asks, Waits}
 
@@ -82,3 +83,12 @@ next_answers (Some kind) (Waits waits) true reply is next =
     let e : reply ≡ Some replies.Lost = cc in subst (λ (r : Option Reply). IsReplyTo (Some kind) (option_map told_view r)) (sym e) (lost_answers kind)
 next_answers (Some kind) (Waits waits) false reply is next =
     let e : reply ≡ Some waits = cc in subst (λ (r : Option Reply). IsReplyTo (Some kind) (option_map told_view r)) (sym e) (answers_so kind (told_view waits) is)
+
+-- a session that is told nothing makes no step
+pub no_step : (hand later : Hand) (is_lost : Bool) → HasNext hand is_lost (Err later) → takes_hand is_lost hand ≡ true → ⊥
+no_step (Waits reply) later true next takes = cc
+no_step (Waits reply) later false next takes = cc
+no_step Fresh later false next takes = cc
+no_step Fresh later true next takes = cc
+no_step (Asks request) later true next takes = cc
+no_step (Asks request) later false next takes = cc

@@ -24,6 +24,7 @@ pub enum TableSession {
 }
 
 /// What a session tells when it ends.
+#[derive(Drop)]
 pub enum Outcome {
     Created(Result<(), CreateFault>),
     Loaded(Result<Loaded, LogFault>),
@@ -41,18 +42,6 @@ impl Drop for TableSession {
             TableSession::Checkpoint(_) => {}
             TableSession::Stream(_) => {}
             TableSession::Read(_) => {}
-        }
-    }
-}
-
-impl Drop for Outcome {
-    fn drop(self) {
-        match self {
-            Outcome::Created(_) => {}
-            Outcome::Loaded(_) => {}
-            Outcome::Checkpointed(_) => {}
-            Outcome::Streamed(_) => {}
-            Outcome::Read(_) => {}
         }
     }
 }

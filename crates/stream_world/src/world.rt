@@ -1,7 +1,8 @@
 //! A world: a store, and the actors that act on it.
 
-ghost use Rattle.std.specs.Prelude.{◌≡◌, None};
-ghost use Rattle.stream_model.specs.Events.{act, begin, die, land};
+ghost use Rattle.std.specs.Prelude.{◌≡◌, ◌<◌, [], Bool, None, true};
+ghost use Rattle.store_core.specs.Turns.{turns_left};
+ghost use Rattle.stream_model.specs.Events.{CanBegin, act, begin, die, land};
 ghost use Rattle.stream_model.specs.Worlds as worlds;
 
 use crate::acting;
@@ -27,12 +28,14 @@ pub struct World<S> {
 
 impl<S: Store> World<S> {
     ghost use Rattle.stream_world.specs.Jobs.{event_view, how_view, job_view};
-    ghost use Rattle.stream_world.specs.Standing.{BeginsAs, HasHappened, LandsAs, StepsTo, WorldStands, quiet_world, taking};
+    ghost use Rattle.stream_world.specs.Left.{asks_call, calls_left, takes_step};
+    ghost use Rattle.stream_world.specs.Standing.{BeginsAs, HasHappened, LandsAs, StepsTo, WorldStands, quiet_world, slot_at, taking};
 
     /// A world over a store, in which nobody acts yet and no put was sent.
     pub fn new(alloc: Global, store: S) -> World<S>
         ensures store { result.store.store ≡ store }
         ensures stands { WorldStands S.objects result (quiet_world (S.objects store)) }
+        ensures quiet { (turns_left result.store ≡ []) × (result.store.armed ≡ None) }
     {
         World {
             alloc,
@@ -75,6 +78,8 @@ impl<S: Store> World<S> {
     /// happened.
     pub fn begin(&mut self, actor: u64, job: Job) -> Result<(), AllocError>
         ensures happens { (w : worlds.World) → WorldStands S.objects self.old w → BeginsAs S.objects w (begin actor (job_view job)) result self.new }
+        // Every job of the code can begin.
+        ensures can { CanBegin (job_view job) }
         ensures store { self.new.store ≡ self.old.store }
     {
         let session = session_of(self.alloc, job);
@@ -100,6 +105,9 @@ impl<S: Store> World<S> {
     pub fn act(&mut self, actor: u64, how: How)
         ensures happens { S.is_reliable self.old.store.store → (w : worlds.World) → WorldStands S.objects self.old w → HasHappened S.objects w (act actor (how_view how)) None self.new }
         ensures reliable { S.is_reliable self.old.store.store → S.is_reliable self.new.store.store }
+        // The session still makes as many calls at most, and where it asked for one, it makes a step when it goes on.
+        ensures left { calls_left (slot_at self.new actor) ≡ calls_left (slot_at self.old actor) }
+        ensures waits { asks_call (slot_at self.old actor) ≡ true → (is_lost : Bool) → takes_step is_lost (slot_at self.new actor) ≡ true }
     {
         if let Some(slot) = self.actors.get_mut(&actor) {
             acting::act(self.alloc, &mut self.store, slot, how);
@@ -111,6 +119,8 @@ impl<S: Store> World<S> {
     pub fn go_on(&mut self, actor: u64, is_lost: bool) -> Option<Outcome>
         ensures happens { (w : worlds.World) → WorldStands S.objects self.old w → HasHappened S.objects w (taking actor is_lost) result self.new }
         ensures store { self.new.store ≡ self.old.store }
+        // With each step that isn't its last, the session makes one call less at most.
+        ensures fewer { takes_step is_lost (slot_at self.old actor) ≡ true → result ≡ None → calls_left (slot_at self.new actor) < calls_left (slot_at self.old actor) }
     {
         match self.actors.get_mut(&actor) {
             Some(slot) => acting::go_on(slot, is_lost),

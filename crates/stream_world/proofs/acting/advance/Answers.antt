@@ -8,11 +8,11 @@ invariant_of-asking c =
     let steps = rw c.in-Ask.is at c.next.ensures.steps in
     record { unended = steps.2; ready = ready_asks (awaited c.next.new.self) c.in-Ask.request steps.0 }
 
-pub returns-in-Ask : goal.returns-in-Ask
-returns-in-Ask c = (
+pub returns-in-Ask-clause-goes : goal.returns-in-Ask-clause-goes
+returns-in-Ask-clause-goes c = (
   c.next.ensures.same,
   ((λ talk asked fit. rw c.in-Ask.is at (c.next.ensures.goes [] talk asked fit)), (rw c.in-Ask.is at c.next.ensures.told), c.are_bytes_put.ensures),
 )
 
-pub returns-in-Done : goal.returns-in-Done
-returns-in-Done c = ((λ talk asked fit. rw c.in-Done.is at (c.next.ensures.goes [] talk asked fit)), (rw c.in-Done.is at c.next.ensures.told))
+pub returns-in-Done-clause-goes : goal.returns-in-Done-clause-goes
+returns-in-Done-clause-goes c = ((λ talk asked fit. rw c.in-Done.is at (c.next.ensures.goes [] talk asked fit)), (rw c.in-Done.is at c.next.ensures.told))

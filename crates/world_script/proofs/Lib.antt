@@ -1,0 +1,8 @@
+mod Stepping
+mod Leading
+mod Happened
+mod Scening
+mod Slotting
+mod Known
+mod Answering
+mod Coming

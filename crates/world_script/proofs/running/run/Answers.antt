@@ -1,0 +1,23 @@
+use Rattle.std.proofs.Common.{◌≡◌, true, false, ℕ, List, IfSome, subst, sym}
+use Rattle.lake_script.specs.Streams.{unread}
+use Rattle.world_script.specs.Words.{needs_world}
+use Rattle.world_script.proofs.Known.{finishes_if, finishes_such, with_known}
+use Rattle.world_script.proofs.running.run.Goals as goal
+
+pub returns-in-Ok-clause-script : goal.returns-in-Ok-clause-script
+returns-in-Ok-clause-script g c = λ state reliable well keeps fine.
+    finishes_such c.run_any.result.outcome.end (unread g.R.Read.remaining c.args.input.now) c.as_slice.result.now (λ text. needs_world text ≡ false) _
+    (subst (λ (text : List ℕ). IfSome (unread g.R.Read.remaining c.args.input.now) (λ known. text ≡ known)) (sym c.as_slice.ensures.value) c.in-Ok.ensures.all)
+    (λ is. c.run_any.ensures.script is state reliable well keeps fine)
+
+pub returns-in-Ok-clause-headline : goal.returns-in-Ok-clause-headline
+returns-in-Ok-clause-headline g c = λ reliable nothing.
+    finishes_such c.run_any.result.outcome.end (unread g.R.Read.remaining c.args.input.now) c.as_slice.result.now (λ text. needs_world text ≡ true) _
+    (subst (λ (text : List ℕ). IfSome (unread g.R.Read.remaining c.args.input.now) (λ known. text ≡ known)) (sym c.as_slice.ensures.value) c.in-Ok.ensures.all)
+    (λ is. finishes_if c.run_any.result.outcome.end _ _ (λ here. c.run_any.ensures.headline is reliable nothing here))
+
+pub returns-in-Ok-clause-sound : goal.returns-in-Ok-clause-sound
+returns-in-Ok-clause-sound g c = λ reliable nothing read.
+    with_known (unread g.R.Read.remaining c.args.input.now) c.as_slice.result.now _
+    (subst (λ (text : List ℕ). IfSome (unread g.R.Read.remaining c.args.input.now) (λ known. text ≡ known)) (sym c.as_slice.ensures.value) c.in-Ok.ensures.all)
+    (λ is here. c.run_any.ensures.sound is reliable nothing here)

@@ -1,0 +1,110 @@
+-- What the code does to a scene by a line, in the words of what a line does.
+use Rattle.std.specs.Prelude.{◌≡◌, ◌⊎◌, ℕ, List, [], ◌∷◌, Option, None, Some, Result, Ok, Err}
+use Rattle.std.specs.declared.alloc.AllocError.{AllocError}
+use Rattle.lake_script.specs.ReplyView.{reply_text}
+use Rattle.lake_script.specs.Replies.{bad_line}
+use Rattle.lake_script.specs.declared.reply.LineReply.{LineReply}
+use Rattle.script_lines.specs.Lines.{Reading, Statement, Task, asks, bad, skipped}
+use Rattle.script_lines.specs.declared.kind.Kind.{Kind}
+use Rattle.session_laws.specs.Sessions.{Job, Outcome}
+use Rattle.store_core.specs.Objects.{Objects}
+use Rattle.stream_model.specs.Events.{Event, Happens, begin}
+use Rattle.stream_model.specs.Worlds.{World}
+use Rattle.stream_world.specs.Sessions.{outcome_view}
+use Rattle.stream_world.specs.Standing.{TellsAs, WorldStands}
+use Rattle.stream_world.specs.declared.table_session.Outcome as code_outcome
+use Rattle.stream_world.specs.declared.world.World as code_world
+use Rattle.world_script.specs.Acting.{LeadsThrough}
+use Rattle.world_script.specs.Asked.{job_of_task}
+use Rattle.world_script.specs.Endings.{IsReplyOf}
+use Rattle.world_script.specs.Lines.{IsNamed, LineDoes, RunsAlone, Starts, TellsOf, no_room, ok}
+use Rattle.world_script.specs.Scenes.{Scene, SceneStands}
+use Rattle.world_script.specs.declared.named.Deed.{Deed}
+use Rattle.world_script.specs.declared.scene.Scene as code
+
+-- what is replied, if something is
+abbrev pub replied : Option LineReply → List ℕ
+replied None = []
+replied (Some reply) = reply_text reply
+
+-- the reply to a line by which an actor went on, and ended if there is an outcome
+abbrev pub IsReplyAs : Option code_outcome.Outcome → List ℕ → Type 0
+IsReplyAs None reply = reply ≡ ok
+IsReplyAs (Some outcome) reply = IsReplyOf (outcome_view outcome) reply
+
+-- What a line did to a scene and replied, for which the code stands now.
+pub record ComesTo {S : Type 0} (stored : S → Objects) (s : Scene) (statement : Statement) (reply : List ℕ) (scene : code.Scene S) : Type 0 where
+  pub events : List Event
+  pub outs : List (Job × Outcome)
+  pub later : Scene
+  pub does : LineDoes statement s events outs reply later
+  pub stands : SceneStands stored scene later
+
+-- the same of lines that name an actor, of those that start one, of jobs without an actor, and of lines that tell of the objects
+pub record ComesToNamed {S : Type 0} (stored : S → Objects) (s : Scene) (name : List ℕ) (deed : Deed) (reply : List ℕ) (scene : code.Scene S) : Type 0 where
+  pub events : List Event
+  pub outs : List (Job × Outcome)
+  pub later : Scene
+  pub does : IsNamed s name deed events outs reply later
+  pub stands : SceneStands stored scene later
+
+pub record ComesToStart {S : Type 0} (stored : S → Objects) (s : Scene) (name : List ℕ) (job : Task) (reply : List ℕ) (scene : code.Scene S) : Type 0 where
+  pub events : List Event
+  pub later : Scene
+  pub does : Starts s name (job_of_task s.use_checkpoints s.tries job) events reply later
+  pub stands : SceneStands stored scene later
+
+-- a start that succeeds is told so, and one that finds no memory that
+abbrev pub start_reply : Result (Unit {0}) AllocError → List ℕ
+start_reply (Ok done) = ok
+start_reply (Err fault) = no_room
+
+abbrev pub StartsAs : {S : Type 0} → (stored : S → Objects) → Scene → (name : List ℕ) → Task → Result (Unit {0}) AllocError → code.Scene S → Type 0
+StartsAs stored s name job result scene = ComesToStart stored s name job (start_reply result) scene
+
+pub record ComesToAlone {S : Type 0} (stored : S → Objects) (s : Scene) (statement : Statement) (job : Option Job) (reply : List ℕ) (scene : code.Scene S) : Type 0 where
+  pub events : List Event
+  pub outs : List (Job × Outcome)
+  pub later : Scene
+  pub does : RunsAlone s statement job events outs reply later
+  pub stands : SceneStands stored scene later
+
+pub record TellsIn {S : Type 0} (stored : S → Objects) (s : Scene) (statement : Statement) (reply : List ℕ) (scene : code.Scene S) : Type 0 where
+  pub later : Scene
+  pub tells : TellsOf s statement reply later
+  pub stands : SceneStands stored scene later
+
+-- An actor was led through a fault to its end, and told this.
+pub record CameThrough {S : Type 0} (stored : S → Objects) (fault : Option Kind) (w : World) (outcome : Option code_outcome.Outcome) (left : Option Kind) (world : code_world.World S) : Type 0 where
+  pub events : List Event
+  pub told : Job × Outcome
+  pub later : World
+  pub leads : LeadsThrough 0 fault w events told left later
+  pub tells : TellsAs outcome (Some told)
+  pub stands : WorldStands stored world later
+
+-- a job ran to its end and was told this; or there was no memory to begin it, and nothing happened
+pub record RanJob {S : Type 0} (stored : S → Objects) (s : Scene) (job : Job) (reply : List ℕ) (scene : code.Scene S) : Type 0 where
+  pub mid : World
+  pub begins : Happens s.world (begin 0 job) None mid
+  pub events : List Event
+  pub told : Job × Outcome
+  pub left : Option Kind
+  pub w : World
+  pub leads : LeadsThrough 0 s.fault mid events told left w
+  pub tells : IsReplyOf told.1 reply
+  pub stands : SceneStands stored scene (record s { world = w; fault = left })
+
+abbrev pub RunsJob : {S : Type 0} → (stored : S → Objects) → Scene → Job → Result LineReply AllocError → code.Scene S → Type 0
+RunsJob stored s job (Ok reply) scene = RanJob stored s job (reply_text reply) scene
+RunsJob stored s job (Err fault) scene = SceneStands stored scene s
+
+-- A line as it is read was answered so: nothing of one that is skipped, of a bad one that it is bad.
+abbrev pub Answers : {S : Type 0} → (stored : S → Objects) → (number : ℕ) → Scene → Reading → (written : List ℕ) → code.Scene S → Type 0
+Answers stored number s skipped written scene = (written ≡ []) × SceneStands stored scene s
+Answers stored number s bad written scene = (written ≡ bad_line number) × SceneStands stored scene s
+Answers stored number s (asks statement) written scene = ComesTo stored s statement written scene
+
+-- A line that wasn't answered to its end: it was played, or nothing was done.
+abbrev pub IsCutOff : {S : Type 0} → (stored : S → Objects) → (number : ℕ) → Scene → Reading → code.Scene S → Type 0
+IsCutOff stored number s reading scene = SceneStands stored scene s ⊎ ((written : List ℕ) × Answers stored number s reading written scene)

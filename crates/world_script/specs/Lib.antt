@@ -1,0 +1,9 @@
+pub mod Acting
+pub mod Asked
+pub mod Doing
+pub mod Endings
+pub mod Lines
+pub mod Playing
+pub mod Scenes
+pub mod Slots
+pub mod Words

@@ -1,0 +1,87 @@
+// What each line of a script does to a scene, and its reply.
+ghost use Rattle.std.specs.Prelude.{◌≡◌};
+ghost use Rattle.log_reading.specs.LogCache.{IsCacheOf};
+ghost use Rattle.lake_script.specs.ReplyView.{reply_text};
+ghost use Rattle.script_lines.specs.Lines.{IsTimely, land, statement_view};
+ghost use Rattle.world_script.specs.Doing.{ComesTo, TellsIn, replied};
+ghost use Rattle.world_script.specs.Scenes as scenes;
+ghost use Rattle.world_script.specs.Scenes.{SceneStands};
+
+use crate::alone::{create_table, run_task};
+use crate::named::{Deed, do_named};
+use crate::scene::Scene;
+use crate::starting::start;
+use lake_script::{Fault, LineReply, execute};
+use log_reading::LogCache;
+use script_lines::Line;
+use std::alloc::Global;
+use store_core::Store;
+
+// A put in flight takes effect.
+fn land<S: Store>(scene: &mut Scene<S>, put: u64) -> LineReply
+    ensures comes { S.is_reliable scene.old.world.store.store → (s : scenes.Scene) → SceneStands S.objects scene.old s → ComesTo S.objects s (land put) (reply_text result) scene.new }
+    ensures reliable { S.is_reliable scene.old.world.store.store → S.is_reliable scene.new.world.store.store }
+{
+    match scene.world.land(put as usize) {
+        Ok(Some(put)) => LineReply::Put(put),
+        Ok(None) => LineReply::Refused(Fault::NoSuchName),
+        Err(fault) => LineReply::Unanswered(fault),
+    }
+}
+
+// A line that tells of the objects that stand, or puts another tool's commit.
+fn tell<S: Store>(alloc: Global, scene: &mut Scene<S>, line: Line<'_>) -> LineReply
+    requires { IsTimely (statement_view line) }
+    ensures tells { S.is_reliable scene.old.world.store.store → (s : scenes.Scene) → SceneStands S.objects scene.old s
+        → TellsIn S.objects s (statement_view line.entry) (reply_text result) scene.new }
+    ensures reliable { S.is_reliable scene.old.world.store.store → S.is_reliable scene.new.world.store.store }
+{
+    let mut tries = scene.tries;
+    let mut cache = LogCache::new(alloc);
+    execute(
+        alloc,
+        line,
+        &mut scene.world.store.store,
+        &mut tries,
+        scene.use_checkpoints,
+        &mut cache,
+    )
+}
+
+/// Does what a line asks for. `None` where nothing is replied.
+pub(crate) fn do_line<S: Store>(
+    alloc: Global,
+    line: Line<'_>,
+    scene: &mut Scene<S>,
+) -> Option<LineReply>
+    requires { IsTimely (statement_view line) }
+    ensures comes { S.is_reliable scene.old.world.store.store → (s : scenes.Scene) → SceneStands S.objects scene.old s → ComesTo S.objects s (statement_view line.entry) (replied result) scene.new }
+    ensures reliable { S.is_reliable scene.old.world.store.store → S.is_reliable scene.new.world.store.store }
+{
+    match line {
+        Line::Create { id, at, schema } => Some(create_table(alloc, scene, id, at, schema)),
+        Line::Job(job) => Some(run_task(alloc, scene, job)),
+        Line::Start { actor, job } => Some(start(alloc, scene, actor, job)),
+        Line::Until { actor } => Some(do_named(alloc, scene, actor, Deed::Until)),
+        Line::Step { actor, kind } => Some(do_named(alloc, scene, actor, Deed::Step(kind))),
+        Line::Finish { actor } => Some(do_named(alloc, scene, actor, Deed::Finish)),
+        Line::Die { actor } => Some(do_named(alloc, scene, actor, Deed::Die)),
+        Line::Land { put } => Some(land(scene, put)),
+        Line::Fault { kind } => {
+            scene.fault = Some(kind);
+            None
+        }
+        Line::Tries { count } => {
+            // A line gives at least one.
+            scene.tries = count.max(1);
+            Some(LineReply::Noted)
+        }
+        Line::Snapshot => Some(tell(alloc, scene, Line::Snapshot)),
+        Line::History => Some(tell(alloc, scene, Line::History)),
+        Line::Show { version } => Some(tell(alloc, scene, Line::Show { version })),
+        Line::Hex { name } => Some(tell(alloc, scene, Line::Hex { name })),
+        Line::Foreign { version, action } => {
+            Some(tell(alloc, scene, Line::Foreign { version, action }))
+        }
+    }
+}
