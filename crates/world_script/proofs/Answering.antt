@@ -1,16 +1,15 @@
 -- What a text's lines come to, one after the other.
-use Rattle.std.proofs.Common.{◌≡◌, ◌⊎◌, ◌+◌, ◌∙◌, ℕ, List, [], ◌∷◌, ◌++◌, Bool, true, false, Option, Some, None, length, refl, sym, ap, subst, inl, inr, append-nil, append_assoc, arith}
-use Rattle.std.specs.Io.KnownBytes.{Appends}
+use Rattle.std.proofs.Common.{◌≡◌, ◌⊎◌, ◌+◌, ◌∙◌, ℕ, List, [], ◌∷◌, ◌++◌, true, false, Option, length, refl, sym, ap, subst, inl, inr, append-nil, append_assoc, arith}
 use Rattle.delta_actions.specs.Commit.{lines_of}
 use Rattle.lake_script.specs.Replies.{bad_line}
 use Rattle.lake_script.specs.Runs.{Tells}
 use Rattle.lake_script.specs.Told.{is_bad}
 use Rattle.lake_script.proofs.StreamLemmas.{Appends-both}
-use Rattle.script_lines.specs.Lines.{Reading, Statement, asks, bad, reading_of, skipped}
+use Rattle.script_lines.specs.Lines.{Reading, asks, bad, reading_of, skipped}
 use Rattle.session_laws.specs.Sessions.{Job, Outcome}
 use Rattle.store_core.specs.Objects.{Objects}
 use Rattle.stream_model.specs.Events.{Event}
-use Rattle.world_script.specs.Doing.{Answers, ComesTo, IsCutOff}
+use Rattle.world_script.specs.Doing.{Answers, IsCutOff}
 use Rattle.world_script.specs.Playing as playing
 use Rattle.world_script.specs.Playing.{HasPlayed, HasPlayedText, Plays, PlaysInPart, PlaysText}
 use Rattle.world_script.specs.Scenes.{Scene, SceneStands}

@@ -1,5 +1,5 @@
 -- What a script with actors comes to, as what may happen in a world.
-use Rattle.std.proofs.Common.{◌≡◌, ◌⊎◌, ℕ, List, [], ◌∷◌, ◌++◌, Bool, true, false, Option, Some, None, refl, sym, ◌∙◌, ap, subst, append-nil, append_assoc}
+use Rattle.std.proofs.Common.{◌≡◌, ℕ, List, [], ◌∷◌, ◌++◌, Bool, true, false, Option, Some, None, refl, sym, ap, subst, append-nil, append_assoc}
 use Rattle.delta_actions.specs.Commit.{lines_of}
 use Rattle.lake_script.specs.Told.{ArePutHere, IsPutHere}
 use Rattle.lake_script.specs.Tries.{IsLook}
@@ -14,7 +14,7 @@ use Rattle.stream_model.specs.Events.{Event, Happens, IsWorldOf, Ran, act, answe
 use Rattle.stream_model.specs.Events as events
 use Rattle.stream_model.specs.Headline.{IsHeadline}
 use Rattle.stream_model.specs.Worlds.{World}
-use Rattle.stream_world.specs.Standing.{quiet_world, taking}
+use Rattle.stream_world.specs.Standing.{taking}
 use Rattle.table_model.specs.Table.{Entry}
 use Rattle.table_store.specs.Holds.{Holds}
 use Rattle.table_store.specs.Schema.{Schema}
@@ -24,7 +24,7 @@ use Rattle.world_script.specs.Lines as does
 use Rattle.world_script.specs.Lines.{Dies, IsNamed, IsStoreLine, Lands, LineDoes, RunsAlone, Starts, TellsOf, deed_does}
 use Rattle.world_script.specs.Playing as plays
 use Rattle.world_script.specs.Playing.{HasPlayed, HasPlayedText, IsSoOfTable, Plays, PlaysInPart, PlaysSo, PlaysText, StaysSo}
-use Rattle.world_script.specs.Scenes.{HasPart, Scene, first_scene, part_for}
+use Rattle.world_script.specs.Scenes.{Scene, first_scene, part_for}
 use Rattle.lake_script.specs.Runs.{Tells}
 use Rattle.lake_script.specs.Told.{Finishes}
 use Rattle.lake_script.specs.declared.engine.End.{End}

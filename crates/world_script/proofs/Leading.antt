@@ -1,5 +1,5 @@
 -- How an actor that is led on comes to its end, or to where it halts.
-use Rattle.std.proofs.Common.{◌≡◌, ◌⊎◌, ℕ, List, [], ◌∷◌, ◌++◌, Bool, true, false, Option, Some, None, refl, sym, ◌∙◌, ap, subst, inl, inr, IsSome}
+use Rattle.std.proofs.Common.{◌≡◌, ℕ, List, [], ◌++◌, Bool, true, false, Option, Some, None, refl, sym, ◌∙◌, subst, IsSome}
 use Rattle.script_lines.specs.declared.kind.Kind.{Kind}
 use Rattle.script_lines.specs.declared.kind.Kind.TheVariants.{Pass}
 use Rattle.store_core.specs.Objects.{Objects}
@@ -9,7 +9,7 @@ use Rattle.stream_model.specs.Worlds.{World}
 use Rattle.stream_world.specs.Standing.{TellsAs, WorldStands}
 use Rattle.stream_world.specs.declared.table_session.Outcome as code_outcome
 use Rattle.stream_world.specs.declared.world.World as code_world
-use Rattle.world_script.specs.Acting.{CameBy, GoesOn, Leads, LeadsThrough, Meets, Steps, at_first, behind, by_it, ends, ends_before, goes, halts, hand_at, in_front, meets_now, meets_then, next_at, then_one, unhindered}
+use Rattle.world_script.specs.Acting.{CameBy, GoesOn, Leads, Meets, Steps, at_first, behind, by_it, ends, ends_before, goes, halts, hand_at, in_front, meets_now, meets_then, next_at, then_one, unhindered}
 use Rattle.world_script.specs.Doing.{CameThrough}
 use Rattle.world_script.specs.declared.acting.Next.{Next}
 use Rattle.world_script.specs.declared.acting.Next.TheVariants as nexts

@@ -1,5 +1,5 @@
 -- What the code of a line does to a scene, as what the line does.
-use Rattle.std.proofs.Common.{◌≡◌, ◌⊎◌, ℕ, List, [], ◌∷◌, ◌++◌, Bool, true, false, Option, Some, None, Result, Ok, Err, option_and_then, refl, sym, ◌∙◌, ap, subst, inl, inr}
+use Rattle.std.proofs.Common.{◌≡◌, ℕ, List, [], ◌∷◌, Bool, true, false, Option, Some, None, Ok, Err, option_and_then, refl, sym, ◌∙◌, ap, subst}
 use Rattle.std.specs.BTreeMap.{BTreeMap, get, get_by_text}
 use Rattle.std.specs.Ordering.{nat_cmp}
 use Rattle.lake_script.specs.Runs.{Executes, IsWantOfMemory}

@@ -1,5 +1,5 @@
 -- What comes next for an actor of the code is what comes next for it in a world.
-use Rattle.std.proofs.Common.{◌≡◌, ◌∙◌, ℕ, Bool, true, false, Option, Some, None, option_map, refl, sym, ap, subst}
+use Rattle.std.proofs.Common.{◌≡◌, ◌∙◌, ℕ, Bool, true, false, Option, Some, None, option_map, refl, sym, ap}
 use Rattle.session_core.specs.Talks.{Asked, Talk, Told, asked_view, told_view}
 use Rattle.session_core.specs.declared.asking.Reply.{Reply}
 use Rattle.session_core.specs.declared.asking.Reply.TheVariants as replies
@@ -8,14 +8,13 @@ use Rattle.session_core.specs.declared.asking.Request.TheVariants as requests
 use Rattle.store_core.specs.Objects.{Objects}
 use Rattle.stream_model.specs.Worlds.{Actor, Hand, World, asking, ended, fresh, waiting}
 use Rattle.stream_world.specs.Left.{asks_call, asks_hand, takes_hand, takes_step}
-use Rattle.stream_world.specs.Standing.{ActorStands, HandStands, HasEnded, SlotStands, WorldStands, slot_at}
+use Rattle.stream_world.specs.Standing.{HandStands, HasEnded, SlotStands, WorldStands, slot_at}
 use Rattle.stream_world.specs.declared.actor.Actor as code
 use Rattle.stream_world.specs.declared.actor.Hand as code_hand
 use Rattle.stream_world.specs.declared.actor.Hand.TheVariants as hands
 use Rattle.stream_world.specs.declared.world.World as code_world
 use Rattle.world_script.specs.Acting.{hand_at, is_commit_put, is_memory, next_at}
 use Rattle.world_script.specs.Slots.{next_by, next_in, puts_commit, short_in, waits_short}
-use Rattle.world_script.specs.declared.acting.Next.{Next}
 use Rattle.world_script.specs.declared.acting.Next.TheVariants as nexts
 
 commit_so : (request : Request) → is_commit_put (asked_view request) ≡ puts_commit request

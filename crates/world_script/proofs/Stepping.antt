@@ -1,12 +1,12 @@
 -- What a step of an actor leaves.
-use Rattle.std.proofs.Common.{◌≡◌, ◌==◌, ◌⊎◌, ℕ, [], ◌∷◌, ◌++◌, Bool, true, false, Option, Some, None, option_map, refl, sym, ◌∙◌, ◌&&◌, not, ap, subst, inl, inr, arith, List}
+use Rattle.std.proofs.Common.{◌≡◌, ◌==◌, ◌⊎◌, ℕ, [], ◌∷◌, Bool, true, false, Option, Some, None, option_map, refl, sym, ◌∙◌, ◌&&◌, not, ap, subst, inl, inr, arith, List}
 use Rattle.std.proofs.lemmas.Bool.Decides.{nat_tests}
 use Rattle.script_lines.specs.declared.kind.Kind.{Kind}
 use Rattle.script_lines.specs.declared.kind.Kind.TheVariants as kinds
 use Rattle.store_core.specs.Objects.{Objects}
 use Rattle.session_core.specs.Talks.{Asked, Talk, Told, get_object, list_names, put_commit, put_file}
 use Rattle.session_laws.specs.Sessions.{Job, Outcome}
-use Rattle.stream_model.specs.Events.{CanBegin, Event, Fits, HasActor, Happens, Takes, act, acts, answer, begin, begins, begins_now, die, dies, ends, goes_on, land, lands, lose_answer, loses, nothing_happens, takes}
+use Rattle.stream_model.specs.Events.{CanBegin, Event, Fits, HasActor, Happens, Takes, act, acts, answer, begin, begins, begins_now, dies, ends, goes_on, lands, lose_answer, loses, nothing_happens, takes}
 use Rattle.stream_model.specs.Worlds.{Actor, Hand, How, World, acted, asking, ended, fresh, late, lost, once, short, told_by, told_how, twice, waiting, with_actor}
 use Rattle.stream_world.specs.Jobs.{IsMetAs, IsMetIn}
 use Rattle.stream_world.specs.Standing.{HasHappened, TellsAs, WorldStands, taking}
@@ -14,7 +14,6 @@ use Rattle.stream_world.specs.declared.table_session.Outcome as code_outcome
 use Rattle.stream_world.specs.declared.world.World as code_world
 use Rattle.world_script.specs.Acting.{CameBy, Steps, calls, hand_at, how_of, is_commit_put, is_memory, loses_answer, next_at}
 use Rattle.world_script.specs.Acting as stepping
-use Rattle.world_script.specs.declared.acting.Next.{Next}
 use Rattle.world_script.specs.declared.acting.Next.TheVariants as nexts
 
 -- ---- what comes next

@@ -1,5 +1,5 @@
 -- What each line of a script does to a scene: the events that it is, what sessions told by them, and its reply.
-use Rattle.std.specs.Prelude.{◌≡◌, ◌⊎◌, ◌+◌, ℕ, List, [], ◌∷◌, ◌++◌, Bool, true, false, ◌≤◌, Option, None, Some, codes}
+use Rattle.std.specs.Prelude.{◌≡◌, ℕ, List, [], ◌∷◌, true, false, ◌≤◌, Option, None, Some, codes}
 use Rattle.lake_bytes.specs.Lines.{with_newline}
 use Rattle.commit_core.specs.Texts.{refused}
 use Rattle.lake_script.specs.Replies.{fault_text, noted}

@@ -1,5 +1,5 @@
 -- What a script with actors comes to, line by line, and what is so of what it told.
-use Rattle.std.specs.Prelude.{◌≡◌, ◌+◌, ℕ, List, [], ◌∷◌, ◌++◌, Bool, length}
+use Rattle.std.specs.Prelude.{◌≡◌, ◌+◌, ℕ, List, [], ◌∷◌, ◌++◌, length}
 use Rattle.delta_actions.specs.Commit.{lines_of}
 use Rattle.lake_script.specs.Replies.{bad_line}
 use Rattle.log_laws.specs.Sound.{IsSoundStore}
@@ -13,7 +13,7 @@ use Rattle.table_model.specs.Table.{Entry}
 use Rattle.table_store.specs.Holds.{Holds}
 use Rattle.table_store.specs.Schema.{Schema}
 use Rattle.world_script.specs.Lines.{LineDoes}
-use Rattle.world_script.specs.Scenes.{Scene, first_scene}
+use Rattle.world_script.specs.Scenes.{Scene}
 
 -- By these lines, one after the other, a scene came to another: what was written, the events, and what sessions told.
 pub data Plays (first : Scene) : (lines : List (List ℕ)) → (written : List ℕ) → List Event → (outs : List (Job × Outcome)) → Scene → Type 0 where

@@ -1,4 +1,4 @@
-use Rattle.std.proofs.Common.{◌≡◌, ◌∙◌, sym, ap}
+use Rattle.std.proofs.Common.{◌∙◌, sym, ap}
 use Rattle.world_script.specs.Acting.{goes}
 use Rattle.world_script.proofs.Leading.{led_end, led_halt, led_more, led_none}
 use Rattle.world_script.proofs.acting.lead.Goals as goal

@@ -1,4 +1,4 @@
-use Rattle.std.proofs.Common.{◌≡◌, ◌∙◌, Option, Some, option_and_then, sym, ap}
+use Rattle.std.proofs.Common.{◌≡◌, ◌∙◌, Some, option_and_then, sym, ap}
 use Rattle.std.specs.Option.{option_copied}
 use Rattle.stream_world.specs.Standing.{slot_at}
 use Rattle.world_script.specs.Slots.{next_in}

@@ -1,4 +1,4 @@
-use Rattle.std.proofs.Common.{◌≡◌, ◌∙◌, sym, ap, subst}
+use Rattle.std.proofs.Common.{◌∙◌, sym, subst}
 use Rattle.stream_model.specs.Events.{act}
 use Rattle.stream_model.specs.Worlds.{How}
 use Rattle.stream_world.specs.Standing.{HasHappened, slot_at}

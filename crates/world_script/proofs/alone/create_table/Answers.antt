@@ -1,4 +1,4 @@
-use Rattle.std.proofs.Common.{◌≡◌, Option, Some, refl, sym, subst}
+use Rattle.std.proofs.Common.{Some, refl, subst}
 use Rattle.session_laws.specs.Sessions.{Job}
 use Rattle.script_lines.specs.Lines.{create}
 use Rattle.stream_world.specs.Jobs.{job_view}

@@ -1,4 +1,4 @@
-use Rattle.std.proofs.Common.{◌≡◌, Option, None, Some, sym, subst}
+use Rattle.std.proofs.Common.{Option, None, Some, sym, subst}
 use Rattle.script_lines.specs.declared.kind.Kind.{Kind}
 use Rattle.world_script.specs.Doing.{CameThrough}
 use Rattle.world_script.proofs.Leading.{alive_behind, alive_there, through_behind, through_fault, through_front, through_none}

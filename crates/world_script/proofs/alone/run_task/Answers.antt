@@ -1,4 +1,4 @@
-use Rattle.std.proofs.Common.{◌≡◌, ◌∙◌, Option, Some, option_map, refl, sym, ap, subst}
+use Rattle.std.proofs.Common.{◌∙◌, Option, option_map, sym, ap, subst}
 use Rattle.session_laws.specs.Sessions.{Job}
 use Rattle.script_lines.specs.Lines.{task, task_view}
 use Rattle.stream_world.specs.Jobs.{job_view}

@@ -1,10 +1,10 @@
-use Rattle.std.proofs.Common.{◌≡◌, ◌∙◌, [], ℕ, List, Option, None, Some, inr, sym, ap, subst}
+use Rattle.std.proofs.Common.{◌∙◌, [], inr, sym, ap, subst}
 use Rattle.lake_script.specs.ReplyView.{reply_text}
 use Rattle.lake_script.proofs.RunsLemmas.{on_err}
 use Rattle.lake_script.proofs.StreamLemmas.{Appends-none}
 use Rattle.script_lines.specs.Lines.{reading_view}
 use Rattle.script_lines.proofs.Callers.{reading_timely}
-use Rattle.world_script.specs.Doing.{Answers, ComesTo, IsCutOff, replied}
+use Rattle.world_script.specs.Doing.{Answers, IsCutOff}
 use Rattle.world_script.proofs.engine.answer.Goals as goal
 
 pub do_line-requires : goal.do_line-requires

@@ -1,11 +1,10 @@
-use Rattle.std.proofs.Common.{rules, ◌≡◌, ◌∷◌, ◌∙◌, true, false, [], ℕ, List, option_map, Option, Some, Bor, inr, refl, sym, ap, subst, arith}
+use Rattle.std.proofs.Common.{rules, ◌≡◌, ◌∷◌, ◌∙◌, [], ℕ, List, option_map, Option, Some, Bor, inr, refl, sym, ap, subst, arith}
 use Rattle.std.proofs.lemmas.Bool.{not-true, not-false}
-use Rattle.delta_actions.specs.Commit.{lines_of}
 use Rattle.lake_script.specs.Runs.{Tells}
 use Rattle.lake_script.specs.Streams.{held}
 use Rattle.lake_script.specs.Told.{first_bad_from}
 use Rattle.lake_script.proofs.RunLemmas.{first_bad_from-none, first_bad_here, first_bad_next, lines_at_most-after, lines_left_none}
-use Rattle.lake_script.proofs.RunsLemmas.{on_err, tells_on}
+use Rattle.lake_script.proofs.RunsLemmas.{tells_on}
 use Rattle.lake_script.proofs.StreamLemmas.{Appends-none}
 use Rattle.script_lines.specs.Splitting.{lines_left}
 use Rattle.world_script.proofs.Answering.{SoFar, cut_part, so_far_none, so_far_part, told_done, told_next, told_stops}

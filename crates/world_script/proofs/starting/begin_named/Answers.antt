@@ -1,7 +1,6 @@
-use Rattle.std.proofs.Common.{rules, ◌≡◌, ◌∙◌, true, false, Option, None, Some, Result, Ok, Err, option_map, refl, sym, ap, subst}
+use Rattle.std.proofs.Common.{◌∙◌, true, false, option_map, refl, sym, ap}
 use Rattle.std.proofs.lemmas.Result.{err_from_is_err_and}
 use Rattle.stream_world.specs.Jobs.{job_view}
-use Rattle.world_script.specs.Asked.{job_of_task}
 use Rattle.script_lines.specs.Lines.{task_view}
 use Rattle.world_script.proofs.Scening.{job_at, not_started, started_begun, started_refused, unstarted}
 use Rattle.world_script.proofs.starting.begin_named.Goals as goal
