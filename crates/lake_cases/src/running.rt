@@ -6,10 +6,13 @@ use crate::failure::Failure;
 use crate::plain::tell_plain;
 use crate::streams::{Sink, Source};
 use crate::table::{tell_entries, tell_objects, tell_table};
-use lake_script::{End, Input, Outcome, Output, run};
+use lake_script::{End, Input, Outcome, Output};
 use sha2::{Digest, Sha256};
 use std::alloc::Global;
 use std::io::Write;
+use std::mem;
+use store_core::{Flaky, MemoryStore};
+use world_script::{Ran, run};
 
 /// Runs a case, and adds what is told of it: its name, what was written, how it ended, and which table is left.
 pub fn tell_case(rt: &HostRuntime, case: Case, out: &mut Vec<u8>) -> Result<(), Failure> {
@@ -52,13 +55,11 @@ fn run_script(alloc: Global, case: &mut Case, told: &mut Vec<u8>) -> Outcome {
     let mut input = Input::new(source);
     let mut output = Output::new(alloc, sink);
     let use_checkpoints = !case.replays;
-    run(
-        alloc,
-        &mut input,
-        &mut output,
-        &mut case.store,
-        use_checkpoints,
-    )
+    let none = Flaky::new(alloc, MemoryStore::new(alloc), Vec::new(alloc));
+    let store = mem::replace(&mut case.store, none);
+    let Ran { outcome, store } = run(alloc, &mut input, &mut output, store, use_checkpoints);
+    case.store = store;
+    outcome
 }
 
 /// Adds what was written. Of many lines the last alone are told, and of those before them the count and the SHA-256.
