@@ -12,7 +12,7 @@ AT = {"at": False}
 PUTS = AT | {"tries": False}
 COMMANDS: dict[str, tuple[int, dict[str, bool]]] = {
     "create": (0, AT | {"id": True, "schema": True}),
-    "append": (2, PUTS),
+    "append": (2, PUTS | {"rows": False}),
     "close": (1, PUTS),
     "load": (0, PUTS | {"workers": True}),
     "tail": (0, {"from": True, "max": True}),
@@ -22,8 +22,8 @@ COMMANDS: dict[str, tuple[int, dict[str, bool]]] = {
 }
 
 # The bounds of numbers, and what stands for an option that isn't given.
-BOUNDS = {"at": (0, 10**15 - 1), "tries": (1, 64), "max": (0, 65_536), "workers": (0, 2**64 - 1)}
 NUMBER = (0, 2**64 - 1)
+BOUNDS = {"at": (0, 10**15 - 1), "tries": (1, 64), "max": (0, 65_536), "workers": NUMBER, "rows": NUMBER}
 DEFAULTS = {"at": "0", "tries": "16"}
 
 COMMIT = re.compile(r"_delta_log/[0-9]{20}\.json")
@@ -50,6 +50,10 @@ class Command(NamedTuple):
 
 class BadLine(Exception):
     """The number of an input line that is no JSON object."""
+
+
+class Miscounted(Exception):
+    """How many rows the words say, and how many the input has."""
 
 
 def command_of(words: list[str]) -> Command:
@@ -105,13 +109,23 @@ def script_line(command: Command, content: bytes) -> str:
     if command.name == "create":
         return f"create {options['id']} {options['at']} {options['schema']}"
     if command.name == "append":
-        rows = ",".join(objects_in(content))
-        return f"append {command.places[0]} {command.places[1]} {options['at']} [{rows}]"
+        rows = objects_in(content)
+        if int(options.get("rows", len(rows))) != len(rows):
+            raise Miscounted(int(options["rows"]), len(rows))
+        return f"append {command.places[0]} {command.places[1]} {options['at']} [{','.join(rows)}]"
     if command.name == "close":
         return f"close {command.places[0]} {options['at']}"
     if command.name == "tail":
         return f"tail {options['max']} {options['from']}"
     return command.name
+
+
+def misused(wrong: BadLine | Miscounted) -> list[str]:
+    """What is told of an input that isn't read as the words have it."""
+    if isinstance(wrong, BadLine):
+        return [f"bad line {wrong}", "status 2"]
+    rows, found = wrong.args
+    return ["status 2", f"--rows says {rows}, but the count of rows in the input is {found}; nothing was run"]
 
 
 def kind(name: str) -> int:
@@ -146,8 +160,8 @@ class Folder:
             return ["refused N1 NotYet", "status 1"]
         try:
             line = script_line(command, bytes(run.input))
-        except BadLine as bad:
-            return [f"bad line {bad}", "status 2"]
+        except (BadLine, Miscounted) as wrong:
+            return misused(wrong)
         log = Log(dict(self.objects), command.restores)
         told = log.answer(line)
         fault = self.save(log.objects, run.stops)
@@ -156,11 +170,11 @@ class Folder:
         return [*told, f"status {1 if told and told[-1].startswith('refused ') else 0}"]
 
     def elsewhere(self, command: Command, run: Run) -> list[str]:
-        """Of folders beside the first nothing is modelled but bad lines, which come before they are looked at."""
+        """Of folders beside the first nothing is modelled but what comes before they are looked at."""
         try:
             script_line(command, bytes(run.input))
-        except BadLine as bad:
-            return [f"bad line {bad}", "status 2"]
+        except (BadLine, Miscounted) as wrong:
+            return misused(wrong)
         raise NotModelled("a second folder")
 
     def save(self, objects: dict[str, bytes], stops: list[str]) -> str | None:

@@ -130,7 +130,7 @@ fails_for_job (Err failure) work text statement old new asked of put names = lef
 -- no job puts another tool's commit
 put_here : (work : Work) (text : Option (List ℕ)) (statement : Statement) → IsAskedBy work text statement → IsPutHere (asks statement)
 put_here (words.create id schema at) text statement is = rw is tt
-put_here (words.append application number at tries) text statement is = rw is.4 tt
+put_here (words.append application number at tries rows) text statement is = rw is.4 tt
 put_here (words.close application at tries) text statement is = rw is tt
 put_here (words.load workers at tries) text statement is = absurd is
 put_here (words.tail max offset) text statement is = rw is tt

@@ -1,4 +1,5 @@
 pub mod AgainLemmas
+pub mod CountLemmas
 pub mod EndingLemmas
 pub mod FolderLemmas
 pub mod LineLemmas

@@ -1,10 +1,11 @@
 -- How a job on the table in a folder ends: what comes of it, what is told and where, and the exit status.
-use Rattle.std.specs.Prelude.{◌≡◌, ◌⊎◌, ℕ, Bool, true, List, Option, Some, None, Result, Ok, Err, IfErr, if◌then◌else◌}
+use Rattle.std.specs.Prelude.{◌≡◌, ◌⊎◌, ◌≤◌, ℕ, Bool, true, List, Option, Some, None, Result, Ok, Err, IfErr, IfSome, if◌then◌else◌, length}
 use Rattle.std.specs.Io.KnownBytes.{Appends}
 use Rattle.store_core.specs.Objects.{Objects}
 use Rattle.lake_script.specs.ReplyView as replies
 use Rattle.lake_script.specs.ReplyView.{reply_text}
 use Rattle.lake_script.specs.Streams.{held, write_failed, StandsIn}
+use Rattle.lake_script.specs.declared.inputs.TheConstants.{MOST_READS}
 use Rattle.lake_script.specs.declared.outputs.Output.{Output}
 use Rattle.lake_script.specs.declared.reply.LineReply.{LineReply}
 use Rattle.lake_words.specs.Asked.{Work}
@@ -63,6 +64,12 @@ pub record IsUntold {W : Type 0} (contents : W → Option (List ℕ)) (outcome :
 abbrev pub EndsWith : {W E : Type 0} → (W → Option (List ℕ)) → Work → Result LineReply Failure → (old new : Output W) → (err_old err_new : E) → Exit → Type 0
 EndsWith contents work outcome old new err_old err_new exit =
     IsToldWhole contents work outcome old new err_old err_new exit ⊎ IsUntold contents outcome old new exit
+
+-- The status is that of words or of an input that can't be read, unless a read or a write failed, the input may have taken
+-- too many reads, or memory ran out.
+abbrev pub IsMisused : (text : Option (List ℕ)) → (is_broken is_unwritten : Bool) → Exit → Type 0
+IsMisused text is_broken is_unwritten exit =
+    (exit.status ≡ 2) ⊎ ((exit.is_short ≡ true) ⊎ ((is_broken ≡ true) ⊎ ((is_unwritten ≡ true) ⊎ IfSome text (λ bytes. MOST_READS ≤ length bytes))))
 
 -- What comes of a job, some reply or a failure, is told; a failure has its cause in the words or the input, or comes
 -- from the folder.

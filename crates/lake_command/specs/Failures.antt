@@ -1,5 +1,5 @@
 -- Why a job on a folder has no reply: the texts, and what the folder holds then.
-use Rattle.std.specs.Prelude.{◌≡◌, ◌⊎◌, ◌<◌, ◌≤◌, ◌++◌, ℕ, Bool, true, List, Option, None, Result, Err, IfErr, IfSome, IsSome, IsTrue, codes, length, string_bytes}
+use Rattle.std.specs.Prelude.{◌≡◌, ◌≢◌, ◌⊎◌, ◌<◌, ◌≤◌, ◌++◌, ℕ, Bool, true, List, Option, Some, None, Result, Err, IfErr, IfSome, IsSome, IsTrue, codes, length, string_bytes}
 use Rattle.std.specs.Fmt.{decimal}
 use Rattle.store_core.specs.Calls.{HasRisen}
 use Rattle.store_core.specs.Names.{is_commit}
@@ -8,7 +8,7 @@ use Rattle.table_folder.specs.Texts.{load_text, save_text}
 use Rattle.table_folder.specs.declared.fault.LoadFault.TheVariants as loads
 use Rattle.table_folder.specs.declared.fault.SaveFault.TheVariants as saves
 use Rattle.table_folder.specs.declared.reason.Reason.TheVariants.{Taken}
-use Rattle.json_lines.specs.Rows.{IsFirstBadLine}
+use Rattle.json_lines.specs.Rows.{IsFirstBadLine, input_lines}
 use Rattle.json_lines.specs.declared.LineFault.{LineFault}
 use Rattle.json_lines.specs.declared.LineFault.TheVariants as lines
 use Rattle.lake_script.specs.declared.inputs.InputError.{InputError}
@@ -19,14 +19,16 @@ use Rattle.script_lines.specs.Lines.{Statement}
 use Rattle.lake_words.specs.Asked.{Work}
 use Rattle.lake_words.specs.Asked as words
 use Rattle.lake_command.specs.declared.failure.Failure.{Failure}
-use Rattle.lake_command.specs.declared.failure.Failure.TheVariants.{Misused, NotRead, BadLine, Memory, Loading, Saving}
-use Rattle.lake_command.specs.Folders.{IsAskedBy, JobMayLeave, reads_input}
+use Rattle.lake_command.specs.declared.failure.Failure.TheVariants.{Misused, NotRead, BadLine, Miscounted, Memory, Loading, Saving}
+use Rattle.lake_command.specs.Folders.{IsAskedBy, JobMayLeave, reads_input, rows_said}
 
 -- the printed form
 abbrev pub failure_text : Failure → List ℕ
 failure_text Misused = codes "--at is past 999999999999999"
 failure_text NotRead = codes "refused F3 NotRead"
 failure_text (BadLine number) = codes "bad line " ++ decimal number
+failure_text (Miscounted rows found) =
+    codes "--rows says " ++ (decimal rows ++ (codes ", but the count of rows in the input is " ++ (decimal found ++ codes "; nothing was run")))
 failure_text Memory = codes "refused S6 Memory"
 failure_text (Loading fault) = codes "refused " ++ load_text fault
 failure_text (Saving fault) = codes "refused " ++ save_text fault
@@ -55,7 +57,7 @@ IsLoading _ = ⊥
 -- the commit timestamp of a creation or an append, in milliseconds; 0 for other jobs
 abbrev pub moment_of : Work → ℕ
 moment_of (words.create id schema at) = at
-moment_of (words.append application number at tries) = at
+moment_of (words.append application number at tries rows) = at
 moment_of (words.close application at tries) = at
 moment_of _ = 0
 
@@ -65,11 +67,13 @@ AsksSomething work text = (statement : Statement) × IsAskedBy work text stateme
 
 -- The failure comes from the words or from an append's input of that text: a moment past the last one, a read that
 -- failed, or an input of 1,048,576 bytes or more, which may have taken as many reads, the first line that is no object,
--- or no memory for the input or its rows. Of a text that isn't known nothing is asked.
+-- another count of lines than the words say, or no memory for the input or its rows. Of a text that isn't known nothing is
+-- asked.
 abbrev pub IsOfInput : Failure → Work → (text : Option (List ℕ)) → (is_broken : Bool) → Type 0
 IsOfInput Misused work text is_broken = 999_999_999_999_999 < moment_of work
 IsOfInput NotRead work text is_broken = (reads_input work ≡ true) × ((is_broken ≡ true) ⊎ IfSome text (λ bytes. MOST_READS ≤ length bytes))
 IsOfInput (BadLine number) work text is_broken = (reads_input work ≡ true) × IfSome text (λ bytes. IsFirstBadLine bytes number)
+IsOfInput (Miscounted rows found) work text is_broken = (rows_said work ≡ Some rows) × (found ≢ rows) × IfSome text (λ bytes. length (input_lines bytes) ≡ found)
 IsOfInput Memory work text is_broken = reads_input work ≡ true
 IsOfInput (Loading fault) work text is_broken = ⊥
 IsOfInput (Saving fault) work text is_broken = ⊥

@@ -1,5 +1,5 @@
 -- What a job on the table in a folder asks for, in the words of a script, and what it leaves in the folder.
-use Rattle.std.specs.Prelude.{◌≡◌, ◌⊎◌, ℕ, Bool, List, Option, Some, IfSome, map, true, false, string_bytes}
+use Rattle.std.specs.Prelude.{◌≡◌, ◌≢◌, ◌⊎◌, ℕ, Bool, List, Option, Some, None, IfSome, IsSomeAnd, length, map, true, false, string_bytes}
 use Rattle.std.specs.Io.KnownBytes.{Appends}
 use Rattle.serde_json.specs.Data.{Data}
 use Rattle.serde_json.specs.View.{items_of}
@@ -26,19 +26,29 @@ file_names files = map (λ file. string_bytes file.name) files
 
 -- an append alone reads the input
 abbrev pub reads_input : Work → Bool
-reads_input (words.append application number at tries) = true
+reads_input (words.append application number at tries rows) = true
 reads_input _ = false
 
 -- the bytes that a job reads, where the reader tells them; of a job that reads none nothing is asked
 abbrev pub IsTextOf : Work → (known : Option (List ℕ)) → (bytes : List ℕ) → Type 0
 IsTextOf work known bytes = reads_input work ≡ true → IfSome known (λ text. bytes ≡ text)
 
--- What a job asks for. An append's rows are those of the input's lines; where the reader doesn't tell its bytes, those of
--- the lines of some text.
+-- how many rows an append's input has, where its words say so
+abbrev pub rows_said : Work → Option ℕ
+rows_said (words.append application number at tries rows) = rows
+rows_said _ = None
+
+-- the input of an append has another count of lines than its words say
+abbrev pub IsMiscounted : Work → (text : Option (List ℕ)) → Type 0
+IsMiscounted work text = IsSomeAnd (rows_said work) (λ rows. IsSomeAnd text (λ bytes. length (input_lines bytes) ≢ rows))
+
+-- What a job asks for. An append's rows are those of the input's lines, as many as its words say, if they do; where the
+-- reader doesn't tell its bytes, those of the lines of some text.
 abbrev pub IsAskedBy : Work → (text : Option (List ℕ)) → Statement → Type 0
 IsAskedBy (words.create id schema at) text statement = statement ≡ create id at schema
-IsAskedBy (words.append application number at tries) text statement =
+IsAskedBy (words.append application number at tries said) text statement =
     (bytes : List ℕ) × (rows : List Data) × IfSome text (λ known. bytes ≡ known) × AreLineRows bytes rows × (statement ≡ task (append application number at (items_of rows)))
+    × IfSome said (λ count. length rows ≡ count)
 IsAskedBy (words.close application at tries) text statement = statement ≡ task (close application at)
 IsAskedBy (words.load workers at tries) text statement = ⊥
 IsAskedBy (words.tail max offset) text statement = statement ≡ task (tail max offset)

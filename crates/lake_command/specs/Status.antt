@@ -9,7 +9,7 @@ use Rattle.lake_script.specs.declared.reply.LineReply.TheVariants.{Created, Sink
 use Rattle.lake_words.specs.Asked.{Work}
 use Rattle.lake_words.specs.Asked as words
 use Rattle.lake_command.specs.declared.failure.Failure.{Failure}
-use Rattle.lake_command.specs.declared.failure.Failure.TheVariants.{Misused, BadLine, Memory, Loading, Saving}
+use Rattle.lake_command.specs.declared.failure.Failure.TheVariants.{Misused, BadLine, Miscounted, Memory, Loading, Saving}
 use Rattle.clap.specs.Words.{IsAmong}
 use Rattle.clap.specs.declared.error.kind.ErrorKind.{ErrorKind}
 use Rattle.clap.specs.declared.error.kind.ErrorKind.TheVariants.{DisplayHelp, DisplayVersion, OutOfMemory}
@@ -43,6 +43,7 @@ IsStatusOf kinds status is_short = ((status ≡ 1) × (is_short ≡ true)) ⊎ (
 abbrev pub status_of_failure : Failure → ℕ
 status_of_failure Misused = 2
 status_of_failure (BadLine number) = 2
+status_of_failure (Miscounted rows found) = 2
 status_of_failure _ = 1
 
 -- a growth was refused

@@ -1,5 +1,5 @@
 //! The reply to a job on the table in a folder.
-ghost use Rattle.std.specs.Prelude.{◌≡◌, ◌⊎◌, ◌↔◌, ◌<◌, ◌≤◌, ◌^◌, ℕ, Bool, List, Option, true, false, Some, None, IfOk, IfErr, IfSome, IsErrAnd, IsOk, IsOkAnd, IsTrue, Ok, length};
+ghost use Rattle.std.specs.Prelude.{◌≡◌, ◌≢◌, ◌⊎◌, ◌↔◌, ◌<◌, ◌≤◌, ◌^◌, ℕ, Bool, List, Option, true, false, Some, None, IfOk, IfErr, IfSome, IsErrAnd, IsSomeAnd, IsOk, IsOkAnd, IsTrue, Ok, length};
 ghost use Rattle.store_core.specs.Calls.{HasRisen};
 ghost use Rattle.store_core.specs.Objects.{object_at};
 ghost use Rattle.log_laws.specs.Sound.{IsSoundStore};
@@ -12,7 +12,7 @@ ghost use Rattle.lake_script.specs.Streams.{read_failed, unread};
 ghost use Rattle.lake_command.specs.Failures.{ComesOfACall, CountsFolderFault, IsByFolder, IsCaused, IsLoading, IsNotRead, IsOfInput, IsTaken, Leaves};
 ghost use Rattle.lake_script.specs.Told.{not_yet};
 ghost use Rattle.lake_script.specs.declared.inputs.TheConstants.{MOST_BYTES};
-ghost use Rattle.lake_command.specs.Folders.{IsJobAnswer, IsAskedBy, IsNotYet, IsTextOf, JobMayLeave, reads_input};
+ghost use Rattle.lake_command.specs.Folders.{IsJobAnswer, IsAskedBy, IsMiscounted, IsNotYet, IsTextOf, JobMayLeave, reads_input};
 
 use crate::Failure;
 use crate::saving::execute_in;
@@ -60,6 +60,9 @@ pub fn answer<F: Folder, R: Read>(
     ensures caused { IsCaused result (work_view command.entry.job) (unread R.remaining input.old) (read_failed input.new)
         (F.fault_count folder.old) (F.fault_count folder.new) }
     ensures first { IfErr result (λ failure. IsByFolder failure ⊎ (folder.new ≡ folder.old)) }
+    // An append whose input has another count of lines than its words say is refused for its words or its input.
+    ensures counted { IsMiscounted (work_view command.entry.job) (unread R.remaining input.old)
+        → IsErrAnd result (λ failure. IsOfInput failure (work_view command.entry.job) (unread R.remaining input.old) (read_failed input.new)) }
     // A job but `append` leaves the input alone.
     ensures input_untouched { reads_input (work_view command.entry.job) ≡ false → input.new ≡ input.old }
     // What isn't there yet is told as such, without a look at the folder.
@@ -208,13 +211,19 @@ fn line_for<'a>(alloc: Global, job: Job<'a>, text: &'a [u8]) -> Result<Option<Li
             application,
             number,
             at,
+            rows,
             ..
-        } => Line::Job(lake_script::Job::Append {
-            application,
-            number,
-            at: moment(at)?,
-            rows: JsonRows::Texts(objects_in(alloc, text)?),
-        }),
+        } => {
+            let at = moment(at)?;
+            let texts = objects_in(alloc, text)?;
+            counted(rows, texts.len() as u64)?;
+            Line::Job(lake_script::Job::Append {
+                application,
+                number,
+                at,
+                rows: JsonRows::Texts(texts),
+            })
+        }
         Job::Tail { max, offset } => Line::Job(lake_script::Job::Tail { max, offset }),
         Job::Checkpoint => Line::Job(lake_script::Job::Checkpoint),
         Job::Snapshot => Line::Snapshot,
@@ -230,6 +239,17 @@ fn line_for<'a>(alloc: Global, job: Job<'a>, text: &'a [u8]) -> Result<Option<Li
         Job::Load { .. } => return Ok(None),
     };
     Ok(Some(line))
+}
+
+// Refuses a count of rows that isn't the one that was said.
+fn counted(said: Option<u64>, found: u64) -> Result<(), Failure>
+    ensures same { IfOk result (λ _. IfSome said (λ rows. found ≡ rows)) }
+    ensures failed { IfErr result (λ failure. IsSomeAnd said (λ rows. (failure ≡ Failure.Miscounted rows found) × (found ≢ rows))) }
+{
+    match said {
+        Some(rows) if rows != found => Err(Failure::Miscounted { rows, found }),
+        _ => Ok(()),
+    }
 }
 
 // A moment that a commit may have.

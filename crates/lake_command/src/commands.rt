@@ -13,8 +13,8 @@ ghost use Rattle.lake_script.specs.Tables.{nothing, expected_output as expected_
 ghost use Rattle.lake_script.specs.Told.{ArePutHere, IsTold, first_bad};
 ghost use Rattle.lake_words.specs.Asked.{Spells, Work, table, work_view};
 ghost use Rattle.lake_words.specs.Spelling.{SpellsJob};
-ghost use Rattle.lake_command.specs.Endings.{TellsJob};
-ghost use Rattle.lake_command.specs.Folders.{reads_input};
+ghost use Rattle.lake_command.specs.Endings.{IsMisused, TellsJob};
+ghost use Rattle.lake_command.specs.Folders.{IsMiscounted, reads_input};
 ghost use Rattle.lake_command.specs.Scripts.{IsPlayedOver, IsPlayedSo};
 ghost use Rattle.world_script.specs.Words.{needs_world};
 ghost use Rattle.lake_words.specs.Words.{commands};
@@ -78,6 +78,8 @@ fn command_on_disk<H: Files + AllocGlobal + Clone + Drop, R: Read, W: Write, E: 
 ) -> Exit
     ensures told { TellsJob W.contents (work_view command.entry.job) (unread R.remaining input.old) (read_failed input.new)
         output.old output.new err.old err.new result }
+    ensures counted { IsMiscounted (work_view command.entry.job) (unread R.remaining input.old)
+        → IsMisused (unread R.remaining input.old) (read_failed input.new) (write_failed output.new) result }
     ensures input_untouched { reads_input (work_view command.entry.job) ≡ false → input.new ≡ input.old }
 {
     match open(rt, command.folder) {
@@ -143,6 +145,10 @@ pub fn command<H: Files + AllocGlobal + Clone + Drop, S: AsStr, R: Read, W: Writ
     // unless memory runs out. What it leaves in a folder on the disk isn't claimed.
     ensures job { (folder : List ℕ) (use_checkpoints : Bool) (work : Work) → SpellsJob (map S.text words.now) (table folder use_checkpoints work)
         → TellsJob W.contents work (unread R.remaining input.old) (read_failed input.new) output.old output.new err.old err.new result }
+    // An append whose input has another count of lines than its words say has the status 2, by the same rule.
+    ensures counted { (folder : List ℕ) (use_checkpoints : Bool) (work : Work) → SpellsJob (map S.text words.now) (table folder use_checkpoints work)
+        → IsMiscounted work (unread R.remaining input.old)
+        → IsMisused (unread R.remaining input.old) (read_failed input.new) (write_failed output.new) result }
     ensures input_untouched { (folder : List ℕ) (use_checkpoints : Bool) (work : Work) → SpellsJob (map S.text words.now) (table folder use_checkpoints work)
         → reads_input work ≡ false → input.new ≡ input.old }
 

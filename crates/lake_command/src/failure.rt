@@ -20,6 +20,9 @@ pub enum Failure {
     NotRead,
     /// The input's line of this number, counted from 1, is no JSON object. Nothing was run.
     BadLine(u64),
+    /// The input's lines are objects, and another count of them than the words say: `rows` by the words, `found` in the
+    /// input. Nothing was run.
+    Miscounted { rows: u64, found: u64 },
     /// No room was left for the rows. Nothing was run.
     Memory,
     /// The table wasn't loaded. Nothing was run.
@@ -36,6 +39,10 @@ impl Display for Failure {
             Failure::Misused => f.write_str("--at is past 999999999999999"),
             Failure::NotRead => f.write_str("refused F3 NotRead"),
             Failure::BadLine(number) => write!(f, "bad line {number}"),
+            Failure::Miscounted { rows, found } => write!(
+                f,
+                "--rows says {rows}, but the count of rows in the input is {found}; nothing was run"
+            ),
             Failure::Memory => f.write_str("refused S6 Memory"),
             Failure::Loading(fault) => write!(f, "refused {fault}"),
             Failure::Saving(fault) => write!(f, "refused {fault}"),

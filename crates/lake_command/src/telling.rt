@@ -9,10 +9,10 @@ ghost use Rattle.table_log.specs.Restoring.{RestoresWell};
 ghost use Rattle.lake_words.specs.Asked.{Work, work_view};
 ghost use Rattle.lake_script.specs.ReplyView.{reply_text};
 ghost use Rattle.lake_script.specs.Streams.{held, read_failed, unread, write_failed, StandsIn};
-ghost use Rattle.lake_command.specs.Endings.{EndsWith, IsOutcome};
+ghost use Rattle.lake_command.specs.Endings.{EndsWith, IsMisused, IsOutcome};
 ghost use Rattle.lake_command.specs.Failures.{ComesOfACall, IsCaused, failure_text};
 ghost use Rattle.lake_command.specs.Status.{ends_early, has_refusal, is_refusal, is_want_of_memory, refuses, status_of_failure};
-ghost use Rattle.lake_command.specs.Folders.{IsAnsweredJob, reads_input};
+ghost use Rattle.lake_command.specs.Folders.{IsAnsweredJob, IsMiscounted, reads_input};
 
 use crate::answering::answer;
 use crate::exit::{DONE, Exit, MISUSED, REFUSED};
@@ -47,6 +47,10 @@ pub fn table_command<F: Folder, R: Read, W: Write, E: Write>(
         × IsCaused outcome (work_view command.entry.job) (unread R.remaining input.old) (read_failed input.new)
         (F.fault_count folder.old) (F.fault_count folder.new)
         × EndsWith W.contents (work_view command.entry.job) outcome output.old output.new err.old err.new result }
+    // An append whose input has another count of lines than its words say isn't run: the folder isn't touched, and the status
+    // is 2, unless the input can't be read, its bad line can't be written or memory runs out.
+    ensures counted { IsMiscounted (work_view command.entry.job) (unread R.remaining input.old) → (folder.new ≡ folder.old)
+        × IsMisused (unread R.remaining input.old) (read_failed input.new) (write_failed output.new) result }
     // A job but `append` leaves the input alone.
     ensures input_untouched { reads_input (work_view command.entry.job) ≡ false → input.new ≡ input.old }
     // However it ends, a sound table stays sound: it has all that the job put, or its data file alone, or nothing of it.
@@ -161,7 +165,7 @@ fn status_of(failure: &Failure) -> u8
     ensures { result ≡ status_of_failure failure.now }
 {
     match failure {
-        Failure::Misused | Failure::BadLine(_) => MISUSED,
+        Failure::Misused | Failure::BadLine(_) | Failure::Miscounted { .. } => MISUSED,
         _ => REFUSED,
     }
 }

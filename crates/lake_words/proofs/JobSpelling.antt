@@ -13,7 +13,7 @@ use Rattle.lake_words.proofs.TailWords.{tail_read}
 
 pub job_words_read : (words : List Text) (asked : Asked) → SpellsJob words asked → AreRead words asked
 job_words_read words asked (create d i s m) = create_read _ _ _ _ _ _ d i s m
-job_words_read words asked (append d a e m t r) = append_read _ _ _ _ _ _ _ _ _ _ _ d a e m t r
+job_words_read words asked (append d a e w m t r) = append_read _ _ _ _ _ _ _ _ _ _ _ _ _ d a e w m t r
 job_words_read words asked (close d a m t r) = close_read _ _ _ _ _ _ _ _ _ d a m t r
 job_words_read words asked (load d e m t r) = load_read _ _ _ _ _ _ _ _ _ _ d e m t r
 job_words_read words asked (tail d o e below r) = tail_read _ _ _ _ _ _ _ d o e below r

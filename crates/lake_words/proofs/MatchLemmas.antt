@@ -15,13 +15,13 @@ unwrapped_text (Some text) default e = refl
 
 -- the number that a text was read as
 read_number : {E : Type 0} (gives : List ℕ → Result ℕ E → Type 0) → ((bs : List ℕ) (r : Result ℕ E) → gives bs r → ParsesUnsigned 64 10 bs r)
-    → (text : Text) (read : Option ℕ) → ReadsOne gives text read → unwrap_or read 0 ≡ unwrap_or (number_of text) 0
+    → (text : Text) (read : Option ℕ) → ReadsOne gives text read → read ≡ number_of text
 read_number {E = E} gives parses text (Some n) h =
     let is : number_of text ≡ Some n = number_of_parsed {E = E} text (Ok n) (parses text (Ok n) h) in
-    rw is refl
+    sym is
 read_number {E = E} gives parses text None h =
     let is : number_of text ≡ None = number_of_parsed {E = E} text (Err h.0) (parses text (Err h.0) h.1) in
-    rw is refl
+    sym is
 
 -- a text was read as a u64, or it is none
 abbrev pub ReadsNumber : Text → Option ℕ → Type 0
@@ -29,8 +29,8 @@ ReadsNumber = ReadsOne (λ bs r. ParsesUnsigned 64 10 bs r × ExplainsUnsignedEr
 
 -- and where there is a text or none
 pub number_given : (given : Option Text) (read : Option ℕ) → (given ≡ None → read ≡ None)
-    → ((text : Text) → given ≡ Some text → ReadsNumber text read) → unwrap_or read 0 ≡ unwrap_or (option_and_then number_of given) 0
-number_given None read none value = ap (λ o. unwrap_or o 0) (none refl)
+    → ((text : Text) → given ≡ Some text → ReadsNumber text read) → read ≡ option_and_then number_of given
+number_given None read none value = none refl
 number_given (Some text) read none value = read_number (λ bs r. ParsesUnsigned 64 10 bs r × ExplainsUnsignedError {T = ℕ} 10 bs r × HasUnsignedDigitsIfOk bs r) (λ bs r h. h.0) text read (value text refl)
 
 -- the name and the rows of a subcommand, from each of them alone

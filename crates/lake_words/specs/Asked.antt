@@ -12,7 +12,7 @@ use Rattle.lake_words.specs.declared.command.Job.TheVariants as jobs
 -- what is to be done on a table, wherever its texts lie in memory
 pub data Work : Type 0 where
   create : (id schema : Text) (at : ℕ) → Work
-  append : (application : Text) (number at tries : ℕ) → Work
+  append : (application : Text) (number at tries : ℕ) (rows : Option ℕ) → Work
   close : (application : Text) (at tries : ℕ) → Work
   load : (workers at tries : ℕ) → Work
   tail : (max : ℕ) (offset : Text) → Work
@@ -28,7 +28,7 @@ pub data Asked : Type 0 where
 -- the same of the code
 abbrev pub work_view : Job → Work
 work_view (jobs.Create id schema at) = create id.now schema.now at
-work_view (jobs.Append application number at tries) = append application.now number at tries
+work_view (jobs.Append application number at tries rows) = append application.now number at tries rows
 work_view (jobs.Close application at tries) = close application.now at tries
 work_view (jobs.Load workers at tries) = load workers at tries
 work_view (jobs.Tail max offset) = tail max offset.now
@@ -52,9 +52,13 @@ is_number digits = nat_lt 0 (length digits) && (all_ascii_digits digits && nat_l
 unfoldable pub number_of : Text → Option ℕ
 number_of text = if is_number (without_leading_plus text) then Some (digits_value 10 (without_leading_plus text)) else None
 
--- the number that was given for one; `clap` takes no text there that is none
+-- the number that was given for one, if one was; `clap` takes no text there that is none
+abbrev pub optional_number_in : Text → List Row → Option ℕ
+optional_number_in id rows = option_and_then number_of (one_of id rows)
+
+-- the number that was given for one
 abbrev pub number_in : Text → List Row → ℕ
-number_in id rows = unwrap_or (option_and_then number_of (one_of id rows)) 0
+number_in id rows = unwrap_or (optional_number_in id rows) 0
 
 -- what a flag is, by the text that `clap` has for it
 abbrev pub IsFlag : Option Text → Bool → Type 0
@@ -64,7 +68,7 @@ IsFlag text flag = (text ≡ None → flag ≡ false) × (text ≡ Some (codes "
 abbrev pub work_of : Text → List Row → Option Work
 work_of name rows =
     if bytes_eq name (codes "create") then Some (create (text_in (codes "id") rows) (text_in (codes "schema") rows) (number_in (codes "at") rows))
-    else if bytes_eq name (codes "append") then Some (append (text_in (codes "APP") rows) (number_in (codes "NUMBER") rows) (number_in (codes "at") rows) (number_in (codes "tries") rows))
+    else if bytes_eq name (codes "append") then Some (append (text_in (codes "APP") rows) (number_in (codes "NUMBER") rows) (number_in (codes "at") rows) (number_in (codes "tries") rows) (optional_number_in (codes "rows") rows))
     else if bytes_eq name (codes "close") then Some (close (text_in (codes "APP") rows) (number_in (codes "at") rows) (number_in (codes "tries") rows))
     else if bytes_eq name (codes "load") then Some (load (number_in (codes "workers") rows) (number_in (codes "at") rows) (number_in (codes "tries") rows))
     else if bytes_eq name (codes "tail") then Some (tail (number_in (codes "max") rows) (text_in (codes "from") rows))

@@ -1,5 +1,5 @@
 -- Which words are which command on the table in a folder, as the program's help has them.
-use Rattle.std.specs.Prelude.{◌≡◌, ℕ, ◌≤◌, Bool, true, false, List, [], ◌∷◌, ◌++◌, Some, codes}
+use Rattle.std.specs.Prelude.{◌≡◌, ℕ, ◌≤◌, Bool, true, false, List, [], ◌∷◌, ◌++◌, Option, Some, None, codes}
 use Rattle.std.specs.Str.Parse.{starts_with_minus}
 use Rattle.clap.specs.Words.{Text}
 use Rattle.lake_words.specs.Asked.{Asked, number_of, table}
@@ -23,6 +23,11 @@ pub data SpellsTries : List Text → ℕ → Type 0 where
   sixteen : SpellsTries [] 16
   tries : {text : Text} {n : ℕ} → IsNumber text n → 1 ≤ n → n ≤ 64 → SpellsTries (codes "--tries" ∷ text ∷ []) n
 
+-- [--rows N]: how many rows the input has, any number unless it is given
+pub data SpellsRows : List Text → Option ℕ → Type 0 where
+  any : SpellsRows [] None
+  rows : {text : Text} {n : ℕ} → IsNumber text n → SpellsRows (codes "--rows" ∷ text ∷ []) (Some n)
+
 -- [--no-checkpoint]: whether the log is read from its newest checkpoint
 pub data SpellsRestore : List Text → Bool → Type 0 where
   restoring : SpellsRestore [] true
@@ -35,12 +40,12 @@ pub data SpellsJob : List Text → Asked → Type 0 where
       → IsPlain dir → IsPlain id → IsPlain schema → SpellsMoment moment_words at
       → SpellsJob (program ∷ codes "create" ∷ dir ∷ codes "--id" ∷ id ∷ codes "--schema" ∷ schema ∷ moment_words)
       (table dir true (asked.create id schema at))
-  -- append DIR APP NUMBER [--at MS] [--tries N] [--no-checkpoint]
-  append : {program dir application number : Text} {moment_words tries_words restore_words : List Text} {n at tries : ℕ} {use_checkpoints : Bool}
-      → IsPlain dir → IsPlain application → IsNumber number n
+  -- append DIR APP NUMBER [--rows N] [--at MS] [--tries N] [--no-checkpoint]
+  append : {program dir application number : Text} {rows_words moment_words tries_words restore_words : List Text} {n at tries : ℕ} {rows : Option ℕ} {use_checkpoints : Bool}
+      → IsPlain dir → IsPlain application → IsNumber number n → SpellsRows rows_words rows
       → SpellsMoment moment_words at → SpellsTries tries_words tries → SpellsRestore restore_words use_checkpoints
-      → SpellsJob (program ∷ codes "append" ∷ dir ∷ application ∷ number ∷ moment_words ++ (tries_words ++ restore_words))
-      (table dir use_checkpoints (asked.append application n at tries))
+      → SpellsJob (program ∷ codes "append" ∷ dir ∷ application ∷ number ∷ rows_words ++ (moment_words ++ (tries_words ++ restore_words)))
+      (table dir use_checkpoints (asked.append application n at tries rows))
   -- close DIR APP [--at MS] [--tries N] [--no-checkpoint]
   close : {program dir application : Text} {moment_words tries_words restore_words : List Text} {at tries : ℕ} {use_checkpoints : Bool}
       → IsPlain dir → IsPlain application

@@ -37,6 +37,10 @@ tries = number_option (codes "tries") 1 64 (codes "16")
 abbrev pub max : Rule
 max = record (option (codes "max")) { parser = Some (Unsigned 0 65_536) }
 
+-- `--rows N`: how many rows the input has, where it is given
+abbrev pub rows : Rule
+rows = record (new_rule (codes "rows")) { long = Some (codes "rows"); action = Some Set; value_names = 1; parser = Some (Unsigned 0 18_446_744_073_709_551_615) }
+
 -- `--workers N`
 abbrev pub workers : Rule
 workers = record (option (codes "workers")) { parser = Some (Unsigned 0 18_446_744_073_709_551_615) }
@@ -53,10 +57,10 @@ on_folder name = with_rule (new_app name) (place (codes "DIR"))
 abbrev pub create : App
 create = with_rule (with_rule (with_rule (on_folder (codes "create")) (option (codes "id"))) (option (codes "schema"))) at
 
--- append DIR APP NUMBER [--at MS] [--tries N] [--no-checkpoint]
+-- append DIR APP NUMBER [--rows N] [--at MS] [--tries N] [--no-checkpoint]
 abbrev pub append : App
 append =
-    with_rule (with_rule (with_rule (with_rule (with_rule (on_folder (codes "append")) (place (codes "APP"))) (number_place (codes "NUMBER"))) at) tries) no_checkpoint
+    with_rule (with_rule (with_rule (with_rule (with_rule (with_rule (on_folder (codes "append")) (place (codes "APP"))) (number_place (codes "NUMBER"))) rows) at) tries) no_checkpoint
 
 -- close DIR APP [--at MS] [--tries N] [--no-checkpoint]
 abbrev pub close : App

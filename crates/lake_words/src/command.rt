@@ -35,6 +35,8 @@ pub enum Job<'a> {
         at: u64,
         /// How often a commit is tried, 1 to 64.
         tries: u64,
+        /// How many rows the input has, where the words say it.
+        rows: Option<u64>,
     },
     /// Closes the application's stream.
     Close {

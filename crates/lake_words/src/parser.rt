@@ -3,11 +3,11 @@ ghost use Rattle.std.specs.Prelude.{◌≡◌, IfOk, false};
 ghost use Rattle.clap.specs.Words.{app_of, rule_of, with_rule, with_subcommand};
 ghost use Rattle.clap.specs.declared.builder.command.Command.TheViews.{out-Command as fields_of};
 ghost use Rattle.lake_words.specs.Words as words;
-ghost use Rattle.lake_words.specs.Words.{at, commands, max, no_checkpoint, on_folder, tries, workers};
+ghost use Rattle.lake_words.specs.Words.{at, commands, max, no_checkpoint, on_folder, rows, tries, workers};
 
 use crate::options::{flag, number_option, number_place, option, place};
 use clap::builder::ValueParser;
-use clap::{Arg, Command};
+use clap::{Arg, ArgAction, Command};
 use std::alloc::{AllocError, Global};
 
 /// What `--version` prints behind the program's name: the product's version, which is that of its sources, and the
@@ -49,18 +49,19 @@ const APPEND: &str = help!(
      A batch that stands already is told as such and not written again, so a job that died may append again.\n\
      Numbers of an application rise; gaps are allowed. A batch has at most 65,536 rows.\n\
      \n\
-     The input is taken as it is: one that is cut at a line's end is a smaller batch, and an empty one is a batch\n\
-     without rows, which uses its number up. So hand in a whole file, and no pipe whose producer may die.\n\
+     Without --rows the input is taken as it is: one that is cut at a line's end is a smaller batch, and an empty\n\
+     one is a batch without rows, which uses its number up; the whole batch is then S3 under that number for ever.\n\
+     With --rows N nothing is appended unless the input has just N rows, so a pipe whose producer died does no harm.\n\
      Without --at the batch states the moment 0, and a tool that drops old applications by `lastUpdated` may\n\
      drop this one.\n\
      \n\
      Example:\n  \
        echo '{\"id\":1}' > batch\n  \
-       lake append orders shop-7 0 --at $(date +%s%3N) < batch\n\
+       lake append orders shop-7 0 --rows 1 --at $(date +%s%3N) < batch\n\
      \n\
      Prints: Committed VERSION, or Already NUMBER where the same rows stand under that number\n\
      Exit status: 0 the batch stands, 1 refused (the reply says why), 2 words or a line that can't be read\n  \
-       (`bad line N` names the line; nothing was appended)."
+       (`bad line N` names the line), or another count of rows than --rows says; nothing was appended then."
 );
 
 const TAIL: &str = help!(
@@ -192,6 +193,19 @@ fn max<'a>(alloc: Global) -> Arg<'a>
     .value_parser(ValueParser::Unsigned(0, 65_536))
 }
 
+// `--rows N`.
+fn rows<'a>(alloc: Global) -> Arg<'a>
+    ensures rule { rule_of result ≡ rows }
+    ensures local { result.global ≡ false }
+{
+    Arg::new(alloc, "rows")
+        .long("rows")
+        .action(ArgAction::Set)
+        .value_name("N")
+        .value_parser(ValueParser::Unsigned(0, u64::MAX))
+        .help("How many rows the input has: with another count nothing is appended")
+}
+
 // `--workers N`.
 fn workers<'a>(alloc: Global) -> Arg<'a>
     ensures rule { rule_of result ≡ workers }
@@ -261,6 +275,7 @@ fn append<'a>(alloc: Global) -> Result<Command<'a>, AllocError>
     let command = with(command, application)?;
     let number = number_place(alloc, "NUMBER", "The batch's number, up to 999,999,999,999");
     let command = with(command, number)?;
+    let command = with(command, rows(alloc))?;
     let command = with(command, at(alloc))?;
     let command = with(command, tries(alloc))?;
     with(command, no_checkpoint(alloc))

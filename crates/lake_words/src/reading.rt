@@ -2,7 +2,7 @@
 ghost use Rattle.std.specs.Prelude.{◌≡◌, IfOk, MatchResult, map, option_map};
 ghost use Rattle.clap.specs.Words.{fault_of, found_of, kind_of, rows_of, subcommand_of, subcommand_rows_of, FailsBy};
 ghost use Rattle.lake_words.specs.Words.{commands};
-ghost use Rattle.lake_words.specs.Asked.{command_view, number_in, text_in, work_of, work_view, Asked, AsksFor, Spells};
+ghost use Rattle.lake_words.specs.Asked.{command_view, number_in, optional_number_in, text_in, work_of, work_view, Asked, AsksFor, Spells};
 ghost use Rattle.lake_words.specs.Spelling.{SpellsJob};
 ghost use Rattle.lake_words.specs.declared.command.Command.{Command};
 
@@ -20,11 +20,18 @@ fn text_in<'a>(matches: &ArgMatches<'a>, id: &str) -> &'a str
     matches.get_str(id).unwrap_or("")
 }
 
+// The number that was given, if one was.
+fn optional_number_in(matches: &ArgMatches<'_>, id: &str) -> Option<u64>
+    ensures { result ≡ optional_number_in id.now (rows_of (found_of matches.now)) }
+{
+    matches.get_one::<u64>(id)
+}
+
 // The number that was given.
 fn number_in(matches: &ArgMatches<'_>, id: &str) -> u64
     ensures { result ≡ number_in id.now (rows_of (found_of matches.now)) }
 {
-    matches.get_one::<u64>(id).unwrap_or(0)
+    optional_number_in(matches, id).unwrap_or(0)
 }
 
 // What is to be done, by the subcommand's name.
@@ -42,6 +49,7 @@ fn job_in<'a>(name: &str, matches: &ArgMatches<'a>) -> Option<Job<'a>>
             number: number_in(matches, "NUMBER"),
             at: number_in(matches, "at"),
             tries: number_in(matches, "tries"),
+            rows: optional_number_in(matches, "rows"),
         },
         "close" => Job::Close {
             application: text_in(matches, "APP"),

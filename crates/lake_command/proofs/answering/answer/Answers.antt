@@ -5,6 +5,7 @@ use Rattle.lake_words.specs.Asked.{work_view}
 use Rattle.lake_command.specs.Failures.{CountsFolderFault}
 use Rattle.lake_command.specs.Folders.{IsTextOf}
 use Rattle.lake_command.proofs.AgainLemmas.{fails_with, folder_caused, input_alone, input_causes, input_leaves}
+use Rattle.lake_command.proofs.CountLemmas.{asked_count, later_count, refused_by}
 use Rattle.lake_command.proofs.FolderLemmas.{fails_for_job, found_asked, may_leave, replies_to_job, sound_restores, stays_sound}
 use Rattle.lake_command.proofs.answering.answer.Goals as goal
 
@@ -76,3 +77,24 @@ returns-in_err-line-clause-caused g c =
     let is = subst (λ (bytes : List ℕ). IsTextOf work known bytes) (sym c.deref.ensures.value) c.in_ok-text.ensures.read in
     input_causes c.from_residual-in_err-line.result c.in_err-line.field-0.0 work known _ (g.F.Folder.fault_count c.args.folder.now) (fails_with c.from_residual-in_err-line.result c.in_err-line.field-0.0 c.from_residual-in_err-line.ensures.1) (c.in_err-line.ensures.failed known (read_failed c.text_for.new.input) is)
     c.in_ok-text.ensures.broken c.in_ok-text.ensures.too_long
+
+pub returns-clause-counted : goal.returns-clause-counted
+returns-clause-counted g c = λ other.
+    let work = work_view c.args.command.job in
+    let known = unread g.R.Read.remaining c.args.input.now in
+    let is = subst (λ (bytes : List ℕ). IsTextOf work known bytes) (sym c.deref.ensures.value) c.in_ok-text.ensures.read in
+    absurd (asked_count work known (statement_view c.in-Some.line) (found_asked c.in_ok-line.field-0 c.in-Some.line _ _ c.in-Some.is (c.in_ok-line.ensures.asked known is)) other)
+
+pub returns-then-none_failed-clause-counted : goal.returns-then-none_failed-clause-counted
+returns-then-none_failed-clause-counted g c = λ other.
+    let work = work_view c.args.command.job in
+    let known = unread g.R.Read.remaining c.args.input.now in
+    let is = subst (λ (bytes : List ℕ). IsTextOf work known bytes) (sym c.deref.ensures.value) c.in_ok-text.ensures.read in
+    absurd (asked_count work known (statement_view c.in-Some.line) (found_asked c.in_ok-line.field-0 c.in-Some.line _ _ c.in-Some.is (c.in_ok-line.ensures.asked known is)) other)
+
+pub returns-in_err-line-clause-counted : goal.returns-in_err-line-clause-counted
+returns-in_err-line-clause-counted g c = λ other.
+    let work = work_view c.args.command.job in
+    let known = unread g.R.Read.remaining c.args.input.now in
+    let is = subst (λ (bytes : List ℕ). IsTextOf work known bytes) (sym c.deref.ensures.value) c.in_ok-text.ensures.read in
+    refused_by c.from_residual-in_err-line.result c.in_err-line.field-0.0 work known _ (fails_with c.from_residual-in_err-line.result c.in_err-line.field-0.0 c.from_residual-in_err-line.ensures.1) (c.in_err-line.ensures.failed known (read_failed c.text_for.new.input) is)

@@ -1,12 +1,6 @@
 use Rattle.std.proofs.Common.{ap, ◌∙◌}
-use Rattle.std.specs.Prelude.{unwrap_or, option_and_then}
-use Rattle.clap.specs.Words.{found_of, one_text}
-use Rattle.clap.proofs.WalkLemmas.{one_text-rows}
-use Rattle.lake_words.specs.Asked.{number_of}
-use Rattle.lake_words.proofs.MatchLemmas.{number_given}
+use Rattle.std.specs.Prelude.{unwrap_or}
 use Rattle.lake_words.proofs.reading.number_in.Goals as goal
 
 pub returns : goal.returns
-returns c =
-    c.unwrap_or.ensures ∙ number_given (one_text (found_of c.args.matches.now) c.args.id.now) c.get_one.result c.get_one.ensures.none c.get_one.ensures.value
-    ∙ ap (λ o. unwrap_or (option_and_then number_of o) 0) (one_text-rows (found_of c.args.matches.now) c.args.id.now)
+returns c = c.unwrap_or.ensures ∙ ap (λ o. unwrap_or o 0) c.optional_number_in.ensures
