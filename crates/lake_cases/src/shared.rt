@@ -86,10 +86,18 @@ impl Folder for SharedFolder<'_> {
         self.files.read(name)
     }
 
+    fn find(&mut self, name: &str) -> Result<Option<Vec<u8>>, FolderFault> {
+        self.files.find(name)
+    }
+
     fn create(&mut self, name: &str, bytes: Vec<u8>) -> Result<Put, FolderFault> {
         make_rivals(self.alloc, &mut self.files.store, self.rivals, self.creates)?;
         self.creates = self.creates.saturating_add(1);
         self.files.create(name, bytes)
+    }
+
+    fn leftovers(&mut self) -> Result<Vec<String>, FolderFault> {
+        self.files.leftovers()
     }
 
     fn faults(&self) -> u64 {

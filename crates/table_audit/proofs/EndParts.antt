@@ -1,22 +1,21 @@
 -- What is told where a walk is over.
-use Rattle.std.proofs.Common.{◌≡◌, ℕ, suc, ◌≤◌, List, ◌∷◌, None, Option, Some, IfSome, option_map, subst, arith}
-use Rattle.std.specs.Option.{IfNone}
+use Rattle.std.proofs.Common.{◌≡◌, ℕ, suc, ◌≤◌, List, ◌∷◌, None, Some, sym, subst, ◌∙◌, arith}
 use Rattle.delta_actions.specs.Names.{commit_name, greatest_version}
 use Rattle.delta_checkpoint.specs.Checkpoints.{IsCheckpoint}
-use Rattle.log_laws.specs.Sound.{IsSoundStore}
 use Rattle.schema_tree.specs.Schema.{tree_of}
 use Rattle.store_core.specs.Objects.{Objects, names_of, object_at}
 use Rattle.table_log.specs.Restoring.{IsSoundCheckpoint, checkpoint_version}
 use Rattle.table_model.specs.Table.{creation}
 use Rattle.table_check.specs.Below.{AreCheckpointsSoundBelow, IsFirstUnsound, IsSoundBelow}
-use Rattle.table_check.specs.Named.{least_named}
 use Rattle.table_check.specs.Walked.{IsWalked}
+use Rattle.table_check.proofs.WalkCounts.{nothing_counted, walk_counted}
 use Rattle.table_check.proofs.WalkEnds.{ends_below, ends_sound, front_below}
 use Rattle.table_check.proofs.WalkGaps.{checkpoint_unsound, gap_unsound, nothing_below, nothing_sound, zero_below}
 use Rattle.table_check.proofs.WalkLemmas.{checkpoint_walked}
-use Rattle.table_audit.specs.Walks.{IsReached, IsWalk}
-use Rattle.table_audit.specs.declared.reason.Unsound.{Unsound}
-use Rattle.table_audit.specs.declared.walk.Reached.TheVariants.{Over}
+use Rattle.table_audit.specs.Verdicts.{IsVerdictOf}
+use Rattle.table_audit.specs.Walks.{IsEnd, IsWalk}
+use Rattle.table_audit.specs.declared.verdict.Verdict.{Verdict}
+use Rattle.table_audit.specs.declared.verdict.Verdict.TheVariants.{Sound, Unsound}
 use Rattle.table_audit.specs.declared.walk.Walk.{Walk}
 use Rattle.table_audit.proofs.ListParts.{none_past}
 
@@ -38,20 +37,24 @@ module _ (objects : Objects) (walk : Walk) (is : IsWalk objects walk) where
     breaks,
   )
 
-  -- Where no commit comes next the store is sound, or unsound at the least version that names tell.
-  pub over_at_end : (version last : ℕ) (walked : Walk) (found : Option Unsound) → version ≡ walk.next → version ≤ last → last ≤ greatest_version → AreCheckpointsSoundBelow objects last → object_at objects (commit_name version) ≡ None
-      → least_named version (names_of objects) ≡ option_map (λ (u : Unsound). u.version) found → IsReached objects last walked (Over found)
-  over_at_end version last walked None same low fits below none least =
-      ends_sound objects version (tree_of walk.schema) (creation ∷ is.walked.later) is.walked.stand is.walked.lawful (omega (arith, is.walked.at, same)) (lesser_below objects version last low below) (omega (arith, low, fits)) least
-  over_at_end version last walked (Some u) same low fits below none least = (
-    ends_below objects version (tree_of walk.schema) (creation ∷ is.walked.later) is.walked.stand is.walked.lawful (omega (arith, is.walked.at, same)) (lesser_below objects version last low below) u.version least,
-    gap_unsound objects version u.version none least,
+  -- Where no commit comes next the store is sound, and has the versions that were walked over; or it is unsound at the least version that names tell.
+  pub over_at_end : (version last : ℕ) (verdict : Verdict) → version ≡ walk.next → version ≤ last → last ≤ greatest_version → AreCheckpointsSoundBelow objects last → object_at objects (commit_name version) ≡ None
+      → IsEnd version (names_of objects) verdict → IsVerdictOf objects verdict
+  over_at_end version last (Sound versions) same low fits below none end = (
+    ends_sound objects version (tree_of walk.schema) (creation ∷ is.walked.later) is.walked.stand is.walked.lawful (omega (arith, is.walked.at, same)) (lesser_below objects version last low below) (omega (arith, low, fits)) end.0,
+    walk_counted objects version end.0 (tree_of walk.schema) is.log (subst (λ (v : ℕ). IsWalked objects (tree_of walk.schema) v is.log) (sym same) is.walked) (omega (arith, low, fits)) ∙ sym end.1,
+  )
+  over_at_end version last (Unsound u) same low fits below none end = (
+    ends_below objects version (tree_of walk.schema) (creation ∷ is.walked.later) is.walked.stand is.walked.lawful (omega (arith, is.walked.at, same)) (lesser_below objects version last low below) u.version end,
+    gap_unsound objects version u.version none end,
   )
 
-  -- Where all versions were walked over the store is sound.
-  pub whole_sound : walk.next ≡ suc greatest_version → AreCheckpointsSoundBelow objects (suc greatest_version) → IsSoundStore objects
-  whole_sound all below =
-      ends_sound objects (suc greatest_version) (tree_of walk.schema) (creation ∷ is.walked.later) is.walked.stand is.walked.lawful (omega (arith, is.walked.at, all)) below (omega arith) (none_past (names_of objects))
+  -- Where all versions were walked over the store is sound, and has all of them.
+  pub whole_sound : walk.next ≡ suc greatest_version → AreCheckpointsSoundBelow objects (suc greatest_version) → IsVerdictOf objects (Sound walk.next)
+  whole_sound all below = (
+    ends_sound objects (suc greatest_version) (tree_of walk.schema) (creation ∷ is.walked.later) is.walked.stand is.walked.lawful (omega (arith, is.walked.at, all)) below (omega arith) (none_past (names_of objects)),
+    walk_counted objects (suc greatest_version) (none_past (names_of objects)) (tree_of walk.schema) is.log (subst (λ (v : ℕ). IsWalked objects (tree_of walk.schema) v is.log) all is.walked) (omega arith) ∙ sym all,
+  )
 
   -- ---- a checkpoint of the last version that was walked over
 
@@ -67,31 +70,9 @@ module _ (objects : Objects) (walk : Walk) (is : IsWalk objects walk) where
 
 -- ---- a store without a first commit, or whose first commit is none
 
--- what is told of a store
-abbrev pub IsJudged : Objects → Option Unsound → Type 0
-IsJudged objects None = IsSoundStore objects
-IsJudged objects (Some u) = IsFirstUnsound objects u.version
+pub empty_judged : (objects : Objects) (verdict : Verdict) → object_at objects (commit_name 0) ≡ None → IsEnd 0 (names_of objects) verdict → IsVerdictOf objects verdict
+empty_judged objects (Sound versions) none end = (nothing_sound objects end.0, nothing_counted objects end.0 ∙ sym end.1)
+empty_judged objects (Unsound u) none end = (nothing_below objects u.version end, gap_unsound objects 0 u.version none end)
 
-pub judged_empty : (objects : Objects) (found : Option Unsound) → object_at objects (commit_name 0) ≡ None → least_named 0 (names_of objects) ≡ option_map (λ (u : Unsound). u.version) found → IsJudged objects found
-judged_empty objects None none least = nothing_sound objects least
-judged_empty objects (Some u) none least = (nothing_below objects u.version least, gap_unsound objects 0 u.version none least)
-
-pub judged_first : (objects : Objects) → (IsSoundBelow objects 1 → ⊥) → IsFirstUnsound objects 0
-judged_first objects breaks = (zero_below objects, breaks)
-
--- where a walk is over it is told whether the store is sound
-pub over_sound : (objects : Objects) (last : ℕ) (walk : Walk) (found : Option Unsound) → IsReached objects last walk (Over found) → IfNone found (IsSoundStore objects)
-over_sound objects last walk None is = is
-over_sound objects last walk (Some u) is = tt
-
-pub over_unsound : (objects : Objects) (last : ℕ) (walk : Walk) (found : Option Unsound) → IsReached objects last walk (Over found) → IfSome found (λ u. IsFirstUnsound objects u.version)
-over_unsound objects last walk None is = tt
-over_unsound objects last walk (Some u) is = is
-
-pub empty_sound : (objects : Objects) (found : Option Unsound) → object_at objects (commit_name 0) ≡ None → least_named 0 (names_of objects) ≡ option_map (λ (u : Unsound). u.version) found → IfNone found (IsSoundStore objects)
-empty_sound objects None none least = judged_empty objects None none least
-empty_sound objects (Some u) none least = tt
-
-pub empty_unsound : (objects : Objects) (found : Option Unsound) → object_at objects (commit_name 0) ≡ None → least_named 0 (names_of objects) ≡ option_map (λ (u : Unsound). u.version) found → IfSome found (λ u. IsFirstUnsound objects u.version)
-empty_unsound objects None none least = tt
-empty_unsound objects (Some u) none least = judged_empty objects (Some u) none least
+pub first_judged : (objects : Objects) → (IsSoundBelow objects 1 → ⊥) → IsFirstUnsound objects 0
+first_judged objects breaks = (zero_below objects, breaks)

@@ -1,3 +1,4 @@
+pub mod BesideParts
 pub mod CheckpointParts
 pub mod EndParts
 pub mod FileReads

@@ -145,29 +145,18 @@ pub of_part : {A : Type 0} (P : A → Type 0) (taken : List A) (p : A) (rest : L
 of_part P [] p rest all = all.0
 of_part P (q ∷ taken) p rest all = of_part P taken p rest all.1
 
--- all checkpoints of a store, by version
-pub record IsListing (objects : Objects) (items : List Listed) : Type 0 where
+-- checkpoints, by version
+pub record AreListed (items : List Listed) : Type 0 where
   pub own : AllByRecursion IsTold (map listed_view items)
   pub up : IsRising (map listed_view items)
-  pub all : (name : List ℕ) (version : ℕ) → Contains (names_of objects) name → checkpoint_version name ≡ Some version → Contains (map listed_view items) (version, name)
 
-pub listing_of : (objects : Objects) (names : List (List ℕ)) (items seen : List Listed) → names ≡ names_of objects → seen ≡ items → AllByRecursion IsTold (map listed_view items) → IsRising (map listed_view items)
-    → ((name : List ℕ) (version : ℕ) → Contains names name → checkpoint_version name ≡ Some version → Contains (map listed_view items) (version, name)) → IsListing objects seen
-listing_of objects names items seen are same own up all = subst (IsListing objects) (sym same) (record {
-  own = own;
-  up = up;
-  all = λ name version has tells. all name version (subst (λ (ns : List (List ℕ)). Contains ns name) (sym are) has) tells;
-})
+pub are_listed : (items seen : List Listed) → seen ≡ items → AllByRecursion IsTold (map listed_view items) → IsRising (map listed_view items) → AreListed seen
+are_listed items seen same own up = subst AreListed (sym same) (record { own = own; up = up })
 
--- Where all are sound, those of the versions below any one are.
-pub below_all : (objects : Objects) (items : List Listed) → IsListing objects items → (i version : ℕ) → length items ≤ i → AllByRecursion (IsDone objects) (map listed_view (take i items)) → AreCheckpointsSoundBelow objects version
-below_all objects items is i version long done =
-    done_below objects (map listed_view items) is.all version (subst (λ (ls : List Listed). AllByRecursion (IsDone objects) (map listed_view ls)) (take_all i items long) done)
-
-module _ (objects : Objects) (items : List Listed) (is : IsListing objects items) (i : ℕ) (x : Listed) (more : i < length items) (at : x ≡ get_or items i x) where
+module _ (items : List Listed) (are : AreListed items) (i : ℕ) (x : Listed) (more : i < length items) (at : x ≡ get_or items i x) where
   -- the checkpoint at a place
   pub told_at : checkpoint_version (string_bytes x.name) ≡ Some x.version
-  told_at = of_part IsTold (map listed_view (take i items)) (listed_view x) (map listed_view (drop (i + 1) items)) (subst (AllByRecursion IsTold) (parts_at items i x more at) is.own)
+  told_at = of_part IsTold (map listed_view (take i items)) (listed_view x) (map listed_view (drop (i + 1) items)) (subst (AllByRecursion IsTold) (parts_at items i x more at) are.own)
 
   pub small_at : x.version ≤ greatest_version
   small_at = (checkpoint_named (string_bytes x.name) x.version told_at).small
@@ -177,11 +166,26 @@ module _ (objects : Objects) (items : List Listed) (is : IsListing objects items
       let here : drop i items ≡ x ∷ drop (i + 1) items = drop_more items i x more ∙ ap (λ (y : Listed). y ∷ drop (i + 1) items) (sym at) in
       (subst (λ (ls : List Listed). AllByRecursion (λ p. next ≤ suc p.0) (map listed_view ls)) here ahead).0
 
-  pub below_at : AllByRecursion (IsDone objects) (map listed_view (take i items)) → AreCheckpointsSoundBelow objects x.version
-  below_at done = part_below objects (map listed_view items) is.all (map listed_view (take i items)) (listed_view x) (map listed_view (drop (i + 1) items)) (parts_at items i x more at) is.up done
-
   pub ahead_more : (next : ℕ) → next ≡ suc x.version → AllByRecursion (λ p. next ≤ suc p.0) (map listed_view (drop (i + 1) items))
-  ahead_more next here = still_ahead next x.version (map listed_view (drop (i + 1) items)) (omega (arith, here)) (rising_behind (map listed_view (take i items)) (listed_view x) (map listed_view (drop (i + 1) items)) (subst IsRising (parts_at items i x more at) is.up))
+  ahead_more next here = still_ahead next x.version (map listed_view (drop (i + 1) items)) (omega (arith, here)) (rising_behind (map listed_view (take i items)) (listed_view x) (map listed_view (drop (i + 1) items)) (subst IsRising (parts_at items i x more at) are.up))
 
-  pub done_more : AllByRecursion (IsDone objects) (map listed_view (take i items)) → IsDone objects (listed_view x) → AllByRecursion (IsDone objects) (map listed_view (take (i + 1) items))
-  done_more done one = subst (AllByRecursion (IsDone objects)) (sym (map_turn listed_view items i (i + 1) x more refl at)) (all_push (IsDone objects) (map listed_view (take i items)) (listed_view x) done one)
+-- all checkpoints among names
+abbrev pub AreAll : List (List ℕ) → List Listed → Type 0
+AreAll names items = (name : List ℕ) (version : ℕ) → Contains names name → checkpoint_version name ≡ Some version → Contains (map listed_view items) (version, name)
+
+pub all_listed : (objects : Objects) (names : List (List ℕ)) (items seen : List Listed) → names ≡ names_of objects → seen ≡ items → AreAll names items → AreAll (names_of objects) seen
+all_listed objects names items seen are same all = λ name version has tells.
+    subst (λ (ls : List Listed). Contains (map listed_view ls) (version, name)) (sym same) (all name version (subst (λ (ns : List (List ℕ)). Contains ns name) (sym are) has) tells)
+
+module _ (objects : Objects) (items : List Listed) (all : AreAll (names_of objects) items) where
+  -- Where all are sound, those of the versions below any one are.
+  pub below_all : (i version : ℕ) → length items ≤ i → AllByRecursion (IsDone objects) (map listed_view (take i items)) → AreCheckpointsSoundBelow objects version
+  below_all i version long done =
+      done_below objects (map listed_view items) all version (subst (λ (ls : List Listed). AllByRecursion (IsDone objects) (map listed_view ls)) (take_all i items long) done)
+
+  module _ (i : ℕ) (x : Listed) (more : i < length items) (at : x ≡ get_or items i x) where
+    pub below_at : AreListed items → AllByRecursion (IsDone objects) (map listed_view (take i items)) → AreCheckpointsSoundBelow objects x.version
+    below_at are done = part_below objects (map listed_view items) all (map listed_view (take i items)) (listed_view x) (map listed_view (drop (i + 1) items)) (parts_at items i x more at) are.up done
+
+    pub done_more : AllByRecursion (IsDone objects) (map listed_view (take i items)) → IsDone objects (listed_view x) → AllByRecursion (IsDone objects) (map listed_view (take (i + 1) items))
+    done_more done one = subst (AllByRecursion (IsDone objects)) (sym (map_turn listed_view items i (i + 1) x more refl at)) (all_push (IsDone objects) (map listed_view (take i items)) (listed_view x) done one)

@@ -2,11 +2,14 @@
 use Rattle.std.specs.Prelude.{◌≡◌, ℕ, suc, List, Some, None}
 use Rattle.delta_actions.specs.Action.{Action}
 use Rattle.delta_replay.specs.Snapshots.{IsSnapshotOf}
-use Rattle.log_laws.specs.Sound.{IsSoundStore}
 use Rattle.schema_tree.specs.Schema.{tree_of}
-use Rattle.store_core.specs.Objects.{Objects}
-use Rattle.table_check.specs.Below.{IsFirstUnsound, IsSoundBelow}
+use Rattle.store_core.specs.Objects.{Objects, names_of}
+use Rattle.table_check.specs.Below.{IsSoundBelow}
+use Rattle.table_check.specs.Named.{least_named}
 use Rattle.table_check.specs.Walked.{IsWalked}
+use Rattle.table_audit.specs.Verdicts.{IsVerdictOf}
+use Rattle.table_audit.specs.declared.verdict.Verdict.{Verdict}
+use Rattle.table_audit.specs.declared.verdict.Verdict.TheVariants.{Sound, Unsound}
 use Rattle.table_audit.specs.declared.walk.Beginning.{Beginning}
 use Rattle.table_audit.specs.declared.walk.Beginning.TheVariants.{Created, Wrong}
 use Rattle.table_audit.specs.declared.walk.Reached.{Reached}
@@ -19,13 +22,31 @@ pub record IsWalk (objects : Objects) (walk : Walk) : Type 0 where
   pub walked : IsWalked objects (tree_of walk.schema) walk.next log
   pub snapshot : IsSnapshotOf log walk.snapshot
 
+-- These are all names that stand, and a walk was begun.
+abbrev pub IsWalkOver : Objects → List (List ℕ) → Walk → Type 0
+IsWalkOver objects names walk = (names ≡ names_of objects) × IsWalk objects walk
+
 -- a walk begins behind the creation, or the first commit breaks the store
 abbrev pub Begins : Objects → Beginning → Type 0
-Begins objects (Created walk) = IsWalk objects walk × (walk.next ≡ 1)
+Begins objects (Created walk) = IsWalk objects walk
 Begins objects (Wrong reason) = IsSoundBelow objects 1 → ⊥
 
--- a walk is behind a version, or it is known whether the store is sound
-abbrev pub IsReached : Objects → (last : ℕ) → Walk → Reached → Type 0
-IsReached objects last walk Behind = IsWalk objects walk × (walk.next ≡ suc last)
-IsReached objects last walk (Over None) = IsSoundStore objects
-IsReached objects last walk (Over (Some unsound)) = IsFirstUnsound objects unsound.version
+-- the version that comes next is the second one
+abbrev pub IsBehindFirst : Beginning → Type 0
+IsBehindFirst (Created walk) = walk.next ≡ 1
+IsBehindFirst (Wrong reason) = Unit {0}
+
+-- how a walk ends in front of a version: names tell none from there on, or this is the least that they tell
+abbrev pub IsEnd : (next : ℕ) → List (List ℕ) → Verdict → Type 0
+IsEnd next names (Sound versions) = (least_named next names ≡ None) × (versions ≡ next)
+IsEnd next names (Unsound unsound) = least_named next names ≡ Some unsound.version
+
+-- a walk goes on, or it is known what the store is
+abbrev pub IsReached : Objects → Walk → Reached → Type 0
+IsReached objects walk Behind = IsWalk objects walk
+IsReached objects walk (Over verdict) = IsVerdictOf objects verdict
+
+-- a walk that goes on is behind a version
+abbrev pub IsBehind : (last : ℕ) → Walk → Reached → Type 0
+IsBehind last walk Behind = walk.next ≡ suc last
+IsBehind last walk (Over verdict) = Unit {0}

@@ -2,7 +2,8 @@
 //! why.
 #![tactic(auto)]
 
-mod audit;
+mod auditing;
+mod beside;
 mod checkpoint;
 mod creation;
 mod entry;
@@ -11,9 +12,14 @@ mod file;
 mod group;
 mod listing;
 mod numbers;
+mod reader;
 mod reason;
+mod verdict;
 mod walk;
 
-pub use audit::first_unsound;
+pub use auditing::{audit, first_unsound};
+pub use beside::unnamed;
 pub use fault::AuditError;
-pub use reason::{Reason, Unsound};
+pub use reader::ObjectReader;
+pub use reason::{ApplicationId, Reason, Unsound};
+pub use verdict::Verdict;

@@ -1,7 +1,13 @@
 //! What makes a store unsound.
 
+ghost use Rattle.std.specs.Prelude.{◌≡◌, IfOk};
+ghost use Rattle.serde_json.specs.Data.{string};
+ghost use Rattle.serde_json.specs.View.{view};
+
 use delta_actions::ActionFault;
 use parquet_footer::FileFault;
+use serde_json::Value;
+use std::alloc::{AllocError, Global};
 use std::fmt;
 use std::fmt::{Display, Formatter};
 use thiserror::Error;
@@ -13,6 +19,28 @@ pub struct Unsound {
     pub version: u64,
     /// What breaks it.
     pub reason: Reason,
+}
+
+/// The id of an application. It is printed as a JSON string, so on one line, whatever it contains.
+#[derive(Debug, Drop)]
+pub struct ApplicationId {
+    text: Value,
+}
+
+impl ApplicationId {
+    /// The id that a text is.
+    pub(crate) fn new(alloc: Global, id: &str) -> Result<ApplicationId, AllocError>
+        ensures { IfOk result (λ application. view application.text ≡ string id.now) }
+    {
+        let text = Value::try_from_str(alloc, id)?;
+        Ok(ApplicationId { text })
+    }
+}
+
+impl Display for ApplicationId {
+    fn fmt<W: fmt::Write>(&self, f: &mut Formatter<W>) -> fmt::Result {
+        write!(f, "{}", self.text)
+    }
 }
 
 /// What makes a version unsound.
@@ -32,23 +60,23 @@ pub enum Reason {
     /// A group has two batches of one application.
     Twice {
         version: u64,
-        application: String,
+        application: ApplicationId,
     },
     /// A batch's number isn't above its application's last one.
     NotAbove {
         number: u64,
-        application: String,
+        application: ApplicationId,
         last: u64,
     },
     /// A batch stands behind the close of its stream.
     Closed {
         number: u64,
-        application: String,
+        application: ApplicationId,
     },
     /// The file that is added isn't the one of its batch, or brings no new rows.
     OtherFile {
         number: u64,
-        application: String,
+        application: ApplicationId,
     },
     /// A batch's file doesn't stand.
     NoFile {
@@ -87,26 +115,20 @@ impl Display for Reason {
             Reason::Twice {
                 version,
                 application,
-            } => write!(f, "commit {version}: \"{application}\" stands twice"),
+            } => write!(f, "commit {version}: {application} stands twice"),
             Reason::NotAbove {
                 number,
                 application,
                 last,
-            } => write!(
-                f,
-                "number {number} of \"{application}\" is not above {last}"
-            ),
+            } => write!(f, "number {number} of {application} is not above {last}"),
             Reason::Closed {
                 number,
                 application,
-            } => write!(
-                f,
-                "number {number} of \"{application}\" is behind its close"
-            ),
+            } => write!(f, "number {number} of {application} is behind its close"),
             Reason::OtherFile {
                 number,
                 application,
-            } => write!(f, "number {number} of \"{application}\" adds another file"),
+            } => write!(f, "number {number} of {application} adds another file"),
             Reason::NoFile { name } => write!(f, "file {name}: missing"),
             Reason::BadFile { name, fault } => write!(f, "file {name}: {fault}"),
             Reason::CommitBehindGap { version } => write!(f, "commit {version} behind a gap"),

@@ -1,9 +1,11 @@
 pub mod CheckpointLines
 pub mod CheckpointSame
 pub mod Counts
+pub mod FirstUnsound
 pub mod LawfulNext
 pub mod NameLists
 pub mod NoFloats
+pub mod WalkCounts
 pub mod WalkEnds
 pub mod WalkGaps
 pub mod WalkLemmas

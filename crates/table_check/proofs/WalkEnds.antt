@@ -46,7 +46,7 @@ module _ (objects : Objects) where
 
   module _ (from : ℕ) where
     -- what stands isn't behind the least that is told
-    told_commit : (version : ℕ) (bytes : List ℕ) → version ≤ greatest_version → object_at objects (names.commit_name version) ≡ Some bytes → from ≤ version
+    pub told_commit : (version : ℕ) (bytes : List ℕ) → version ≤ greatest_version → object_at objects (names.commit_name version) ≡ Some bytes → from ≤ version
         → (least : ℕ) × (least_named from (names_of objects) ≡ Some least) × (least ≤ version)
     told_commit version bytes fits there low = least_is from (names_of objects) (names.commit_name version) version (listed (names.commit_name version) bytes there) (commit_told version fits) low
 

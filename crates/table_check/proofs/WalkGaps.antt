@@ -84,7 +84,7 @@ module _ (objects : Objects) where
       ]
 
   -- so do those of entries
-  none_first : (schema : Schema) (version wanted : ℕ) (entries : List Entry) → HoldsFirst objects schema version entries → version ≤ wanted → wanted < version + length entries → object_at objects (names.commit_name wanted) ≡ None → ⊥
+  pub none_first : (schema : Schema) (version wanted : ℕ) (entries : List Entry) → HoldsFirst objects schema version entries → version ≤ wanted → wanted < version + length entries → object_at objects (names.commit_name wanted) ≡ None → ⊥
   none_first schema version wanted [] stand low high none = omega (arith, low, high)
   none_first schema version wanted (entry ∷ entries) stand low high none =
       elim (cases_eq wanted version) [

@@ -14,6 +14,7 @@ ghost use Rattle.delta_actions.specs.Printing.{IsPrintable};
 ghost use Rattle.delta_checkpoint.specs.Checkpoints.{IsCheckpoint};
 ghost use Rattle.log_laws.specs.Sound.{IsSoundStore};
 ghost use Rattle.store_core.specs.Objects.{Objects, names_of, object_at};
+ghost use Rattle.table_log.specs.Counts.{commit_count};
 ghost use Rattle.table_log.specs.Restoring.{IsSoundCheckpoint, checkpoint_version};
 ghost use Rattle.table_model.specs.Lawful.{IsLawful, IsWellGrouped};
 ghost use Rattle.table_model.specs.Table.{Batch, Entry, creation, group, close};
@@ -29,13 +30,14 @@ ghost use Rattle.table_check.specs.Walked.{IsWalked};
 
 /// A store is sound exactly where it is sound below the version behind the greatest that a commit can have, so below
 /// each version. What is sound below a version is so below each lesser one. So a store has one first unsound version at
-/// most, and none where it is sound.
-pub fn a_store_has_at_most_one_first_unsound_version()
+/// most, and none where it is sound. Where it isn't, it can't be that no version is the first unsound one.
+pub fn a_store_is_sound_or_has_one_first_unsound_version()
     ensures whole { (objects : Objects) → IsSoundBelow objects (suc greatest_version) → IsSoundStore objects }
     ensures sound { (objects : Objects) (version : ℕ) → IsSoundStore objects → IsSoundBelow objects version }
     ensures lesser { (objects : Objects) (version other : ℕ) → version ≤ other → IsSoundBelow objects other → IsSoundBelow objects version }
     ensures once { (objects : Objects) (version other : ℕ) → IsFirstUnsound objects version → IsFirstUnsound objects other → version ≡ other }
     ensures broken { (objects : Objects) (version : ℕ) → IsFirstUnsound objects version → IsSoundStore objects → ⊥ }
+    ensures first { (objects : Objects) → (IsSoundStore objects → ⊥) → ((version : ℕ) → IsFirstUnsound objects version → ⊥) → ⊥ }
 {}
 
 /// Behind a lawful table that was created a group may stand exactly where it has at least one batch, its batches are of
@@ -66,11 +68,14 @@ pub fn a_walk_goes_on()
 
 /// A walk over the versions below one, whose checkpoints are sound too: the store is sound if no object has the name of
 /// a commit or checkpoint of that version or a later one, and that version is at most the one behind the greatest that
-/// a commit can have. If there are such names, the store is sound below the least of their versions. By a walk alone,
-/// the store is sound below a version up to that one if its checkpoints of the versions below this version are.
+/// a commit can have. Its log then has as many versions, also where a checkpoint isn't sound. If there are such names,
+/// the store is sound below the least of their versions. By a walk alone, the store is sound below a version up to that
+/// one if its checkpoints of the versions below this version are.
 pub fn a_walk_ends()
     ensures sound { (objects : Objects) (schema : Schema) (version : ℕ) (log : List (List Action)) → IsWalked objects schema version log → AreCheckpointsSoundBelow objects version → version ≤ suc greatest_version
         → least_named version (names_of objects) ≡ None → IsSoundStore objects }
+    ensures counted { (objects : Objects) (schema : Schema) (version : ℕ) (log : List (List Action)) → IsWalked objects schema version log → version ≤ suc greatest_version
+        → least_named version (names_of objects) ≡ None → commit_count objects ≡ version }
     ensures least { (objects : Objects) (schema : Schema) (version least : ℕ) (log : List (List Action)) → IsWalked objects schema version log → AreCheckpointsSoundBelow objects version
         → least_named version (names_of objects) ≡ Some least → IsSoundBelow objects least }
     ensures below { (objects : Objects) (schema : Schema) (version next : ℕ) (log : List (List Action)) → IsWalked objects schema next log → version ≤ next → AreCheckpointsSoundBelow objects version → IsSoundBelow objects version }
@@ -105,11 +110,12 @@ pub fn a_store_has_no_other_commits_and_checkpoints()
 {}
 
 /// Each store is sound below version 0, and below the least version that names of commits and checkpoints tell. Where
-/// they tell none it is sound.
+/// they tell none it is sound, and has no version.
 pub fn a_store_begins_soundly()
     ensures zero { (objects : Objects) → IsSoundBelow objects 0 }
     ensures least { (objects : Objects) (least : ℕ) → least_named 0 (names_of objects) ≡ Some least → IsSoundBelow objects least }
     ensures sound { (objects : Objects) → least_named 0 (names_of objects) ≡ None → IsSoundStore objects }
+    ensures counted { (objects : Objects) → least_named 0 (names_of objects) ≡ None → commit_count objects ≡ 0 }
 {}
 
 /// Two checkpoints of one version and log, whose actions can be printed, have the same printed lines, once these are in

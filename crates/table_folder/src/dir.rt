@@ -2,7 +2,7 @@
 ghost use Rattle.std.specs.Prelude.{◌≡◌, IfOk};
 ghost use Rattle.table_folder.specs.Calls.{CountsFailure};
 
-use crate::disk::{DiskFault, file_bytes, make_file, make_folder, table_names};
+use crate::disk::{DiskFault, file_bytes, leftover_names, make_file, make_folder, table_names};
 use crate::naming::{LOG, is_table_name};
 use crate::{Folder, FolderFault, Reason};
 use std::alloc::AllocError;
@@ -10,11 +10,11 @@ use std::rt::Files;
 use store_core::Put;
 
 /// A table's folder on a disk: its plain files and those of `_delta_log` in it. Links, other folders and names that begin
-/// with `.` are passed over. A name that isn't text and a file over 1 GiB fail.
+/// with `.` are passed over. Another name that isn't text fails, also a folder's, and so does a file over 1 GiB.
 ///
 /// It needs hard links: a file is written and synced as `.new-N`, and a link then gives it its name where that is absent.
 /// A create that fails removes its `.new-N`; a run that is killed may leave one, and each of those costs later creates a
-/// call. Removing them is safe only while no other process writes to the table.
+/// call. `leftovers` tells them. Removing them is safe only while no other process writes to the table.
 ///
 /// Of the disk nothing is claimed: this folder is never steady.
 #[derive(Drop)]
@@ -72,7 +72,7 @@ impl<R: Files + AllocGlobal + Clone + Drop> DirFolder<R> {
 impl<R: Files + AllocGlobal + Clone + Drop> Folder for DirFolder<R> {
     ghost use Rattle.std.specs.Prelude.{[], All, IsTrue, map, string_bytes};
     ghost use Rattle.table_folder.specs.Calls.{FailsAt, IsFailed};
-    ghost use Rattle.table_folder.specs.Names.{is_table_name};
+    ghost use Rattle.table_folder.specs.Names.{is_leftover, is_table_name};
     ghost use Rattle.table_folder.specs.Orders.{IsInOrder-none};
 
     ghost objects = { λ _. [] };
@@ -100,16 +100,24 @@ impl<R: Files + AllocGlobal + Clone + Drop> Folder for DirFolder<R> {
     /// Reads the file, of at most 1 GiB. A name that is no table file's is absent. A file of the log fails where it is
     /// absent: only those that were listed are read, and a log without one of them would be another one.
     fn read(&mut self, name: &str) -> Result<Option<Vec<u8>>, FolderFault> {
+        let refused = String::from_str(self.rt.alloc(), name)?;
+        match self.find(name) {
+            Ok(None) if name.starts_with(LOG) => self.counted(Err(FolderFault::Failed {
+                name: refused,
+                reason: Reason::Gone,
+            })),
+            found => found,
+        }
+    }
+
+    /// Reads the file, of at most 1 GiB. A name that is no table file's is absent.
+    fn find(&mut self, name: &str) -> Result<Option<Vec<u8>>, FolderFault> {
         if !is_table_name(name) {
             return Ok(None);
         }
         let refused = String::from_str(self.rt.alloc(), name)?;
         let (_, path) = self.paths(name)?;
         let bytes = match file_bytes(&self.rt, path.as_str()) {
-            Ok(None) if name.starts_with(LOG) => Err(FolderFault::Failed {
-                name: refused,
-                reason: Reason::Gone,
-            }),
             Ok(bytes) => Ok(bytes),
             Err(DiskFault::Failed(reason)) => Err(FolderFault::Failed {
                 name: refused,
@@ -138,6 +146,17 @@ impl<R: Files + AllocGlobal + Clone + Drop> Folder for DirFolder<R> {
             Err(DiskFault::Memory) => Err(FolderFault::Memory),
         };
         self.counted(put)
+    }
+
+    /// Reads both folders, and syncs neither. A file that another process is writing just now is told too.
+    fn leftovers(&mut self) -> Result<Vec<String>, FolderFault>
+        ensures shown { IfOk result (λ names.
+            All (λ name. IsTrue (is_leftover name)) (map string_bytes names.items)) }
+        ensures faults { CountsFailure result
+            (⟦<DirFolder<R> as Folder>⟧.fault_count self.old) (⟦<DirFolder<R> as Folder>⟧.fault_count self.new) }
+    {
+        let left = leftover_names(&self.rt, self.path.as_str());
+        self.counted(left)
     }
 
     fn faults(&self) -> u64 {

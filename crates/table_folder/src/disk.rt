@@ -1,16 +1,16 @@
 //! The files of a table's folder on a disk. No contract says what a disk gives or takes.
 ghost use Rattle.std.specs.Prelude.{IfOk, IfSome, IsTrue, OnOk, All, map, string_bytes};
-ghost use Rattle.table_folder.specs.Names.{is_table_name};
+ghost use Rattle.table_folder.specs.Names.{is_leftover, is_listed, is_table_name};
 
 use crate::gaps::has_gap;
-use crate::naming::{LOG, is_table_name};
+use crate::naming::{LOG, Listed, is_listed};
 use crate::reason::reason_of;
 use crate::{FolderFault, Reason};
 use std::alloc::{AllocError, Global};
-use std::fs::{DirEntry, File, OpenFile};
-use std::io::{Error, ErrorKind, Read, Write};
+use std::fs::{File, OpenFile};
+use std::io::{BufRead, BufReader, Error, ErrorKind, Read, Split, Write};
 use std::rt::Files;
-use std::{fs, io};
+use std::{fs, io, str};
 use store_core::Put;
 
 /// The most bytes of a file that is read: 1 GiB.
@@ -54,20 +54,32 @@ pub(crate) fn table_names<R: Files + AllocGlobal + Clone + Drop>(
     ensures { IfOk result (λ names. All (λ name. IsTrue (is_table_name name)) (map string_bytes names.items)) }
 {
     for _ in 0..MOST_REPEATS {
-        let names = listed_names(rt, folder)?;
+        let names = listed_names(rt, Listed::Table, folder)?;
         if !has_gap(&names) {
             return Ok(names);
         }
     }
-    listed_names(rt, folder)
+    listed_names(rt, Listed::Table, folder)
+}
+
+/// The names of the plain files that killed runs have left in a folder and in its log's folder, which may be absent, in
+/// the order of their bytes. Links and folders of such names are passed over. Nothing is synced.
+pub(crate) fn leftover_names<R: Files + AllocGlobal + Clone + Drop>(
+    rt: &R,
+    folder: &str,
+) -> Result<Vec<String>, FolderFault>
+    ensures { IfOk result (λ names. All (λ name. IsTrue (is_leftover name)) (map string_bytes names.items)) }
+{
+    listed_names(rt, Listed::Leftovers, folder)
 }
 
 // The names that one listing tells.
 fn listed_names<R: Files + AllocGlobal + Clone + Drop>(
     rt: &R,
+    listed: Listed,
     folder: &str,
 ) -> Result<Vec<String>, FolderFault>
-    ensures { IfOk result (λ names. All (λ name. IsTrue (is_table_name name)) (map string_bytes names.items)) }
+    ensures { IfOk result (λ names. All (λ name. IsTrue (is_listed listed name)) (map string_bytes names.items)) }
 {
     // A folder that can't be read is told before its log's.
     if let Err(e) = fs::read_dir(rt, folder) {
@@ -76,9 +88,9 @@ fn listed_names<R: Files + AllocGlobal + Clone + Drop>(
     let log = format!(in rt.alloc(); "{folder}/{LOG}")?;
     let mut names = Vec::new(rt.alloc());
     if is_there(rt, log.as_str())? {
-        add_names(rt, log.as_str(), LOG, &mut names)?;
+        add_names(rt, listed, log.as_str(), LOG, &mut names)?;
     }
-    add_names(rt, folder, "", &mut names)?;
+    add_names(rt, listed, folder, "", &mut names)?;
     names.sort()?;
     Ok(names)
 }
@@ -91,45 +103,68 @@ fn is_there<R: Files + AllocGlobal>(rt: &R, path: &str) -> Result<bool, FolderFa
     }
 }
 
-// Adds the names of a folder's plain files, each behind the prefix, and syncs the folder.
-fn add_names<R: Files + AllocGlobal + Clone + Drop>(
+// Adds the names of a folder's plain files that are listed, each behind the prefix. A folder of which the table's files are
+// listed is synced.
+fn add_names<R: Files + AllocGlobal>(
     rt: &R,
+    listed: Listed,
     path: &str,
     prefix: &str,
     names: &mut Vec<String>,
 ) -> Result<(), FolderFault>
-    requires { All (λ name. IsTrue (is_table_name name)) (map string_bytes names.old.items) }
-    ensures { OnOk result (All (λ name. IsTrue (is_table_name name)) (map string_bytes names.new.items)) }
+    requires { All (λ name. IsTrue (is_listed listed name)) (map string_bytes names.old.items) }
+    ensures { OnOk result (All (λ name. IsTrue (is_listed listed name)) (map string_bytes names.new.items)) }
 {
-    let entries = match fs::read_dir(rt, path) {
-        Ok(entries) => entries,
+    let files = match open_names(rt, path) {
+        Ok(files) => files,
         Err(e) => return Err(fault_at(rt.alloc(), path, e)),
     };
-    for entry in entries {
-        let entry = match entry {
-            Ok(entry) => entry,
-            Err(e) => return Err(entry_fault(rt.alloc(), path, e)),
+    for file in files {
+        let file = match file {
+            Ok(file) => file,
+            Err(e) => return Err(fault_at(rt.alloc(), path, e)),
         };
-        if let Some(name) = plain_name(rt.alloc(), entry, prefix)? {
+        if let Some(name) = plain_name(rt, listed, path, prefix, file.as_slice())? {
             names.push(name)?;
         }
     }
-    settle(rt, path)
+    match listed {
+        Listed::Table => settle(rt, path),
+        Listed::Leftovers => Ok(()),
+    }
 }
 
-// The name of a folder's entry behind the prefix, where it is a plain file's and doesn't begin with `.`.
-fn plain_name<R: Files + Drop>(
-    alloc: Global,
-    entry: DirEntry<R, Global>,
+// The names in a folder, as the disk tells them. `fs::read_dir` fails at one that isn't text, and doesn't say how it begins.
+// The slash at the end has a link to a folder followed.
+fn open_names<R: Files + AllocGlobal>(rt: &R, path: &str) -> io::Result<Split<BufReader<R::Dir>>> {
+    let path = format!(in rt.alloc(); "{path}/")?;
+    let names = BufReader::new(rt.alloc(), rt.open_dir(path.as_str())?)?;
+    Ok(names.split(rt.alloc(), 0))
+}
+
+// The name of a folder's file behind the prefix, where it is listed and a plain file's. Where the table's files are listed,
+// a name that isn't text is a fault unless it begins with `.`, also a folder's: the disk can't be asked of what it is.
+fn plain_name<R: Files + AllocGlobal>(
+    rt: &R,
+    listed: Listed,
+    path: &str,
     prefix: &str,
+    file: &[u8],
 ) -> Result<Option<String>, FolderFault>
-    ensures { IfOk result (λ found. IfSome found (λ name. IsTrue (is_table_name (string_bytes name)))) }
+    ensures { IfOk result (λ found. IfSome found (λ name. IsTrue (is_listed listed (string_bytes name)))) }
 {
-    let name = format!(in alloc; "{prefix}{}", entry.file_name())?;
-    if !is_table_name(name.as_str()) {
+    let Ok(text) = str::from_utf8(file) else {
+        if listed == Listed::Leftovers || file.starts_with(b".") {
+            return Ok(None);
+        }
+        return Err(fault_for(rt.alloc(), "-", Reason::NotText));
+    };
+    let name = format!(in rt.alloc(); "{prefix}{text}")?;
+    if !is_listed(listed, name.as_str()) {
         return Ok(None);
     }
-    match entry.metadata() {
+    let path = format!(in rt.alloc(); "{path}/{text}")?;
+    match fs::symlink_metadata(rt, path.as_str()) {
         Ok(metadata) if metadata.is_file() => Ok(Some(name)),
         Ok(_) => Ok(None),
         Err(e) if e.kind() == ErrorKind::NotFound => Ok(None),
@@ -154,14 +189,6 @@ fn settle<R: Files + AllocGlobal>(rt: &R, path: &str) -> Result<(), FolderFault>
         | ErrorKind::InvalidInput => Ok(()),
         _ => Err(fault_at(rt.alloc(), path, error)),
     }
-}
-
-// The fault of an entry of a folder: `-` where its name isn't text, else the folder's.
-fn entry_fault(alloc: Global, folder: &str, error: Error) -> FolderFault {
-    if error.kind() == ErrorKind::InvalidFilename {
-        return fault_for(alloc, "-", Reason::NotText);
-    }
-    fault_at(alloc, folder, error)
 }
 
 // The fault of a call of the disk that failed there.

@@ -44,8 +44,20 @@ pub trait Folder {
         ensures never_fails { is_reliable self.old → IsFailed result → ⊥ }
         ensures stays_reliable { is_reliable self.old → is_reliable self.new };
 
-    /// The bytes of the file of that name, or `None` where the name is absent.
+    /// The bytes of the file of that name, which was listed, or `None` where the name is absent.
     fn read(&mut self, name: &str) -> Result<Option<Vec<u8>>, FolderFault>
+        ensures object { is_steady self.old → IfOk result (λ found. option_map (λ bytes. bytes.items) found
+            ≡ object_at (objects self.old) name.now) }
+        ensures untouched { is_steady self.old → objects self.new ≡ objects self.old }
+        ensures steady { is_steady self.old → is_steady self.new }
+
+        ensures named { FailsAt name.now result }
+        ensures faults { CountsFailure result (fault_count self.old) (fault_count self.new) }
+        ensures never_fails { is_reliable self.old → IsFailed result → ⊥ }
+        ensures stays_reliable { is_reliable self.old → is_reliable self.new };
+
+    /// The same, also of a name that wasn't listed: that of a version which may have no commit, say.
+    fn find(&mut self, name: &str) -> Result<Option<Vec<u8>>, FolderFault>
         ensures object { is_steady self.old → IfOk result (λ found. option_map (λ bytes. bytes.items) found
             ≡ object_at (objects self.old) name.now) }
         ensures untouched { is_steady self.old → objects self.new ≡ objects self.old }
@@ -70,6 +82,17 @@ pub trait Folder {
         ensures steady { is_steady self.old → is_steady self.new }
 
         ensures named { FailsAt name.now result }
+        ensures faults { CountsFailure result (fault_count self.old) (fault_count self.new) }
+        ensures never_fails { is_reliable self.old → IsFailed result → ⊥ }
+        ensures stays_reliable { is_reliable self.old → is_reliable self.new };
+
+    /// The names of files that killed runs have left while they wrote: `.new-N`, alone or behind `_delta_log/`, in the order
+    /// of their bytes. They are no part of the table. Of which there are nothing is claimed.
+    fn leftovers(&mut self) -> Result<Vec<String>, FolderFault>
+        ensures untouched { is_steady self.old → objects self.new ≡ objects self.old }
+        ensures steady { is_steady self.old → is_steady self.new }
+
+        ensures named { is_steady self.old → FailsAmong (path self.old ∷ names_of (objects self.old)) result }
         ensures faults { CountsFailure result (fault_count self.old) (fault_count self.new) }
         ensures never_fails { is_reliable self.old → IsFailed result → ⊥ }
         ensures stays_reliable { is_reliable self.old → is_reliable self.new };

@@ -1,5 +1,5 @@
 //! A folder in memory, which can be made to stop.
-ghost use Rattle.std.specs.Prelude.{◌≡◌, IfOk, OnOk, OnErr, IsErr, IsErrOf, IsOkUnless};
+ghost use Rattle.std.specs.Prelude.{◌≡◌, IfOk, IsOkAnd, OnOk, OnErr, IsErr, IsErrOf, IsOkUnless};
 ghost use Rattle.store_core.specs.Calls.{HasRisen, put_told};
 ghost use Rattle.store_core.specs.Memory.{stored_objects};
 ghost use Rattle.store_core.specs.Objects.{object_at, with_object};
@@ -108,6 +108,11 @@ impl Folder for MemoryFolder {
         self.store.get(name).map_err(|_| FolderFault::Memory)
     }
 
+    /// Copies the object's bytes.
+    fn find(&mut self, name: &str) -> Result<Option<Vec<u8>>, FolderFault> {
+        self.store.get(name).map_err(|_| FolderFault::Memory)
+    }
+
     /// Copies the name and moves the bytes. It is the stop that says whether it fails, before it takes effect or after,
     /// and each create that memory suffices for is one of those that the stop counts.
     fn create(&mut self, name: &str, bytes: Vec<u8>) -> Result<Put, FolderFault>
@@ -145,6 +150,14 @@ impl Folder for MemoryFolder {
                 Err(refused)
             }
         }
+    }
+
+    /// None: a create leaves its file or nothing.
+    fn leftovers(&mut self) -> Result<Vec<String>, FolderFault>
+        ensures none { IsOkAnd result (λ names. names.items ≡ []) }
+        ensures untouched { self.new ≡ self.old }
+    {
+        Ok(Vec::new(self.alloc))
     }
 
     fn faults(&self) -> u64 {

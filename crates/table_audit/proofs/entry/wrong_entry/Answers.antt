@@ -9,24 +9,24 @@ use Rattle.table_audit.proofs.GroupParts.{follows_close, follows_group, follows_
 use Rattle.table_audit.proofs.entry.wrong_entry.Goals as goal
 
 pub returns-in-Some-clause-follows : goal.returns-in-Some-clause-follows
-returns-in-Some-clause-follows g c = λ log of.
-    follows_close (g.S.Store.objects c.args.store.now) (tree_of c.args.schema.now) log (views c.args.beside.now) (string_bytes c.in-Some._application) (rw c.in-Some.is at c.in_ok-_application.ensures.found)
+returns-in-Some-clause-follows g c = λ steady log of.
+    follows_close (g.R.ObjectReader.objects c.args.reader.now) (tree_of c.args.schema.now) log (views c.args.beside.now) (string_bytes c.in-Some._application) (rw c.in-Some.is at c.in_ok-_application.ensures.found)
 
 pub returns-clause-follows : goal.returns-clause-follows
-returns-clause-follows g c =
-    let objects = g.S.Store.objects c.args.store.now in
+returns-clause-follows g c = λ steady.
+    let objects = g.R.ObjectReader.objects c.args.reader.now in
     let schema = tree_of c.args.schema.now in
     let beside = views c.args.beside.now in
     let P : Type 0 = (log : List (List kinds.Action)) → IsSnapshotOf log c.args.snapshot.now → GroupFollows objects schema log beside in
     let Q : Type 0 = (log : List (List kinds.Action)) → IsSnapshotOf log c.args.snapshot.now → Follows objects schema log beside in
-    IfOk-weaker c.wrong_group.result _ _ (λ o h. none_weaker P Q (λ may log of. follows_group objects schema log beside (may log of)) o h) c.wrong_group.ensures.follows
+    IfOk-weaker c.wrong_group.result _ _ (λ o h. none_weaker P Q (λ may log of. follows_group objects schema log beside (may log of)) o h) (c.wrong_group.ensures.follows steady)
 
 pub returns-clause-breaks : goal.returns-clause-breaks
-returns-clause-breaks g c =
-    let objects = g.S.Store.objects c.args.store.now in
+returns-clause-breaks g c = λ steady.
+    let objects = g.R.ObjectReader.objects c.args.reader.now in
     let schema = tree_of c.args.schema.now in
     let beside = views c.args.beside.now in
     let no_close = rw c.in_default.is at c.in_ok-_application.ensures.only in
     let P : Type 0 = (log : List (List kinds.Action)) → IsSnapshotOf log c.args.snapshot.now → GroupFollows objects schema log beside → ⊥ in
     let Q : Type 0 = (log : List (List kinds.Action)) → IsSnapshotOf log c.args.snapshot.now → Follows objects schema log beside → ⊥ in
-    IfOk-weaker c.wrong_group.result _ _ (λ o h. some_weaker P Q (λ none log of. follows_none objects schema log beside no_close (none log of)) o h) c.wrong_group.ensures.breaks
+    IfOk-weaker c.wrong_group.result _ _ (λ o h. some_weaker P Q (λ none log of. follows_none objects schema log beside no_close (none log of)) o h) (c.wrong_group.ensures.breaks steady)

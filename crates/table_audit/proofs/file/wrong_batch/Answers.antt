@@ -11,12 +11,12 @@ use Rattle.table_audit.proofs.GroupParts.{some_weaker}
 use Rattle.table_audit.proofs.file.wrong_batch.Goals as goal
 
 pub returns-clause-breaks : goal.returns-clause-breaks
-returns-clause-breaks g c =
+returns-clause-breaks g c = λ steady.
     let t = c.args.txn.now in
-    let objects = g.S.Store.objects c.args.store.now in
+    let objects = g.R.ObjectReader.objects c.args.reader.now in
     let schema = tree_of c.args.schema.now in
     let name : c.deref-2.result.now ≡ data_file_name (string_bytes t.app_id) t.version =
     c.deref-2.ensures ∙ c.in_ok-name.ensures ∙ ap (λ (application : List ℕ). data_file_name application t.version) c.deref.ensures in
     let P : Type 0 = (rows : List Row) → Stands objects c.deref-2.result.now (λ bytes. IsFileOf schema bytes rows) → ⊥ in
     let Q : Type 0 = (add_view c.args.add.now).path.key ≡ data_file_name (string_bytes t.app_id) t.version → c.args.add.now.data_change ≡ true → HasFile objects schema (string_bytes t.app_id, t.version) → ⊥ in
-    IfOk-weaker c.wrong_file.result _ _ (λ o none. some_weaker P Q (λ never key new has. never has.0 (rw name has.1)) o none) c.wrong_file.ensures.breaks
+    IfOk-weaker c.wrong_file.result _ _ (λ o none. some_weaker P Q (λ never key new has. never has.0 (rw name has.1)) o none) (c.wrong_file.ensures.breaks steady)

@@ -7,9 +7,9 @@ use Rattle.table_store.proofs.HoldingOne.{some_is}
 use Rattle.table_audit.proofs.file.wrong_file.Goals as goal
 
 pub returns-in-Ok-Some-clause-breaks : goal.returns-in-Ok-Some-clause-breaks
-returns-in-Ok-Some-clause-breaks g c = λ rows stand.
-    let objects = g.S.Store.objects c.args.store.now in
-    let there : object_at objects c.args.name.now ≡ Some c.in-Some.bytes.items = read_at objects _ _ _ (Some c.in-Some.bytes) c.in_ok-bytes.ensures.object refl c.in-Some.is in
+returns-in-Ok-Some-clause-breaks g c = λ steady rows stand.
+    let objects = g.R.ObjectReader.objects c.args.reader.now in
+    let there : object_at objects c.args.name.now ≡ Some c.in-Some.bytes.items = read_at objects _ _ _ (Some c.in-Some.bytes) (c.in_ok-bytes.ensures.object steady) refl c.in-Some.is in
     let same : stand.0 ≡ c.deref.result.now = some_is stand.0 c.in-Some.bytes.items (sym stand.1 ∙ there) ∙ sym c.deref.ensures.value in
     let none = rw c.in-Ok-Some.field-0-is at c.in-Ok-Some.ensures.breaks in
     none rows (subst (λ (b : List ℕ). IsFileOf (tree_of c.args.schema.now) b rows) same stand.2)

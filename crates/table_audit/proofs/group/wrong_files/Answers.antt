@@ -12,17 +12,17 @@ use Rattle.table_audit.proofs.GroupParts.{all_at, file_at, file_of, number_of}
 use Rattle.table_audit.proofs.group.wrong_files.Goals as goal
 
 pub returns-then-txns-adds-clause-breaks : goal.returns-then-txns-adds-clause-breaks
-returns-then-txns-adds-clause-breaks g c = λ have.
+returns-then-txns-adds-clause-breaks g c = λ steady have.
     c.if-txns-adds.true (sym (length-map c.args.txns.now number_of) ∙ (files_count _ _ have.0 ∙ length-map c.args.adds.now file_of))
 
 pub returns-in-Some-clause-breaks : goal.returns-in-Some-clause-breaks
-returns-in-Some-clause-breaks g c = λ have.
+returns-in-Some-clause-breaks g c = λ steady have.
     let txns = c.args.txns.now in
     let adds = c.args.adds.now in
     let i = c.loop-i.i in
     let x = c.index-txns-i.result in
     let y = c.index-adds-i.result in
-    let objects = g.S.Store.objects c.args.store.now in
+    let objects = g.R.ObjectReader.objects c.args.reader.now in
     let schema = tree_of c.args.schema.now in
     let n = number_of x in
     let file = file_of y in
@@ -32,7 +32,8 @@ returns-in-Some-clause-breaks g c = λ have.
     let low : i < length (map number_of txns) = omega (arith, c.loop-i-test.true, length-map txns number_of) in
     let key = file_at (map number_of txns) (map file_of adds) i n file have.0 low at_n at_file in
     let has : HasFile objects schema n = all_at (HasFile objects schema) (map number_of txns) i n have.1 low at_n in
-    (rw (c.in-Some.is, c.loop-i.invariant.untouched) at c.in_ok-reason.ensures.breaks) key.0 key.1 has
+    let left = c.loop-i.invariant.untouched steady in
+    (rw (c.in-Some.is, left) at (c.in_ok-reason.ensures.breaks (c.loop-i.invariant.steady steady))) key.0 key.1 has
 
 pub loop-i-preserved : goal.loop-i-preserved
 loop-i-preserved g c =
@@ -41,7 +42,7 @@ loop-i-preserved g c =
     let i = c.loop-i.i in
     let x = c.index-txns-i.result in
     let y = c.index-adds-i.result in
-    let objects = g.S.Store.objects c.args.store.now in
+    let objects = g.R.ObjectReader.objects c.args.reader.now in
     let schema = tree_of c.args.schema.now in
     let n = number_of x in
     let file = file_of y in
@@ -50,24 +51,27 @@ loop-i-preserved g c =
     let seen_f = map_turn file_of adds i (i + 1) y (omega (arith, c.loop-i-test.true, count)) refl c.index-adds-i.is in
     let named = rw c.in_default.is at c.in_ok-reason.ensures.named in
     let new_rows = rw c.in_default.is at c.in_ok-reason.ensures.new_rows in
-    let has : HasFile objects schema n = rw (c.in_default.is, c.loop-i.invariant.untouched) at c.in_ok-reason.ensures.stands in
     record {
-      untouched = c.wrong_batch.ensures.untouched ∙ c.loop-i.invariant.untouched;
+      untouched = λ steady. c.wrong_batch.ensures.untouched (c.loop-i.invariant.steady steady) ∙ c.loop-i.invariant.untouched steady;
+      steady = λ steady. c.wrong_batch.ensures.steady (c.loop-i.invariant.steady steady);
       reliable = λ reliable. c.wrong_batch.ensures.reliable (c.loop-i.invariant.reliable reliable);
       named = subst (λ (ms : List (List ℕ × ℕ)). AreFilesOf ms (map file_of (take (i + 1) adds))) (sym seen_n)
           (subst (λ (fs : List AddAction). AreFilesOf (map number_of (take i txns) ++ n ∷ []) fs) (sym seen_f) (files_push (map number_of (take i txns)) (map file_of (take i adds)) n file c.loop-i.invariant.named named new_rows));
-      stand = subst (AllByRecursion (HasFile objects schema)) (sym seen_n) (all_push (HasFile objects schema) (map number_of (take i txns)) n c.loop-i.invariant.stand has);
+      stand = λ steady.
+          let left = c.loop-i.invariant.untouched steady in
+          let has : HasFile objects schema n = rw (c.in_default.is, left) at (c.in_ok-reason.ensures.stands (c.loop-i.invariant.steady steady)) in
+          subst (AllByRecursion (HasFile objects schema)) (sym seen_n) (all_push (HasFile objects schema) (map number_of (take i txns)) n (c.loop-i.invariant.stand steady) has);
     }
 
 pub returns-clause-stand : goal.returns-clause-stand
-returns-clause-stand g c =
+returns-clause-stand g c = λ steady.
     let txns = c.args.txns.now in
     let adds = c.args.adds.now in
-    let objects = g.S.Store.objects c.args.store.now in
+    let objects = g.R.ObjectReader.objects c.args.reader.now in
     let schema = tree_of c.args.schema.now in
     let count : length txns ≡ length adds = omega (arith, c.if-txns-adds.false) in
     let all_n : take c.loop-i.i txns ≡ txns = take_all c.loop-i.i txns (omega (arith, c.loop-i-test.false)) in
     let all_f : take c.loop-i.i adds ≡ adds = take_all c.loop-i.i adds (omega (arith, c.loop-i-test.false, count)) in (
       subst (λ (ts : List (Bor Txn)). AreFilesOf (map number_of ts) (map file_of adds)) all_n (subst (λ (files : List (Bor Add)). AreFilesOf (map number_of (take c.loop-i.i txns)) (map file_of files)) all_f c.loop-i.invariant.named),
-      subst (λ (ts : List (Bor Txn)). AllByRecursion (HasFile objects schema) (map number_of ts)) all_n c.loop-i.invariant.stand,
+      subst (λ (ts : List (Bor Txn)). AllByRecursion (HasFile objects schema) (map number_of ts)) all_n (c.loop-i.invariant.stand steady),
     )

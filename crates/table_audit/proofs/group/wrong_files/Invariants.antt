@@ -9,8 +9,9 @@ use Rattle.table_audit.proofs.group.wrong_files.Given as goal
 -- the files of the numbers that were seen are added, and stand
 abbrev pub invariant-loop-i : goal.invariant-loop-i
 invariant-loop-i g l = record {
-  untouched : g.S.Store.objects l.store ≡ g.S.Store.objects l.fn.store;
-  reliable : g.S.Store.is_reliable l.fn.store → g.S.Store.is_reliable l.store;
+  untouched : g.R.ObjectReader.is_steady l.fn.reader → g.R.ObjectReader.objects l.reader ≡ g.R.ObjectReader.objects l.fn.reader;
+  steady : g.R.ObjectReader.is_steady l.fn.reader → g.R.ObjectReader.is_steady l.reader;
+  reliable : g.R.ObjectReader.is_reliable l.fn.reader → g.R.ObjectReader.is_reliable l.reader;
   named : AreFilesOf (map number_of (take l.i l.txns)) (map file_of (take l.i l.adds));
-  stand : AllByRecursion (HasFile (g.S.Store.objects l.fn.store) (tree_of l.fn.schema)) (map number_of (take l.i l.txns));
+  stand : g.R.ObjectReader.is_steady l.fn.reader → AllByRecursion (HasFile (g.R.ObjectReader.objects l.fn.reader) (tree_of l.fn.schema)) (map number_of (take l.i l.txns));
 }

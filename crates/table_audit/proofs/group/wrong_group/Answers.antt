@@ -14,14 +14,14 @@ use Rattle.table_audit.proofs.group.wrong_group.Goals as goal
 use Rattle.table_audit.proofs.group.wrong_group.Goals.{After-drop-txns-2}
 
 pub returns-then-not-are_txns_and_adds-clause-breaks : goal.returns-then-not-are_txns_and_adds-clause-breaks
-returns-then-not-are_txns_and_adds-clause-breaks g c = λ log of follows. let yes = c.are_txns_and_adds.ensures.found follows.stand.only in let both = sym yes ∙ c.if-not-are_txns_and_adds.true in cc
+returns-then-not-are_txns_and_adds-clause-breaks g c = λ steady log of follows. let yes = c.are_txns_and_adds.ensures.found follows.stand.only in let both = sym yes ∙ c.if-not-are_txns_and_adds.true in cc
 
 pub returns-in-Some-clause-breaks : goal.returns-in-Some-clause-breaks
-returns-in-Some-clause-breaks g c = λ log of.
+returns-in-Some-clause-breaks g c = λ steady log of.
     let beside = views c.args.beside.now in
     let are_ns : numbers beside ≡ map number_of c.deref.result.now =
     ap (map (λ (t : TxnAction). (t.app_id, t.version))) (sym c.in_ok-txns.ensures) ∙ (seen_numbers c.in_ok-txns.txns.items ∙ ap (map number_of) (sym c.deref.ensures.value)) in
-    none_new_picked (g.S.Store.objects c.args.store.now) (tree_of c.args.schema.now) log beside (map number_of c.deref.result.now) (added beside) are_ns refl ((rw c.in-Some.is at c.in_ok-reason.ensures.breaks) log of)
+    none_new_picked (g.R.ObjectReader.objects c.args.reader.now) (tree_of c.args.schema.now) log beside (map number_of c.deref.result.now) (added beside) are_ns refl ((rw c.in-Some.is at c.in_ok-reason.ensures.breaks) log of)
 
 picked_numbers : (g : given.Over) (c : After-drop-txns-2 g) → numbers (views c.args.beside.now) ≡ map number_of c.deref-2.result.now
 picked_numbers g c = ap (map (λ (t : TxnAction). (t.app_id, t.version))) (sym c.in_ok-txns.ensures) ∙ (seen_numbers c.in_ok-txns.txns.items ∙ ap (map number_of) (sym c.deref-2.ensures.value))
@@ -30,8 +30,8 @@ picked_files : (g : given.Over) (c : After-drop-txns-2 g) → added (views c.arg
 picked_files g c = sym c.in_ok-adds.ensures ∙ ap (map file_of) (sym c.deref-3.ensures.value)
 
 pub returns-clause-follows : goal.returns-clause-follows
-returns-clause-follows g c =
-    let objects = g.S.Store.objects c.args.store.now in
+returns-clause-follows g c = λ steady.
+    let objects = g.R.ObjectReader.objects c.args.reader.now in
     let schema = tree_of c.args.schema.now in
     let beside = views c.args.beside.now in
     let ns = map number_of c.deref-2.result.now in
@@ -43,15 +43,15 @@ returns-clause-follows g c =
     let Q : Type 0 = (log : List (List kinds.Action)) → IsSnapshotOf log c.args.snapshot.now → GroupFollows objects schema log beside in
     IfOk-weaker c.wrong_files.result _ _
     (λ o h. none_weaker P Q (λ have log of. follows_picked objects schema log beside ns files (picked_numbers g c) (picked_files g c) only (subst (λ (ts : List (Bor Txn)). AreNewIn log (map number_of ts)) same (new log of)) have) o h)
-    c.wrong_files.ensures.stand
+    (c.wrong_files.ensures.stand steady)
 
 pub returns-clause-breaks : goal.returns-clause-breaks
-returns-clause-breaks g c =
-    let objects = g.S.Store.objects c.args.store.now in
+returns-clause-breaks g c = λ steady.
+    let objects = g.R.ObjectReader.objects c.args.reader.now in
     let schema = tree_of c.args.schema.now in
     let beside = views c.args.beside.now in
     let ns = map number_of c.deref-2.result.now in
     let files = map file_of c.deref-3.result.now in
     let P : Type 0 = HaveFiles objects schema ns files → ⊥ in
     let Q : Type 0 = (log : List (List kinds.Action)) → IsSnapshotOf log c.args.snapshot.now → GroupFollows objects schema log beside → ⊥ in
-    IfOk-weaker c.wrong_files.result _ _ (λ o h. some_weaker P Q (λ none log of. no_files_picked objects schema log beside ns files (picked_numbers g c) (picked_files g c) none) o h) c.wrong_files.ensures.breaks
+    IfOk-weaker c.wrong_files.result _ _ (λ o h. some_weaker P Q (λ none log of. no_files_picked objects schema log beside ns files (picked_numbers g c) (picked_files g c) none) o h) (c.wrong_files.ensures.breaks steady)

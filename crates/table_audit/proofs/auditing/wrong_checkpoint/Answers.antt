@@ -5,34 +5,31 @@ use Rattle.table_log.proofs.Callers.{checkpoint_named}
 use Rattle.table_store.proofs.HeldLemmas.{read_at}
 use Rattle.table_store.proofs.HoldingOne.{some_is}
 use Rattle.table_audit.proofs.EndParts.{checkpoint_breaks, checkpoint_sound}
-use Rattle.table_audit.proofs.audit.wrong_checkpoint.Goals as goal
+use Rattle.table_audit.proofs.auditing.wrong_checkpoint.Goals as goal
 
 pub checkpoint_found-requires : goal.checkpoint_found-requires
 checkpoint_found-requires g c = let named = checkpoint_named (string_bytes c.args.checkpoint.now.name) c.args.checkpoint.now.version c.requires.told in omega (arith, named.small)
 
 pub returns-in-Same-clause-sound : goal.returns-in-Same-clause-sound
-returns-in-Same-clause-sound g c = λ bytes stands.
-    let objects = g.S.Store.objects c.args.store.now in
-    let walk = c.requires.walk in
+returns-in-Same-clause-sound g c = λ steady walk bytes stands.
+    let objects = g.R.ObjectReader.objects c.args.reader.now in
     let version = c.args.checkpoint.now.version in
-    let there : object_at objects (string_bytes c.args.checkpoint.now.name) ≡ Some c.in-Some.bytes.items = read_at objects _ _ _ (Some c.in-Some.bytes) c.in_ok-bytes.ensures.object c.deref.ensures c.in-Some.is in
+    let there : object_at objects (string_bytes c.args.checkpoint.now.name) ≡ Some c.in-Some.bytes.items = read_at objects _ _ _ (Some c.in-Some.bytes) (c.in_ok-bytes.ensures.object steady) c.deref.ensures c.in-Some.is in
     let found : IsCheckpoint c.in-Some.bytes.items version walk.log = rw (c.in-Same.is, c.deref-2.ensures.value) at (c.in_ok-checkpoint_found.ensures walk.log walk.snapshot walk.walked.printable) in
     checkpoint_sound objects c.args.walk.now walk version c.requires.next bytes (subst (λ (b : List ℕ). IsCheckpoint b version walk.log) (some_is c.in-Some.bytes.items bytes (sym there ∙ stands)) found)
 
 pub returns-in-Other-clause-breaks : goal.returns-in-Other-clause-breaks
-returns-in-Other-clause-breaks g c =
-    let objects = g.S.Store.objects c.args.store.now in
-    let walk = c.requires.walk in
+returns-in-Other-clause-breaks g c = λ steady walk.
+    let objects = g.R.ObjectReader.objects c.args.reader.now in
     let version = c.args.checkpoint.now.version in
-    let there : object_at objects (string_bytes c.args.checkpoint.now.name) ≡ Some c.in-Some.bytes.items = read_at objects _ _ _ (Some c.in-Some.bytes) c.in_ok-bytes.ensures.object c.deref.ensures c.in-Some.is in
+    let there : object_at objects (string_bytes c.args.checkpoint.now.name) ≡ Some c.in-Some.bytes.items = read_at objects _ _ _ (Some c.in-Some.bytes) (c.in_ok-bytes.ensures.object steady) c.deref.ensures c.in-Some.is in
     let other : IsCheckpoint c.in-Some.bytes.items version walk.log → ⊥ = rw (c.in-Other.is, c.deref-2.ensures.value) at (c.in_ok-checkpoint_found.ensures walk.log walk.snapshot walk.walked.printable) in
     checkpoint_breaks objects c.args.walk.now walk version c.requires.next (string_bytes c.args.checkpoint.now.name) c.in-Some.bytes.items c.requires.told there other
 
 pub returns-clause-breaks : goal.returns-clause-breaks
-returns-clause-breaks g c =
-    let objects = g.S.Store.objects c.args.store.now in
-    let walk = c.requires.walk in
+returns-clause-breaks g c = λ steady walk.
+    let objects = g.R.ObjectReader.objects c.args.reader.now in
     let version = c.args.checkpoint.now.version in
-    let there : object_at objects (string_bytes c.args.checkpoint.now.name) ≡ Some c.in-Some.bytes.items = read_at objects _ _ _ (Some c.in-Some.bytes) c.in_ok-bytes.ensures.object c.deref.ensures c.in-Some.is in
+    let there : object_at objects (string_bytes c.args.checkpoint.now.name) ≡ Some c.in-Some.bytes.items = read_at objects _ _ _ (Some c.in-Some.bytes) (c.in_ok-bytes.ensures.object steady) c.deref.ensures c.in-Some.is in
     let other : IsCheckpoint c.in-Some.bytes.items version walk.log → ⊥ = rw (c.in-Bad.is, c.deref-2.ensures.value) at (c.in_ok-checkpoint_found.ensures walk.log walk.snapshot walk.walked.printable) in
     checkpoint_breaks objects c.args.walk.now walk version c.requires.next (string_bytes c.args.checkpoint.now.name) c.in-Some.bytes.items c.requires.told there other

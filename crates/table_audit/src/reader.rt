@@ -1,0 +1,55 @@
+//! The objects of a store, as far as they are read.
+
+ghost use Rattle.std.specs.Prelude.{◌≡◌, map, IfOk, IsErrOf};
+ghost use Rattle.std.specs.Option.{option_map};
+ghost use Rattle.std.specs.String.{string_bytes};
+ghost use Rattle.store_core.specs.Objects.{Objects, names_of, object_at};
+
+use store_core::{Store, StoreFault};
+
+/// The objects of a store, as far as they are read: names with bytes. What a call tells of them is promised where the
+/// value is steady: a store always is, a folder on a disk never.
+///
+/// Each store is a reader. A type of another crate that is no store may be one too.
+pub trait ObjectReader {
+    /// The objects that stand.
+    ghost objects: { Self → Objects };
+
+    /// What the calls tell is so, and nothing changes.
+    ghost is_steady: { Self → Type 0 };
+
+    /// No call is lost.
+    ghost is_reliable: { Self → Type 0 };
+
+    /// All names that stand, in the order of their bytes, each once.
+    fn names(&mut self) -> Result<Vec<String>, StoreFault>
+        ensures names { is_steady self.old → IfOk result (λ names. map string_bytes names.items ≡ names_of (objects self.old)) }
+        ensures untouched { is_steady self.old → objects self.new ≡ objects self.old }
+        ensures steady { is_steady self.old → is_steady self.new }
+        ensures never_lost { is_reliable self.old → IsErrOf result StoreFault.Lost → ⊥ }
+        ensures stays_reliable { is_reliable self.old → is_reliable self.new };
+
+    /// The bytes that stand under a name, or `None` where the name is absent.
+    fn read(&mut self, name: &str) -> Result<Option<Vec<u8>>, StoreFault>
+        ensures object { is_steady self.old → IfOk result (λ found. option_map (λ bytes. bytes.items) found ≡ object_at (objects self.old) name.now) }
+        ensures untouched { is_steady self.old → objects self.new ≡ objects self.old }
+        ensures steady { is_steady self.old → is_steady self.new }
+        ensures never_lost { is_reliable self.old → IsErrOf result StoreFault.Lost → ⊥ }
+        ensures stays_reliable { is_reliable self.old → is_reliable self.new };
+}
+
+impl<S: Store> ObjectReader for S {
+    ghost objects = { λ store. S.objects store };
+
+    ghost is_steady = { λ store. Unit {0} };
+
+    ghost is_reliable = { λ store. S.is_reliable store };
+
+    fn names(&mut self) -> Result<Vec<String>, StoreFault> {
+        self.list()
+    }
+
+    fn read(&mut self, name: &str) -> Result<Option<Vec<u8>>, StoreFault> {
+        self.get(name)
+    }
+}
