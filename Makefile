@@ -1,6 +1,6 @@
 PREFIX ?= $(HOME)/.local
 
-.PHONY: bench demo folder inspect install lake model schedules test times
+.PHONY: bench demo folder inspect install lake model refusals schedules test times
 
 # Runs the stored script of the program without a proof, and shows each line before its replies.
 demo:
@@ -34,6 +34,11 @@ folder:
 # that none of them says that memory was refused.
 model:
 	@python3 scripts/model/check_cases.py
+
+# Looks that the table of docs/REFUSALS.md is the one in code, and has just the codes that this document explains, in
+# Python 3.11 without a package.
+refusals:
+	@python3 scripts/refusals.py --check
 
 # Runs the built program on random scripts of several actors, and compares what it is told with the model, and with what
 # has to hold of batches and reads. Run `make lake` before it.

@@ -10,7 +10,7 @@ import subprocess
 import tempfile
 import threading
 
-from steps import BEGINNING, CREATE, Program, batch, contents
+from steps import BEGINNING, CREATE, Program, batch, contents, faults_of_check
 
 # The longest time, in seconds, after which a process is killed, and how often a command is run until it must have
 # ended.
@@ -189,7 +189,7 @@ class Race:
         if tail.splitlines()[:-1] != wanted:
             faults.append("a tail tells other rows")
         faults += ["a reader was handed other rows" for rows in readers if rows != wanted]
-        return faults + self.faults_of_files()
+        return faults + self.faults_of_files() + faults_of_check(self.program, self.folder)
 
     def faults_of_files(self) -> list[str]:
         """Each commit is whole: its lines are JSON objects."""
@@ -221,7 +221,8 @@ def race_of_creates(program: Program, place: Path, count: int) -> list[str]:
     faults = [f"created by {winners}"] if len(winners) != 1 else []
     faults += [text for text in refused if not text.startswith(("refused E1 TableExists", "refused F2 NotSaved"))]
     table = (folder / "_delta_log" / f"{0:020}.json").read_text()
-    return faults + [f"the table isn't that of {number}" for number in winners if number not in table]
+    faults += [f"the table isn't that of {number}" for number in winners if number not in table]
+    return faults + faults_of_check(program, folder)
 
 
 def run_race(program: Program, seed: int) -> tuple[Counter[str], list[str]]:

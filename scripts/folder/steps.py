@@ -3,6 +3,8 @@
 from dataclasses import dataclass
 from pathlib import Path
 import json
+import os
+import re
 import shutil
 import subprocess
 import tempfile
@@ -33,6 +35,10 @@ ACTS = {
     "mkdir": ("lost", "ENOSPC", "EACCES"),
     "unlink": ("lost", "EACCES"),
 }
+
+# The names of commits, and those of files that killed runs leave.
+COMMIT = re.compile(r"_delta_log/[0-9]{20}\.json")
+LEFTOVER = re.compile(r"\.new-[0-9]+")
 
 # What a folder holds: the bytes of each plain file, by its name.
 Files = dict[str, bytes]
@@ -95,6 +101,7 @@ STEPS = (
     Step("history", PAST, ("history", "DIR"), '0\n1 txn "shop" 0\n2 txn "shop" 1\n',
          '0\n1 txn "shop" 0\n2 txn "shop" 1\n'),
     Step("tail", PAST, TAIL, told(ROWS[FIRST] + ROWS[SECOND], 3), told(ROWS[FIRST] + ROWS[SECOND], 3)),
+    Step("check", PAST, ("check", "DIR"), "sound 3\n", "sound 3\n"),
 )
 
 
@@ -145,7 +152,7 @@ def reads(program: Program, folder: Path) -> tuple[str, str]:
 
 
 def prepare(program: Program, step: Step) -> Prepared:
-    """Runs a step undisturbed, and looks that it answers as it should."""
+    """Runs a step undisturbed, and looks that it answers as it should and leaves a sound table."""
     with tempfile.TemporaryDirectory() as place:
         scratch, folder = Path(place), Path(place) / "table"
         folder.mkdir()
@@ -158,7 +165,46 @@ def prepare(program: Program, step: Step) -> Prepared:
         (scratch / "rows").write_text(step.rows)
         ended = run_disturbed(program.words(step.words, folder), scratch / "rows", scratch, folder, None)
         assert (ended.status, ended.told) == (0, step.reply), f"{step.name}: {ended}"
+        unsound = faults_of_check(program, folder)
+        assert not unsound, f"{step.name}: {unsound}"
         return Prepared(step, before, contents(folder), reads_before, reads(program, folder), ended.calls)
+
+
+def left_behind(folder: Path) -> list[str]:
+    """The files that killed runs left in a folder and in its log's folder, in the order of their names' bytes."""
+    files = (path for path in folder.rglob(".new-*") if path.is_file() and LEFTOVER.fullmatch(path.name))
+    return sorted((str(path.relative_to(folder)) for path in files), key=os.fsencode)
+
+
+def added_by(commit: bytes) -> set[str]:
+    """The data files that a commit adds; none where it isn't whole."""
+    try:
+        actions = [json.loads(line) for line in commit.splitlines()]
+        return {action["add"]["path"] for action in actions if "add" in action}
+    except (ValueError, TypeError, KeyError):
+        return set()
+
+
+def without_commit(files: Files) -> list[str]:
+    """The data files that no commit adds, in the order of their names' bytes."""
+    added = set().union(*(added_by(data) for name, data in files.items() if COMMIT.fullmatch(name)))
+    return sorted((name for name in files if name.endswith(".parquet") and name not in added), key=os.fsencode)
+
+
+def faults_of_check(program: Program, folder: Path) -> list[str]:
+    """A check tells the folder's table sound, with the count of its commits. Beside it lie just the leftovers and the
+    data files without a commit that are on the disk, and nothing else is told."""
+    files = contents(folder)
+    ended = program.run(("check", "DIR"), folder)
+    sound = f"sound {sum(1 for name in files if COMMIT.fullmatch(name))}\n"
+    faults = []
+    if (ended.status, ended.told) != (0, sound):
+        faults.append(f"check: status {ended.status} with {ended.told!r} {ended.said!r}, where {sound!r} was to come")
+    beside = [f"leftover {json.dumps(name)}" for name in left_behind(folder)]
+    beside += [f"unnamed {json.dumps(name)}" for name in without_commit(files)]
+    if ended.said.splitlines() != beside:
+        faults.append(f"check: tells {ended.said[:500]!r} beside the table, and there are {beside[:5]} ({len(beside)})")
+    return faults
 
 
 def disturbances(calls: list[str]) -> list[Disturbance]:
@@ -199,7 +245,8 @@ def faults_of_end(prepared: Prepared, ended: Ended, done: bool) -> list[str]:
 
 
 def try_one(program: Program, prepared: Prepared, disturbance: Disturbance) -> list[str]:
-    """Runs a step with one call disturbed, looks at what stands, runs it again, and looks once more."""
+    """Runs a step with one call disturbed, looks at what stands, runs it again, and looks once more. What stands is
+    checked the first time, and once more where something was left over."""
     step = prepared.step
     with tempfile.TemporaryDirectory() as place:
         scratch, folder = Path(place), Path(place) / "table"
@@ -210,6 +257,7 @@ def try_one(program: Program, prepared: Prepared, disturbance: Disturbance) -> l
         done = is_done(prepared, files)
         faults = [] if ended.disturbed else ["the call wasn't met again"]
         faults += faults_of_files(prepared, files) + faults_of_end(prepared, ended, done)
+        faults += faults_of_check(program, folder)
         if step.name != "create" or done:
             wanted = prepared.reads_after if done or step.mark is None else prepared.reads_before
             faults += [] if reads(program, folder) == wanted else ["history or tail tell something else"]
@@ -219,11 +267,13 @@ def try_one(program: Program, prepared: Prepared, disturbance: Disturbance) -> l
             faults.append(f"again: status {again.status} with {again.told!r} {again.said!r}")
         faults += [] if contents(folder) == prepared.after else ["another folder than without the disturbance"]
         faults += [] if reads(program, folder) == prepared.reads_after else ["history or tail tell something else then"]
+        # Where nothing was left over the folder is the undisturbed one, which was checked when the step was prepared.
+        faults += faults_of_check(program, folder) if left_behind(folder) else []
     return [f"{step.name}, call {disturbance.call} ({disturbance.act}): {fault}" for fault in faults]
 
 
 def leftovers(program: Program, count: int) -> list[str]:
-    """A folder in which so many files were left by killed commands still takes a batch."""
+    """A folder in which so many files were left by killed commands still takes a batch, and a check tells them all."""
     with tempfile.TemporaryDirectory() as place:
         folder = Path(place) / "table"
         folder.mkdir()
@@ -232,5 +282,7 @@ def leftovers(program: Program, count: int) -> list[str]:
             (folder / f".new-{number}").write_bytes(b"")
             (folder / "_delta_log" / f".new-{number}").write_bytes(b"half")
         ended = program.run(FIRST, folder, ROWS[FIRST])
+        faults = [] if ended.told == "Committed 1\n" else [f"{ended.told}{ended.said}"]
+        faults += faults_of_check(program, folder)
         shutil.rmtree(folder)
-    return [] if ended.told == "Committed 1\n" else [f"{count} leftovers: {ended.told}{ended.said}"]
+    return [f"{count} leftovers: {fault}" for fault in faults]

@@ -2,12 +2,17 @@
 
 `python3 scripts/folder/try_folders.py [--program PATH] [--jobs N] [--seconds N] [--races N]`
 
-- Create, append, close, checkpoint, `history` and `tail` are run on small tables, each call of the system disturbed in
-  turn: the process is killed at it, a write is torn, a call fails or is told as failed though it had its effect. What
-  stands then is looked at, the same command is run again, and the folder has to be the one that an undisturbed run
-  leaves, byte by byte.
+- Create, append, close, checkpoint, `history`, `tail` and `check` are run on small tables, each call of the system
+  disturbed in turn: the process is killed at it, a write is torn, a call fails or is told as failed though it had its
+  effect. What stands then is looked at, the same command is run again, and the folder has to be the one that an
+  undisturbed run leaves, byte by byte.
 - Several processes race on one folder: producers that are killed at any moment, two of them with the same batches,
   checkpoints, and readers. Each batch that was told as standing has to stand once, whole and in order.
+- Behind each disturbed call and each race `check` has to tell the table sound, with the count of its commits, and beside
+  it just the leftovers and the data files without a commit that are on the disk. It has to tell the same behind the
+  command that is run again, where something was left over: else that folder is the undisturbed one, which is checked once.
+
+- A table of 10,000 batches is checked, whole and without its last file.
 
 It ends with status 0 where all held, 1 where something didn't, and 2 where nothing can be tried. A kill loses no write
 that the system took: cuts of power aren't tried.
@@ -22,6 +27,7 @@ import random
 import sys
 import time
 
+from large import try_large
 from races import run_creates, run_race
 from steps import STEPS, Prepared, Program, disturbances, leftovers, prepare, try_one
 from traced import CannotTrace, Disturbance
@@ -30,6 +36,9 @@ LAKE = Path(__file__).resolve().parents[2] / "crates" / "lake" / "out" / "lake"
 
 # Rounds of processes that create the same table, and how many they are; the leftovers that an append has to bear.
 CREATES, CREATORS, LEFTOVERS = 20, 4, 1_200
+
+# The batches of a table that is checked.
+BATCHES = 10_000
 
 Task = tuple[Program, Prepared, Disturbance]
 
@@ -94,8 +103,11 @@ def main() -> int:
         return 2
     faults += leftovers(program, LEFTOVERS)
     faults += run_creates(program, CREATES, CREATORS)
+    seconds, found = try_large(program, BATCHES)
+    faults += found
     races, told, found = try_races(program, asked.races, start + asked.seconds)
     tell(counts, untried, races, told)
+    print(f"a table of {BATCHES} batches was checked in {seconds:.1f} s")
     for fault in faults + found:
         print(f"wrong: {fault}")
     print(f"{len(faults + found)} wrong, {time.monotonic() - start:.0f} s")

@@ -3,6 +3,7 @@
 Counts are whole numbers from 0 to 2^63 - 1. A null field is absent, and other fields are skipped.
 """
 
+from collections.abc import Iterator
 from typing import Any, NamedTuple
 from urllib.parse import unquote_to_bytes
 import re
@@ -11,7 +12,7 @@ from table import json_value
 
 
 class BadLine(Exception):
-    """A line of a commit that isn't an action."""
+    """A line of a commit that isn't an action: the fault's code and name, and the field that is wrong, if one is."""
 
 
 class Action(NamedTuple):
@@ -114,29 +115,49 @@ def action_of(line: bytes) -> Action:
     try:
         value = json_value(line.decode())
     except ValueError as error:
-        raise BadLine from error
-    if not isinstance(value, dict) or len(value) != 1:
-        raise BadLine
+        raise BadLine("A1 BadJson") from error
+    if not isinstance(value, dict):
+        raise BadLine("A1 BadJson")
+    if len(value) != 1:
+        raise BadLine("A3 NotOneKey")
     ((key, body),) = value.items()
     if key not in FIELDS:
         return Action(key, {})
     if not isinstance(body, dict):
-        raise BadLine
+        raise BadLine("A2 BadField", key)
     fields = {}
     for name, (test, *default) in FIELDS[key].items():
         found = body.get(name)
         if found is None and not default or found is not None and not test(found):
-            raise BadLine
+            raise BadLine("A2 BadField", name)
         fields[name] = default[0] if found is None else found
     return Action(key, fields)
+
+
+def lines_of(commit: bytes) -> Iterator[tuple[int, bytes]]:
+    """The lines of a commit that aren't blank, and their numbers, which count from 1."""
+    for number, line in enumerate(commit.split(b"\n"), 1):
+        if line.strip(b" \t\r"):
+            yield number, line
 
 
 def actions_of(commit: bytes) -> list[Action] | None:
     """The actions of a commit, or None where a line is none."""
     try:
-        return [action_of(line) for line in commit.split(b"\n") if line.strip(b" \t\r")]
+        return [action_of(line) for _, line in lines_of(commit)]
     except BadLine:
         return None
+
+
+def line_fault(commit: bytes) -> str | None:
+    """What is wrong with the first line of a commit that is no action, or None where each is one."""
+    for number, line in lines_of(commit):
+        try:
+            action_of(line)
+        except BadLine as fault:
+            name, *field = fault.args
+            return " ".join((name, str(number), *field))
+    return None
 
 
 def last_of(actions: list[Action], key: str) -> dict[str, Any] | None:

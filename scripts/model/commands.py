@@ -3,7 +3,9 @@
 from typing import NamedTuple
 import re
 
+from check import check_lines
 from log import Log
+from refusals import ENTRIES, explained
 from table import NotModelled, json_value
 from world import World
 
@@ -19,6 +21,7 @@ COMMANDS: dict[str, tuple[int, dict[str, bool]]] = {
     "snapshot": (0, {}),
     "checkpoint": (0, {}),
     "history": (0, {}),
+    "check": (0, {}),
 }
 
 # The bounds of numbers, and what stands for an option that isn't given.
@@ -66,7 +69,7 @@ def command_of(words: list[str]) -> Command:
     restores = True
     rest = iter(words[1:])
     for word in rest:
-        if word == "--no-checkpoint" and words[0] != "create":
+        if word == "--no-checkpoint" and words[0] not in ("create", "check"):
             restores = False
         elif word.startswith("-"):
             if word[2:] not in options or word[2:] in given:
@@ -141,6 +144,15 @@ def script_lines(run: Run) -> list[str]:
     return [*told, "status 0" if end == "Done" else "status 2"]
 
 
+def explanation(words: list[str]) -> list[str]:
+    """What a code means, where a refusal has it."""
+    if len(words) != 1 or words[0].startswith("-"):
+        raise NotModelled("words that are refused")
+    if words[0] not in ENTRIES:
+        return ["status 2", f"error: no refusal has the code '{words[0]}'"]
+    return [ENTRIES[words[0]], "status 0"]
+
+
 class Folder:
     """A table's folder: its files, and what commands tell of them."""
 
@@ -152,12 +164,16 @@ class Folder:
         """The lines that a command writes, its status, and what stands on standard error."""
         if run.words[:1] == ["script"]:
             return script_lines(run)
+        if run.words[:1] == ["explain"]:
+            return explanation(run.words[1:])
         command = command_of(run.words)
         self.known.add(command.folder)
         if len(self.known) > 1 or command.folder.endswith("!"):
             return self.elsewhere(command, run)
         if command.name == "load":
-            return ["refused N1 NotYet", "status 1"]
+            return ["refused N1 NotYet", "status 1", *explained("refused N1 NotYet")]
+        if command.name == "check":
+            return check_lines(self.objects)
         try:
             line = script_line(command, bytes(run.input))
         except (BadLine, Miscounted) as wrong:
@@ -166,8 +182,10 @@ class Folder:
         told = log.answer(line)
         fault = self.save(log.objects, run.stops)
         if fault is not None:
-            return ["status 1", f"refused F2 NotSaved {fault}"]
-        return [*told, f"status {1 if told and told[-1].startswith('refused ') else 0}"]
+            return ["status 1", f"refused F2 NotSaved {fault}", *explained("refused F2")]
+        if not told or not told[-1].startswith("refused "):
+            return [*told, "status 0"]
+        return [*told, "status 1", *explained(told[-1])]
 
     def elsewhere(self, command: Command, run: Run) -> list[str]:
         """Of folders beside the first nothing is modelled but what comes before they are looked at."""

@@ -6,7 +6,8 @@ use crate::running::tell_written;
 use crate::shared::SharedFolder;
 use crate::streams::{Sink, Source};
 use crate::table::tell_objects;
-use lake_command::{command, table_command};
+use folder_check::{FolderReader, NoProgress};
+use lake_command::{check_command, command, table_command};
 use lake_script::{Input, Output};
 use lake_words::{Command, read_words};
 use std::io::Write;
@@ -26,9 +27,8 @@ pub fn tell_runs(rt: &HostRuntime, case: &mut Case, out: &mut Vec<u8>) -> Result
     let mut files = MemoryFolder::new(alloc, store, Stop::Never);
     for run in &case.runs {
         files.stop = run.stop;
-        let mut folder = SharedFolder::new(alloc, files, &run.rivals);
-        tell_run(rt, case, run, &mut folder, out)?;
-        files = folder.into_files();
+        let folder = SharedFolder::new(alloc, files, &run.rivals);
+        files = tell_run(rt, case, run, folder, out)?;
     }
     if case.tells_objects {
         tell_files(rt, case, &mut files, out)?;
@@ -53,19 +53,22 @@ fn tell_files(
     }
 }
 
+// Runs one command line, and tells what came of it and the files that are left.
 fn tell_run(
     rt: &HostRuntime,
     case: &Case,
     run: &Run,
-    folder: &mut SharedFolder<'_>,
+    folder: SharedFolder<'_>,
     out: &mut Vec<u8>,
-) -> Result<(), Failure> {
+) -> Result<MemoryFolder, Failure> {
     let mut told = Vec::new(rt.alloc());
     let mut err = Vec::new(rt.alloc());
-    let status = run_command(rt, case, run, folder, &mut told, &mut err);
+    let mut reader = FolderReader::new(folder, NoProgress);
+    let status = run_command(rt, case, run, &mut reader, &mut told, &mut err);
     tell_written(rt.alloc(), &told, case.last, out)?;
     writeln!(out, "status {status}")?;
-    tell_written(rt.alloc(), &err, None, out)
+    tell_written(rt.alloc(), &err, None, out)?;
+    Ok(reader.folder.into_files())
 }
 
 // Runs one command line, over the folder in memory unless the case is on the disk.
@@ -73,7 +76,7 @@ fn run_command(
     rt: &HostRuntime,
     case: &Case,
     run: &Run,
-    folder: &mut SharedFolder<'_>,
+    reader: &mut FolderReader<SharedFolder<'_>, NoProgress>,
     told: &mut Vec<u8>,
     err: &mut Vec<u8>,
 ) -> u8 {
@@ -90,10 +93,18 @@ fn run_command(
     let mut input = Input::new(source);
     let mut output = Output::new(rt.alloc(), sink);
     let exit = match read_words(rt.alloc(), &run.words) {
-        Ok(Command::Table(job)) if case.folder.is_none() => {
-            table_command(rt.alloc(), folder, job, &mut input, &mut output, err)
+        Ok(Command::Table(job)) if case.folder.is_none() => table_command(
+            rt.alloc(),
+            &mut reader.folder,
+            job,
+            &mut input,
+            &mut output,
+            err,
+        ),
+        Ok(Command::Check { .. }) if case.folder.is_none() => {
+            check_command(rt.alloc(), reader, &mut output, err)
         }
-        _ => command(rt, &run.words, &mut input, &mut output, err),
+        _ => command(rt, &run.words, &mut input, &mut output, err, NoProgress),
     };
     exit.status
 }

@@ -1,6 +1,6 @@
 -- An append whose words say how many rows its input has.
-use Rattle.std.proofs.Common.{◌≡◌, ◌≢◌, ◌⊎◌, inl, inr, ℕ, Bool, true, List, length, map, Option, Some, None, Result, Ok, Err, IfSome, sym, ap, subst, ◌∙◌}
-use Rattle.std.specs.Prelude.{IsErrAnd, IsSomeAnd}
+use Rattle.std.proofs.Common.{◌≡◌, ◌⊎◌, inl, inr, ℕ, Bool, true, List, length, Option, Some, None, Result, Err, sym, ap, subst, ◌∙◌}
+use Rattle.std.specs.Prelude.{IsErrAnd}
 use Rattle.std.proofs.lemmas.List.{length-map}
 use Rattle.serde_json.specs.Data.{Data}
 use Rattle.json_lines.specs.Rows.{input_lines, object_of}

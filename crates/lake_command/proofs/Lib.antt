@@ -1,4 +1,5 @@
 pub mod AgainLemmas
+pub mod CheckLemmas
 pub mod CountLemmas
 pub mod EndingLemmas
 pub mod FolderLemmas

@@ -1,5 +1,5 @@
 -- What a command writes, from what its script's run tells.
-use Rattle.std.proofs.Common.{◌≡◌, ◌≢◌, ◌<◌, ◌≤◌, ◌+◌, ℕ, suc, Bool, length, inl, inr, arith, List, [], Option, Some, None, IfSome, refl, subst, ap}
+use Rattle.std.proofs.Common.{◌≡◌, ◌≢◌, ◌<◌, ◌≤◌, ◌+◌, ◌∙◌, ℕ, suc, Bool, true, false, length, inl, inr, arith, List, [], Option, Some, None, IfSome, refl, sym, subst, ap}
 use Rattle.std.specs.Io.KnownBytes.{Appends}
 use Rattle.std.proofs.lemmas.Bool.{cases_lt}
 use Rattle.delta_actions.specs.Commit.{lines_of}
@@ -16,7 +16,7 @@ use Rattle.lake_script.specs.Tables.{nothing, entries_of, AreOfTable, expected_o
 use Rattle.lake_script.specs.Told.{ArePrintedLines, ArePutHere, IsTold, expected_output, Finishes}
 use Rattle.lake_words.specs.Asked.{Spells, replaying, restoring}
 use Rattle.lake_words.specs.declared.command.Command.{Command}
-use Rattle.lake_words.specs.declared.command.Command.TheVariants.{Table}
+use Rattle.lake_words.specs.declared.command.Command.TheVariants.{Script, Table}
 use Rattle.lake_words.specs.declared.command.TableCommand.{TableCommand}
 use Rattle.lake_command.specs.Scripts.{IsPlayedOver, IsPlayedSo}
 use Rattle.lake_command.specs.Status.{status_of}
@@ -110,3 +110,12 @@ so_of_run end old new text after uses fine run here =
 pub no_job : (words : List (List ℕ)) (c : Command) (t : TableCommand) → Spells words c → Table t ≡ c → ⊥
 no_job words c t restoring e = absurd cc
 no_job words c t replaying e = absurd cc
+
+abbrev pub is_script : Command → Bool
+is_script (Script use_checkpoints) = true
+is_script _ = false
+
+-- nor for anything else
+pub no_other : (words : List (List ℕ)) (c other : Command) → Spells words c → other ≡ c → is_script other ≡ false → ⊥
+no_other words c other restoring e not_one = let both = sym (ap is_script e) ∙ not_one in cc
+no_other words c other replaying e not_one = let both = sym (ap is_script e) ∙ not_one in cc

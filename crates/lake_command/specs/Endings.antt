@@ -1,5 +1,5 @@
 -- How a job on the table in a folder ends: what comes of it, what is told and where, and the exit status.
-use Rattle.std.specs.Prelude.{◌≡◌, ◌⊎◌, ◌≤◌, ℕ, Bool, true, List, Option, Some, None, Result, Ok, Err, IfErr, IfSome, if◌then◌else◌, length}
+use Rattle.std.specs.Prelude.{◌≡◌, ◌⊎◌, ◌≤◌, ℕ, Bool, true, false, List, Option, Some, None, Result, Ok, Err, IfErr, IfSome, if◌then◌else◌, length}
 use Rattle.std.specs.Io.KnownBytes.{Appends}
 use Rattle.store_core.specs.Objects.{Objects}
 use Rattle.lake_script.specs.ReplyView as replies
@@ -41,15 +41,21 @@ abbrev pub is_short_outcome : Result LineReply Failure → Bool
 is_short_outcome (Ok reply) = replies.is_short reply
 is_short_outcome (Err failure) = is_want_of_memory failure
 
--- With a text: it is on the output, behind what was there, and standard error is as it was. Without one the output is
--- as it was, and standard error isn't looked at.
-abbrev pub IsWritten : {W E : Type 0} → (W → Option (List ℕ)) → Option (List ℕ) → (old new : Output W) → (err_old err_new : E) → Type 0
-IsWritten contents (Some text) old new err_old err_new = Appends (held contents old) (contents new.writer) text × (err_new ≡ err_old)
-IsWritten contents None old new err_old err_new = new ≡ old
+-- a text that is told where replies go is a refusal, so that what it means is told on standard error
+abbrev pub is_explained : Work → Result LineReply Failure → Bool
+is_explained work (Ok reply) = refuses work reply
+is_explained work (Err Memory) = true
+is_explained work (Err _) = false
+
+-- With a text: it is on the output, behind what was there, and standard error is as it was unless something is told
+-- there. Without one the output is as it was, and standard error isn't looked at.
+abbrev pub IsWritten : {W E : Type 0} → (W → Option (List ℕ)) → Option (List ℕ) → (is_explained : Bool) → (old new : Output W) → (err_old err_new : E) → Type 0
+IsWritten contents (Some text) is_explained old new err_old err_new = Appends (held contents old) (contents new.writer) text × (is_explained ≡ false → err_new ≡ err_old)
+IsWritten contents None is_explained old new err_old err_new = new ≡ old
 
 -- what came of a job is told, and the status is its own
 pub record IsToldWhole {W E : Type 0} (contents : W → Option (List ℕ)) (work : Work) (outcome : Result LineReply Failure) (old new : Output W) (err_old err_new : E) (exit : Exit) : Type 0 where
-  pub written : IsWritten contents (output_of outcome) old new err_old err_new
+  pub written : IsWritten contents (output_of outcome) (is_explained work outcome) old new err_old err_new
   pub status : exit.status ≡ status_of_outcome work outcome
   pub short : exit.is_short ≡ is_short_outcome outcome
 

@@ -3,3 +3,5 @@ pub mod Folders
 pub mod Status
 pub mod Endings
 pub mod Scripts
+pub mod Checks
+pub mod Explaining

@@ -1,5 +1,5 @@
 //! One command, from its words to its exit status.
-ghost use Rattle.std.specs.Prelude.{◌≡◌, ◌≢◌, ◌≤◌, ◌⊎◌, ℕ, Bool, List, [], true, false, length, map, IfSome};
+ghost use Rattle.std.specs.Prelude.{◌≡◌, ◌≢◌, ◌≤◌, ◌⊎◌, ℕ, Bool, List, [], true, false, length, map, IfOk, IfSome};
 ghost use Rattle.std.specs.Io.KnownBytes.{Appends};
 ghost use Rattle.clap.specs.Words.{fault_of, kind_of};
 ghost use Rattle.delta_actions.specs.Commit.{lines_of};
@@ -11,19 +11,24 @@ ghost use Rattle.lake_script.specs.Streams.{held, unread, read_failed, write_fai
 ghost use Rattle.lake_script.specs.Scripts.{IsExpectedOver};
 ghost use Rattle.lake_script.specs.Tables.{nothing, expected_output as expected_by_table, AreOfTable};
 ghost use Rattle.lake_script.specs.Told.{ArePutHere, IsTold, first_bad};
-ghost use Rattle.lake_words.specs.Asked.{Spells, Work, table, work_view};
+ghost use Rattle.lake_words.specs.Asked.{Spells, Work, check, explain, table, work_view};
 ghost use Rattle.lake_words.specs.Spelling.{SpellsJob};
+ghost use Rattle.lake_command.specs.Checks.{ChecksDisk};
 ghost use Rattle.lake_command.specs.Endings.{IsMisused, TellsJob};
+ghost use Rattle.lake_command.specs.Explaining.{IsExplained};
 ghost use Rattle.lake_command.specs.Folders.{IsMiscounted, reads_input};
 ghost use Rattle.lake_command.specs.Scripts.{IsPlayedOver, IsPlayedSo};
 ghost use Rattle.world_script.specs.Words.{needs_world};
 ghost use Rattle.lake_words.specs.Words.{commands};
 
+use crate::checking::check_command;
 use crate::exit::{DONE, Exit, MISUSED, REFUSED};
+use crate::explaining::{explain, explain_command};
 use crate::failure::Failure;
 use crate::telling::{table_command, tell_failure};
 use clap::Error;
 use clap::error::ErrorKind;
+use folder_check::{FolderReader, Progress};
 use lake_script::{End, Fault, Input, Output, RefusalText};
 use lake_words::{Command, TableCommand, read_words};
 use std::alloc::AllocError;
@@ -31,7 +36,7 @@ use std::convert::AsStr;
 use std::io::{Read, Write};
 use std::rt::Files;
 use store_core::MemoryStore;
-use table_folder::{DirFolder, LoadFault};
+use table_folder::{DirFolder, Folder, LoadFault};
 use world_script::run;
 
 // The status of words that ask for help, that are refused, or that were too much to read.
@@ -56,7 +61,9 @@ fn ended<E: Write>(end: End, err: &mut E) -> u8
         End::NotRead => Fault::NotRead,
         End::NotWritten => Fault::NotWritten,
     };
+    let code = if fault == Fault::NotRead { "F3" } else { "F4" };
     let _ = err.writeln(RefusalText(fault));
+    explain(code, err);
     REFUSED
 }
 
@@ -64,7 +71,9 @@ fn ended<E: Write>(end: End, err: &mut E) -> u8
 fn open<H: Files + AllocGlobal + Clone + Drop>(
     rt: &H,
     path: &str,
-) -> Result<DirFolder<H>, AllocError> {
+) -> Result<DirFolder<H>, AllocError>
+    ensures { IfOk result (λ folder. ⟦<DirFolder<H> as Folder>⟧.fault_count folder ≡ 0) }
+{
     DirFolder::new(rt.clone()?, path)
 }
 
@@ -91,15 +100,44 @@ fn command_on_disk<H: Files + AllocGlobal + Clone + Drop, R: Read, W: Write, E: 
     }
 }
 
+// Judges the table in a folder on the disk.
+fn check_on_disk<H: Files + AllocGlobal + Clone + Drop, P: Progress + Drop, W: Write, E: Write>(
+    rt: &H,
+    path: &str,
+    progress: P,
+    output: &mut Output<W>,
+    err: &mut E,
+) -> Exit
+    ensures { ChecksDisk W.contents output.old output.new result }
+{
+    match open(rt, path) {
+        Ok(folder) => {
+            let mut reader = FolderReader::new(folder, progress);
+            check_command(rt.alloc(), &mut reader, output, err)
+        }
+        Err(_error) => tell_failure(&Failure::Loading(LoadFault::Memory), output, err),
+    }
+}
+
 /// Runs the command that the words ask for: a script over a store in which nothing stands yet, or a job on the table in a
-/// folder on the disk, of which [`table_command`] tells what is claimed over any folder. Replies go to `output`. What
-/// `clap` says of the words and the program's own faults go to `err`.
-pub fn command<H: Files + AllocGlobal + Clone + Drop, S: AsStr, R: Read, W: Write, E: Write>(
+/// folder on the disk, of which [`table_command`] tells what is claimed over any folder, or a check of one, of which
+/// [`check_command`] does, or it tells what a code means. Replies go to `output`. What `clap` says of the words, the
+/// program's own faults, what refusals mean and what lies beside a table go to `err`, and how far a check is to
+/// `progress`.
+pub fn command<
+    H: Files + AllocGlobal + Clone + Drop,
+    S: AsStr,
+    R: Read,
+    W: Write,
+    E: Write,
+    P: Progress + Drop,
+>(
     rt: &H,
     words: &[S],
     input: &mut Input<R>,
     output: &mut Output<W>,
     err: &mut E,
+    progress: P,
 ) -> Exit
     // A script without actors that isn't refused writes what it is told, for some texts that the schemas of its lines
     // are printed as, its checkpoints and its snapshots; the lines that met a refused growth are told so.
@@ -152,6 +190,15 @@ pub fn command<H: Files + AllocGlobal + Clone + Drop, S: AsStr, R: Read, W: Writ
     ensures input_untouched { (folder : List ℕ) (use_checkpoints : Bool) (work : Work) → SpellsJob (map S.text words.now) (table folder use_checkpoints work)
         → reads_input work ≡ false → input.new ≡ input.old }
 
+    // A check leaves the input alone, and tells a verdict with its status, or a reason why it tells none. That the verdict is
+    // right of a folder on the disk isn't claimed.
+    ensures checks { (folder : List ℕ) → SpellsJob (map S.text words.now) (check folder) → (input.new ≡ input.old)
+        × ChecksDisk W.contents output.old output.new result }
+
+    // What a code means is told, or that no refusal has it.
+    ensures explains { (code : List ℕ) → SpellsJob (map S.text words.now) (explain code) → (input.new ≡ input.old)
+        × IsExplained W.contents code output.old output.new result }
+
     // Words that can't be read have the status of what is wrong with them, and run nothing.
     ensures misused { fault_of commands (map S.text words.now) ≢ [] → IsStatusOf (fault_of commands (map S.text words.now)) result.status result.is_short }
     ensures unread { fault_of commands (map S.text words.now) ≢ [] → (input.new ≡ input.old) × (output.new ≡ output.old) }
@@ -159,6 +206,8 @@ pub fn command<H: Files + AllocGlobal + Clone + Drop, S: AsStr, R: Read, W: Writ
     let alloc = rt.alloc();
     match read_words(alloc, words) {
         Ok(Command::Table(command)) => command_on_disk(rt, command, input, output, err),
+        Ok(Command::Check { folder }) => check_on_disk(rt, folder, progress, output, err),
+        Ok(Command::Explain { code }) => explain_command(code, output, err),
         Ok(Command::Script { use_checkpoints }) => {
             let store = MemoryStore::new(alloc);
             let ran = run(alloc, input, output, store, use_checkpoints);

@@ -5,14 +5,17 @@
 #![tactic(auto)]
 
 mod answering;
+mod checking;
 mod commands;
 mod exit;
+mod explaining;
 mod failure;
 mod looking;
 mod saving;
 mod telling;
 
 pub use answering::answer;
+pub use checking::check_command;
 pub use commands::command;
 pub use exit::{DONE, Exit, MISUSED, REFUSED};
 pub use failure::Failure;

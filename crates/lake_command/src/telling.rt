@@ -16,6 +16,7 @@ ghost use Rattle.lake_command.specs.Folders.{IsAnsweredJob, IsMiscounted, reads_
 
 use crate::answering::answer;
 use crate::exit::{DONE, Exit, MISUSED, REFUSED};
+use crate::explaining::{code_of, explain, explain_reply};
 use crate::failure::Failure;
 use lake_script::{Fault, Input, LineReply, Output, OutputError, RefusalText};
 use lake_words::{Job, TableCommand};
@@ -24,7 +25,7 @@ use std::io::{Read, Write};
 use table_folder::{Folder, LoadFault, SaveFault};
 
 /// Does a job on the table in a folder. Replies, bad lines and want of memory for the rows go to `output`, other failures to
-/// `err`.
+/// `err`, and so does what a refusal means.
 pub fn table_command<F: Folder, R: Read, W: Write, E: Write>(
     alloc: Global,
     folder: &mut F,
@@ -62,13 +63,14 @@ pub fn table_command<F: Folder, R: Read, W: Write, E: Write>(
     ensures steady { F.is_steady folder.old → F.is_steady folder.new }
 {
     match answer(alloc, folder, command, input) {
-        Ok(reply) => tell(&reply, command.job, output, err),
+        Ok(reply) => tell(alloc, &reply, command.job, output, err),
         Err(failure) => tell_failure(&failure, output, err),
     }
 }
 
-// Tells a reply.
+// Tells a reply, and of one that refuses the job what that means.
 fn tell<W: Write, E: Write>(
+    alloc: Global,
     reply: &LineReply,
     job: Job<'_>,
     output: &mut Output<W>,
@@ -80,16 +82,19 @@ fn tell<W: Write, E: Write>(
     ensures ended { EndsWith W.contents (work_view job.entry) (Ok reply.now) output.old output.new err.old err.new result }
 {
     let is_short = reply.is_short();
-    match give(reply, output) {
-        Ok(()) => {
-            let status = if is_refused(reply, job) {
-                REFUSED
-            } else {
-                DONE
-            };
-            Exit { status, is_short }
-        }
-        Err(error) => not_written(error, is_short, err),
+    if let Err(error) = give(reply, output) {
+        return not_written(error, is_short, err);
+    }
+    if !is_refused(reply, job) {
+        return Exit {
+            status: DONE,
+            is_short,
+        };
+    }
+    explain_reply(alloc, reply, err);
+    Exit {
+        status: REFUSED,
+        is_short,
     }
 }
 
@@ -103,19 +108,20 @@ fn give<W: Write>(reply: &LineReply, output: &mut Output<W>) -> Result<(), Outpu
     output.flush()
 }
 
-// Tells that a reply wasn't written. Where this fails too, nothing is left to tell it on.
-fn not_written<E: Write>(error: OutputError, is_short: bool, err: &mut E) -> Exit
+/// Tells that a reply wasn't written. Where this fails too, nothing is left to tell it on.
+pub(crate) fn not_written<E: Write>(error: OutputError, is_short: bool, err: &mut E) -> Exit
     ensures status { result.status ≡ REFUSED }
     ensures short { (result.is_short ≡ true) ⊎ (error ≡ OutputError.Broken) }
 {
     let _ = err.writeln(RefusalText(Fault::NotWritten));
+    explain("F4", err);
     Exit {
         status: REFUSED,
         is_short: is_short || error == OutputError::Memory,
     }
 }
 
-/// Tells why there is no reply. A bad line goes where replies go.
+/// Tells why there is no reply, and what that means. A bad line goes where replies go.
 pub(crate) fn tell_failure<W: Write, E: Write>(
     failure: &Failure,
     output: &mut Output<W>,
@@ -129,8 +135,14 @@ pub(crate) fn tell_failure<W: Write, E: Write>(
         if let Err(error) = say(failure, output) {
             return not_written(error, is_short, err);
         }
+        if is_short {
+            explain("S6", err);
+        }
     } else {
         let _ = err.writeln(failure);
+        if let Some(code) = code_of(failure) {
+            explain(code, err);
+        }
         hint(failure, err);
     }
     Exit {

@@ -1,4 +1,4 @@
--- The words of the jobs that have no option but `--no-checkpoint`.
+-- The words of the jobs that have no option but `--no-checkpoint`, and of `check` and `explain`, which have none.
 use Rattle.std.proofs.Common.{Bool, true, false, List, [], ◌∷◌, refl, codes}
 use Rattle.clap.specs.Walk.{Text}
 use Rattle.clap.proofs.OnLiterals.{clap_on_literals}
@@ -6,7 +6,7 @@ use Rattle.lake_words.specs.Asked.{table}
 use Rattle.lake_words.specs.Asked as asked
 use Rattle.lake_words.specs.Spelling.{IsPlain, SpellsRestore, replaying, restoring}
 use Rattle.lake_words.specs.Words as words
-use Rattle.lake_words.proofs.JobWords.{AreRead, IsJob, given_restore, job_read, leaf}
+use Rattle.lake_words.proofs.JobWords.{AreRead, IsJob, given_restore, job_read, leaf, no_restore}
 use Rattle.lake_words.proofs.WordItems.{all_taken, flag, next, no_more, plain}
 
 -- the name is a job of the program, with these rules
@@ -56,3 +56,27 @@ history_read program dir use_checkpoints restore_words d restoring =
 history_read program dir use_checkpoints restore_words d replaying =
     job_read program (codes "history") (plain dir ∷ flag (codes "--no-checkpoint") ∷ []) (leaf words.history) false _ history_is_job (d, tt)
     (all_taken _ _ (next refl (next refl no_more)) refl refl) (given_restore false _ refl) refl
+
+-- the name is one of the program's, with these rules
+check_is_job : IsJob (codes "check") (leaf words.check)
+unfolding clap_on_literals
+check_is_job = record { walked = refl; passes = refl; found = refl }
+
+-- check DIR
+pub check_read : (program dir : Text) → IsPlain dir → AreRead (program ∷ codes "check" ∷ dir ∷ []) (asked.check dir)
+unfolding clap_on_literals
+check_read program dir d =
+    job_read program (codes "check") (plain dir ∷ []) (leaf words.check) true _ check_is_job (d, tt)
+    (all_taken _ _ (next refl no_more) refl refl) (no_restore _ refl) refl
+
+-- the name is one of the program's, with these rules
+explain_is_job : IsJob (codes "explain") (leaf words.explain)
+unfolding clap_on_literals
+explain_is_job = record { walked = refl; passes = refl; found = refl }
+
+-- explain CODE
+pub explain_read : (program code : Text) → IsPlain code → AreRead (program ∷ codes "explain" ∷ code ∷ []) (asked.explain code)
+unfolding clap_on_literals
+explain_read program code d =
+    job_read program (codes "explain") (plain code ∷ []) (leaf words.explain) true _ explain_is_job (d, tt)
+    (all_taken _ _ (next refl no_more) refl refl) (no_restore _ refl) refl

@@ -1,10 +1,11 @@
 -- What the getters of `clap` read, by the rows of the matches.
-use Rattle.std.proofs.Common.{◌≡◌, ℕ, List, [], Option, Some, None, Result, Ok, Err, Bool, true, false, not, Bor, refl, ap, ap₂, sym, subst, codes, option_map}
+use Rattle.std.proofs.Common.{◌≡◌, ℕ, List, [], Option, Some, None, Result, Ok, Err, Bool, true, false, not, Bor, refl, ap₂, sym, subst, codes, option_map}
 use Rattle.std.proofs.lemmas.Option.{same_Some}
-use Rattle.std.specs.Prelude.{unwrap_or, option_and_then}
+use Rattle.std.specs.Prelude.{bytes_eq, unwrap_or, option_and_then}
+use Rattle.std.specs.Option.{option_map_or}
 use Rattle.std.specs.Str.Parse.{ExplainsUnsignedError, HasUnsignedDigitsIfOk, ParsesUnsigned}
 use Rattle.clap.specs.Words.{Row, Text, ReadsOne, one_of}
-use Rattle.lake_words.specs.Asked.{AsksFor, IsFlag, asked_by, number_of, command_view}
+use Rattle.lake_words.specs.Asked.{AsksFor, IsFlag, asked_by, check, explain, number_of, command_view, script, table, text_in, work_of}
 use Rattle.lake_words.specs.declared.command.Command.{Command}
 use Rattle.lake_words.proofs.Numbers.{number_of_parsed}
 
@@ -49,3 +50,16 @@ pub asks_for : (sub : Option (Text × List Row)) (name : Text) (rows : List Row)
     → sub ≡ Some (name, rows) → IsFlag (one_of (codes "no-checkpoint") rows) flag → command_view command ≡ asked_by name rows (not flag) → AsksFor sub command
 asks_for sub name rows flag command is h view =
     subst (λ s. AsksFor s command) (sym is) (not flag, turned_flag flag _ h, view)
+
+-- what a subcommand asks for, by whether it is `check` or `explain`
+pub check_asked : (name : Text) (rows : List Row) (use_checkpoints : Bool) → bytes_eq name (codes "check") ≡ true
+    → check (text_in (codes "DIR") rows) ≡ asked_by name rows use_checkpoints
+check_asked name rows use_checkpoints is = rw is refl
+
+pub explain_asked : (name : Text) (rows : List Row) (use_checkpoints : Bool) → bytes_eq name (codes "check") ≡ false → bytes_eq name (codes "explain") ≡ true
+    → explain (text_in (codes "CODE") rows) ≡ asked_by name rows use_checkpoints
+explain_asked name rows use_checkpoints no_check is = rw (no_check, is) refl
+
+pub other_asked : (name : Text) (rows : List Row) (use_checkpoints : Bool) → bytes_eq name (codes "check") ≡ false → bytes_eq name (codes "explain") ≡ false
+    → option_map_or (λ work. table (text_in (codes "DIR") rows) use_checkpoints work) (work_of name rows) (script use_checkpoints) ≡ asked_by name rows use_checkpoints
+other_asked name rows use_checkpoints no_check no_explain = rw (no_check, no_explain) refl

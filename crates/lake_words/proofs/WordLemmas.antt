@@ -4,7 +4,7 @@ use Rattle.std.proofs.lemmas.Bool.{not-true, not-false}
 use Rattle.clap.specs.Words.{is_simple, is_simple_and_free, subcommand_of, takes}
 use Rattle.clap.proofs.OnLiterals.{clap_on_literals}
 use Rattle.lake_words.specs.declared.command.Command.{Command}
-use Rattle.lake_words.specs.declared.command.Command.TheVariants.{Script, Table}
+use Rattle.lake_words.specs.declared.command.Command.TheVariants.{Check, Explain, Script, Table}
 use Rattle.lake_words.specs.Asked.{AsksFor, Spells, command_view, restoring, replaying, script}
 use Rattle.lake_words.specs.Words.{commands}
 
@@ -25,6 +25,8 @@ spelled_takes words c replaying = refl
 script_is : (c : Command) (use_checkpoints : Bool) → command_view c ≡ script use_checkpoints → c ≡ Script use_checkpoints
 script_is (Script r) use_checkpoints e = cc
 script_is (Table t) use_checkpoints e = cc
+script_is (Check folder) use_checkpoints e = cc
+script_is (Explain code) use_checkpoints e = cc
 
 restoring_asks : (name : List ℕ) (c : Command) → AsksFor (subcommand_of commands (name ∷ codes "script" ∷ [])) c → c ≡ Script true
 unfolding clap_on_literals

@@ -24,6 +24,8 @@ pub data Work : Type 0 where
 pub data Asked : Type 0 where
   script : (use_checkpoints : Bool) → Asked
   table : (folder : Text) (use_checkpoints : Bool) → Work → Asked
+  check : (folder : Text) → Asked
+  explain : (code : Text) → Asked
 
 -- the same of the code
 abbrev pub work_view : Job → Work
@@ -39,6 +41,8 @@ work_view jobs.History = history
 abbrev pub command_view : Command → Asked
 command_view (commands.Script use_checkpoints) = script use_checkpoints
 command_view (commands.Table command) = table command.folder.now command.use_checkpoints (work_view command.job)
+command_view (commands.Check folder) = check folder.now
+command_view (commands.Explain code) = explain code.now
 
 -- the text that was given for a place or an option
 abbrev pub text_in : Text → List Row → Text
@@ -77,9 +81,12 @@ work_of name rows =
     else if bytes_eq name (codes "history") then Some history
     else None
 
--- what a subcommand asks for
+-- what a subcommand asks for; `check` and `explain` have no `--no-checkpoint`
 abbrev pub asked_by : Text → List Row → (use_checkpoints : Bool) → Asked
-asked_by name rows use_checkpoints = option_map_or (λ work. table (text_in (codes "DIR") rows) use_checkpoints work) (work_of name rows) (script use_checkpoints)
+asked_by name rows use_checkpoints =
+    if bytes_eq name (codes "check") then check (text_in (codes "DIR") rows)
+    else if bytes_eq name (codes "explain") then explain (text_in (codes "CODE") rows)
+    else option_map_or (λ work. table (text_in (codes "DIR") rows) use_checkpoints work) (work_of name rows) (script use_checkpoints)
 
 -- the command that a subcommand with these rows is
 abbrev pub AsksFor : Option (Text × List Row) → Command → Type 0

@@ -33,7 +33,7 @@ pub data SpellsRestore : List Text → Bool → Type 0 where
   restoring : SpellsRestore [] true
   replaying : SpellsRestore (codes "--no-checkpoint" ∷ []) false
 
--- the words that ask for a job on the table in a folder, of which the first is the program's name
+-- the words that ask for a job on the table in a folder, for its check or for what a refusal means, of which the first is the program's name
 pub data SpellsJob : List Text → Asked → Type 0 where
   -- create DIR --id ID --schema TEXT [--at MS]
   create : {program dir id schema : Text} {moment_words : List Text} {at : ℕ}
@@ -72,3 +72,7 @@ pub data SpellsJob : List Text → Asked → Type 0 where
   -- history DIR [--no-checkpoint]
   history : {program dir : Text} {restore_words : List Text} {use_checkpoints : Bool} → IsPlain dir → SpellsRestore restore_words use_checkpoints
       → SpellsJob (program ∷ codes "history" ∷ dir ∷ restore_words) (table dir use_checkpoints asked.history)
+  -- check DIR
+  check : {program dir : Text} → IsPlain dir → SpellsJob (program ∷ codes "check" ∷ dir ∷ []) (asked.check dir)
+  -- explain CODE
+  explain : {program code : Text} → IsPlain code → SpellsJob (program ∷ codes "explain" ∷ code ∷ []) (asked.explain code)

@@ -84,6 +84,14 @@ checkpoint = with_rule (on_folder (codes "checkpoint")) no_checkpoint
 abbrev pub history : App
 history = with_rule (on_folder (codes "history")) no_checkpoint
 
+-- check DIR
+abbrev pub check : App
+check = on_folder (codes "check")
+
+-- explain CODE
+abbrev pub explain : App
+explain = with_rule (new_app (codes "explain")) (place (codes "CODE"))
+
 -- script [--no-checkpoint]
 abbrev pub script : App
 script = with_rule (new_app (codes "script")) no_checkpoint
@@ -94,5 +102,5 @@ top = record (new_app (codes "lake")) { top = record (new_app (codes "lake")).to
 
 -- the program's commands
 abbrev pub commands : App
-commands = with_subcommand (with_subcommand (with_subcommand (with_subcommand (with_subcommand (with_subcommand (with_subcommand (with_subcommand (with_subcommand top
-    create.top) append.top) close.top) load.top) tail.top) snapshot.top) checkpoint.top) history.top) script.top
+commands = with_subcommand (with_subcommand (with_subcommand (with_subcommand (with_subcommand (with_subcommand (with_subcommand (with_subcommand (with_subcommand (with_subcommand (with_subcommand top
+    create.top) append.top) close.top) load.top) tail.top) snapshot.top) checkpoint.top) history.top) check.top) explain.top) script.top

@@ -8,6 +8,10 @@ pub enum Command<'a> {
     Script { use_checkpoints: bool },
     /// Does a job on the table in a folder.
     Table(TableCommand<'a>),
+    /// Says whether the table in a folder is sound.
+    Check { folder: &'a str },
+    /// Tells what a refusal means, by its code.
+    Explain { code: &'a str },
 }
 
 /// A job, and the folder of the table that it is done on.

@@ -22,8 +22,8 @@ macro_rules! help {
     ($text:literal) => {
         concat!(
             $text,
-            "\nReplies go to standard output; F1 to F4, which speak of the folder and the streams, go to \
-             standard error."
+            "\nReplies go to standard output; F1 to F4, which speak of the folder and the streams, and a line \
+             that explains each refusal go to standard error."
         )
     };
 }
@@ -113,6 +113,30 @@ const HISTORY: &str = help!(
        1 txn \"shop-7\" 0\n\
      Exit status: 0 done, 1 refused (the reply says why), 2 words that can't be read."
 );
+
+const CHECK: &str = help!(
+    "Says whether the table is sound: each commit of the log can follow those before it, each batch's data file\n\
+     stands and reads as rows of the table, no commit stands behind a gap, and each checkpoint is that of its\n\
+     version. Commits, the data files of batches and checkpoints are read, one at a time; nothing is written.\n\
+     \n\
+     Example:\n  \
+       lake check orders\n\
+     \n\
+     Prints: sound N, where the log has N versions; or `unsound V` for the least version that breaks it, and a line\n\
+     that says why. What lies beside the table is told on standard error: leftovers of killed runs (`leftover`),\n\
+     data files that no commit adds (`unnamed`), other files (`stray`).\n\
+     Exit status: 0 sound, 1 unsound or refused (the reply says why), 2 words that can't be read."
+);
+
+const EXPLAIN: &str =
+    "Prints what the refusal of that code means, and whether the same call may be tried again: always, never, or\n\
+     after what. Also told on standard error behind each refusal of a command on a folder.\n\
+     \n\
+     Example:\n  \
+       lake explain S3\n\
+     \n\
+     Prints: S3 Differs: .. The same call again: ..\n\
+     Exit status: 0 told, 1 the output failed, 2 no refusal has that code, or words that can't be read.";
 
 const SCRIPT: &str =
     "Runs the lines on standard input over a table in memory, and prints a reply for each.\n\
@@ -339,6 +363,16 @@ fn bare<'a>(
     with(command, no_checkpoint(alloc))
 }
 
+fn explain<'a>(alloc: Global) -> Result<Command<'a>, AllocError>
+    ensures app { IfOk result (λ command. app_of command ≡ words.explain) }
+    ensures local { IfOk result (λ command. (fields_of command).has_globals ≡ false) }
+{
+    let command = Command::new(alloc, "explain")
+        .about("Tell what a refusal means")
+        .after_help(EXPLAIN);
+    with(command, place(alloc, "CODE", "The refusal's code, as S3"))
+}
+
 fn script<'a>(alloc: Global) -> Result<Command<'a>, AllocError>
     ensures app { IfOk result (λ command. app_of command ≡ words.script) }
     ensures local { IfOk result (λ command. (fields_of command).has_globals ≡ false) }
@@ -384,5 +418,8 @@ pub(crate) fn parser<'a>(alloc: Global) -> Result<Command<'a>, AllocError>
     let top = with_subcommand(top, checkpoint)?;
     let history = bare(alloc, "history", "Print what each version holds", HISTORY)?;
     let top = with_subcommand(top, history)?;
+    let check = on_folder(alloc, "check", "Say whether the table is sound", CHECK)?;
+    let top = with_subcommand(top, check)?;
+    let top = with_subcommand(top, explain(alloc)?)?;
     with_subcommand(top, script(alloc)?)
 }

@@ -82,6 +82,14 @@ fn command_in<'a>(matches: &ArgMatches<'a>) -> Command<'a>
         };
     };
     let use_checkpoints = !matches.get_flag("no-checkpoint");
+    if name == "check" {
+        let folder = text_in(matches, "DIR");
+        return Command::Check { folder };
+    }
+    if name == "explain" {
+        let code = text_in(matches, "CODE");
+        return Command::Explain { code };
+    }
     match job_in(name, matches) {
         Some(job) => Command::Table(TableCommand {
             folder: text_in(matches, "DIR"),
@@ -93,8 +101,8 @@ fn command_in<'a>(matches: &ArgMatches<'a>) -> Command<'a>
 }
 
 /// Reads the words of a command line, of which the first is the program's name. `Spells` lists the words that ask for a
-/// script and `SpellsJob` those that ask for a job on a table, with its options in the order in which the help has them;
-/// `found` says of all other words, too, what they are read as.
+/// script and `SpellsJob` those that ask for a job on a table, for its check or for what a refusal means, with options in
+/// the order in which the help has them; `found` says of all other words, too, what they are read as.
 pub fn read_words<'a, S: AsStr>(alloc: Global, words: &'a [S]) -> Result<Command<'a>, Error>
     // What is read is what `clap` finds in the words, and an error is one that they have.
     ensures found { IfOk result (AsksFor (subcommand_of commands (map S.text words.now))) }
@@ -104,7 +112,7 @@ pub fn read_words<'a, S: AsStr>(alloc: Global, words: &'a [S]) -> Result<Command
     ensures spelled { (command : Command) → Spells (map S.text words.now) command
         → MatchResult result (λ read. read ≡ command) (λ e. kind_of e ≡ ErrorKind.OutOfMemory) }
 
-    // And words that ask for a job on a table are read as that job.
+    // And words that ask for a job on a table, for its check or for what a refusal means are read as that.
     ensures job_spelled { (asked : Asked) → SpellsJob (map S.text words.now) asked
         → MatchResult result (λ read. command_view read ≡ asked) (λ e. kind_of e ≡ ErrorKind.OutOfMemory) }
 {

@@ -5,7 +5,7 @@ use Rattle.lake_words.specs.Asked.{work_view}
 use Rattle.lake_command.specs.Failures.{CountsFolderFault}
 use Rattle.lake_command.specs.Folders.{IsTextOf}
 use Rattle.lake_command.proofs.AgainLemmas.{fails_with, folder_caused, input_alone, input_causes, input_leaves}
-use Rattle.lake_command.proofs.CountLemmas.{asked_count, later_count, refused_by}
+use Rattle.lake_command.proofs.CountLemmas.{asked_count, refused_by}
 use Rattle.lake_command.proofs.FolderLemmas.{fails_for_job, found_asked, may_leave, replies_to_job, sound_restores, stays_sound}
 use Rattle.lake_command.proofs.answering.answer.Goals as goal
 

@@ -1,9 +1,9 @@
-use Rattle.std.proofs.Common.{rules, ◌≡◌, ◌≢◌, true, false, Some, sym, ◌∙◌}
+use Rattle.std.proofs.Common.{rules, ◌≡◌, ◌≢◌, true, false, Some, refl, sym, ◌∙◌}
 use Rattle.lake_script.specs.Tables.{nothing}
 use Rattle.lake_script.proofs.Callers.{well_of_empty}
 use Rattle.lake_command.specs.Status.{status_of}
 use Rattle.world_script.specs.Words.{needs_world}
-use Rattle.lake_command.proofs.ScriptLemmas.{by_table_of, no_job, of_such, over_of, played_of_run, script_of_run, short_of_run, so_of_run, output_of_run}
+use Rattle.lake_command.proofs.ScriptLemmas.{by_table_of, no_job, no_other, of_such, over_of, played_of_run, script_of_run, short_of_run, so_of_run, output_of_run}
 use Rattle.lake_command.proofs.commands.command.Goals as goal
 
 pub returns-in-Ok-Script-clause-told : goal.returns-in-Ok-Script-clause-told
@@ -72,3 +72,57 @@ returns-in-Ok-Table-clause-plays g c = λ command spells. absurd (no_job _ comma
 
 pub returns-in-Ok-Table-clause-headline : goal.returns-in-Ok-Table-clause-headline
 returns-in-Ok-Table-clause-headline g c = λ command spells. absurd (no_job _ command c.in-Ok-Table.command spells (sym c.in-Ok-Table.field-0-is ∙ c.in-Ok-Table.ensures.spelled command spells))
+
+pub returns-in-Ok-Check-clause-told : goal.returns-in-Ok-Check-clause-told
+returns-in-Ok-Check-clause-told g c = λ command spells. absurd (no_other _ command _ spells (sym c.in-Ok-Check.field-0-is ∙ c.in-Ok-Check.ensures.spelled command spells) refl)
+
+pub returns-in-Ok-Check-clause-tables : goal.returns-in-Ok-Check-clause-tables
+returns-in-Ok-Check-clause-tables g c = λ command spells. absurd (no_other _ command _ spells (sym c.in-Ok-Check.field-0-is ∙ c.in-Ok-Check.ensures.spelled command spells) refl)
+
+pub returns-in-Ok-Check-clause-shown : goal.returns-in-Ok-Check-clause-shown
+returns-in-Ok-Check-clause-shown g c = λ command spells. absurd (no_other _ command _ spells (sym c.in-Ok-Check.field-0-is ∙ c.in-Ok-Check.ensures.spelled command spells) refl)
+
+pub returns-in-Ok-Check-clause-short : goal.returns-in-Ok-Check-clause-short
+returns-in-Ok-Check-clause-short g c = λ command spells. absurd (no_other _ command _ spells (sym c.in-Ok-Check.field-0-is ∙ c.in-Ok-Check.ensures.spelled command spells) refl)
+
+pub returns-in-Ok-Check-clause-tells : goal.returns-in-Ok-Check-clause-tells
+returns-in-Ok-Check-clause-tells g c = λ command spells. absurd (no_other _ command _ spells (sym c.in-Ok-Check.field-0-is ∙ c.in-Ok-Check.ensures.spelled command spells) refl)
+
+pub returns-in-Ok-Check-clause-plays : goal.returns-in-Ok-Check-clause-plays
+returns-in-Ok-Check-clause-plays g c = λ command spells. absurd (no_other _ command _ spells (sym c.in-Ok-Check.field-0-is ∙ c.in-Ok-Check.ensures.spelled command spells) refl)
+
+pub returns-in-Ok-Check-clause-headline : goal.returns-in-Ok-Check-clause-headline
+returns-in-Ok-Check-clause-headline g c = λ command spells. absurd (no_other _ command _ spells (sym c.in-Ok-Check.field-0-is ∙ c.in-Ok-Check.ensures.spelled command spells) refl)
+
+pub returns-in-Ok-Check-clause-status : goal.returns-in-Ok-Check-clause-status
+returns-in-Ok-Check-clause-status g c = λ command spells. absurd (no_other _ command _ spells (sym c.in-Ok-Check.field-0-is ∙ c.in-Ok-Check.ensures.spelled command spells) refl)
+
+pub returns-in-Ok-Check-clause-refused : goal.returns-in-Ok-Check-clause-refused
+returns-in-Ok-Check-clause-refused g c = λ command spells. absurd (no_other _ command _ spells (sym c.in-Ok-Check.field-0-is ∙ c.in-Ok-Check.ensures.spelled command spells) refl)
+
+pub returns-in-Ok-Explain-clause-told : goal.returns-in-Ok-Explain-clause-told
+returns-in-Ok-Explain-clause-told g c = λ command spells. absurd (no_other _ command _ spells (sym c.in-Ok-Explain.field-0-is ∙ c.in-Ok-Explain.ensures.spelled command spells) refl)
+
+pub returns-in-Ok-Explain-clause-tables : goal.returns-in-Ok-Explain-clause-tables
+returns-in-Ok-Explain-clause-tables g c = λ command spells. absurd (no_other _ command _ spells (sym c.in-Ok-Explain.field-0-is ∙ c.in-Ok-Explain.ensures.spelled command spells) refl)
+
+pub returns-in-Ok-Explain-clause-shown : goal.returns-in-Ok-Explain-clause-shown
+returns-in-Ok-Explain-clause-shown g c = λ command spells. absurd (no_other _ command _ spells (sym c.in-Ok-Explain.field-0-is ∙ c.in-Ok-Explain.ensures.spelled command spells) refl)
+
+pub returns-in-Ok-Explain-clause-short : goal.returns-in-Ok-Explain-clause-short
+returns-in-Ok-Explain-clause-short g c = λ command spells. absurd (no_other _ command _ spells (sym c.in-Ok-Explain.field-0-is ∙ c.in-Ok-Explain.ensures.spelled command spells) refl)
+
+pub returns-in-Ok-Explain-clause-tells : goal.returns-in-Ok-Explain-clause-tells
+returns-in-Ok-Explain-clause-tells g c = λ command spells. absurd (no_other _ command _ spells (sym c.in-Ok-Explain.field-0-is ∙ c.in-Ok-Explain.ensures.spelled command spells) refl)
+
+pub returns-in-Ok-Explain-clause-plays : goal.returns-in-Ok-Explain-clause-plays
+returns-in-Ok-Explain-clause-plays g c = λ command spells. absurd (no_other _ command _ spells (sym c.in-Ok-Explain.field-0-is ∙ c.in-Ok-Explain.ensures.spelled command spells) refl)
+
+pub returns-in-Ok-Explain-clause-headline : goal.returns-in-Ok-Explain-clause-headline
+returns-in-Ok-Explain-clause-headline g c = λ command spells. absurd (no_other _ command _ spells (sym c.in-Ok-Explain.field-0-is ∙ c.in-Ok-Explain.ensures.spelled command spells) refl)
+
+pub returns-in-Ok-Explain-clause-status : goal.returns-in-Ok-Explain-clause-status
+returns-in-Ok-Explain-clause-status g c = λ command spells. absurd (no_other _ command _ spells (sym c.in-Ok-Explain.field-0-is ∙ c.in-Ok-Explain.ensures.spelled command spells) refl)
+
+pub returns-in-Ok-Explain-clause-refused : goal.returns-in-Ok-Explain-clause-refused
+returns-in-Ok-Explain-clause-refused g c = λ command spells. absurd (no_other _ command _ spells (sym c.in-Ok-Explain.field-0-is ∙ c.in-Ok-Explain.ensures.spelled command spells) refl)

@@ -23,8 +23,10 @@ returns c =
     let snapshot = c.in_ok-top-6.ensures.app ∙ added _ _ _ _ tail c.in_ok-snapshot.ensures.app in
     let checkpoint = c.in_ok-top-7.ensures.app ∙ added _ _ _ _ snapshot c.in_ok-checkpoint.ensures.app in
     let history = c.in_ok-top-8.ensures.app ∙ added _ _ _ _ checkpoint c.in_ok-history.ensures.app in
-    let all = added _ _ _ _ history c.in_ok-script.ensures.app in
-    IfOk-weaker c.with_subcommand-9.result _ _ (λ parser h. h ∙ all) c.with_subcommand-9.ensures.app
+    let check = c.in_ok-top-9.ensures.app ∙ added _ _ _ _ history c.in_ok-check.ensures.app in
+    let explain = c.in_ok-top-10.ensures.app ∙ added _ _ _ _ check c.in_ok-explain.ensures.app in
+    let all = added _ _ _ _ explain c.in_ok-script.ensures.app in
+    IfOk-weaker c.with_subcommand-11.result _ _ (λ parser h. h ∙ all) c.with_subcommand-11.ensures.app
 
 -- no command has global arguments
 pub with_subcommand-requires-clause-sub : goal.with_subcommand-requires-clause-sub
@@ -73,7 +75,19 @@ pub with_subcommand-requires-8-clause-above : goal.with_subcommand-requires-8-cl
 with_subcommand-requires-8-clause-above c = c.in_ok-top-7.ensures.local
 
 pub with_subcommand-requires-9-clause-sub : goal.with_subcommand-requires-9-clause-sub
-with_subcommand-requires-9-clause-sub c = c.in_ok-script.ensures.local
+with_subcommand-requires-9-clause-sub c = c.in_ok-check.ensures.local
 
 pub with_subcommand-requires-9-clause-above : goal.with_subcommand-requires-9-clause-above
 with_subcommand-requires-9-clause-above c = c.in_ok-top-8.ensures.local
+
+pub with_subcommand-requires-10-clause-sub : goal.with_subcommand-requires-10-clause-sub
+with_subcommand-requires-10-clause-sub c = c.in_ok-explain.ensures.local
+
+pub with_subcommand-requires-10-clause-above : goal.with_subcommand-requires-10-clause-above
+with_subcommand-requires-10-clause-above c = c.in_ok-top-9.ensures.local
+
+pub with_subcommand-requires-11-clause-sub : goal.with_subcommand-requires-11-clause-sub
+with_subcommand-requires-11-clause-sub c = c.in_ok-script.ensures.local
+
+pub with_subcommand-requires-11-clause-above : goal.with_subcommand-requires-11-clause-above
+with_subcommand-requires-11-clause-above c = c.in_ok-top-10.ensures.local

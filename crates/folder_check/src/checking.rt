@@ -1,0 +1,73 @@
+//! The table in a folder, judged.
+ghost use Rattle.std.specs.Prelude.{◌≡◌, IfOk, IfErr, true};
+ghost use Rattle.table_audit.specs.Verdicts.{IsVerdictOf};
+ghost use Rattle.folder_check.specs.Faults.{ComesOfACall};
+ghost use Rattle.store_core.specs.Calls.{HasRisen};
+
+use crate::beside::lines_beside;
+use crate::fault::CheckFault;
+use crate::progress::Progress;
+use crate::reader::FolderReader;
+use std::alloc::Global;
+use table_audit::{AuditError, Verdict, audit};
+use table_folder::{Folder, LoadFault};
+
+/// What a check finds.
+#[derive(Drop)]
+pub struct Report {
+    /// Whether the objects are sound, and else what breaks them first.
+    pub verdict: Verdict,
+    /// What lies beside the table, a line each: `leftover NAME`, `stray NAME` or `unnamed NAME`, with names as JSON
+    /// strings; or why that isn't known.
+    pub beside: Result<Vec<String>, CheckFault>,
+}
+
+impl<F: Folder, P: Progress> FolderReader<F, P> {
+    /// Judges the table in the folder. Of its commits, the data files that these add for batches, and its checkpoints
+    /// each is read once at most, one at a time, up to the first unsound version; then each commit once more for what lies
+    /// beside the table. Nothing is written.
+    pub fn check(&mut self, alloc: Global) -> Result<Report, CheckFault>
+        // Over a steady folder the verdict is that of its files.
+        ensures told { F.is_steady self.old.folder → IfOk result (λ report. IsVerdictOf (F.objects self.old.folder) report.verdict) }
+        ensures untouched { F.is_steady self.old.folder → F.objects self.new.folder ≡ F.objects self.old.folder }
+        ensures steady { F.is_steady self.old.folder → F.is_steady self.new.folder }
+        // Where a call of the folder is told as failed, one did.
+        ensures counted { IfErr result (ComesOfACall (F.fault_count self.old.folder) (F.fault_count self.new.folder)) }
+    {
+        let before = self.folder.faults();
+        let report = match audit(alloc, self) {
+            Ok(verdict) => Ok(Report {
+                verdict,
+                beside: lines_beside(alloc, self),
+            }),
+            Err(error) => Err(self.why(error, before)),
+        };
+        self.progress.finish();
+        report
+    }
+
+    // Why an audit ended with an error, before which the folder had counted so many faults: at which file, where a call of
+    // the folder failed.
+    pub(crate) fn why(&mut self, error: AuditError, before: u64) -> CheckFault
+        ensures folder { self.new.folder ≡ self.old.folder }
+        ensures counted { ComesOfACall before (F.fault_count self.old.folder) result }
+    {
+        match error {
+            AuditError::Lost => match self.take_failed() {
+                Some((name, reason)) if has_risen(before, self.folder.faults()) => {
+                    CheckFault::Folder(LoadFault::NotLoaded { name, reason })
+                }
+                _ => CheckFault::Folder(LoadFault::Memory),
+            },
+            AuditError::Memory => CheckFault::Folder(LoadFault::Memory),
+            AuditError::TooLarge { name } => CheckFault::TooLarge { name },
+        }
+    }
+}
+
+// Whether a folder has counted a fault between two looks at its count, which stays at the greatest number.
+fn has_risen(before: u64, after: u64) -> bool
+    ensures { result ≡ true → HasRisen before after }
+{
+    before < after || (before == u64::MAX && after == u64::MAX)
+}

@@ -1,0 +1,23 @@
+-- How a code is explained.
+use Rattle.std.specs.Prelude.{◌≡◌, ◌⊎◌, ℕ, List, Option, true, false}
+use Rattle.std.specs.Io.KnownBytes.{Appends}
+use Rattle.lake_bytes.specs.Lines.{with_newline}
+use Rattle.lake_script.specs.Streams.{held, write_failed}
+use Rattle.lake_script.specs.declared.outputs.Output.{Output}
+use Rattle.refusal_texts.specs.Codes.{has_entry}
+use Rattle.refusal_texts.specs.Texts.{refusal_text}
+use Rattle.refusal_texts.specs.declared.refusal.Refusal.{Refusal}
+use Rattle.lake_command.specs.declared.exit.Exit.{Exit}
+
+-- the entry of the code is told
+pub record TellsEntry {W : Type 0} (contents : W → Option (List ℕ)) (code : List ℕ) (old new : Output W) (exit : Exit) : Type 0 where
+  pub refusal : Refusal
+  pub own : refusal.code.now ≡ code
+  pub told : Appends (held contents old) (contents new.writer) (with_newline (refusal_text refusal))
+  pub status : exit.status ≡ 0
+
+-- or no refusal has it, and nothing is told on the output; or a growth was refused or a write failed
+abbrev pub IsExplained : {W : Type 0} → (W → Option (List ℕ)) → (code : List ℕ) → (old new : Output W) → Exit → Type 0
+IsExplained contents code old new exit =
+    TellsEntry contents code old new exit
+    ⊎ (((exit.status ≡ 2) × (has_entry code ≡ false) × (new ≡ old)) ⊎ ((exit.status ≡ 1) × ((exit.is_short ≡ true) ⊎ (write_failed new ≡ true))))

@@ -1,0 +1,143 @@
+//! Whether the table in a folder is sound, told, and the exit status.
+ghost use Rattle.std.specs.Prelude.{◌≡◌, Err, IfOk, OnErr, OnOk, true};
+ghost use Rattle.std.specs.Io.KnownBytes.{Appends};
+ghost use Rattle.std.specs.String.{string_bytes};
+ghost use Rattle.lake_script.specs.Streams.{held, write_failed, StandsIn};
+ghost use Rattle.lake_command.specs.Checks.{Checks, IsOfTooLarge, IsOfVerdict, IsTextTold, status_of_verdict};
+
+use crate::exit::{DONE, Exit, REFUSED};
+use crate::explaining::explain;
+use crate::failure::Failure;
+use crate::telling::{not_written, tell_failure};
+use folder_check::{CheckFault, FolderReader, Progress, Report};
+use lake_script::{Output, OutputError};
+use std::alloc::{AllocError, Global};
+use std::io::Write;
+use table_audit::Verdict;
+use table_folder::Folder;
+
+/// Judges the table in a folder, and tells the verdict: `sound N`, with N versions and the status 0, or `unsound V` and a
+/// line that says why, with the status 1. What lies beside the table is told on `err`, a line each, and why the folder
+/// isn't judged as well, but for a data file that is too large to be read, which is told where the verdict would be.
+/// Commits, the data files of batches and checkpoints are read, one at a time; nothing is written.
+pub fn check_command<F: Folder, P: Progress, W: Write, E: Write>(
+    alloc: Global,
+    reader: &mut FolderReader<F, P>,
+    output: &mut Output<W>,
+    err: &mut E,
+) -> Exit
+    // The verdict is told, over a steady folder that of its files; or there is a reason why none is.
+    ensures ended { Checks W.contents (F.is_steady reader.old.folder) (F.objects reader.old.folder)
+        (F.fault_count reader.old.folder) (F.fault_count reader.new.folder) output.old output.new result }
+    ensures untouched { F.is_steady reader.old.folder → F.objects reader.new.folder ≡ F.objects reader.old.folder }
+    ensures steady { F.is_steady reader.old.folder → F.is_steady reader.new.folder }
+{
+    match reader.check(alloc) {
+        Ok(report) => tell_report(alloc, &report, output, err),
+        Err(CheckFault::TooLarge { name }) => tell_large(alloc, &name, output, err),
+        Err(CheckFault::Folder(fault)) => tell_failure(&Failure::Loading(fault), output, err),
+    }
+}
+
+// Tells a verdict and what lies beside the table.
+fn tell_report<W: Write, E: Write>(
+    alloc: Global,
+    report: &Report,
+    output: &mut Output<W>,
+    err: &mut E,
+) -> Exit
+    ensures { IsTextTold W.contents (IsOfVerdict report.now.verdict) (status_of_verdict report.now.verdict)
+        output.old output.new result }
+{
+    let exit = match text_of(alloc, &report.verdict) {
+        Ok(text) => tell_text(&text, status_of(&report.verdict), output, err),
+        Err(_error) => not_written(OutputError::Memory, true, err),
+    };
+    tell_beside(&report.beside, err);
+    exit
+}
+
+// What is told of a verdict.
+fn text_of(alloc: Global, verdict: &Verdict) -> Result<String, AllocError>
+    ensures { IfOk result (λ text. IsOfVerdict verdict.now (string_bytes text)) }
+{
+    match verdict {
+        Verdict::Sound { versions } => format!(in alloc; "sound {versions}\n"),
+        Verdict::Unsound(unsound) => {
+            let why = format!(in alloc; "{}", unsound.reason)?;
+            let version = unsound.version;
+            format!(in alloc; "unsound {version}\n{why}\n")
+        }
+    }
+}
+
+fn status_of(verdict: &Verdict) -> u8
+    ensures { result ≡ status_of_verdict verdict.now }
+{
+    match verdict {
+        Verdict::Sound { .. } => DONE,
+        Verdict::Unsound(_) => REFUSED,
+    }
+}
+
+// Tells that a data file is too large.
+fn tell_large<W: Write, E: Write>(
+    alloc: Global,
+    name: &str,
+    output: &mut Output<W>,
+    err: &mut E,
+) -> Exit
+    ensures { IsTextTold W.contents IsOfTooLarge 1 output.old output.new result }
+{
+    match format!(in alloc; "refused P9 TooLarge {name}\n") {
+        Ok(text) => {
+            let exit = tell_text(&text, REFUSED, output, err);
+            explain("P9", err);
+            exit
+        }
+        Err(_error) => not_written(OutputError::Memory, true, err),
+    }
+}
+
+// Tells a text, with a status.
+fn tell_text<W: Write, E: Write>(
+    text: &str,
+    status: u8,
+    output: &mut Output<W>,
+    err: &mut E,
+) -> Exit
+    ensures { IsTextTold W.contents (λ bytes. bytes ≡ text.now) status output.old output.new result }
+{
+    match give_text(text, output) {
+        Ok(()) => Exit {
+            status,
+            is_short: false,
+        },
+        Err(error) => not_written(error, false, err),
+    }
+}
+
+// Gives a text and writes it.
+fn give_text<W: Write>(text: &str, output: &mut Output<W>) -> Result<(), OutputError>
+    ensures told { OnOk result (Appends (held W.contents output.old) (W.contents output.new.writer) text.now) }
+    ensures front { OnErr result (StandsIn (held W.contents output.old) (W.contents output.new.writer) text.now) }
+    ensures broken { result ≡ Err OutputError.Broken → write_failed output.new ≡ true }
+{
+    output.show(text.as_bytes())?;
+    output.flush()
+}
+
+// Tells what lies beside a table, or why that isn't known. Where this fails, nothing is left to tell it on.
+fn tell_beside<E: Write>(beside: &Result<Vec<String>, CheckFault>, err: &mut E) {
+    match beside {
+        Ok(lines) => {
+            for line in lines {
+                let _ = err.writeln(line);
+            }
+        }
+        Err(fault) => {
+            let _ = err.writeln(format_args!("refused {fault}"));
+            explain("F1", err);
+        }
+    }
+}

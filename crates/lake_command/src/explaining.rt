@@ -1,0 +1,84 @@
+//! What a refusal means, told on standard error or asked for.
+ghost use Rattle.std.specs.Prelude.{◌≡◌, Err, OnOk, true};
+ghost use Rattle.std.specs.Io.KnownBytes.{Appends};
+ghost use Rattle.lake_bytes.specs.Lines.{with_newline};
+ghost use Rattle.lake_script.specs.Streams.{held, write_failed};
+ghost use Rattle.lake_command.specs.Explaining.{IsExplained};
+ghost use Rattle.refusal_texts.specs.Texts.{refusal_text};
+
+use crate::exit::{DONE, Exit, MISUSED};
+use crate::failure::Failure;
+use crate::telling::{is_refusal, not_written};
+use lake_script::{LineReply, Output, OutputError};
+use refusal_texts::{Refusal, refusal_named, refusal_of_reply};
+use std::alloc::Global;
+use std::io::Write;
+use table_folder::SaveFault;
+
+/// Tells what the refusal of that code means, where there is one. Where that can't be written, nothing is left to tell it on.
+pub(crate) fn explain<E: Write>(code: &str, err: &mut E) {
+    if let Some(refusal) = refusal_named(code) {
+        let _ = err.writeln(refusal);
+    }
+}
+
+/// Tells what a reply's refusal means: of a history that ends early that is its last line's.
+pub(crate) fn explain_reply<E: Write>(alloc: Global, reply: &LineReply, err: &mut E) {
+    let mut text = Output::new(alloc, Vec::new(alloc));
+    if reply.give(&mut text).is_err() || text.flush().is_err() {
+        return;
+    }
+    for line in text.writer.split(|byte| *byte == b'\n') {
+        if !is_refusal(line) {
+            continue;
+        }
+        if let Some(refusal) = refusal_of_reply(line) {
+            let _ = err.writeln(refusal);
+        }
+    }
+}
+
+/// The code of a failure that is told as a refusal.
+pub(crate) fn code_of(failure: &Failure) -> Option<&'static str> {
+    match failure {
+        Failure::Misused | Failure::BadLine(_) | Failure::Miscounted { .. } => None,
+        Failure::NotRead => Some("F3"),
+        Failure::Memory => Some("S6"),
+        Failure::Loading(_) => Some("F1"),
+        Failure::Saving(SaveFault::Lost) => Some("St1"),
+        Failure::Saving(_) => Some("F2"),
+    }
+}
+
+/// Tells what the refusal of a code means, on the output. A code that no refusal has is misused words.
+pub(crate) fn explain_command<W: Write, E: Write>(
+    code: &str,
+    output: &mut Output<W>,
+    err: &mut E,
+) -> Exit
+    ensures { IsExplained W.contents code.now output.old output.new result }
+{
+    let Some(refusal) = refusal_named(code) else {
+        let _ = err.writeln(format_args!("error: no refusal has the code '{code}'"));
+        return Exit {
+            status: MISUSED,
+            is_short: false,
+        };
+    };
+    match give_entry(refusal, output) {
+        Ok(()) => Exit {
+            status: DONE,
+            is_short: false,
+        },
+        Err(error) => not_written(error, false, err),
+    }
+}
+
+// Gives an entry and writes it.
+fn give_entry<W: Write>(refusal: &Refusal, output: &mut Output<W>) -> Result<(), OutputError>
+    ensures told { OnOk result (Appends (held W.contents output.old) (W.contents output.new.writer) (with_newline (refusal_text refusal.now))) }
+    ensures broken { result ≡ Err OutputError.Broken → write_failed output.new ≡ true }
+{
+    output.say(refusal)?;
+    output.flush()
+}

@@ -1,0 +1,32 @@
+-- The codes that have an entry, in the order of the tables.
+use Rattle.std.specs.Prelude.{ℕ, zero, suc, ◌+◌, ◌/◌, ◌%◌, Bool, List, [], ◌∷◌, ◌++◌, ◌||◌, bytes_eq, codes, nat_lt, if◌then◌else◌}
+use Rattle.std.specs.List.{list_any}
+
+-- the decimal digits of a number below 100
+abbrev pub digits : ℕ → List ℕ
+digits n = if nat_lt n 10 then (48 + n) ∷ [] else (48 + n / 10) ∷ (48 + n % 10) ∷ []
+
+-- the codes of some letters, numbered from 1
+abbrev pub numbered : List ℕ → ℕ → List (List ℕ)
+numbered letters zero = []
+numbered letters (suc count) = numbered letters count ++ (letters ++ digits (suc count)) ∷ []
+
+-- of refusals
+unfoldable pub refusal_codes : List (List ℕ)
+refusal_codes =
+    numbered (codes "E") 6 ++ (numbered (codes "S") 12 ++ (numbered (codes "O") 12 ++ (numbered (codes "K") 9
+    ++ (numbered (codes "Q") 2 ++ (numbered (codes "N") 1 ++ (numbered (codes "St") 2 ++ numbered (codes "F") 4))))))
+
+-- of faults
+unfoldable pub fault_codes : List (List ℕ)
+fault_codes =
+    numbered (codes "C") 6 ++ (numbered (codes "V") 5 ++ (numbered (codes "G") 6 ++ (numbered (codes "A") 3
+    ++ (numbered (codes "P") 11 ++ (numbered (codes "H") 2 ++ (numbered (codes "TH") 4 ++ numbered (codes "B") 4))))))
+
+-- the code is one of these
+abbrev pub is_of : List (List ℕ) → List ℕ → Bool
+is_of listed code = list_any (λ one. bytes_eq one code) listed
+
+-- the code has an entry
+abbrev pub has_entry : List ℕ → Bool
+has_entry code = is_of refusal_codes code || is_of fault_codes code

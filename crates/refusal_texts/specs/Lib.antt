@@ -1,0 +1,4 @@
+pub mod Codes
+pub mod Replies
+pub mod Tables
+pub mod Texts

@@ -1,0 +1,24 @@
+"""What each refusal means, as the table at the end of `docs/REFUSALS.md` has it."""
+
+import os
+import re
+
+DOCUMENT = os.path.join(os.path.dirname(__file__), "..", "..", "docs", "REFUSALS.md")
+ROW = re.compile(r"\| `(\w+)` \| `(\w+)` \| (.*) \| (.*) \|\n")
+REFUSED = re.compile(r"refused (\w+)( |$)")
+
+
+def entries() -> dict[str, str]:
+    """The line that explains each code."""
+    with open(DOCUMENT, encoding="utf-8") as file:
+        rows = ROW.findall(file.read())
+    return {code: f"{code} {name}: {meaning}. The same call again: {again}." for code, name, meaning, again in rows}
+
+
+ENTRIES = entries()
+
+
+def explained(line: str) -> list[str]:
+    """The line on standard error that explains the refusal that a line tells, if it tells one."""
+    found = REFUSED.match(line)
+    return [ENTRIES[found[1]]] if found is not None and found[1] in ENTRIES else []
