@@ -9,7 +9,7 @@ use Rattle.lake_script.specs.declared.inputs.TheConstants.{MOST_BYTES}
 use Rattle.lake_script.specs.declared.engine.End.{End}
 use Rattle.lake_script.specs.declared.engine.End.TheVariants.{Done, BadLine, NotRead, NotWritten}
 use Rattle.lake_script.proofs.Callers.{few_lines}
-use Rattle.lake_script.specs.Runs.{FallsShort, Tells}
+use Rattle.lake_script.specs.Runs.{FallsShort, MayBeTold, Tells}
 use Rattle.lake_script.specs.Sound.{IsScriptRun}
 use Rattle.lake_script.specs.Scripts.{IsScript, IsExpectedOver}
 use Rattle.lake_script.specs.Tables.{nothing, entries_of, AreOfTable, expected_output as expected_by_table}
@@ -18,7 +18,8 @@ use Rattle.lake_words.specs.Asked.{Spells, replaying, restoring}
 use Rattle.lake_words.specs.declared.command.Command.{Command}
 use Rattle.lake_words.specs.declared.command.Command.TheVariants.{Script, Table}
 use Rattle.lake_words.specs.declared.command.TableCommand.{TableCommand}
-use Rattle.lake_command.specs.Scripts.{IsPlayedOver, IsPlayedSo}
+use Rattle.lake_command.specs.Scripts.{IsPlayedOver, IsPlayedSo, WritesScript}
+use Rattle.world_script.specs.Words.{needs_world}
 use Rattle.lake_command.specs.Status.{status_of}
 use Rattle.world_script.specs.Playing.{PlaysSo, PlaysText}
 use Rattle.world_script.specs.Scenes.{first_scene}
@@ -119,3 +120,24 @@ is_script _ = false
 pub no_other : (words : List (List ℕ)) (c other : Command) → Spells words c → other ≡ c → is_script other ≡ false → ⊥
 no_other words c other restoring e not_one = let both = sym (ap is_script e) ∙ not_one in cc
 no_other words c other replaying e not_one = let both = sym (ap is_script e) ∙ not_one in cc
+
+-- what is written, put together
+pub written_of : (input : Option (List ℕ)) (is_short : Bool) (before after : Option (List ℕ))
+    → (is_short ≡ false → IfSome input (λ text. needs_world text ≡ false → Tells before after (IsTold [] text)))
+    → (is_short ≡ false → IfSome input (λ text. needs_world text ≡ false → AreOfTable (lines_of text) → Appends before after (expected_by_table nothing text)))
+    → (is_short ≡ false → IfSome input (λ text. needs_world text ≡ false → ArePutHere (lines_of text) → IsExpectedOver before after nothing [] (lines_of text)))
+    → (is_short ≡ true → IfSome input (λ text. needs_world text ≡ false → Tells before after (FallsShort 1 [] (lines_of text))))
+    → IfSome input (λ text. needs_world text ≡ false → Tells before after (MayBeTold [] text))
+    → IfSome input (λ text. needs_world text ≡ true → Tells before after (IsPlayedOver text))
+    → IfSome input (λ text. needs_world text ≡ true → ArePutHere (lines_of text) → Tells before after (IsPlayedSo text))
+    → IfSome input (λ text. WritesScript text is_short before after)
+written_of None is_short before after told tables shown short tells plays headline = tt
+written_of (Some text) is_short before after told tables shown short tells plays headline = record {
+  told = λ none whole. told whole none;
+  tables = λ none whole. tables whole none;
+  shown = λ none whole. shown whole none;
+  short = λ none is. short is none;
+  tells = tells;
+  plays = plays;
+  headline = headline;
+}

@@ -1,8 +1,15 @@
--- What a script with actors writes that is run over nothing.
-use Rattle.std.specs.Prelude.{List, ℕ, [], Bool}
+-- What a script writes that is run over nothing.
+use Rattle.std.specs.Prelude.{◌≡◌, List, ℕ, [], Bool, true, false, Option}
+use Rattle.std.specs.Io.KnownBytes.{Appends}
+use Rattle.delta_actions.specs.Commit.{lines_of}
 use Rattle.store_core.specs.Objects.{Objects}
+use Rattle.lake_script.specs.Runs.{FallsShort, MayBeTold, Tells}
+use Rattle.lake_script.specs.Scripts.{IsExpectedOver}
+use Rattle.lake_script.specs.Tables.{nothing, expected_output as expected_by_table, AreOfTable}
+use Rattle.lake_script.specs.Told.{ArePutHere, IsTold}
 use Rattle.world_script.specs.Playing.{PlaysSo, PlaysText}
 use Rattle.world_script.specs.Scenes.{first_scene}
+use Rattle.world_script.specs.Words.{needs_world}
 
 -- its lines do what they ask for, with checkpoints or without
 abbrev pub IsPlayedOver : (text written : List ℕ) → Type 0
@@ -11,3 +18,23 @@ IsPlayedOver text written = (uses : Bool) × (objects : Objects) × PlaysText (f
 -- and what sessions told by them is so
 abbrev pub IsPlayedSo : (text written : List ℕ) → Type 0
 IsPlayedSo text written = (uses : Bool) × (objects : Objects) × PlaysSo (first_scene [] uses) text written objects
+
+-- What the output holds before and after a script that isn't refused, where both are known.
+pub record WritesScript (text : List ℕ) (is_short : Bool) (before after : Option (List ℕ)) : Type 0 where
+  -- Without actors it is what is told, for some texts that the schemas of its lines are printed as, its checkpoints and its
+  -- snapshots; the lines that met a refused growth are told so.
+  pub told : needs_world text ≡ false → is_short ≡ false → Tells before after (IsTold [] text)
+  -- Where no line shows an object, tells the snapshot or puts another tool's commit, that is what the plain table tells.
+  pub tables : needs_world text ≡ false → is_short ≡ false → AreOfTable (lines_of text) → Appends before after (expected_by_table nothing text)
+  -- Where none puts another tool's commit, that is what the plain table tells, but for what is shown.
+  pub shown : needs_world text ≡ false → is_short ≡ false → ArePutHere (lines_of text) → IsExpectedOver before after nothing [] (lines_of text)
+  -- It is short only where a reply that is written tells so.
+  pub short : needs_world text ≡ false → is_short ≡ true → Tells before after (FallsShort 1 [] (lines_of text))
+  pub tells : needs_world text ≡ false → Tells before after (MayBeTold [] text)
+  -- Where it has actors, each of its lines does what it asks for in a world, and is told that.
+  pub plays : needs_world text ≡ true → Tells before after (IsPlayedOver text)
+  -- Where none of them puts another tool's commit, what is told there is so of the table that stands then: each batch that
+  -- was acknowledged stands in the log once, every batch at most once and as submitted, each application's in rising number
+  -- and none after its close; and what a reader was handed that resumes at its last offset is exactly the log's rows up to
+  -- that offset, once each, in log order.
+  pub headline : needs_world text ≡ true → ArePutHere (lines_of text) → Tells before after (IsPlayedSo text)

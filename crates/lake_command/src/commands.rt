@@ -1,24 +1,18 @@
 //! One command, from its words to its exit status.
 ghost use Rattle.std.specs.Prelude.{◌≡◌, ◌≢◌, ◌≤◌, ◌⊎◌, ℕ, Bool, List, [], true, false, length, map, IfOk, IfSome};
-ghost use Rattle.std.specs.Io.KnownBytes.{Appends};
 ghost use Rattle.clap.specs.Words.{fault_of, kind_of};
-ghost use Rattle.delta_actions.specs.Commit.{lines_of};
 ghost use Rattle.lake_words.specs.declared.command.Command.{Command};
-ghost use Rattle.lake_script.specs.Runs.{FallsShort, MayBeTold, Tells};
 ghost use Rattle.lake_command.specs.Status.{status_of, status_at, status_of_kind, IsStatusOf};
 ghost use Rattle.lake_script.specs.declared.inputs.TheConstants.{MOST_READS};
 ghost use Rattle.lake_script.specs.Streams.{held, unread, read_failed, write_failed};
-ghost use Rattle.lake_script.specs.Scripts.{IsExpectedOver};
-ghost use Rattle.lake_script.specs.Tables.{nothing, expected_output as expected_by_table, AreOfTable};
-ghost use Rattle.lake_script.specs.Told.{ArePutHere, IsTold, first_bad};
+ghost use Rattle.lake_script.specs.Told.{first_bad};
 ghost use Rattle.lake_words.specs.Asked.{Spells, Work, check, explain, table, work_view};
 ghost use Rattle.lake_words.specs.Spelling.{SpellsJob};
 ghost use Rattle.lake_command.specs.Checks.{ChecksDisk};
 ghost use Rattle.lake_command.specs.Endings.{IsMisused, TellsJob};
 ghost use Rattle.lake_command.specs.Explaining.{IsExplained};
 ghost use Rattle.lake_command.specs.Folders.{IsMiscounted, reads_input};
-ghost use Rattle.lake_command.specs.Scripts.{IsPlayedOver, IsPlayedSo};
-ghost use Rattle.world_script.specs.Words.{needs_world};
+ghost use Rattle.lake_command.specs.Scripts.{WritesScript};
 ghost use Rattle.lake_words.specs.Words.{commands};
 
 use crate::checking::check_command;
@@ -139,37 +133,10 @@ pub fn command<
     err: &mut E,
     progress: P,
 ) -> Exit
-    // A script without actors that isn't refused writes what it is told, for some texts that the schemas of its lines
-    // are printed as, its checkpoints and its snapshots; the lines that met a refused growth are told so.
-    ensures told { (c : Command) → Spells (map S.text words.now) c → result.status ≢ REFUSED → result.is_short ≡ false
-        → IfSome (unread R.remaining input.old) (λ text. needs_world text ≡ false
-        → Tells (held W.contents output.old) (W.contents output.new.writer) (IsTold [] text)) }
-    // Where no line shows an object, tells the snapshot or puts another tool's commit, that is what the
-    // plain table tells.
-    ensures tables { (c : Command) → Spells (map S.text words.now) c → result.status ≢ REFUSED → result.is_short ≡ false
-        → IfSome (unread R.remaining input.old) (λ text. needs_world text ≡ false → AreOfTable (lines_of text)
-        → Appends (held W.contents output.old) (W.contents output.new.writer) (expected_by_table nothing text)) }
-    // Where none puts another tool's commit, that is what the plain table tells, but for what is shown.
-    ensures shown { (c : Command) → Spells (map S.text words.now) c → result.status ≢ REFUSED → result.is_short ≡ false
-        → IfSome (unread R.remaining input.old) (λ text. needs_world text ≡ false → ArePutHere (lines_of text)
-        → IsExpectedOver (held W.contents output.old) (W.contents output.new.writer) nothing [] (lines_of text)) }
-    // It is short only where a reply that is written tells so.
-    ensures short { (c : Command) → Spells (map S.text words.now) c → result.status ≢ REFUSED → result.is_short ≡ true
-        → IfSome (unread R.remaining input.old) (λ text. needs_world text ≡ false
-        → Tells (held W.contents output.old) (W.contents output.new.writer) (FallsShort 1 [] (lines_of text))) }
-    ensures tells { (c : Command) → Spells (map S.text words.now) c → result.status ≢ REFUSED
-        → IfSome (unread R.remaining input.old) (λ text. needs_world text ≡ false
-        → Tells (held W.contents output.old) (W.contents output.new.writer) (MayBeTold [] text)) }
-    // Where it has actors, each of its lines does what it asks for in a world, and is told that.
-    ensures plays { (c : Command) → Spells (map S.text words.now) c → result.status ≢ REFUSED
-        → IfSome (unread R.remaining input.old) (λ text. needs_world text ≡ true
-        → Tells (held W.contents output.old) (W.contents output.new.writer) (IsPlayedOver text)) }
-    // Where none of them puts another tool's commit, what is told there is so of the table that stands then: each batch that was acknowledged
-    // stands in the log once, every batch at most once and as submitted, each application's in rising number and none after its close; and
-    // what a reader was handed that resumes at its last offset is exactly the log's rows up to that offset, once each, in log order.
-    ensures headline { (c : Command) → Spells (map S.text words.now) c → result.status ≢ REFUSED
-        → IfSome (unread R.remaining input.old) (λ text. needs_world text ≡ true → ArePutHere (lines_of text)
-        → Tells (held W.contents output.old) (W.contents output.new.writer) (IsPlayedSo text)) }
+    // A script that isn't refused writes what it is told.
+    ensures script { (c : Command) → Spells (map S.text words.now) c → result.status ≢ REFUSED
+        → IfSome (unread R.remaining input.old) (λ text. WritesScript text result.is_short
+        (held W.contents output.old) (W.contents output.new.writer)) }
     ensures status { (c : Command) → Spells (map S.text words.now) c → result.status ≢ REFUSED
         → IfSome (unread R.remaining input.old) (λ text. result.status ≡ status_at (first_bad text)) }
 
