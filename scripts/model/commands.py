@@ -6,7 +6,7 @@ import re
 from check import check_lines
 from log import Log
 from refusals import ENTRIES, explained
-from table import NotModelled, json_value
+from table import NotModelled, json_value, unsupported_column
 from world import World
 
 # The places of each command behind its folder, its options, and whether one has to be given.
@@ -153,6 +153,27 @@ def explanation(words: list[str]) -> list[str]:
     return [ENTRIES[words[0]], "status 0"]
 
 
+def limit_passed(told: str, line: str) -> list[str]:
+    """The hint which limit an append passes that is refused for its size; that of a file isn't modelled."""
+    word, _, rest = line.partition(" ")
+    if told != "refused S8 TooLarge" or word != "append":
+        return []
+    if int(rest.split(" ")[1]) > 999_999_999_999:
+        return ["hint: the number is above 999,999,999,999"]
+    return [
+        "hint: there are over 65,536 rows, to be handed in as several batches, or the log has its last version"
+    ]
+
+
+def rowless(line: str) -> list[str]:
+    """The note that a table that was created takes no rows."""
+    word, _, rest = line.partition(" ")
+    column = unsupported_column(json_value(rest.split(" ", 2)[2])["fields"]) if word == "create" else None
+    if column is None:
+        return []
+    return [f"note: the table takes no rows, since the type of the column {column} has none here"]
+
+
 class Folder:
     """A table's folder: its files, and what commands tell of them."""
 
@@ -184,8 +205,8 @@ class Folder:
         if fault is not None:
             return ["status 1", f"refused F2 NotSaved {fault}", *explained("refused F2")]
         if not told or not told[-1].startswith("refused "):
-            return [*told, "status 0"]
-        return [*told, "status 1", *explained(told[-1])]
+            return [*told, "status 0", *rowless(line)]
+        return [*told, "status 1", *explained(told[-1]), *limit_passed(told[-1], line)]
 
     def elsewhere(self, command: Command, run: Run) -> list[str]:
         """Of folders beside the first nothing is modelled but what comes before they are looked at."""

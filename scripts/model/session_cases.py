@@ -23,6 +23,9 @@ LATEST = 2**63 - 1
 # What is answered to a call that was lost.
 LOST = "lost"
 
+# How long the texts are of rows that are filled in.
+MIB = 1 << 20
+
 # The words for outcomes; another reply is a refusal, or that of a read.
 OUTCOMES = {
     "Committed": "committed",
@@ -62,6 +65,12 @@ def session_answer(case: SessionCase) -> list[str]:
     except BadLine as error:
         raise NotModelled("a bad line") from error
     return "\n".join(told).split("\n") if told else []
+
+
+def rows_of(text: str) -> Any:
+    """The rows of an append: a JSON array, or so many rows of a text of 1 MiB."""
+    word, _, count = text.partition(" ")
+    return [{"s": "x" * MIB}] * number(count) if word == "fill" else rows(text)
 
 
 class Calls:
@@ -139,7 +148,7 @@ class Calls:
         word, _, rest = line.partition(" ")
         if word == "append":
             application, count, moment, tries, values = split(rest, 5)
-            job: Job = Append(application, number(count), number(moment, 0, LATEST), rows(values))
+            job: Job = Append(application, number(count), number(moment, 0, LATEST), rows_of(values))
         elif word == "close":
             application, moment, tries = split(rest, 3)
             job = Close(application, number(moment, 0, LATEST))

@@ -4,5 +4,4 @@ pub use Rattle.job_laws.proofs.PutNames.{put_under}
 pub use Rattle.job_laws.proofs.SameLogs.{restores}
 pub use Rattle.job_laws.proofs.SameLooks.{looks_within}
 pub use Rattle.job_laws.proofs.SavedFronts.{saved}
-pub use Rattle.job_laws.proofs.WholeReads.{whole}
 pub use Rattle.job_laws.proofs.SoundLines.{line_keeps_sound_bytes}

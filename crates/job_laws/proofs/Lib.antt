@@ -13,7 +13,6 @@ mod NameKinds
 mod OwnSteps
 mod PutNames
 mod Requests
-mod RowLines
 mod SameLogs
 mod SameLooks
 mod SameReads
@@ -24,4 +23,3 @@ mod SavedPuts
 mod SoundGrowth
 mod SoundLines
 mod TextReads
-mod WholeReads

@@ -1,5 +1,4 @@
 pub mod Bytes
-pub mod Enough
 pub mod Looking
 pub mod Saved
 pub mod TextReads

@@ -7,7 +7,6 @@ mod kept;
 
 ghost use Rattle.std.specs.Prelude.{◌≡◌, ℕ, Bool, false, List, Ok};
 ghost use Rattle.serde_json.specs.Data.{Items};
-ghost use Rattle.job_laws.specs.Enough.{HasRows};
 ghost use Rattle.store_core.specs.Objects.{Objects, IsInOrder, names_of};
 ghost use Rattle.table_log.specs.Restoring.{RestoresWell};
 ghost use Rattle.table_folder.specs.Copies.{HasSavedFront, to_save};
@@ -16,7 +15,7 @@ ghost use Rattle.log_laws.specs.Sound.{IsSoundStore};
 ghost use Rattle.sink_core.specs.Appending.{PutsWell, appended_by, append_plan, stands, with_append, with_file_alone};
 ghost use Rattle.sink_core.specs.declared.sink_state.SinkOutcome.TheVariants.{Already, Committed};
 ghost use Rattle.lake_script.specs.Growth.{MayPut};
-ghost use Rattle.script_lines.specs.Lines.{Statement, asks, tail, task};
+ghost use Rattle.script_lines.specs.Lines.{Statement, asks};
 ghost use Rattle.lake_script.specs.Runs.{Executes};
 ghost use Rattle.lake_script.specs.Told.{IsPutHere, reply_to_statement};
 ghost use Rattle.job_laws.specs.Bytes.{LooksAtBytes};
@@ -41,13 +40,6 @@ pub fn what_isnt_looked_at_doesnt_matter()
         → MayPut objects statement new }
     // Checkpoints that are sound are so without the other files.
     ensures restores { (objects : Objects) (files : List (List ℕ)) (use_checkpoints : Bool) → RestoresWell use_checkpoints objects → RestoresWell use_checkpoints (loaded files objects) }
-{}
-
-/// A read over the log and some of the data files that hands out all the rows that it was asked for has that reply over
-/// all objects too.
-pub fn a_read_with_all_its_rows_is_whole()
-    ensures { (objects after : Objects) (files : List (List ℕ)) (max : ℕ) (offset reply : List ℕ) → HasRows max reply
-        → Executes (loaded files objects) (task (tail max offset)) reply after → Executes objects (task (tail max offset)) reply objects }
 {}
 
 /// An append that is told as committed stands: over what it leaves the same append, at whatever moment, is told that

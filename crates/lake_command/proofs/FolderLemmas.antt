@@ -38,19 +38,13 @@ pub record IsLoadedFor (objects : Objects) (statement : Statement) (loaded_objec
   pub same : loaded_objects ≡ loaded files objects
 
 -- so it is where the log was loaded at first, and then the data files that a line may look at
-pub loaded_for : (base mid first log start : Objects) (statement : Statement) (names read : List (List ℕ)) → mid ≡ base → log ≡ loaded [] base → first ≡ log → LooksWithin log statement names → read ≡ names
-    → (first ≡ loaded [] mid → start ≡ loaded read mid) → IsLoadedFor base statement start
-loaded_for base mid first log start statement names read same is untouched within all load = record {
+pub loaded_for : (base mid log start : Objects) (statement : Statement) (names read : List (List ℕ)) → mid ≡ base → log ≡ loaded [] base → LooksWithin log statement names → read ≡ names
+    → (log ≡ loaded [] mid → start ≡ loaded read mid) → IsLoadedFor base statement start
+loaded_for base mid log start statement names read same is within all load = record {
   files = names;
   within = looks_within [] base statement names (subst (λ (o : Objects). LooksWithin o statement names) is within);
-  same = load (untouched ∙ is ∙ ap (loaded []) (sym same)) ∙ ap (λ (ns : List (List ℕ)). loaded ns mid) all ∙ ap (loaded names) same;
+  same = load (is ∙ ap (loaded []) (sym same)) ∙ ap (λ (ns : List (List ℕ)). loaded ns mid) all ∙ ap (loaded names) same;
 }
-
--- a read that was told before all were loaded is told over the folder, which is as it was
-pub told_early : (base mid new : Objects) (statement : Statement) (found : Option LineReply) (reply : LineReply) → mid ≡ base → new ≡ mid → found ≡ Some reply → IfSome found (λ r. Executes mid statement (reply_text r) mid) → Executes base statement (reply_text reply) new
-told_early base mid new statement found reply same untouched is told =
-    subst (λ (o : Objects). Executes o statement (reply_text reply) new) same
-    (subst (λ (o : Objects). Executes mid statement (reply_text reply) o) (sym untouched) (subst (λ (f : Option LineReply). IfSome f (λ r. Executes mid statement (reply_text r) mid)) is told))
 
 -- their checkpoints are sound where the folder's are
 pub loaded_well : (use_checkpoints : Bool) (old start : Objects) (statement : Statement) → IsLoadedFor old statement start → RestoresWell use_checkpoints old → RestoresWell use_checkpoints start

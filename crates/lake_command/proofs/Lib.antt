@@ -4,7 +4,4 @@ pub mod CountLemmas
 pub mod EndingLemmas
 pub mod FolderLemmas
 pub mod LineLemmas
-pub mod LookingLemmas
-pub mod ReadingLemmas
 pub mod ScriptLemmas
-pub mod StandingLemmas

@@ -1,5 +1,5 @@
 -- How a job on the table in a folder ends: what comes of it, what is told and where, and the exit status.
-use Rattle.std.specs.Prelude.{◌≡◌, ◌⊎◌, ◌≤◌, ℕ, Bool, true, false, List, Option, Some, None, Result, Ok, Err, IfErr, IfSome, if◌then◌else◌, length}
+use Rattle.std.specs.Prelude.{◌≡◌, ◌⊎◌, ◌≤◌, ◌||◌, ℕ, Bool, true, false, List, Option, Some, None, Result, Ok, Err, IfErr, IfSome, if◌then◌else◌, length}
 use Rattle.std.specs.Io.KnownBytes.{Appends}
 use Rattle.store_core.specs.Objects.{Objects}
 use Rattle.lake_script.specs.ReplyView as replies
@@ -9,6 +9,7 @@ use Rattle.lake_script.specs.declared.inputs.TheConstants.{MOST_READS}
 use Rattle.lake_script.specs.declared.outputs.Output.{Output}
 use Rattle.lake_script.specs.declared.reply.LineReply.{LineReply}
 use Rattle.lake_words.specs.Asked.{Work}
+use Rattle.lake_words.specs.Asked as words
 use Rattle.lake_command.specs.Failures.{HasCause, Leaves, failure_text}
 use Rattle.lake_command.specs.Folders.{IsJobAnswer}
 use Rattle.lake_command.specs.Status.{is_want_of_memory, refuses, status_of_failure}
@@ -41,9 +42,15 @@ abbrev pub is_short_outcome : Result LineReply Failure → Bool
 is_short_outcome (Ok reply) = replies.is_short reply
 is_short_outcome (Err failure) = is_want_of_memory failure
 
--- a text that is told where replies go is a refusal, so that what it means is told on standard error
+-- it creates a table
+abbrev pub creates : Work → Bool
+creates (words.create id schema at) = true
+creates work = false
+
+-- Something may be told on standard error beside a text that is told where replies go: of a refusal what it means, and of a
+-- table that was created that it takes no rows.
 abbrev pub is_explained : Work → Result LineReply Failure → Bool
-is_explained work (Ok reply) = refuses work reply
+is_explained work (Ok reply) = refuses work reply || creates work
 is_explained work (Err Memory) = true
 is_explained work (Err _) = false
 

@@ -1,5 +1,5 @@
 -- What a job on the table in a folder asks for, in the words of a script, and what it leaves in the folder.
-use Rattle.std.specs.Prelude.{◌≡◌, ◌≢◌, ◌⊎◌, ℕ, Bool, List, Option, Some, None, IfSome, IsSomeAnd, length, map, true, false, string_bytes}
+use Rattle.std.specs.Prelude.{◌≡◌, ◌≢◌, ◌⊎◌, ℕ, Bool, List, Option, Some, None, IfSome, IsSomeAnd, length, map, true, false}
 use Rattle.std.specs.Io.KnownBytes.{Appends}
 use Rattle.serde_json.specs.Data.{Data}
 use Rattle.serde_json.specs.View.{items_of}
@@ -14,15 +14,10 @@ use Rattle.lake_script.specs.ReplyView.{reply_text}
 use Rattle.lake_script.specs.Told.{not_yet}
 use Rattle.lake_script.specs.declared.reply.LineReply.{LineReply}
 use Rattle.lake_command.specs.Status.{refuses}
-use Rattle.lake_command.specs.declared.looking.DataFile.{DataFile}
 
 -- these are the rows of an input: the JSON objects of its lines
 abbrev pub AreLineRows : List ℕ → List Data → Type 0
 AreLineRows text rows = map object_of (input_lines text) ≡ map (λ row. Some row) rows
-
--- the names of some data files
-abbrev pub file_names : List DataFile → List (List ℕ)
-file_names files = map (λ file. string_bytes file.name) files
 
 -- an append alone reads the input
 abbrev pub reads_input : Work → Bool
@@ -72,6 +67,11 @@ pub record IsAnsweredJob (work : Work) (text : Option (List ℕ)) (old : Objects
   pub told : Appends before after (reply_text reply)
   pub done : refuses work reply ≡ false
   pub answer : IsJobAnswer work text old (reply_text reply) new
+
+-- it asks for something else than rows from an offset on
+abbrev pub IsNoRead : Statement → Type 0
+IsNoRead (task (tail max offset)) = ⊥
+IsNoRead statement = Unit {0}
 
 -- behind a line, however it ends: what stood, or what the line may put, all of it or
 -- its data file alone

@@ -9,7 +9,9 @@ ghost use Rattle.refusal_texts.specs.Texts.{refusal_text};
 use crate::exit::{DONE, Exit, MISUSED};
 use crate::failure::Failure;
 use crate::telling::{is_refusal, not_written};
+use batch_core::{GREATEST_NUMBER, SinkFault};
 use lake_script::{LineReply, Output, OutputError};
+use lake_words::Job;
 use refusal_texts::{Refusal, refusal_named, refusal_of_reply};
 use std::alloc::Global;
 use std::io::Write;
@@ -35,6 +37,32 @@ pub(crate) fn explain_reply<E: Write>(alloc: Global, reply: &LineReply, err: &mu
         if let Some(refusal) = refusal_of_reply(line) {
             let _ = err.writeln(refusal);
         }
+    }
+}
+
+/// Says which limit a job passes that is refused for its size, as far as the reply and the words tell it.
+pub(crate) fn hint_limit<E: Write>(reply: &LineReply, job: Job<'_>, err: &mut E) {
+    if let Some(limit) = limit_passed(reply, job) {
+        let _ = err.writeln(format_args!("hint: {limit}"));
+    }
+}
+
+fn limit_passed(reply: &LineReply, job: Job<'_>) -> Option<&'static str> {
+    match (reply, job) {
+        (LineReply::SinkRefused(SinkFault::FileTooLarge), _) => {
+            Some("the file of these rows would pass 64 MiB; hand them in as several batches")
+        }
+        (LineReply::SinkRefused(SinkFault::TooLarge), Job::Append { number, .. }) => {
+            if number > GREATEST_NUMBER {
+                Some("the number is above 999,999,999,999")
+            } else {
+                Some(
+                    "there are over 65,536 rows, to be handed in as several batches, or the log has its last version",
+                )
+            }
+        }
+        (LineReply::SinkRefused(SinkFault::TooLarge), _) => Some("the log has its last version"),
+        (_, _) => None,
     }
 }
 

@@ -11,6 +11,7 @@ mod exit;
 mod explaining;
 mod failure;
 mod looking;
+mod noting;
 mod saving;
 mod telling;
 

@@ -16,8 +16,9 @@ ghost use Rattle.lake_command.specs.Folders.{IsAnsweredJob, IsMiscounted, reads_
 
 use crate::answering::answer;
 use crate::exit::{DONE, Exit, MISUSED, REFUSED};
-use crate::explaining::{code_of, explain, explain_reply};
+use crate::explaining::{code_of, explain, explain_reply, hint_limit};
 use crate::failure::Failure;
+use crate::noting::note_rowless;
 use lake_script::{Fault, Input, LineReply, Output, OutputError, RefusalText};
 use lake_words::{Job, TableCommand};
 use std::alloc::Global;
@@ -86,12 +87,14 @@ fn tell<W: Write, E: Write>(
         return not_written(error, is_short, err);
     }
     if !is_refused(reply, job) {
+        note_rowless(alloc, job, err);
         return Exit {
             status: DONE,
             is_short,
         };
     }
     explain_reply(alloc, reply, err);
+    hint_limit(reply, job, err);
     Exit {
         status: REFUSED,
         is_short,

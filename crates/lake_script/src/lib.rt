@@ -14,5 +14,5 @@ pub use engine::{End, Outcome, run, run_text};
 pub use faults::{Fault, RefusalText};
 pub use inputs::{Input, InputError, MOST_BYTES, MOST_READS};
 pub use outputs::{Output, OutputError};
-pub use reply::{LineReply, execute};
+pub use reply::{LineReply, execute, reply_of_read};
 pub use script_lines::{Job, Line};

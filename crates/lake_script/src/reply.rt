@@ -1,5 +1,5 @@
 // What a line is told, and how it is found.
-ghost use Rattle.std.specs.Prelude.{◌≡◌, ◌<◌, ◌≤◌, ◌^◌, ◌⊎◌, [], Bool, false, OnOk, OnErr, true};
+ghost use Rattle.std.specs.Prelude.{◌≡◌, ◌≢◌, ◌<◌, ◌≤◌, ◌^◌, ◌⊎◌, ℕ, List, [], Bool, Err, false, OnOk, OnErr, true};
 ghost use Rattle.std.specs.Io.KnownBytes.{Appends};
 ghost use Rattle.json_text.specs.Rows.{rows_data};
 ghost use Rattle.store_core.specs.Calls.{HasRisen};
@@ -9,11 +9,12 @@ ghost use Rattle.table_log.specs.Names.{commit_name};
 ghost use Rattle.table_log.specs.Restoring.{AreCheckpointsSound, RestoresWell};
 ghost use Rattle.lake_script.specs.Growth.{MayPut};
 ghost use Rattle.commit_core.specs.Histories.{history_of};
-ghost use Rattle.script_lines.specs.Lines.{append, checkpoint, close, create, foreign, snapshot, task, task_view, statement_view, IsTimely, IsTimelyTask};
+ghost use Rattle.script_lines.specs.Lines.{append, checkpoint, close, create, foreign, snapshot, tail, task, task_view, statement_view, IsTimely, IsTimelyTask};
 ghost use Rattle.lake_script.specs.ReplyView.{reply_text, is_short, says_lost};
 ghost use Rattle.lake_script.specs.Runs.{Executes, IsShort, no_room_to_read, no_room_to_show, no_room_to_tell};
 ghost use Rattle.lake_script.specs.Sound.{IsExecuted};
 ghost use Rattle.lake_script.specs.Streams.{held, waiting, write_failed, StandsIn};
+ghost use Rattle.source_core.specs.TailFaults.{ReadGives};
 ghost use Rattle.source_core.specs.Tailing.{tailed};
 ghost use Rattle.lake_script.specs.Told.{shown, in_hex, tailed_reply};
 ghost use Rattle.lake_script.specs.Tries.{IsLook, SetsTries};
@@ -242,7 +243,21 @@ fn read<S: Store>(
     ensures lost { says_lost result ≡ true → HasRisen (S.fault_count store.old) (S.fault_count store.new) }
     ensures counted { says_lost result ≡ false → S.fault_count store.new ≡ S.fault_count store.old }
 {
-    match tail(alloc, store, max, offset, use_checkpoints, cache) {
+    reply_of_read(tail(alloc, store, max, offset, use_checkpoints, cache))
+}
+
+/// The reply to a line that reads from an offset on, by what the read told.
+pub fn reply_of_read(told: Result<Vec<u8>, TailFault>) -> LineReply
+    // Of a read that lost no call that is the reply to the line over the objects that were read.
+    ensures told { (use_checkpoints : Bool) (objects : Objects) (max : ℕ) (offset : List ℕ) → RestoresWell use_checkpoints objects → told ≢ Err TailFault.Lost
+        → ReadGives (λ text. text.items) told (tailed use_checkpoints objects max offset) → is_short result ≡ false → reply_text result ≡ tailed_reply (tailed false objects max offset) }
+    ensures executed { (use_checkpoints : Bool) (objects : Objects) (max : ℕ) (offset : List ℕ) → RestoresWell use_checkpoints objects → told ≢ Err TailFault.Lost
+        → ReadGives (λ text. text.items) told (tailed use_checkpoints objects max offset) → Executes objects (task (tail max offset)) (reply_text result) objects }
+    ensures wants { is_short result ≡ true → reply_text result ≡ no_room_to_read }
+    ensures lost { says_lost result ≡ true → told ≡ Err TailFault.Lost }
+    ensures unlost { says_lost result ≡ false → told ≢ Err TailFault.Lost }
+{
+    match told {
         Ok(text) => LineReply::Bytes(text),
         Err(fault) => LineReply::NotTailed(fault),
     }

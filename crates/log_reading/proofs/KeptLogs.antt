@@ -1,9 +1,11 @@
--- What is known of a log stays so while its store grows.
-use Rattle.std.proofs.Common.{◌≡◌, ◌∙◌, ℕ, List, [], ◌∷◌, Option, Some, None, refl, sym, ap}
+-- What is known of a log, and a file that is kept, stay so while their store grows.
+use Rattle.std.proofs.Common.{◌≡◌, ◌∙◌, ℕ, List, [], ◌∷◌, Option, Some, None, string_bytes, refl, sym, ap}
 use Rattle.store_core.specs.Objects.{Objects, HasObjectsOf, object_at}
 use Rattle.session_core.specs.Names.{commit_name}
 use Rattle.table_log.specs.Versions.{Version, missing, version_by}
+use Rattle.log_reading.specs.LogCache.{IsKept}
 use Rattle.log_reading.specs.Logs.{IsPast, StandThere, standing_views}
+use Rattle.log_reading.specs.declared.kept_file.KeptFile.{KeptFile}
 use Rattle.log_reading.specs.declared.log.Log as code
 
 module _ (objects more : Objects) (grown : HasObjectsOf objects more) where
@@ -20,3 +22,8 @@ module _ (objects more : Objects) (grown : HasObjectsOf objects more) where
   -- What was read of a log stays so.
   pub past_grown : (log : code.Log) → IsPast objects log → IsPast more log
   past_grown log past = record { start = past.start; schema = past.schema; standing = there_grown (standing_views log.standing.items) past.standing }
+
+  -- A file that is kept stands so.
+  pub kept_grown : (file : Option KeptFile) → IsKept objects file → IsKept more file
+  kept_grown None kept = tt
+  kept_grown (Some file) kept = grown (string_bytes file.name) file.bytes.items kept

@@ -2,6 +2,7 @@
 //! checkpoint and the versions behind it, or by all versions; and what reads ask of it.
 #![tactic(auto)]
 
+mod kept_file;
 mod listing;
 mod log;
 mod log_cache;
@@ -10,6 +11,7 @@ mod reads;
 mod schemas;
 mod starting;
 
+pub use kept_file::KeptFile;
 pub use listing::{Checkpoint, Listing};
 pub use log::{Log, Standing, begin_log};
 pub use log_cache::LogCache;

@@ -1,10 +1,9 @@
 //! The lines of the input.
 
 use crate::failure::Failure;
-use crate::log::{Batch, Entry, rows_in};
 use crate::making::{Order, make_script, run_script};
 use crate::table::{log_in, log_of};
-use crate::trial::tell_judged;
+use script_judge::{Batch, Entry, rows_in, tell_judged};
 use std::alloc::{AllocError, Global};
 use std::fmt::Write;
 

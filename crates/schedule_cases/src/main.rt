@@ -13,18 +13,11 @@
 
 mod cases;
 mod failure;
-mod findings;
-mod handing;
-mod laws;
-mod log;
 mod making;
 mod random;
-mod replies;
 mod schedule;
 mod stream;
 mod table;
-mod talk;
-mod trial;
 
 use std::io;
 use std::io::Write;

@@ -2,8 +2,8 @@
 
 use crate::failure::Failure;
 use crate::schedule::Schedule;
-use crate::talk::hear;
 use lake_script::{End, Input, Output};
+use script_judge::hear;
 use std::alloc::Global;
 use store_core::MemoryStore;
 use world_script::{Ran, run};

@@ -3,7 +3,7 @@
 
 use crate::random::Random;
 use crate::stream::Streams;
-use crate::talk::{BEGINNING, Talk};
+use script_judge::{BEGINNING, Talk};
 use std::alloc::{AllocError, Global};
 
 /// How many lines a round has, about.

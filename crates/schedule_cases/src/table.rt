@@ -1,9 +1,9 @@
 //! The log that a store holds, by the slow program of the definitions.
 
 use crate::failure::Failure;
-use crate::log::{Batch, Entry, Log};
 use row_core::row_to_json;
 use schema_tree::Schema;
+use script_judge::{Batch, Entry, Log};
 use std::alloc::{AllocError, Global};
 use store_core::MemoryStore;
 use table_model::is_lawful;

@@ -20,4 +20,4 @@ pub use read_state::{Handing, ReadRows};
 pub use source_laws::what_a_read_is_shown;
 pub use source_session::{ReadEnd, SourceSession, SourceStage};
 pub use tail_fault::TailFault;
-pub use tailing::tail;
+pub use tailing::{read_text, tail};

@@ -62,9 +62,9 @@ impl Drop for Case {
 /// - `conflict`: what of the commit that is begun conflicts with the candidate;
 /// - `race V TRIES`: a `CommitSession` of the candidate, whose bytes are its lines, is driven to its end: from version V on, at
 ///   most so many versions. It tells how many winners were met;
-/// - `append APP NUMBER AT TRIES ROWS` and `close APP AT TRIES`: the append of a batch, whose rows are a JSON array, or the close
-///   of an application's stream is begun, at a moment in milliseconds, below 2^63, which tries at most so many versions. It tells
-///   what it asks for first, of a file also how many bytes it has;
+/// - `append APP NUMBER AT TRIES ROWS` and `close APP AT TRIES`: the append of a batch, whose rows are a JSON array, or `fill N`
+///   for so many rows of a text of 1 MiB, or the close of an application's stream is begun, at a moment in milliseconds, below
+///   2^63, which tries at most so many versions. It tells what it asks for first, of a file also how many bytes it has;
 /// - `step`: the call that it asks for is made. It tells what it asks for next, or how it ended;
 /// - `memory`: memory runs out in the call that it asks for, which isn't made. It tells how it ended;
 /// - `start ACTOR LINE`, `step ACTOR` and `memory ACTOR`: the same, of an append or a close beside others, under a name of its

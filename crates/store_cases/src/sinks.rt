@@ -52,7 +52,7 @@ fn start(alloc: Global, sink: &mut Sink, text: &str, out: &mut String) -> Result
     match words.as_slice() {
         ["append", application, number, at, tries, rows] => {
             let number = number.parse()?;
-            let rows: JsonRows<'static> = JsonRows::Array(ArrayText::from_text(alloc, rows)?);
+            let rows = rows_of(alloc, rows)?;
             let trial = trial_of(alloc, application, at, tries)?;
             append(alloc, sink, number, rows, trial, out)
         }
@@ -61,6 +61,31 @@ fn start(alloc: Global, sink: &mut Sink, text: &str, out: &mut String) -> Result
         }
         _ => Err(Failure::Misspelled),
     }
+}
+
+// The rows of these words: a JSON array, or `fill N`, which is so many rows with a text of 1 MiB under `s`.
+fn rows_of(alloc: Global, text: &str) -> Result<JsonRows<'static>, Failure> {
+    let array = match text.strip_prefix("fill ") {
+        Some(count) => ArrayText::from_text(alloc, &filled(alloc, count.parse()?)?)?,
+        None => ArrayText::from_text(alloc, text)?,
+    };
+    Ok(JsonRows::Array(array))
+}
+
+// So many rows as a JSON array.
+fn filled(alloc: Global, count: u64) -> Result<String, Failure> {
+    let mut text = String::from_str(alloc, "x")?;
+    for _ in 0..20 {
+        let again = text.clone()?;
+        text.push_str(&again)?;
+    }
+    let mut rows = String::from_str(alloc, "[")?;
+    for row in 0..count {
+        let comma = if row == 0 { "" } else { "," };
+        write!(rows, "{comma}{{\"s\":\"{text}\"}}")?;
+    }
+    rows.push(']')?;
+    Ok(rows)
 }
 
 /// Whose stream is written, at which moment, and how many versions are tried at most.

@@ -54,6 +54,7 @@ pub(crate) fn session_of(alloc: Global, job: Job) -> TableSession
             max,
             use_checkpoints,
             Log::new(alloc),
+            None,
         )),
     }
 }

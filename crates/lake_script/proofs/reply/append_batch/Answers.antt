@@ -7,7 +7,7 @@ use Rattle.batch_core.specs.Refusals.{refusal_view, says}
 use Rattle.sink_core.proofs.Callers.{appended_alike, append_plan_alike}
 use Rattle.lake_script.proofs.RestoredLemmas.{append_executed, append_refusal_executed, append_refusal_told, has_append, kept_memory}
 use Rattle.lake_script.proofs.RunsLemmas.{append_short}
-use Rattle.log_reading.proofs.Callers.{past_grown}
+use Rattle.log_reading.proofs.Callers.{kept_grown, past_grown}
 use Rattle.lake_script.proofs.reply.append_batch.Goals as goal
 
 pub returns-in-Ok-clause-told : goal.returns-in-Ok-clause-told
@@ -88,10 +88,12 @@ pub returns-in-Ok-clause-cache : goal.returns-in-Ok-clause-cache
 returns-in-Ok-clause-cache g c = record {
   loaded = c.in-Ok.ensures.front;
   log = past_grown (g.S.Store.objects c.args.store.now) (g.S.Store.objects c.append.new.store) c.in-Ok.ensures.kept c.args.cache.now.log c.requires.cache.log;
+  file = kept_grown (g.S.Store.objects c.args.store.now) (g.S.Store.objects c.append.new.store) c.in-Ok.ensures.kept c.args.cache.now.file c.requires.cache.file;
 }
 
 pub returns-in-Err-clause-cache : goal.returns-in-Err-clause-cache
 returns-in-Err-clause-cache g c = record {
   loaded = c.in-Err.ensures.front;
   log = past_grown (g.S.Store.objects c.args.store.now) (g.S.Store.objects c.append.new.store) c.in-Err.ensures.kept c.args.cache.now.log c.requires.cache.log;
+  file = kept_grown (g.S.Store.objects c.args.store.now) (g.S.Store.objects c.append.new.store) c.in-Err.ensures.kept c.args.cache.now.file c.requires.cache.file;
 }

@@ -7,7 +7,7 @@ use Rattle.lake_script.specs.Sound.{IsExecuted}
 use Rattle.lake_script.specs.declared.reply.LineReply.TheVariants.{NoSnapshot}
 use Rattle.lake_script.proofs.CheckpointLemmas.{has_executed, put_executed, refusal_executed, refusal_short, refusal_told}
 use Rattle.snapshot_core.proofs.Callers.{puts_alike, refusal_alike}
-use Rattle.log_reading.proofs.Callers.{past_grown}
+use Rattle.log_reading.proofs.Callers.{kept_grown, past_grown}
 use Rattle.lake_script.proofs.reply.take_checkpoint.Goals as goal
 
 pub returns-in-Ok-clause-told : goal.returns-in-Ok-clause-told
@@ -65,10 +65,12 @@ pub returns-in-Ok-clause-cache : goal.returns-in-Ok-clause-cache
 returns-in-Ok-clause-cache g c = record {
   loaded = c.in-Ok.ensures.cache;
   log = past_grown (g.S.Store.objects c.args.store.now) (g.S.Store.objects c.checkpoint.new.store) c.in-Ok.ensures.grows c.args.cache.now.log c.requires.log;
+  file = kept_grown (g.S.Store.objects c.args.store.now) (g.S.Store.objects c.checkpoint.new.store) c.in-Ok.ensures.grows c.args.cache.now.file c.requires.file;
 }
 
 pub returns-in-Err-clause-cache : goal.returns-in-Err-clause-cache
 returns-in-Err-clause-cache g c = record {
   loaded = c.in-Err.ensures.cache;
   log = past_grown (g.S.Store.objects c.args.store.now) (g.S.Store.objects c.checkpoint.new.store) c.in-Err.ensures.grows c.args.cache.now.log c.requires.log;
+  file = kept_grown (g.S.Store.objects c.args.store.now) (g.S.Store.objects c.checkpoint.new.store) c.in-Err.ensures.grows c.args.cache.now.file c.requires.file;
 }

@@ -1,0 +1,2 @@
+mod Showing
+mod Unspelled

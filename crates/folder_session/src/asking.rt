@@ -1,0 +1,28 @@
+// One call of a folder, as a session that only reads asks for it.
+ghost use Rattle.std.specs.Prelude.{◌≡◌, IfOk, false};
+ghost use Rattle.session_core.specs.Shown.{IsExact};
+ghost use Rattle.session_core.specs.Talks.{IsAnswerOf, asked_view, is_lost, kind_of, told_view};
+ghost use Rattle.table_folder.specs.Faults.{CountsLoad, IsNotLoaded};
+
+use session_core::{Reply, Request};
+use table_folder::{Folder, LoadFault};
+
+/// Makes the call over a folder, whose answer is handed on as it is. Nothing is put: of a put it is told that there is no memory
+/// for it.
+pub(crate) fn ask<F: Folder>(folder: &mut F, request: Request) -> Result<Reply, LoadFault>
+    ensures kind { IfOk result (λ reply. IsAnswerOf (kind_of (asked_view request)) (told_view reply)) }
+    ensures exact { F.is_steady folder.old → IfOk result (λ reply. IsExact (F.objects folder.old) (asked_view request) (told_view reply)) }
+    ensures never_lost { IfOk result (λ reply. is_lost (told_view reply) ≡ false) }
+    ensures untouched { F.is_steady folder.old → F.objects folder.new ≡ F.objects folder.old }
+    ensures steady { F.is_steady folder.old → F.is_steady folder.new }
+
+    ensures faults { CountsLoad result (F.fault_count folder.old) (F.fault_count folder.new) }
+    ensures never_fails { F.is_reliable folder.old → IsNotLoaded result → ⊥ }
+    ensures stays_reliable { F.is_reliable folder.old → F.is_reliable folder.new }
+{
+    match request {
+        Request::List => Ok(Reply::Names(folder.names()?)),
+        Request::Get(name) => Ok(Reply::Object(folder.read(name.as_str())?)),
+        Request::PutFile(_, _) | Request::PutCommit(_, _) => Ok(Reply::Memory),
+    }
+}

@@ -1,0 +1,41 @@
+//! The loop that drives a session over a folder.
+ghost use Rattle.std.specs.Prelude.{◌≡◌, [], false, true, None, IfOk};
+ghost use Rattle.session_core.specs.Talks.{Talk};
+ghost use Rattle.table_folder.specs.Faults.{CountsLoad, IsNotLoaded};
+ghost use Rattle.folder_session.specs.Driving.{ReadsBy};
+
+use crate::asking::ask;
+use session_core::{Session, Step};
+use table_folder::{Folder, LoadFault};
+
+/// Drives a session that only reads over a folder's files to its end: makes each call that it asks for, and tells it the answer.
+/// Where a call fails the session is dropped, and the fault is that call's. Nothing is put: a session that asks for a put is told
+/// that there is no memory for it.
+///
+/// The folder is listed where the session asks for the names, and a file is opened where it asks for that one, each once. Beside
+/// that and the session, the time is constant for each call.
+pub fn drive_reads<F: Folder, N: Session>(
+    folder: &mut F,
+    session: &mut N,
+) -> Result<N::Outcome, LoadFault>
+    requires new { N.awaits session.old ≡ None }
+    requires unended { N.done session.old ≡ false }
+    // Over a steady folder it was driven by a talk that shows the folder's objects.
+    ensures driven { F.is_steady folder.old → (before : Talk) → N.fits before session.old [] None
+        → IfOk result (λ outcome. ReadsBy N.asks N.ends (N.job session.old) (N.left session.old) before outcome (F.objects folder.old)) }
+    ensures never_lost { IfOk result (λ outcome. N.lost outcome ≡ false) }
+    ensures untouched { F.is_steady folder.old → F.objects folder.new ≡ F.objects folder.old }
+    ensures steady { F.is_steady folder.old → F.is_steady folder.new }
+
+    ensures faults { CountsLoad result (F.fault_count folder.old) (F.fault_count folder.new) }
+    ensures never_fails { F.is_reliable folder.old → IsNotLoaded result → ⊥ }
+    ensures stays_reliable { F.is_reliable folder.old → F.is_reliable folder.new }
+{
+    let mut reply = None;
+    'calls: loop {
+        match session.next(reply) {
+            Step::Done(outcome) => return Ok(outcome),
+            Step::Ask(request) => reply = Some(ask(folder, request)?),
+        }
+    }
+}
