@@ -1,9 +1,7 @@
 //! The cases of an input, one behind the other.
 
-use crate::case::Case;
-use crate::failure::Failure;
-use crate::notation::{Names, spelled};
 use crate::running::tell_case;
+use case_text::{Case, Failure, Names, spelled};
 use std::collections::BTreeMap;
 use std::io::Write;
 

@@ -1,11 +1,8 @@
 //! The command lines of a case: each is run, and what it tells is added.
 
-use crate::case::{Case, Run};
-use crate::failure::Failure;
 use crate::running::tell_written;
-use crate::shared::SharedFolder;
-use crate::streams::{Sink, Source};
 use crate::table::tell_objects;
+use case_text::{Case, Failure, Run, SharedFolder, Sink, Source};
 use folder_check::{FolderReader, NoProgress};
 use lake_command::{check_command, command, table_command};
 use lake_script::{Input, Output};

@@ -6,15 +6,10 @@
 //! heading, of which only directives count.
 #![tactic(auto)]
 
-mod case;
 mod cases;
 mod commands;
-mod failure;
-mod notation;
 mod plain;
 mod running;
-mod shared;
-mod streams;
 mod table;
 
 use std::io;

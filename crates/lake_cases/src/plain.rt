@@ -1,7 +1,6 @@
 //! Scripts of the plain table, which the slow program of the definitions answers.
 
-use crate::failure::Failure;
-use crate::notation::number;
+use case_text::{Failure, number};
 use row_core::Value;
 use std::alloc::Global;
 use std::io::Write;

@@ -1,11 +1,9 @@
 //! One case: it is run, and what came of it is told.
 
-use crate::case::Case;
 use crate::commands::tell_runs;
-use crate::failure::Failure;
 use crate::plain::tell_plain;
-use crate::streams::{Sink, Source};
 use crate::table::{tell_entries, tell_objects, tell_table};
+use case_text::{Case, Failure, Sink, Source};
 use lake_script::{End, Input, Outcome, Output};
 use sha2::{Digest, Sha256};
 use std::alloc::Global;

@@ -1,6 +1,6 @@
 //! What is told of the store that a script leaves: the slow program of the definitions looks at it.
 
-use crate::failure::Failure;
+use case_text::Failure;
 use row_core::row_to_json;
 use schema_tree::Schema;
 use std::alloc::Global;
