@@ -1,9 +1,9 @@
 -- How a session was driven that only reads.
-use Rattle.std.specs.Prelude.{◌≡◌, ◌≤◌, ℕ, ◌+◌, [], length, Option}
+use Rattle.std.specs.Prelude.{◌≡◌, ◌≤◌, ℕ, ◌+◌, [], length, false, Option}
 use Rattle.store_core.specs.Objects.{Objects}
 use Rattle.session_core.specs.Sessions.{AllAsked}
 use Rattle.session_core.specs.Shown.{Shows}
-use Rattle.session_core.specs.Talks.{Asked, Talk, Told, heard}
+use Rattle.session_core.specs.Talks.{Asked, Talk, Told, has_lost, heard}
 
 -- By a talk of its own that shows these objects, in which it made just calls that its job asks for and none was lost, and behind which
 -- the outcome is one that its job tells. What was known before it was told in the talk that goes before.
@@ -11,6 +11,7 @@ pub record ReadsBy {J O : Type 0} (asks : J → (before talk : Talk) → Asked �
   pub talk : Talk
   pub shown : Shows talk objects
   pub asked : AllAsked (asks job before) [] talk
+  pub unlost : has_lost talk ≡ false
   pub ended : ends job before talk outcome
   pub few : length talk ≤ most
 
@@ -23,4 +24,5 @@ pub record IsReading {N : Type 0} (fits : N → Talk → Option Asked → Type 0
   pub all : heard taken asked reply ≡ talk
   pub shown : Shows talk objects
   pub asked_for : AllAsked asks [] talk
+  pub unlost : has_lost talk ≡ false
   pub few : length talk + left session ≤ left first

@@ -7,8 +7,8 @@ ghost use Rattle.table_folder.specs.Faults.{CountsLoad, IsNotLoaded};
 use session_core::{Reply, Request};
 use table_folder::{Folder, LoadFault};
 
-/// Makes the call over a folder, whose answer is handed on as it is. Nothing is put: of a put it is told that there is no memory
-/// for it.
+/// Makes the call over a folder, whose answer is handed on as it is. A put isn't asked for; of one it would be told that there is no
+/// memory for it.
 pub(crate) fn ask<F: Folder>(folder: &mut F, request: Request) -> Result<Reply, LoadFault>
     ensures kind { IfOk result (λ reply. IsAnswerOf (kind_of (asked_view request)) (told_view reply)) }
     ensures exact { F.is_steady folder.old → IfOk result (λ reply. IsExact (F.objects folder.old) (asked_view request) (told_view reply)) }

@@ -1,6 +1,7 @@
 //! The loop that drives a session over a folder.
 ghost use Rattle.std.specs.Prelude.{◌≡◌, [], false, true, None, IfOk};
-ghost use Rattle.session_core.specs.Talks.{Talk};
+ghost use Rattle.session_core.specs.Shown.{IsRead};
+ghost use Rattle.session_core.specs.Talks.{Asked, Talk};
 ghost use Rattle.table_folder.specs.Faults.{CountsLoad, IsNotLoaded};
 ghost use Rattle.folder_session.specs.Driving.{ReadsBy};
 
@@ -9,20 +10,22 @@ use session_core::{Session, Step};
 use table_folder::{Folder, LoadFault};
 
 /// Drives a session that only reads over a folder's files to its end: makes each call that it asks for, and tells it the answer.
-/// Where a call fails the session is dropped, and the fault is that call's. Nothing is put: a session that asks for a put is told
-/// that there is no memory for it.
+/// Where a call fails the fault is that call's, and the session is left where it waits for its answer.
 ///
-/// The folder is listed where the session asks for the names, and a file is opened where it asks for that one, each once. Beside
-/// that and the session, the time is constant for each call.
+/// The folder is listed where the session asks for the names, and a file is opened where it asks for that one. Beside that and the
+/// session, the time is constant for each call.
 pub fn drive_reads<F: Folder, N: Session>(
     folder: &mut F,
     session: &mut N,
 ) -> Result<N::Outcome, LoadFault>
     requires new { N.awaits session.old ≡ None }
     requires unended { N.done session.old ≡ false }
+    requires reads { (before talk : Talk) (asked : Asked) → N.asks (N.job session.old) before talk asked → IsRead asked }
     // Over a steady folder it was driven by a talk that shows the folder's objects.
     ensures driven { F.is_steady folder.old → (before : Talk) → N.fits before session.old [] None
         → IfOk result (λ outcome. ReadsBy N.asks N.ends (N.job session.old) (N.left session.old) before outcome (F.objects folder.old)) }
+    ensures ended { IfOk result (λ outcome. N.done session.new ≡ true) }
+    ensures same { N.job session.new ≡ N.job session.old }
     ensures never_lost { IfOk result (λ outcome. N.lost outcome ≡ false) }
     ensures untouched { F.is_steady folder.old → F.objects folder.new ≡ F.objects folder.old }
     ensures steady { F.is_steady folder.old → F.is_steady folder.new }

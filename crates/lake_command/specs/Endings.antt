@@ -1,5 +1,5 @@
 -- How a job on the table in a folder ends: what comes of it, what is told and where, and the exit status.
-use Rattle.std.specs.Prelude.{◌≡◌, ◌⊎◌, ◌≤◌, ◌||◌, ℕ, Bool, true, false, List, Option, Some, None, Result, Ok, Err, IfErr, IfSome, if◌then◌else◌, length}
+use Rattle.std.specs.Prelude.{◌≡◌, ◌⊎◌, ◌≤◌, ◌||◌, ℕ, Bool, true, false, List, Option, Some, None, Result, Ok, Err, IfErr, IfSome, if◌then◌else◌, length, is_some}
 use Rattle.std.specs.Io.KnownBytes.{Appends}
 use Rattle.store_core.specs.Objects.{Objects}
 use Rattle.lake_script.specs.ReplyView as replies
@@ -8,6 +8,10 @@ use Rattle.lake_script.specs.Streams.{held, write_failed, StandsIn}
 use Rattle.lake_script.specs.declared.inputs.TheConstants.{MOST_READS}
 use Rattle.lake_script.specs.declared.outputs.Output.{Output}
 use Rattle.lake_script.specs.declared.reply.LineReply.{LineReply}
+use Rattle.row_core.specs.Unsupported.{unsupported}
+use Rattle.schema_tree.specs.Fault.{Fault}
+use Rattle.schema_tree.specs.Reading.{schema_of}
+use Rattle.schema_tree.specs.Tree.{Tree}
 use Rattle.lake_words.specs.Asked.{Work}
 use Rattle.lake_words.specs.Asked as words
 use Rattle.lake_command.specs.Failures.{HasCause, Leaves, failure_text}
@@ -42,15 +46,20 @@ abbrev pub is_short_outcome : Result LineReply Failure → Bool
 is_short_outcome (Ok reply) = replies.is_short reply
 is_short_outcome (Err failure) = is_want_of_memory failure
 
--- it creates a table
-abbrev pub creates : Work → Bool
-creates (words.create id schema at) = true
-creates work = false
+-- a column of the schema is of a type that has no rows
+abbrev pub has_rowless : Result Tree Fault → Bool
+has_rowless (Ok tree) = is_some (unsupported tree)
+has_rowless (Err fault) = false
+
+-- it creates a table that takes no rows
+abbrev pub creates_rowless : Work → Bool
+creates_rowless (words.create id schema at) = has_rowless (schema_of schema)
+creates_rowless work = false
 
 -- Something may be told on standard error beside a text that is told where replies go: of a refusal what it means, and of a
--- table that was created that it takes no rows.
+-- table that was created and takes no rows that it doesn't.
 abbrev pub is_explained : Work → Result LineReply Failure → Bool
-is_explained work (Ok reply) = refuses work reply || creates work
+is_explained work (Ok reply) = refuses work reply || creates_rowless work
 is_explained work (Err Memory) = true
 is_explained work (Err _) = false
 

@@ -50,7 +50,7 @@ pub(crate) fn hint_limit<E: Write>(reply: &LineReply, job: Job<'_>, err: &mut E)
 fn limit_passed(reply: &LineReply, job: Job<'_>) -> Option<&'static str> {
     match (reply, job) {
         (LineReply::SinkRefused(SinkFault::FileTooLarge), _) => {
-            Some("the file of these rows would pass 64 MiB; hand them in as several batches")
+            Some("the file of these rows would pass 64 MiB; fewer rows make a smaller one")
         }
         (LineReply::SinkRefused(SinkFault::TooLarge), Job::Append { number, .. }) => {
             if number > GREATEST_NUMBER {

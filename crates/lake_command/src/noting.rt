@@ -1,6 +1,7 @@
 //! What is told beside the reply of a job that is done.
-ghost use Rattle.std.specs.Prelude.{◌≡◌, false};
-ghost use Rattle.lake_command.specs.Endings.{creates};
+ghost use Rattle.std.specs.Prelude.{◌≡◌, IfSome, false, true};
+ghost use Rattle.schema_tree.specs.Reading.{schema_of};
+ghost use Rattle.lake_command.specs.Endings.{creates_rowless, has_rowless};
 ghost use Rattle.lake_words.specs.Asked.{work_view};
 
 use lake_words::Job;
@@ -12,7 +13,7 @@ use std::io::Write;
 /// Tells of a table that was created and takes no rows which of its columns, depth first, is the first one of a type that has
 /// none.
 pub(crate) fn note_rowless<E: Write>(alloc: Global, job: Job<'_>, err: &mut E)
-    ensures { creates (work_view job.entry) ≡ false → err.new ≡ err.old }
+    ensures { creates_rowless (work_view job.entry) ≡ false → err.new ≡ err.old }
 {
     let Job::Create { schema, .. } = job else {
         return;
@@ -25,7 +26,9 @@ pub(crate) fn note_rowless<E: Write>(alloc: Global, job: Job<'_>, err: &mut E)
 }
 
 // The first column that has no rows.
-fn rowless(alloc: Global, schema: &str) -> Option<ColumnPath> {
+fn rowless(alloc: Global, schema: &str) -> Option<ColumnPath>
+    ensures { IfSome result (λ column. has_rowless (schema_of schema.now) ≡ true) }
+{
     match Schema::from_text(alloc, schema) {
         Ok(schema) => unsupported(alloc, &schema).unwrap_or(None),
         Err(_fault) => None,

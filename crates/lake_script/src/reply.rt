@@ -254,6 +254,7 @@ pub fn reply_of_read(told: Result<Vec<u8>, TailFault>) -> LineReply
     ensures executed { (use_checkpoints : Bool) (objects : Objects) (max : ℕ) (offset : List ℕ) → RestoresWell use_checkpoints objects → told ≢ Err TailFault.Lost
         → ReadGives (λ text. text.items) told (tailed use_checkpoints objects max offset) → Executes objects (task (tail max offset)) (reply_text result) objects }
     ensures wants { is_short result ≡ true → reply_text result ≡ no_room_to_read }
+    ensures short { is_short result ≡ true → told ≡ Err TailFault.Memory }
     ensures lost { says_lost result ≡ true → told ≡ Err TailFault.Lost }
     ensures unlost { says_lost result ≡ false → told ≢ Err TailFault.Lost }
 {

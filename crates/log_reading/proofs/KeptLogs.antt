@@ -3,7 +3,7 @@ use Rattle.std.proofs.Common.{◌≡◌, ◌∙◌, ℕ, List, [], ◌∷◌, Op
 use Rattle.store_core.specs.Objects.{Objects, HasObjectsOf, object_at}
 use Rattle.session_core.specs.Names.{commit_name}
 use Rattle.table_log.specs.Versions.{Version, missing, version_by}
-use Rattle.log_reading.specs.LogCache.{IsKept}
+use Rattle.log_reading.specs.LogCache.{HoldsFile}
 use Rattle.log_reading.specs.Logs.{IsPast, StandThere, standing_views}
 use Rattle.log_reading.specs.declared.kept_file.KeptFile.{KeptFile}
 use Rattle.log_reading.specs.declared.log.Log as code
@@ -24,6 +24,6 @@ module _ (objects more : Objects) (grown : HasObjectsOf objects more) where
   past_grown log past = record { start = past.start; schema = past.schema; standing = there_grown (standing_views log.standing.items) past.standing }
 
   -- A file that is kept stands so.
-  pub kept_grown : (file : Option KeptFile) → IsKept objects file → IsKept more file
+  pub kept_grown : (file : Option KeptFile) → HoldsFile objects file → HoldsFile more file
   kept_grown None kept = tt
   kept_grown (Some file) kept = grown (string_bytes file.name) file.bytes.items kept

@@ -3,7 +3,7 @@ use Rattle.store_core.specs.Objects.{Objects}
 use Rattle.session_core.specs.Talks.{Asked, Talk, Told, asked_view, told_view, heard}
 use Rattle.session_core.specs.Shown.{IsExact}
 use Rattle.session_core.proofs.Callers.{asked_more}
-use Rattle.folder_session.proofs.Showing.{shows_also}
+use Rattle.folder_session.proofs.Showing.{shows_also, unlost_also}
 use Rattle.folder_session.proofs.driving.drive_reads.Goals as goal
 
 pub calls-init : goal.calls-init
@@ -24,6 +24,7 @@ calls-init g c = record {
     all = refl;
     shown = tt;
     asked_for = tt;
+    unlost = refl;
     few = omega arith;
   };
 }
@@ -55,6 +56,7 @@ calls-preserved g c =
             all = ap (λ (t : Talk). t ++ (asked, reply) ∷ []) d.all;
             shown = shows_also _ d.talk asked reply d.shown (subst (λ (o : Objects). IsExact o asked reply) (i.untouched steady) (told.exact (i.steady steady)));
             asked_for = asked_more (g.N.Session.asks (g.N.Session.job c.args.session.now) before) [] d.talk asked reply d.asked_for (rw i.job at (rw d.all at step.1));
+            unlost = unlost_also d.talk asked reply d.unlost told.never_lost;
             few = let longer = length-append d.talk ((asked, reply) ∷ []) in omega (arith, d.few, steps.1, longer);
           };
     }
