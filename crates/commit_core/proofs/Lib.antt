@@ -12,5 +12,4 @@ pub mod PieceLemmas
 pub mod PutLemmas
 pub mod RaceLaws
 pub mod RaceLemmas
-pub mod AnswerLemmas
 pub mod Callers

@@ -23,7 +23,7 @@ use Rattle.sink_core.specs.Closes.{close_answer, close_of, close_plan, closed_by
 use Rattle.batch_core.specs.Requests.{SinkRequest, checked, close_behind, named, request_behind, unless_other, where_same}
 use Rattle.sink_core.specs.Appending.{EncodedBatch, AppendPlan, appended_by, plan_answer, batch_of, put_plan, puts, request_of, append_plan, stands, plan_of}
 use Rattle.batch_core.specs.Refusals.{SinkRefusal, bad_log}
-use Rattle.source_core.specs.Offsets.{offset_of}
+use Rattle.log_offsets.specs.Offsets.{offset_of}
 use Rattle.source_core.specs.Tailing as tails
 use Rattle.source_core.specs.Tailing.{bad_offset, handed_by, handed_text, schema_at, tailed, versions_at}
 use Rattle.job_laws.specs.Looking.{IsReadFrom}

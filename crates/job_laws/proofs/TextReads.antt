@@ -7,7 +7,7 @@ use Rattle.table_model.specs.Reads.{position}
 use Rattle.table_model.specs.Resumed.{beginning}
 use Rattle.table_model.specs.Table.{Entry, rows}
 use Rattle.table_model.specs.declared.reading.Offset.{Offset}
-use Rattle.source_core.specs.Offsets.{offset_of}
+use Rattle.log_offsets.specs.Offsets.{offset_of}
 use Rattle.source_core.specs.Tailing.{read_by}
 use Rattle.source_core.specs.Tails.{tails}
 use Rattle.read_laws.specs.Kept.{IsKept}

@@ -4,7 +4,7 @@ use Rattle.std.specs.Prelude.{◌≡◌, ℕ, false, List, [], ◌∷◌, ◌++�
 use Rattle.lake_bytes.specs.Results.{◌>>=◌, or_refusal}
 use Rattle.store_core.specs.Objects.{Objects}
 use Rattle.row_core.specs.Rows.{Row}
-use Rattle.source_core.specs.Offsets.{offset_of}
+use Rattle.log_offsets.specs.Offsets.{offset_of}
 use Rattle.source_core.specs.Tailing.{ReadRefusal, ReadRows, bad_offset, read_by}
 
 -- a read from the offset that a text spells

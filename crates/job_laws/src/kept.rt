@@ -11,7 +11,7 @@ ghost use Rattle.table_model.specs.Table.{Entry, rows};
 ghost use Rattle.table_model.specs.declared.reading.Offset.{Offset};
 ghost use Rattle.table_store.specs.Schema.{Schema};
 ghost use Rattle.table_store.specs.Sound.{IsSound};
-ghost use Rattle.source_core.specs.Offsets.{offset_of};
+ghost use Rattle.log_offsets.specs.Offsets.{offset_of};
 ghost use Rattle.source_core.specs.Tails.{tails};
 ghost use Rattle.read_laws.specs.Kept.{IsKept};
 ghost use Rattle.lake_script.specs.Keeps.{HasNoOther, Keeps, KeepsBeside};

@@ -13,7 +13,7 @@ use Rattle.table_model.specs.declared.table.AppendAnswer.TheVariants.{Committed,
 use Rattle.commit_core.specs.Creating as creations
 use Rattle.commit_core.specs.Histories.{history_of, bad_log}
 use Rattle.script_lines.specs.Lines.{Statement, create, task, history, show, hex, snapshot, foreign, append, close, checkpoint, tail, Reading, skipped, bad, asks, reading_of}
-use Rattle.source_core.specs.Offsets.{offset_of}
+use Rattle.log_offsets.specs.Offsets.{offset_of}
 use Rattle.batch_core.specs.Refusals.{SinkRefusal}
 use Rattle.lake_script.specs.Sound.{IsSoundStatement, IsSoundLine, AreSoundLines}
 use Rattle.lake_script.specs.Scripts.{line_over, reply_over, expected_over}

@@ -7,7 +7,7 @@ use Rattle.delta_actions.specs.Action as actions
 use Rattle.table_model.specs.Table.{Entry}
 use Rattle.table_model.specs.Reads.{Answer, handed, beyond, bad_place, read}
 use Rattle.table_model.specs.declared.reading.Offset.{Offset}
-use Rattle.source_core.specs.Offsets.{offset_of}
+use Rattle.log_offsets.specs.Offsets.{offset_of}
 use Rattle.lake_bytes.specs.Results.{◌>>=◌}
 use Rattle.lake_script.specs.Tables as tables
 use Rattle.source_core.specs.Tailing.{ReadRefusal, ReadRows, handed_by, handed_text, schema_for, tailed}

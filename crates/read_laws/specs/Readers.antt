@@ -11,7 +11,7 @@ use Rattle.table_model.specs.Table.{Entry}
 use Rattle.table_model.specs.declared.reading.Offset.{Offset}
 use Rattle.table_store.specs.Schema.{Schema}
 use Rattle.table_model.specs.Reads.{IsPart, MayEnd, is_beyond, is_offset}
-use Rattle.source_core.specs.Offsets.{offset_view}
+use Rattle.log_offsets.specs.Offsets.{offset_view}
 use Rattle.source_core.specs.SourceSessions.{SourceEnds, SourceJob}
 use Rattle.source_core.specs.TailFaults.{refusal_view}
 use Rattle.source_core.specs.Tailing.{ReadRefusal, bad_place, beyond_log, lost, memory}

@@ -8,7 +8,6 @@ pub mod KnownCommits
 pub mod LogFiles
 pub mod LookedReads
 pub mod LookedSchemas
-pub mod OffsetLemmas
 pub mod PlaceLemmas
 pub mod RestoredReads
 pub mod SourceFiles

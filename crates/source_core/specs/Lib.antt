@@ -1,5 +1,4 @@
 pub mod Handings
-pub mod Offsets
 pub mod SourceSessions
 pub mod TailFaults
 pub mod TailViews

@@ -3,7 +3,6 @@
 
 mod handing;
 mod items;
-mod offsets;
 mod places;
 mod printing;
 mod read_state;
@@ -13,7 +12,7 @@ mod tail_fault;
 mod tailing;
 
 pub use items::{Item, LogFile, VersionFault};
-pub use offsets::{Offset, offset_text, read_offset};
+pub use log_offsets::{Offset, offset_text, read_offset};
 pub use places::TableSchema;
 pub use printing::handed_text;
 pub use read_state::{Handing, ReadRows};

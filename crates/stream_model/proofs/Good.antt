@@ -26,7 +26,7 @@ use Rattle.sink_core.specs.declared.sink_state.SinkEnd.{SinkEnd}
 use Rattle.sink_core.specs.declared.sink_state.SinkOutcome.{SinkOutcome}
 use Rattle.sink_core.specs.declared.sink_state.SinkOutcome.TheVariants.{Already, AlreadyClosed, Closed, Committed}
 use Rattle.session_laws.specs.Rows.{IsBatchOf, TellsOfBatch}
-use Rattle.source_core.specs.Offsets.{offset_view}
+use Rattle.log_offsets.specs.Offsets.{offset_view}
 use Rattle.source_core.specs.SourceSessions.{SourceJob}
 use Rattle.source_core.specs.declared.read_state.ReadRows.{ReadRows}
 use Rattle.source_core.specs.declared.source_session.ReadEnd.{ReadEnd}

@@ -13,7 +13,7 @@ use Rattle.table_model.specs.Resumed.{beginning}
 use Rattle.table_model.proofs.Callers.{beginning_is_offset}
 use Rattle.table_model.specs.Table.{Entry}
 use Rattle.table_model.specs.declared.reading.Offset.{Offset}
-use Rattle.source_core.specs.Offsets.{offset_view}
+use Rattle.log_offsets.specs.Offsets.{offset_view}
 use Rattle.source_core.specs.SourceSessions.{SourceEnds, SourceJob, read_told, read_view}
 use Rattle.source_core.specs.TailFaults.{ReadGives}
 use Rattle.source_core.specs.declared.read_state.ReadRows.{ReadRows}

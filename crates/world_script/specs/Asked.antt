@@ -3,7 +3,7 @@ use Rattle.std.specs.Prelude.{ℕ, Bool, List, [], Option, Some, option_map}
 use Rattle.script_lines.specs.Lines as lines
 use Rattle.script_lines.specs.Lines.{Task}
 use Rattle.sink_core.specs.SinkSessions.{appends, closes}
-use Rattle.source_core.specs.Offsets.{offset_of}
+use Rattle.log_offsets.specs.Offsets.{offset_of}
 use Rattle.session_laws.specs.Sessions.{Job, checkpoints, creates, reads, streams}
 use Rattle.stream_world.specs.Jobs.{new_load}
 
