@@ -25,7 +25,7 @@ use Rattle.lake_script.specs.Sound.{IsExecuted}
 use Rattle.lake_bytes.specs.Lines.{with_newline}
 
 -- the two texts of what a table lacks are the same
-support_is : (why : SupportFault) → supports.fault_text why ≡ support_text (fault_of why)
+pub support_is : (why : SupportFault) → supports.fault_text why ≡ support_text (fault_of why)
 support_is NoProtocol = refl
 support_is NoMetadata = refl
 support_is (Feature name) = refl

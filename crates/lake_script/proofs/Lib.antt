@@ -1,3 +1,4 @@
+pub mod AnyStoreLemmas
 pub mod Callers
 pub mod CheckpointLemmas
 pub mod KeptAppend

@@ -1,3 +1,4 @@
+pub mod AnyStore
 pub mod Checkpoints
 pub mod Growth
 pub mod Keeps

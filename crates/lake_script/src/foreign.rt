@@ -2,6 +2,8 @@
 ghost use Rattle.lake_bytes.specs.Lines.{with_newline};
 ghost use Rattle.std.specs.Prelude.{◌≡◌, IfOk, OnOk, IsErrOf};
 ghost use Rattle.store_core.specs.Calls.{CountsFault, MayHaveLanded, put_told};
+ghost use Rattle.session_core.specs.Stores.{MayAnswerPut};
+ghost use Rattle.session_core.specs.Talks.{told_put};
 ghost use Rattle.store_core.specs.Objects.{object_at, with_object};
 ghost use Rattle.table_log.specs.Names.{commit_name};
 
@@ -34,6 +36,10 @@ pub fn put_line<S: Store>(
     ensures lost { IsErrOf result StoreFault.Lost → MayHaveLanded (commit_name version) (with_newline action.now)
         (S.objects store.old, S.in_flight store.old) (S.objects store.new, S.in_flight store.new) }
     ensures memory { IsErrOf result StoreFault.Memory → S.objects store.new ≡ S.objects store.old }
+    // What any store may answer to a put, and which puts are in flight then.
+    ensures answered { IfOk result (λ put. MayAnswerPut (S.objects store.old, S.in_flight store.old) (commit_name version) (with_newline action.now)
+        (told_put put) (S.objects store.new, S.in_flight store.new)) }
+    ensures unsent { IsErrOf result StoreFault.Memory → S.in_flight store.new ≡ S.in_flight store.old }
     ensures faults { CountsFault result (S.fault_count store.old) (S.fault_count store.new) }
     ensures never_lost { S.is_reliable store.old → IsErrOf result StoreFault.Lost → ⊥ }
     ensures reliable { S.is_reliable store.old → S.is_reliable store.new }

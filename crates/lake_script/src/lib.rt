@@ -6,6 +6,7 @@ mod engine;
 mod faults;
 mod foreign;
 mod inputs;
+mod looks;
 mod outputs;
 mod reply;
 mod showing;

@@ -1,29 +1,29 @@
 // What a line is told, and how it is found.
-ghost use Rattle.std.specs.Prelude.{◌≡◌, ◌≢◌, ◌<◌, ◌≤◌, ◌^◌, ◌⊎◌, ℕ, List, [], Bool, Err, false, OnOk, OnErr, true};
+ghost use Rattle.std.specs.Prelude.{◌≡◌, ◌≢◌, ◌<◌, ◌≤◌, ◌^◌, ◌⊎◌, ℕ, List, [], Bool, Result, Err, false, OnOk, OnErr, true};
 ghost use Rattle.std.specs.Io.KnownBytes.{Appends};
 ghost use Rattle.json_text.specs.Rows.{rows_data};
 ghost use Rattle.store_core.specs.Calls.{HasRisen};
-ghost use Rattle.store_core.specs.Objects.{Objects, object_at};
+ghost use Rattle.store_core.specs.Objects.{Objects};
 ghost use Rattle.log_reading.specs.LogCache.{IsCacheOf};
-ghost use Rattle.table_log.specs.Names.{commit_name};
 ghost use Rattle.table_log.specs.Restoring.{AreCheckpointsSound, RestoresWell};
 ghost use Rattle.lake_script.specs.Growth.{MayPut};
-ghost use Rattle.commit_core.specs.Histories.{history_of};
-ghost use Rattle.script_lines.specs.Lines.{append, checkpoint, close, create, foreign, snapshot, tail, task, task_view, statement_view, IsTimely, IsTimelyTask};
+ghost use Rattle.lake_script.specs.AnyStore.{IsToldLost, TellsCheckpoint, TellsCreation, TellsForeign, TellsJob, TellsOver, TellsRows, lost_to_read};
+ghost use Rattle.sink_core.specs.SinkSessions.{append_job, close_job};
+ghost use Rattle.script_lines.specs.Lines.{append, checkpoint, close, create, foreign, tail, task, task_view, statement_view, IsTimely, IsTimelyTask};
 ghost use Rattle.lake_script.specs.ReplyView.{reply_text, is_short, says_lost};
-ghost use Rattle.lake_script.specs.Runs.{Executes, IsShort, no_room_to_read, no_room_to_show, no_room_to_tell};
+ghost use Rattle.lake_script.specs.Runs.{Executes, IsShort, no_room_to_read};
 ghost use Rattle.lake_script.specs.Sound.{IsExecuted};
 ghost use Rattle.lake_script.specs.Streams.{held, waiting, write_failed, StandsIn};
 ghost use Rattle.source_core.specs.TailFaults.{ReadGives};
-ghost use Rattle.source_core.specs.Tailing.{tailed};
-ghost use Rattle.lake_script.specs.Told.{shown, in_hex, tailed_reply};
+ghost use Rattle.source_core.specs.Tailing.{ReadRefusal, tailed};
+ghost use Rattle.lake_script.specs.Told.{tailed_reply};
 ghost use Rattle.lake_script.specs.Tries.{IsLook, SetsTries};
 
 use crate::faults::{Fault, RefusalText};
 use crate::foreign::put_line;
+use crate::looks::{show, show_in_hex, tell_history, tell_snapshot};
 use crate::outputs::{Output, OutputError};
-use crate::showing::hex_of;
-use commit_core::{CreateFault, create, history};
+use commit_core::{CreateFault, create};
 use json_text::JsonRows;
 use log_reading::LogCache;
 use script_lines::{Job, Line};
@@ -33,7 +33,6 @@ use source_core::{TailFault, tail};
 use std::alloc::Global;
 use std::io::Write;
 use store_core::{Put, Store, StoreFault};
-use table_log::commit_at;
 
 /// What a line is told.
 #[derive(Drop)]
@@ -141,6 +140,9 @@ fn create_table<S: Store>(
     ensures reliable { S.is_reliable store.old → S.is_reliable store.new }
     ensures lost { says_lost result ≡ true → HasRisen (S.fault_count store.old) (S.fault_count store.new) }
     ensures counted { says_lost result ≡ false → S.fault_count store.new ≡ S.fault_count store.old }
+    ensures any { TellsCreation (S.is_reliable store.old) id.now at schema.now (reply_text result)
+        (S.objects store.old, S.in_flight store.old) (S.objects store.new, S.in_flight store.new) (S.fault_count store.old) (S.fault_count store.new) }
+    ensures told_lost { says_lost result ≡ true → IsToldLost (create id.now at schema.now) (reply_text result) }
 {
     match create(alloc, store, id, at, schema) {
         Ok(()) => LineReply::Created,
@@ -171,6 +173,9 @@ fn append_batch<S: Store>(
     ensures reliable { S.is_reliable store.old → S.is_reliable store.new }
     ensures lost { says_lost result ≡ true → HasRisen (S.fault_count store.old) (S.fault_count store.new) }
     ensures counted { says_lost result ≡ false → S.fault_count store.new ≡ S.fault_count store.old }
+    ensures any { TellsJob (S.is_reliable store.old) (append_job application.now number (rows_data rows.entry) at tries use_checkpoints cache.old.loaded) (reply_text result)
+        (S.objects store.old, S.in_flight store.old) (S.objects store.new, S.in_flight store.new) (S.fault_count store.old) (S.fault_count store.new) }
+    ensures told_lost { says_lost result ≡ true → IsToldLost (task (append application.now number at (rows_data rows.entry))) (reply_text result) }
 {
     match append(
         alloc,
@@ -209,6 +214,9 @@ fn close_stream<S: Store>(
     ensures reliable { S.is_reliable store.old → S.is_reliable store.new }
     ensures lost { says_lost result ≡ true → HasRisen (S.fault_count store.old) (S.fault_count store.new) }
     ensures counted { says_lost result ≡ false → S.fault_count store.new ≡ S.fault_count store.old }
+    ensures any { TellsJob (S.is_reliable store.old) (close_job application.now at tries use_checkpoints cache.old.loaded) (reply_text result)
+        (S.objects store.old, S.in_flight store.old) (S.objects store.new, S.in_flight store.new) (S.fault_count store.old) (S.fault_count store.new) }
+    ensures told_lost { says_lost result ≡ true → IsToldLost (task (close application.now at)) (reply_text result) }
 {
     match close(
         alloc,
@@ -242,6 +250,9 @@ fn read<S: Store>(
     ensures reliable { S.is_reliable store.old → S.is_reliable store.new }
     ensures lost { says_lost result ≡ true → HasRisen (S.fault_count store.old) (S.fault_count store.new) }
     ensures counted { says_lost result ≡ false → S.fault_count store.new ≡ S.fault_count store.old }
+    ensures any { TellsRows use_checkpoints max offset.now (reply_text result)
+        (S.objects store.old, S.in_flight store.old) (S.objects store.new, S.in_flight store.new) (S.fault_count store.old) (S.fault_count store.new) }
+    ensures told_lost { says_lost result ≡ true → IsToldLost (task (tail max offset.now)) (reply_text result) }
 {
     reply_of_read(tail(alloc, store, max, offset, use_checkpoints, cache))
 }
@@ -257,6 +268,9 @@ pub fn reply_of_read(told: Result<Vec<u8>, TailFault>) -> LineReply
     ensures short { is_short result ≡ true → told ≡ Err TailFault.Memory }
     ensures lost { says_lost result ≡ true → told ≡ Err TailFault.Lost }
     ensures unlost { says_lost result ≡ false → told ≢ Err TailFault.Lost }
+    ensures answers { (said : Result (List ℕ) ReadRefusal) → told ≢ Err TailFault.Lost → ReadGives (λ text. text.items) told said
+        → (reply_text result ≡ tailed_reply said) ⊎ (reply_text result ≡ no_room_to_read) }
+    ensures told_lost { says_lost result ≡ true → reply_text result ≡ lost_to_read }
 {
     match told {
         Ok(text) => LineReply::Bytes(text),
@@ -280,82 +294,13 @@ fn take_checkpoint<S: Store>(
     ensures reliable { S.is_reliable store.old → S.is_reliable store.new }
     ensures lost { says_lost result ≡ true → HasRisen (S.fault_count store.old) (S.fault_count store.new) }
     ensures counted { says_lost result ≡ false → S.fault_count store.new ≡ S.fault_count store.old }
+    ensures any { TellsCheckpoint use_checkpoints (reply_text result)
+        (S.objects store.old, S.in_flight store.old) (S.objects store.new, S.in_flight store.new) (S.fault_count store.old) (S.fault_count store.new) }
+    ensures told_lost { says_lost result ≡ true → IsToldLost (task checkpoint) (reply_text result) }
 {
     match checkpoint(alloc, store, use_checkpoints, &mut cache.loaded) {
         Ok(version) => LineReply::Checkpointed(version),
         Err(fault) => LineReply::NoSnapshot(fault),
-    }
-}
-
-// The reply to a line that asks for the snapshot.
-fn tell_snapshot<S: Store>(
-    alloc: Global,
-    store: &mut S,
-    use_checkpoints: bool,
-    cache: &mut LogCache,
-) -> LineReply
-    requires { IsCacheOf (S.objects store.old) cache.old }
-    ensures cache { IsCacheOf (S.objects store.old) cache.new }
-    ensures told { S.is_reliable store.old → RestoresWell use_checkpoints (S.objects store.old) → Executes (S.objects store.old) snapshot (reply_text result) (S.objects store.new) }
-    ensures whole { S.is_reliable store.old → RestoresWell use_checkpoints (S.objects store.old) → is_short result ≡ false → IsExecuted (S.objects store.old) snapshot (reply_text result) (S.objects store.new) }
-    ensures wants { RestoresWell use_checkpoints (S.objects store.old) → is_short result ≡ true → reply_text result ≡ no_room_to_tell }
-    ensures untouched { S.objects store.new ≡ S.objects store.old }
-    ensures reliable { S.is_reliable store.old → S.is_reliable store.new }
-    ensures lost { says_lost result ≡ true → HasRisen (S.fault_count store.old) (S.fault_count store.new) }
-    ensures counted { says_lost result ≡ false → S.fault_count store.new ≡ S.fault_count store.old }
-{
-    match snapshot_core::snapshot(alloc, store, use_checkpoints, &mut cache.loaded) {
-        Ok(text) => LineReply::Bytes(text),
-        Err(fault) => LineReply::NoSnapshot(fault),
-    }
-}
-
-// The reply to a line that asks for what each version holds.
-fn tell_history<S: Store>(alloc: Global, store: &mut S) -> LineReply
-    ensures told { S.is_reliable store.old → is_short result ≡ false → reply_text result ≡ history_of (S.objects store.old) }
-    ensures wants { is_short result ≡ true → reply_text result ≡ no_room_to_tell }
-    ensures untouched { S.objects store.new ≡ S.objects store.old }
-    ensures reliable { S.is_reliable store.old → S.is_reliable store.new }
-    ensures lost { says_lost result ≡ true → HasRisen (S.fault_count store.old) (S.fault_count store.new) }
-    ensures counted { says_lost result ≡ false → S.fault_count store.new ≡ S.fault_count store.old }
-{
-    match history(alloc, store) {
-        Ok(text) => LineReply::Bytes(text),
-        Err(fault) => LineReply::NoHistory(fault),
-    }
-}
-
-// The reply to a line that shows a commit.
-fn show<S: Store>(alloc: Global, store: &mut S, version: u64) -> LineReply
-    ensures told { S.is_reliable store.old → is_short result ≡ false
-        → reply_text result ≡ shown (object_at (S.objects store.old) (commit_name version)) }
-    ensures wants { is_short result ≡ true → reply_text result ≡ no_room_to_show }
-    ensures untouched { S.objects store.new ≡ S.objects store.old }
-    ensures reliable { S.is_reliable store.old → S.is_reliable store.new }
-    ensures lost { says_lost result ≡ true → HasRisen (S.fault_count store.old) (S.fault_count store.new) }
-    ensures counted { says_lost result ≡ false → S.fault_count store.new ≡ S.fault_count store.old }
-{
-    match commit_at(alloc, store, version) {
-        Ok(Some(bytes)) => LineReply::Bytes(bytes),
-        Ok(None) => LineReply::Refused(Fault::NoSuchName),
-        Err(fault) => LineReply::Unanswered(fault),
-    }
-}
-
-// The reply to a line that shows an object in hexadecimal.
-fn show_in_hex<S: Store>(alloc: Global, store: &mut S, name: &str) -> LineReply
-    ensures told { S.is_reliable store.old → is_short result ≡ false
-        → reply_text result ≡ in_hex (object_at (S.objects store.old) name.now) }
-    ensures wants { is_short result ≡ true → reply_text result ≡ no_room_to_show }
-    ensures untouched { S.objects store.new ≡ S.objects store.old }
-    ensures reliable { S.is_reliable store.old → S.is_reliable store.new }
-    ensures lost { says_lost result ≡ true → HasRisen (S.fault_count store.old) (S.fault_count store.new) }
-    ensures counted { says_lost result ≡ false → S.fault_count store.new ≡ S.fault_count store.old }
-{
-    match hex_of(alloc, store, name) {
-        Ok(Some(digits)) => LineReply::Digits(digits),
-        Ok(None) => LineReply::Refused(Fault::NoSuchName),
-        Err(fault) => LineReply::Unanswered(fault),
     }
 }
 
@@ -368,6 +313,9 @@ fn put_foreign<S: Store>(alloc: Global, store: &mut S, version: u64, action: &st
     ensures reliable { S.is_reliable store.old → S.is_reliable store.new }
     ensures lost { says_lost result ≡ true → HasRisen (S.fault_count store.old) (S.fault_count store.new) }
     ensures counted { says_lost result ≡ false → S.fault_count store.new ≡ S.fault_count store.old }
+    ensures any { TellsForeign version action.now (reply_text result)
+        (S.objects store.old, S.in_flight store.old) (S.objects store.new, S.in_flight store.new) (S.fault_count store.old) (S.fault_count store.new) }
+    ensures told_lost { says_lost result ≡ true → IsToldLost (foreign version action.now) (reply_text result) }
 {
     match put_line(alloc, store, version, action) {
         Ok(put) => LineReply::Put(put),
@@ -403,6 +351,9 @@ fn execute_job<S: Store>(
     ensures reliable { S.is_reliable store.old → S.is_reliable store.new }
     ensures lost { says_lost result ≡ true → HasRisen (S.fault_count store.old) (S.fault_count store.new) }
     ensures counted { says_lost result ≡ false → S.fault_count store.new ≡ S.fault_count store.old }
+    ensures any { TellsOver (S.is_reliable store.old) use_checkpoints tries cache.old.loaded (task (task_view job.entry)) (reply_text result)
+        (S.objects store.old, S.in_flight store.old) (S.objects store.new, S.in_flight store.new) (S.fault_count store.old) (S.fault_count store.new) }
+    ensures told_lost { says_lost result ≡ true → IsToldLost (task (task_view job.entry)) (reply_text result) }
 {
     match job {
         Job::Append {
@@ -463,6 +414,10 @@ pub fn execute<S: Store>(
     // Over any store, one that loses calls too: the reply says that a call was lost where one was, and nowhere else.
     ensures lost { says_lost result ≡ true → HasRisen (S.fault_count store.old) (S.fault_count store.new) }
     ensures counted { says_lost result ≡ false → S.fault_count store.new ≡ S.fault_count store.old }
+    // Which refusal, with which version, and what became of the store.
+    ensures any { TellsOver (S.is_reliable store.old) use_checkpoints tries.old cache.old.loaded (statement_view line.entry) (reply_text result)
+        (S.objects store.old, S.in_flight store.old) (S.objects store.new, S.in_flight store.new) (S.fault_count store.old) (S.fault_count store.new) }
+    ensures told_lost { says_lost result ≡ true → IsToldLost (statement_view line.entry) (reply_text result) }
 {
     match line {
         Line::Create { id, at, schema } => {

@@ -17,6 +17,7 @@ pub fn hex_of<S: Store>(
     ensures object { IfOk result (λ found. option_map string_bytes found
         ≡ option_map encode_lower (object_at (S.objects store.old) name.now)) }
     ensures untouched { S.objects store.new ≡ S.objects store.old }
+    ensures in_flight { S.in_flight store.new ≡ S.in_flight store.old }
     ensures faults { CountsFault result (S.fault_count store.old) (S.fault_count store.new) }
     ensures never_lost { S.is_reliable store.old → IsErrOf result StoreFault.Lost → ⊥ }
     ensures reliable { S.is_reliable store.old → S.is_reliable store.new }

@@ -1,4 +1,4 @@
-use Rattle.std.proofs.Common.{rules, Err, ap, subst, ◌∙◌, sym}
+use Rattle.std.proofs.Common.{rules, Ok, Err, ap, refl, subst, ◌∙◌, sym}
 use Rattle.std.specs.Str.{IsUtf8}
 use Rattle.lake_bytes.specs.Outcome.{IsSaid}
 use Rattle.sink_core.specs.Closes.{with_close, ClosesWell, MayClose}
@@ -7,6 +7,7 @@ use Rattle.sink_core.proofs.Callers.{closed_alike, close_plan_alike}
 use Rattle.lake_script.proofs.RestoredLemmas.{close_executed, close_refusal_executed, close_refusal_told, has_close, kept_memory}
 use Rattle.lake_script.proofs.RunsLemmas.{close_short, closes_small}
 use Rattle.log_reading.proofs.Callers.{kept_grown, past_grown}
+use Rattle.lake_script.proofs.AnyStoreLemmas.{sink_lost}
 use Rattle.lake_script.proofs.reply.close_stream.Goals as goal
 
 pub returns-in-Ok-clause-told : goal.returns-in-Ok-clause-told
@@ -91,3 +92,12 @@ returns-in-Err-clause-cache g c = record {
   log = past_grown (g.S.Store.objects c.args.store.now) (g.S.Store.objects c.close.new.store) c.in-Err.ensures.kept c.args.cache.now.log c.requires.cache.log;
   file = kept_grown (g.S.Store.objects c.args.store.now) (g.S.Store.objects c.close.new.store) c.in-Err.ensures.kept c.args.cache.now.file c.requires.cache.file;
 }
+
+pub returns-in-Ok-clause-any : goal.returns-in-Ok-clause-any
+returns-in-Ok-clause-any g c = (_, Ok c.in-Ok.answer, refl, c.in-Ok.ensures.driven)
+
+pub returns-in-Err-clause-any : goal.returns-in-Err-clause-any
+returns-in-Err-clause-any g c = (_, Err c.in-Err.fault, refl, c.in-Err.ensures.driven)
+
+pub returns-in-Err-clause-told_lost : goal.returns-in-Err-clause-told_lost
+returns-in-Err-clause-told_lost g c = λ is. sink_lost c.in-Err.fault is

@@ -43,3 +43,45 @@ returns-in-Create-clause-cache g c = c.forget.ensures (g.S.Store.objects c.creat
 
 pub returns-in-Foreign-clause-cache : goal.returns-in-Foreign-clause-cache
 returns-in-Foreign-clause-cache g c = c.forget-in-Foreign.ensures (g.S.Store.objects c.put_foreign.new.store)
+
+pub returns-in-Create-clause-any : goal.returns-in-Create-clause-any
+returns-in-Create-clause-any g c = rw c.in-Create.is c.create_table.ensures.any
+
+pub returns-in-Create-clause-told_lost : goal.returns-in-Create-clause-told_lost
+returns-in-Create-clause-told_lost g c = λ is. rw c.in-Create.is (c.create_table.ensures.told_lost is)
+
+pub returns-in-Job-clause-any : goal.returns-in-Job-clause-any
+returns-in-Job-clause-any g c = rw c.in-Job.is c.execute_job.ensures.any
+
+pub returns-in-Job-clause-told_lost : goal.returns-in-Job-clause-told_lost
+returns-in-Job-clause-told_lost g c = λ is. rw c.in-Job.is (c.execute_job.ensures.told_lost is)
+
+pub returns-in-Snapshot-clause-any : goal.returns-in-Snapshot-clause-any
+returns-in-Snapshot-clause-any g c = rw c.in-Snapshot.is c.tell_snapshot.ensures.any
+
+pub returns-in-Snapshot-clause-told_lost : goal.returns-in-Snapshot-clause-told_lost
+returns-in-Snapshot-clause-told_lost g c = λ is. rw c.in-Snapshot.is (c.tell_snapshot.ensures.told_lost is)
+
+pub returns-in-History-clause-any : goal.returns-in-History-clause-any
+returns-in-History-clause-any g c = rw c.in-History.is c.tell_history.ensures.any
+
+pub returns-in-History-clause-told_lost : goal.returns-in-History-clause-told_lost
+returns-in-History-clause-told_lost g c = λ is. rw c.in-History.is (c.tell_history.ensures.told_lost is)
+
+pub returns-in-Show-clause-any : goal.returns-in-Show-clause-any
+returns-in-Show-clause-any g c = rw c.in-Show.is c.show.ensures.any
+
+pub returns-in-Show-clause-told_lost : goal.returns-in-Show-clause-told_lost
+returns-in-Show-clause-told_lost g c = λ is. rw c.in-Show.is (c.show.ensures.told_lost is)
+
+pub returns-in-Hex-clause-any : goal.returns-in-Hex-clause-any
+returns-in-Hex-clause-any g c = rw c.in-Hex.is c.show_in_hex.ensures.any
+
+pub returns-in-Hex-clause-told_lost : goal.returns-in-Hex-clause-told_lost
+returns-in-Hex-clause-told_lost g c = λ is. rw c.in-Hex.is (c.show_in_hex.ensures.told_lost is)
+
+pub returns-in-Foreign-clause-any : goal.returns-in-Foreign-clause-any
+returns-in-Foreign-clause-any g c = rw c.in-Foreign.is c.put_foreign.ensures.any
+
+pub returns-in-Foreign-clause-told_lost : goal.returns-in-Foreign-clause-told_lost
+returns-in-Foreign-clause-told_lost g c = λ is. rw c.in-Foreign.is (c.put_foreign.ensures.told_lost is)

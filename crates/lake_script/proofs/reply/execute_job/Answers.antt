@@ -40,3 +40,27 @@ returns-in-Tail-clause-told g c = λ reliable well.
     rw c.in-Tail.is
     (read_executed (g.S.Store.objects c.args.store.now) (g.S.Store.objects c.read.new.store) c.in-Tail.max c.in-Tail.offset.now (reply_text c.read.result) (is_short c.read.result)
     (c.read.ensures.told reliable well) c.read.ensures.wants c.read.ensures.untouched)
+
+pub returns-in-Append-clause-any : goal.returns-in-Append-clause-any
+returns-in-Append-clause-any g c = rw c.in-Append.is c.append_batch.ensures.any
+
+pub returns-in-Append-clause-told_lost : goal.returns-in-Append-clause-told_lost
+returns-in-Append-clause-told_lost g c = λ is. rw c.in-Append.is (c.append_batch.ensures.told_lost is)
+
+pub returns-in-Tail-clause-any : goal.returns-in-Tail-clause-any
+returns-in-Tail-clause-any g c = rw c.in-Tail.is c.read.ensures.any
+
+pub returns-in-Tail-clause-told_lost : goal.returns-in-Tail-clause-told_lost
+returns-in-Tail-clause-told_lost g c = λ is. rw c.in-Tail.is (c.read.ensures.told_lost is)
+
+pub returns-in-Checkpoint-clause-any : goal.returns-in-Checkpoint-clause-any
+returns-in-Checkpoint-clause-any g c = rw c.in-Checkpoint.is c.take_checkpoint.ensures.any
+
+pub returns-in-Checkpoint-clause-told_lost : goal.returns-in-Checkpoint-clause-told_lost
+returns-in-Checkpoint-clause-told_lost g c = λ is. rw c.in-Checkpoint.is (c.take_checkpoint.ensures.told_lost is)
+
+pub returns-in-Close-clause-any : goal.returns-in-Close-clause-any
+returns-in-Close-clause-any g c = rw c.in-Close.is c.close_stream.ensures.any
+
+pub returns-in-Close-clause-told_lost : goal.returns-in-Close-clause-told_lost
+returns-in-Close-clause-told_lost g c = λ is. rw c.in-Close.is (c.close_stream.ensures.told_lost is)

@@ -1,4 +1,4 @@
-use Rattle.std.proofs.Common.{◌≡◌, ◌≢◌, false, true, List, Result, Err, ℕ, ap, refl, sym, ◌∙◌}
+use Rattle.std.proofs.Common.{◌≡◌, ◌≢◌, false, true, List, Result, Err, ℕ, inl, ap, refl, sym, ◌∙◌}
 use Rattle.lake_bytes.specs.Outcome.{IsSaid}
 use Rattle.source_core.specs.TailFaults.{refusal_view, says}
 use Rattle.source_core.specs.Tailing.{ReadRefusal, tailed}
@@ -10,6 +10,7 @@ use Rattle.lake_script.specs.ReplyView.{is_short, reply_text}
 use Rattle.lake_script.specs.Runs.{no_room_to_read}
 use Rattle.lake_script.specs.Told.{tailed_reply}
 use Rattle.lake_script.proofs.RunsLemmas.{read_executed}
+use Rattle.lake_script.proofs.AnyStoreLemmas.{refusal_answers, tail_lost}
 use Rattle.lake_script.proofs.reply.reply_of_read.Goals as goal
 
 -- the reply to a read that was refused, and lost no call
@@ -50,3 +51,13 @@ pub returns-in-Err-clause-executed : goal.returns-in-Err-clause-executed
 returns-in-Err-clause-executed c = λ use_checkpoints objects max offset well unlost gives.
     let reply = NotTailed c.in-Err.fault in
     read_executed objects objects max offset (reply_text reply) (is_short reply) (returns-in-Err-clause-told c use_checkpoints objects max offset well unlost gives) (short_read c.in-Err.fault) refl
+
+pub returns-in-Ok-clause-answers : goal.returns-in-Ok-clause-answers
+returns-in-Ok-clause-answers c = λ said unlost gives. inl (sym (ap tailed_reply (rw c.in-Ok.is at gives)))
+
+pub returns-in-Err-clause-answers : goal.returns-in-Err-clause-answers
+returns-in-Err-clause-answers c = λ said unlost gives.
+    refusal_answers c.in-Err.fault said (λ lost. unlost (c.in-Err.is ∙ ap (λ (f : TailFault). Err f) lost)) (rw c.in-Err.is at gives)
+
+pub returns-in-Err-clause-told_lost : goal.returns-in-Err-clause-told_lost
+returns-in-Err-clause-told_lost c = λ is. tail_lost c.in-Err.fault is

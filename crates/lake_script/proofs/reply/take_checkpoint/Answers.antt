@@ -1,4 +1,4 @@
-use Rattle.std.proofs.Common.{inl, inr, Err, ap, subst, sym}
+use Rattle.std.proofs.Common.{inl, inr, Ok, Err, ap, refl, subst, sym}
 use Rattle.store_core.specs.Objects.{Objects}
 use Rattle.script_lines.specs.Lines.{checkpoint, task}
 use Rattle.lake_script.specs.ReplyView.{reply_text}
@@ -8,6 +8,7 @@ use Rattle.lake_script.specs.declared.reply.LineReply.TheVariants.{NoSnapshot}
 use Rattle.lake_script.proofs.CheckpointLemmas.{has_executed, put_executed, refusal_executed, refusal_short, refusal_told}
 use Rattle.snapshot_core.proofs.Callers.{puts_alike, refusal_alike}
 use Rattle.log_reading.proofs.Callers.{kept_grown, past_grown}
+use Rattle.lake_script.proofs.AnyStoreLemmas.{checkpoint_told, snapshot_lost}
 use Rattle.lake_script.proofs.reply.take_checkpoint.Goals as goal
 
 pub returns-in-Ok-clause-told : goal.returns-in-Ok-clause-told
@@ -74,3 +75,16 @@ returns-in-Err-clause-cache g c = record {
   log = past_grown (g.S.Store.objects c.args.store.now) (g.S.Store.objects c.checkpoint.new.store) c.in-Err.ensures.grows c.args.cache.now.log c.requires.log;
   file = kept_grown (g.S.Store.objects c.args.store.now) (g.S.Store.objects c.checkpoint.new.store) c.in-Err.ensures.grows c.args.cache.now.file c.requires.file;
 }
+
+pub returns-in-Ok-clause-any : goal.returns-in-Ok-clause-any
+returns-in-Ok-clause-any g c = (Ok c.in-Ok.version, refl, (c.in-Ok.ensures.put, c.in-Ok.ensures.in_flight (λ wrong. cc), c.in-Ok.ensures.counted (λ wrong. cc)))
+
+pub returns-in-Err-clause-any : goal.returns-in-Err-clause-any
+returns-in-Err-clause-any g c =
+    checkpoint_told (g.S.Store.objects c.args.store.now, g.S.Store.in_flight c.args.store.now) (g.S.Store.objects c.checkpoint.new.store, g.S.Store.in_flight c.checkpoint.new.store) _ _
+    c.args.use_checkpoints c.in-Err.fault c.in-Err.ensures.refused
+    (λ lost. (c.in-Err.ensures.may_put (ap Err lost), c.in-Err.ensures.lost (ap Err lost)))
+    (λ other. ((c.in-Err.ensures.untouched (λ wrong. other cc), c.in-Err.ensures.in_flight (λ wrong. other cc)), c.in-Err.ensures.counted (λ wrong. other cc)))
+
+pub returns-in-Err-clause-told_lost : goal.returns-in-Err-clause-told_lost
+returns-in-Err-clause-told_lost g c = λ is. snapshot_lost c.in-Err.fault is

@@ -1,4 +1,4 @@
-use Rattle.std.proofs.Common.{Err, ap, subst, sym}
+use Rattle.std.proofs.Common.{Err, inl, ap, subst, sym}
 use Rattle.store_core.specs.Objects.{Objects}
 use Rattle.script_lines.specs.Lines.{snapshot}
 use Rattle.lake_script.specs.ReplyView.{reply_text}
@@ -7,7 +7,8 @@ use Rattle.lake_script.specs.Sound.{IsExecuted}
 use Rattle.lake_script.specs.declared.reply.LineReply.TheVariants.{NoSnapshot}
 use Rattle.lake_script.proofs.CheckpointLemmas.{has_executed, snapshot_executed, unread_executed, unread_short, unread_told}
 use Rattle.snapshot_core.proofs.Callers.{tells_alike, unread_alike}
-use Rattle.lake_script.proofs.reply.tell_snapshot.Goals as goal
+use Rattle.lake_script.proofs.AnyStoreLemmas.{snapshot_lost, snapshot_told}
+use Rattle.lake_script.proofs.looks.tell_snapshot.Goals as goal
 
 pub returns-in-Ok-clause-told : goal.returns-in-Ok-clause-told
 returns-in-Ok-clause-told g c = λ reliable well.
@@ -41,3 +42,15 @@ pub returns-in-Err-clause-wants : goal.returns-in-Err-clause-wants
 returns-in-Err-clause-wants g c = λ well short.
     let objects = g.S.Store.objects c.args.store.now in
     unread_short objects c.in-Err.fault (unread_alike c.args.use_checkpoints objects well c.in-Err.fault c.in-Err.ensures.refused) short
+
+pub returns-in-Ok-clause-any : goal.returns-in-Ok-clause-any
+returns-in-Ok-clause-any g c = ((c.in-Ok.ensures.untouched, c.in-Ok.ensures.in_flight), inl (inl (inl c.in-Ok.ensures.told), c.in-Ok.ensures.counted (λ wrong. cc)))
+
+pub returns-in-Err-clause-any : goal.returns-in-Err-clause-any
+returns-in-Err-clause-any g c =
+    snapshot_told (g.S.Store.objects c.args.store.now, g.S.Store.in_flight c.args.store.now) (g.S.Store.objects c.snapshot.new.store, g.S.Store.in_flight c.snapshot.new.store) _ _
+    c.args.use_checkpoints c.in-Err.fault c.in-Err.ensures.refused (c.in-Err.ensures.untouched, c.in-Err.ensures.in_flight)
+    (λ lost. c.in-Err.ensures.lost (ap Err lost)) (λ other. c.in-Err.ensures.counted (λ wrong. other cc))
+
+pub returns-in-Err-clause-told_lost : goal.returns-in-Err-clause-told_lost
+returns-in-Err-clause-told_lost g c = λ is. snapshot_lost c.in-Err.fault is
