@@ -8,8 +8,10 @@ use Rattle.parquet_footer.specs.declared.fault.FileFault.{FileFault}
 use Rattle.parquet_footer.specs.declared.fault.FileFault.TheVariants.{BadOffset, CountMismatch, NotUtf8, SchemaMismatch, TooLarge}
 use Rattle.parquet_footer.proofs.Callers.{bind_ok, ok_is}
 use Rattle.parquet_pages.specs.Headers.{Header}
-use Rattle.parquet_pages.specs.Pages.{IsPage, Leaf, has_levels, highest, is_proper}
-use Rattle.parquet_pages.specs.Reading.{body_at, cells_at, column_in, has_mismatch, header_at, in_page, is_too_long, page_at, tested}
+use Rattle.parquet_pages.specs.Pages.{IsPage, Leaf, has_levels, highest}
+use Rattle.page_cells.specs.Texts.{is_proper, is_too_long}
+use Rattle.parquet_pages.specs.Reading.{body_at, cells_at, column_in, has_mismatch, header_at, page_at, tested}
+use Rattle.page_cells.specs.Outcome.{in_page}
 use Rattle.file_laws.proofs.Steps.{let_through}
 use Rattle.file_laws.proofs.Structs.{struct_takes}
 

@@ -16,9 +16,11 @@ use Rattle.parquet_footer.specs.declared.fault.FileFault.{FileFault}
 use Rattle.parquet_footer.specs.declared.fault.FileFault.TheVariants.{BadOffset, BadPage, CountMismatch, Encoding, NotUtf8, PageKind, SchemaMismatch, TooLarge}
 use Rattle.parquet_footer.proofs.Callers.{bind_ok, bytes_behind, ok_is}
 use Rattle.parquet_pages.specs.Headers.{Content, Header, data_page, dictionary_page, header_of, other_page}
-use Rattle.parquet_pages.specs.Pages.{has_levels, is_proper, may_stand}
-use Rattle.parquet_pages.specs.Reading.{DataPage, body_at, cells_at, column_in, data_page_by, encoding_fault, has_mismatch, header_at, in_page, is_too_long, level_encoding_fault, page_at, tested, unless_fault}
-use Rattle.parquet_pages.specs.Types.{primitive_of}
+use Rattle.parquet_pages.specs.Pages.{has_levels, may_stand}
+use Rattle.page_cells.specs.Texts.{is_proper, is_too_long}
+use Rattle.parquet_pages.specs.Reading.{DataPage, body_at, cells_at, column_in, data_page_by, encoding_fault, has_mismatch, header_at, level_encoding_fault, page_at, tested, unless_fault}
+use Rattle.page_cells.specs.Outcome.{in_page}
+use Rattle.page_cells.specs.Types.{primitive_of}
 use Rattle.parquet_pages.proofs.HeaderFound.{body_found, header_told}
 use Rattle.parquet_file.specs.File.{leaf_of}
 use Rattle.file_laws.specs.Faults.{FaultStands, HasPageKind, bytes_are_left, cells_are_bad, ends_late, begins_late, header_is_no_struct, header_lacks_field, levels_encoded, null_is_out_of_place, sizes_differ, value_is_out_of_range, value_too_long, values_are_many, values_encoded}

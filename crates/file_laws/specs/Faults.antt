@@ -19,8 +19,9 @@ use Rattle.parquet_footer.specs.declared.fault.FileFault.{FileFault}
 use Rattle.parquet_footer.specs.declared.fault.FileFault.TheVariants.{BadMagic, BadFooter, Codec, Encoding, PageKind, BadOffset, CountMismatch, SchemaMismatch, TooLarge, NotUtf8, BadPage}
 use Rattle.parquet_pages.specs.Headers.{Header, data_page, header_of}
 use Rattle.parquet_pages.specs.Pages.{has_levels, may_stand}
-use Rattle.parquet_pages.specs.Reading.{cells_at, is_too_long}
-use Rattle.parquet_pages.specs.Types.{primitive_of}
+use Rattle.parquet_pages.specs.Reading.{cells_at}
+use Rattle.page_cells.specs.Texts.{is_too_long}
+use Rattle.page_cells.specs.Types.{primitive_of}
 use Rattle.parquet_schema.specs.Fitting.{fitted_list}
 use Rattle.parquet_schema.specs.Leaves.{LeafIn, leaves_in}
 use Rattle.parquet_file.specs.File.{leaf_of}

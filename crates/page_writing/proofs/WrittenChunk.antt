@@ -9,7 +9,7 @@ use Rattle.page_writing.specs.Writing.{first_page, other_pages, page_written, pa
 use Rattle.parquet_footer.specs.declared.fault.FileError.{FileError}
 use Rattle.parquet_footer.specs.declared.fault.FileError.TheVariants.{Memory, Fault}
 use Rattle.parquet_footer.specs.declared.fault.FileFault.{FileFault}
-use Rattle.parquet_pages.specs.declared.types.LeafType.{LeafType}
+use Rattle.page_cells.specs.declared.types.LeafType.{LeafType}
 
 abbrev pub Written : Type 0
 Written = Result (List ℕ) FileFault

@@ -10,12 +10,12 @@ use Rattle.lake_bytes.specs.Hybrid.{hybrid_bytes}
 use Rattle.lake_bytes.proofs.Callers.{AreRuns-hybrid_bytes}
 use Rattle.row_core.specs.Conforms.{is_leaf_value}
 use Rattle.shred.specs.Columns.{Column}
-use Rattle.parquet_pages.specs.Levels.{AreLevels, width_of}
-use Rattle.parquet_pages.specs.Pages.{ArePages, ChunkHolds, IsBody, IsPage, Leaf, from_place, highest, joined, no_cells, no_page, page, present}
-use Rattle.parquet_pages.specs.Types.{physical_type, primitive_of}
+use Rattle.page_cells.specs.Levels.{AreLevels, width_of, present}
+use Rattle.parquet_pages.specs.Pages.{ArePages, ChunkHolds, IsBody, IsPage, Leaf, from_place, highest, joined, no_cells, no_page, page}
+use Rattle.page_cells.specs.Types.{physical_type, primitive_of}
 use Rattle.page_writing.specs.Writing.{IsWhole, body_bytes, chunk_written, first_page, header_form, header_tree, level_bytes, other_pages, page_bytes, page_written, pages_written, plain_bytes}
 use Rattle.parquet_footer.specs.declared.fault.FileFault.TheVariants.{TooLarge}
-use Rattle.parquet_pages.specs.declared.types.LeafType.{LeafType}
+use Rattle.page_cells.specs.declared.types.LeafType.{LeafType}
 use Rattle.page_writing.proofs.WrittenChunk.{Written, behind_bytes, next_page, with_page}
 use Rattle.page_writing.proofs.WrittenHeader.{header_says, header_spelled}
 use Rattle.page_writing.proofs.WrittenLevels.{hybrid_short}

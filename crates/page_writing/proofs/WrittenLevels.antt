@@ -7,7 +7,7 @@ use Rattle.lake_bytes.proofs.Callers.{SpellsNumber-varint_bytes}
 use Rattle.lake_bytes.specs.Hybrid.{bytes_for, grouped, hybrid_bytes, low_bytes, run_bytes, values_of, with_value}
 use Rattle.lake_bytes.specs.declared.run.Run.{Run}
 use Rattle.lake_bytes.proofs.Callers.{length-low_bytes, values_of-grouped}
-use Rattle.parquet_pages.specs.Plain.{behind_length}
+use Rattle.page_cells.specs.Plain.{behind_length}
 
 -- ---- how many bytes they take
 

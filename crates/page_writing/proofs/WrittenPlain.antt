@@ -4,10 +4,10 @@ use Rattle.std.specs.List.{flat_map}
 use Rattle.std.proofs.lemmas.List.{length-append}
 use Rattle.lake_bytes.proofs.Callers.{length-low_bytes}
 use Rattle.row_core.specs.Rows.{Value}
-use Rattle.parquet_pages.specs.Plain.{bytes_for_bits}
+use Rattle.page_cells.specs.Plain.{bytes_for_bits}
 use Rattle.page_writing.specs.Writing.{packed_bits, plain_bytes, value_bytes}
-use Rattle.parquet_pages.specs.declared.types.PhysicalType.{PhysicalType}
-use Rattle.parquet_pages.specs.declared.types.PhysicalType.TheVariants.{Boolean, Int32, Int64, ByteArray}
+use Rattle.page_cells.specs.declared.types.PhysicalType.{PhysicalType}
+use Rattle.page_cells.specs.declared.types.PhysicalType.TheVariants.{Boolean, Int32, Int64, ByteArray}
 
 pub bits_size : (type : PhysicalType) (values : List Value) → type ≡ Boolean
     → length (plain_bytes type values) ≡ (length values + 7) / 8

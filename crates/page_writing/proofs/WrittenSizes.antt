@@ -4,10 +4,10 @@ use Rattle.std.proofs.lemmas.Bool.{cases_lt, le-ltb}
 use Rattle.std.proofs.lemmas.List.{length-append}
 use Rattle.shred.specs.Columns.{Column}
 use Rattle.page_writing.specs.Outcome.{Writes}
-use Rattle.parquet_pages.specs.Types.{physical_type}
+use Rattle.page_cells.specs.Types.{physical_type}
 use Rattle.page_writing.specs.Writing.{body_bytes, header_form, header_tree, level_bytes, page_bytes, page_written, plain_bytes}
-use Rattle.parquet_pages.specs.declared.types.LeafType.{LeafType}
-use Rattle.parquet_pages.specs.declared.types.PhysicalType.{PhysicalType}
+use Rattle.page_cells.specs.declared.types.LeafType.{LeafType}
+use Rattle.page_cells.specs.declared.types.PhysicalType.{PhysicalType}
 use Rattle.thrift_core.specs.Writing.{written}
 
 pub sizes : (levels plain counted size limit most : ℕ) → (plain ≤ limit → counted ≡ plain)

@@ -11,13 +11,13 @@ use Rattle.lake_bytes.proofs.Callers.{length-low_bytes, low_first-low_bytes, pow
 use Rattle.schema_tree.specs.declared.primitive.Primitive.TheVariants as primitive
 use Rattle.row_core.specs.Conforms.{is_byte, is_leaf_value, is_short, is_within}
 use Rattle.row_core.specs.Rows.{Value, truth, whole, text, bytes}
-use Rattle.parquet_pages.specs.Plain.{AreBits, AreValues, IsPlain, IsValue, bytes_for_bits, no_value, truth_of, value}
-use Rattle.parquet_pages.specs.Types.{physical_type, primitive_of}
+use Rattle.page_cells.specs.Plain.{AreBits, AreValues, IsPlain, IsValue, bytes_for_bits, no_value, truth_of, value}
+use Rattle.page_cells.specs.Types.{physical_type, primitive_of}
 use Rattle.page_writing.specs.Writing.{packed_bits, plain_bytes, value_bytes}
-use Rattle.parquet_pages.specs.declared.types.LeafType.{LeafType}
-use Rattle.parquet_pages.specs.declared.types.LeafType.TheVariants.{Boolean, Byte, Short, Integer, Long, Date, String, Binary}
-use Rattle.parquet_pages.specs.declared.types.PhysicalType.{PhysicalType}
-use Rattle.parquet_pages.specs.declared.types.PhysicalType.TheVariants as physical
+use Rattle.page_cells.specs.declared.types.LeafType.{LeafType}
+use Rattle.page_cells.specs.declared.types.LeafType.TheVariants.{Boolean, Byte, Short, Integer, Long, Date, String, Binary}
+use Rattle.page_cells.specs.declared.types.PhysicalType.{PhysicalType}
+use Rattle.page_cells.specs.declared.types.PhysicalType.TheVariants as physical
 use Rattle.page_writing.proofs.WrittenBits.{packed_bits-below}
 
 -- ---- values of whole bytes

@@ -8,16 +8,16 @@ use Rattle.thrift_core.specs.Tree.{Tree, integer, struct, fields_of}
 use Rattle.thrift_core.specs.Writing.{written}
 use Rattle.row_core.specs.Rows.{Value, truth, whole, text, bytes}
 use Rattle.shred.specs.Columns.{Column}
-use Rattle.parquet_pages.specs.Levels.{width_of}
+use Rattle.page_cells.specs.Levels.{width_of, present}
 use Rattle.row_core.specs.Conforms.{is_leaf_value, is_within}
-use Rattle.parquet_pages.specs.Pages.{Leaf, highest, present}
-use Rattle.parquet_pages.specs.Plain.{behind_length, bytes_for_bits}
-use Rattle.parquet_pages.specs.Types.{physical_type, primitive_of}
+use Rattle.parquet_pages.specs.Pages.{Leaf, highest}
+use Rattle.page_cells.specs.Plain.{behind_length, bytes_for_bits}
+use Rattle.page_cells.specs.Types.{physical_type, primitive_of}
 use Rattle.parquet_footer.specs.declared.fault.FileFault.{FileFault}
 use Rattle.parquet_footer.specs.declared.fault.FileFault.TheVariants.{TooLarge}
-use Rattle.parquet_pages.specs.declared.types.LeafType.{LeafType}
-use Rattle.parquet_pages.specs.declared.types.PhysicalType.{PhysicalType}
-use Rattle.parquet_pages.specs.declared.types.PhysicalType.TheVariants.{Boolean, Int32, Int64, ByteArray}
+use Rattle.page_cells.specs.declared.types.LeafType.{LeafType}
+use Rattle.page_cells.specs.declared.types.PhysicalType.{PhysicalType}
+use Rattle.page_cells.specs.declared.types.PhysicalType.TheVariants.{Boolean, Int32, Int64, ByteArray}
 
 -- ---- values
 

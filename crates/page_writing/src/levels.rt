@@ -5,7 +5,7 @@ ghost use Rattle.page_writing.specs.Writing.{level_bytes};
 
 use crate::plain::write_content;
 use lake_bytes::hybrid_write;
-use parquet_pages::width_of;
+use page_cells::width_of;
 use std::alloc::{AllocError, Global};
 
 /// The bytes of levels of a page: behind their length runs of equal ones, as few as there can be; none where the

@@ -4,12 +4,12 @@ ghost use Rattle.std.specs.Prelude.{◌≡◌, ◌<◌, ◌≤◌, ◌^◌, ◌+
 ghost use Rattle.row_core.specs.Conforms.{is_within};
 ghost use Rattle.row_core.specs.Views.{value_view};
 ghost use Rattle.shred.specs.Views.{borrowed_value};
-ghost use Rattle.parquet_pages.specs.Plain.{behind_length};
+ghost use Rattle.page_cells.specs.Plain.{behind_length};
 ghost use Rattle.page_writing.specs.Internal.{BeginsWith};
 ghost use Rattle.page_writing.specs.Writing.{bit_of, packed_bits, plain_bytes, value_bytes};
 
 use lake_bytes::{write_i32_le, write_i64_le, write_u32_le};
-use parquet_pages::PhysicalType;
+use page_cells::PhysicalType;
 use row_core::Value;
 use std::alloc::AllocError;
 

@@ -16,10 +16,11 @@ use Rattle.shred.specs.Shape as shapes
 use Rattle.shred.specs.Shape.{HasFields, Shape}
 use Rattle.shred.specs.Ways.{Step, level_inside, ways}
 use Rattle.shred.proofs.Callers.{cells_length, cells_of, cells_of_fields, has_way}
-use Rattle.parquet_pages.specs.Pages.{is_proper, may_stand}
-use Rattle.parquet_pages.specs.Types.{leaf_type, primitive_of}
-use Rattle.parquet_pages.specs.declared.types.LeafType.{LeafType}
-use Rattle.parquet_pages.specs.declared.types.LeafType.TheVariants as leaf
+use Rattle.page_cells.specs.Texts.{is_proper}
+use Rattle.parquet_pages.specs.Pages.{may_stand}
+use Rattle.page_cells.specs.Types.{leaf_type, primitive_of}
+use Rattle.page_cells.specs.declared.types.LeafType.{LeafType}
+use Rattle.page_cells.specs.declared.types.LeafType.TheVariants as leaf
 use Rattle.parquet_schema.specs.FileTree.{FileFields, FileNode}
 use Rattle.parquet_schema.specs.Fitting.{fitted, fitted_fields}
 use Rattle.parquet_schema.specs.Leaves.{LeafIn, flag_of, leaf_inside, leaves_in, leaves_of_fields}

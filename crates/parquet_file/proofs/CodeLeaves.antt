@@ -9,8 +9,8 @@ use Rattle.schema_tree.specs.Tree.{Tree}
 use Rattle.shred.specs.Shape as shapes
 use Rattle.shred.specs.Shape.{Shape}
 use Rattle.parquet_footer.specs.Metadata.{SchemaElement}
-use Rattle.parquet_pages.specs.Types.{leaf_type, physical_type, type_number}
-use Rattle.parquet_pages.specs.declared.types.LeafType.{LeafType}
+use Rattle.page_cells.specs.Types.{leaf_type, physical_type, type_number}
+use Rattle.page_cells.specs.declared.types.LeafType.{LeafType}
 use Rattle.parquet_schema.specs.FileTree.{FileNode, leaf, group, fields_of}
 use Rattle.parquet_schema.specs.Fitting.{field_named, fitted, fitted_fields, fitted_list, is_number, may_fit, physical_number}
 use Rattle.parquet_schema.specs.Leaves.{LeafIn, bare_leaf, leaf_inside, leaves_in, leaves_of_fields}

@@ -22,10 +22,10 @@ use Rattle.shred.specs.Shape as shapes
 use Rattle.shred.specs.Shape.{Shape, shape_of, shapes_of}
 use Rattle.shred.specs.Ways.{Step, level_inside, under, ways, ways_from}
 use Rattle.shred.proofs.Callers.{cells_of, cells_of_fields, columns_found, fronts, matrix, row_fits}
-use Rattle.parquet_pages.specs.Pages.{present}
-use Rattle.parquet_pages.specs.Types.{primitive_of}
+use Rattle.page_cells.specs.Levels.{present}
+use Rattle.page_cells.specs.Types.{primitive_of}
 use Rattle.page_writing.specs.Writing.{IsWhole}
-use Rattle.parquet_pages.specs.declared.types.LeafType.{LeafType}
+use Rattle.page_cells.specs.declared.types.LeafType.{LeafType}
 use Rattle.parquet_schema.specs.Leaves.{LeafIn, flag_of, leaf_inside, leaves_in, leaves_of_fields}
 use Rattle.parquet_file.specs.File.{leaf_of}
 use Rattle.parquet_file.proofs.FittedShapes.{in_front}

@@ -13,8 +13,8 @@ use Rattle.schema_tree.specs.declared.primitive.Primitive.TheVariants as primiti
 use Rattle.shred.specs.Shape as shapes
 use Rattle.shred.specs.Shape.{Shape, HasFields, HaveFields}
 use Rattle.shred.specs.Ways.{highest, ways}
-use Rattle.parquet_pages.specs.Types.{leaf_type, physical_type, type_number}
-use Rattle.parquet_pages.specs.declared.types.LeafType.{LeafType}
+use Rattle.page_cells.specs.Types.{leaf_type, physical_type, type_number}
+use Rattle.page_cells.specs.declared.types.LeafType.{LeafType}
 use Rattle.parquet_schema.specs.FileTree.{FileField, FileFields, FileNode, count_of, depth, depth_of_fields, field, group, leaf, no_fields}
 use Rattle.parquet_schema.specs.Fitting.{count_of_columns, field_named, fitted, fitted_fields, is_number, may_fit, physical_number}
 use Rattle.parquet_schema.specs.Leaves.{LeafIn, leaves_in}

@@ -16,9 +16,9 @@ use Rattle.schema_tree.specs.Tree.{Tree, Column}
 use Rattle.schema_tree.specs.declared.primitive.Primitive.{Primitive}
 use Rattle.parquet_footer.specs.Metadata.{SchemaElement, node_of, physical_type_of, root_of, schema_of}
 use Rattle.parquet_footer.proofs.Callers.{bind_ok}
-use Rattle.parquet_pages.specs.Types.{leaf_type, physical_type, type_number}
-use Rattle.parquet_pages.specs.declared.types.LeafType.{LeafType}
-use Rattle.parquet_pages.specs.declared.types.LeafType.TheVariants as types
+use Rattle.page_cells.specs.Types.{leaf_type, physical_type, type_number}
+use Rattle.page_cells.specs.declared.types.LeafType.{LeafType}
+use Rattle.page_cells.specs.declared.types.LeafType.TheVariants as types
 use Rattle.parquet_schema.specs.FileTree.{AreElements, AreInside, FileFields, FileNode, IsElementOf, IsSchemaList, count_of, field, group, leaf, no_fields, repetition}
 use Rattle.parquet_schema.specs.Fitting.{count_of_columns, file_fields_of, file_node, physical_number}
 use Rattle.parquet_file.specs.Writing.{are_short_named, element_form, field_elements, group_element, is_short_named, leaf_element, leaf_elements, node_elements, root_element, schema_elements}

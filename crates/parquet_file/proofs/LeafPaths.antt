@@ -9,8 +9,8 @@ use Rattle.schema_tree.specs.Tree as tree
 use Rattle.schema_tree.specs.Tree.{Tree, Column}
 use Rattle.shred.specs.Shape as shapes
 use Rattle.shred.specs.Shape.{Shape}
-use Rattle.parquet_pages.specs.Types.{leaf_type}
-use Rattle.parquet_pages.specs.declared.types.LeafType.{LeafType}
+use Rattle.page_cells.specs.Types.{leaf_type}
+use Rattle.page_cells.specs.declared.types.LeafType.{LeafType}
 use Rattle.parquet_schema.specs.Leaves.{LeafIn, bare_leaf, flag_of, leaf_inside, leaves_in, leaves_of_fields}
 use Rattle.parquet_file.specs.Writing.{are_short_named, is_short_named}
 use Rattle.parquet_file.proofs.FittedShapes.{sound_field}

@@ -11,7 +11,7 @@ use Rattle.shred.specs.Views.{borrowed_column}
 use Rattle.shred.specs.Ways.{Step, highest}
 use Rattle.shred.specs.declared.columns.Column.{Column as CodeColumn}
 use Rattle.shred.proofs.Callers.{way_tells}
-use Rattle.parquet_pages.specs.Pages.{present}
+use Rattle.page_cells.specs.Levels.{present}
 use Rattle.page_writing.specs.Writing.{first_page, other_pages}
 use Rattle.page_writing.proofs.Callers.{some_left}
 use Rattle.parquet_file.specs.Internal.{column_along, column_or_none}

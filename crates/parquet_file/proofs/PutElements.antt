@@ -13,8 +13,8 @@ use Rattle.schema_tree.specs.declared.node.Node.{Node, size-Node, the_lemmas}
 use Rattle.schema_tree.specs.declared.node.Node.TheVariants as nodes
 use Rattle.schema_tree.specs.declared.primitive.Primitive.{Primitive}
 use Rattle.parquet_schema.specs.Fitting.{count_of_columns}
-use Rattle.parquet_pages.specs.Types.{leaf_type}
-use Rattle.parquet_pages.specs.declared.types.LeafType.{LeafType}
+use Rattle.page_cells.specs.Types.{leaf_type}
+use Rattle.page_cells.specs.declared.types.LeafType.{LeafType}
 use Rattle.parquet_file.specs.Writing.{field_elements, group_element, leaf_element, node_elements, root_element, schema_elements}
 use Rattle.parquet_file.proofs.CodeSteps.{member_here}
 

@@ -14,7 +14,7 @@ use Rattle.parquet_footer.specs.declared.fault.FileError.TheVariants as errors
 use Rattle.parquet_footer.specs.declared.fault.FileFault.{FileFault}
 use Rattle.parquet_footer.proofs.Callers.{bind_ok, ok_is}
 use Rattle.parquet_pages.specs.Held.{AreLeft, Fills}
-use Rattle.parquet_pages.specs.Outcome.{FindsWhere}
+use Rattle.page_cells.specs.Outcome.{FindsWhere}
 use Rattle.parquet_pages.specs.Pages.{Leaf, highest}
 use Rattle.parquet_pages.specs.Parts.{IsPartOf, cut_cells}
 use Rattle.parquet_pages.specs.declared.reader.ColumnReader.{ColumnReader}

@@ -20,7 +20,7 @@ use Rattle.parquet_footer.specs.declared.fault.FileFault.{FileFault}
 use Rattle.parquet_footer.specs.declared.fault.FileFault.TheVariants.{Codec, SchemaMismatch}
 use Rattle.parquet_footer.proofs.Callers.{bind_ok}
 use Rattle.parquet_pages.specs.Held.{AreLeft}
-use Rattle.parquet_pages.specs.Pages.{present}
+use Rattle.page_cells.specs.Levels.{present}
 use Rattle.parquet_pages.specs.Reading.{chunk_at}
 use Rattle.parquet_pages.specs.declared.reader.ColumnReader.{ColumnReader}
 use Rattle.parquet_pages.proofs.Callers.{chunk_sound}

@@ -15,10 +15,10 @@ use Rattle.parquet_footer.specs.declared.fault.FileFault.{FileFault}
 use Rattle.parquet_footer.specs.declared.fault.FileFault.TheVariants.{TooLarge}
 use Rattle.parquet_footer.proofs.Callers.{bind_ok, ok_is}
 use Rattle.parquet_pages.specs.Pages.{ChunkHolds}
-use Rattle.parquet_pages.specs.Types.{physical_type, type_number}
+use Rattle.page_cells.specs.Types.{physical_type, type_number}
 use Rattle.page_writing.specs.Writing.{IsWhole, chunk_written}
-use Rattle.parquet_pages.specs.declared.types.PhysicalType.{PhysicalType}
-use Rattle.parquet_pages.specs.declared.types.PhysicalType.TheVariants as physical
+use Rattle.page_cells.specs.declared.types.PhysicalType.{PhysicalType}
+use Rattle.page_cells.specs.declared.types.PhysicalType.TheVariants as physical
 use Rattle.page_writing.proofs.WrittenHeld.{written_held}
 use Rattle.parquet_schema.specs.Leaves.{LeafIn}
 use Rattle.parquet_file.specs.File.{HoldsColumn, leaf_of}

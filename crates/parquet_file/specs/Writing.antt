@@ -13,9 +13,9 @@ use Rattle.shred.specs.Shape.{shape_of}
 use Rattle.parquet_footer.specs.Frame.{framed}
 use Rattle.parquet_footer.specs.declared.fault.FileFault.{FileFault}
 use Rattle.parquet_footer.specs.declared.fault.FileFault.TheVariants.{SchemaMismatch, TooLarge}
-use Rattle.parquet_pages.specs.Types.{leaf_type, physical_type, type_number, converted_type}
+use Rattle.page_cells.specs.Types.{leaf_type, physical_type, type_number, converted_type}
 use Rattle.page_writing.specs.Writing.{chunk_written, number_field}
-use Rattle.parquet_pages.specs.declared.types.LeafType.{LeafType}
+use Rattle.page_cells.specs.declared.types.LeafType.{LeafType}
 use Rattle.parquet_schema.specs.FileTree.{repetition}
 use Rattle.parquet_schema.specs.Fitting.{count_of_columns}
 use Rattle.parquet_schema.specs.Leaves.{LeafIn, leaves_in}

@@ -11,7 +11,7 @@ ghost use Rattle.shred.specs.Views.{part_views, shape_view};
 ghost use Rattle.shred.specs.Ways.{highest, ways};
 ghost use Rattle.parquet_footer.specs.Outcome.{FileGives};
 ghost use Rattle.parquet_footer.specs.declared.fault.FileFault.TheVariants.{SchemaMismatch};
-ghost use Rattle.parquet_pages.specs.Outcome.{FindsWhere};
+ghost use Rattle.page_cells.specs.Outcome.{FindsWhere};
 ghost use Rattle.parquet_schema.specs.Leaves.{LeafIn};
 ghost use Rattle.parquet_file.specs.Internal.{levels_of, AreAllLeft, AreAtHand, ArePartsOf, AreSound, HasLevels};
 ghost use Rattle.parquet_file.specs.Outcome.{AddsPart};

@@ -5,13 +5,14 @@ use Rattle.lake_bytes.specs.Results.{◌>>=◌}
 use Rattle.shred.specs.Columns.{Column}
 use Rattle.parquet_pages.specs.Outcome.{says}
 use Rattle.parquet_pages.specs.Pages.{Leaf, has_levels, highest, joined, no_cells}
-use Rattle.parquet_pages.specs.Reading.{body_at, cells_at, column_in, header_at, in_page, page_at, pages_at, tested}
+use Rattle.parquet_pages.specs.Reading.{body_at, cells_at, column_in, header_at, page_at, pages_at, tested}
+use Rattle.page_cells.specs.Outcome.{in_page}
 use Rattle.parquet_footer.specs.declared.fault.FileError.{FileError}
 use Rattle.parquet_footer.specs.declared.fault.FileError.TheVariants as errors
 use Rattle.parquet_footer.specs.declared.fault.FileFault.{FileFault}
 use Rattle.parquet_footer.specs.declared.fault.FileFault.TheVariants.{BadOffset}
 use Rattle.parquet_pages.proofs.CodePages.{tested_passes}
-use Rattle.parquet_pages.proofs.CodeSteps.{fine_step, kept_step, ok_step}
+use Rattle.page_cells.proofs.Callers.{fine_step, kept_step, ok_step}
 
 -- ---- a page that was read
 

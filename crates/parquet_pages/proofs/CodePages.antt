@@ -7,13 +7,15 @@ use Rattle.lake_bytes.specs.declared.fault.ByteFault.{ByteFault}
 use Rattle.row_core.specs.Rows.{Value}
 use Rattle.shred.specs.Columns.{Column}
 use Rattle.parquet_pages.specs.Headers.{Header}
-use Rattle.parquet_pages.specs.Levels.{levels_at}
-use Rattle.parquet_pages.specs.Pages.{Leaf, highest, is_proper, present}
-use Rattle.parquet_pages.specs.Plain.{plain_at}
-use Rattle.parquet_pages.specs.Reading.{DataPage, body_at, cells_at, column_in, data_page_in, has_mismatch, in_page, is_too_long, tested, num_values_in, encoding_fault, unless_fault}
+use Rattle.page_cells.specs.Levels.{levels_at, present}
+use Rattle.parquet_pages.specs.Pages.{Leaf, highest}
+use Rattle.page_cells.specs.Texts.{is_proper, is_too_long}
+use Rattle.page_cells.specs.Plain.{plain_at}
+use Rattle.parquet_pages.specs.Reading.{DataPage, body_at, cells_at, column_in, data_page_in, has_mismatch, tested, num_values_in, encoding_fault, unless_fault}
+use Rattle.page_cells.specs.Outcome.{in_page}
 use Rattle.parquet_footer.specs.declared.fault.FileFault.{FileFault}
 use Rattle.parquet_footer.specs.declared.fault.FileFault.TheVariants.{CountMismatch, NotUtf8, SchemaMismatch, TooLarge}
-use Rattle.parquet_pages.proofs.CodeSteps.{kept_step}
+use Rattle.page_cells.proofs.Callers.{kept_step}
 
 -- ---- the body of a page
 

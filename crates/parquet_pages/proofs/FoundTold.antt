@@ -2,14 +2,15 @@
 use Rattle.std.proofs.Common.{◌≡◌, ℕ, ℤ, List, length, Result, Ok, Err, IfOk, sym, subst, ◌∙◌}
 use Rattle.lake_bytes.specs.Varint.{IsBytes}
 use Rattle.shred.specs.Columns.{Column}
-use Rattle.parquet_pages.specs.Outcome.{FindsWhere, GivesWhere}
+use Rattle.page_cells.specs.Outcome.{FindsWhere}
+use Rattle.parquet_pages.specs.Outcome.{GivesWhere}
 use Rattle.parquet_pages.specs.Pages.{ChunkHolds, IsPage, Leaf, Suits}
 use Rattle.parquet_pages.specs.Reading.{chunk_at, page_at}
 use Rattle.parquet_pages.specs.Views.{IsCells, IsPageOf}
 use Rattle.parquet_footer.specs.declared.fault.FileError.{FileError}
 use Rattle.parquet_footer.specs.declared.fault.FileError.TheVariants as errors
 use Rattle.parquet_pages.specs.declared.pages.Page.{Page}
-use Rattle.parquet_pages.proofs.FoundSteps.{no_fault}
+use Rattle.page_cells.proofs.Callers.{no_fault}
 use Rattle.parquet_pages.proofs.PagesFound.{chunk_found, page_found}
 use Rattle.parquet_pages.proofs.PagesOnly.{chunk_only}
 

@@ -16,7 +16,7 @@ use Rattle.parquet_pages.specs.Pages.{Leaf, has_levels, plain_header, rle_where}
 use Rattle.parquet_pages.specs.Reading.{body_at, encoding_fault, header_at, level_encoding_fault, unless_fault}
 use Rattle.parquet_footer.specs.declared.fault.FileFault.{FileFault}
 use Rattle.parquet_footer.specs.declared.fault.FileFault.TheVariants.{BadOffset, BadPage, CountMismatch, Encoding}
-use Rattle.parquet_pages.proofs.FoundSteps.{allowed, bind_ok, ok_is, told_ok}
+use Rattle.page_cells.proofs.Callers.{allowed, bind_ok, ok_is, told_ok}
 
 -- ---- the header in front
 

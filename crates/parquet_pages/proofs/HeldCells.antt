@@ -1,4 +1,4 @@
--- Cells taken from the front of those that are held: runs of levels, values in PLAIN, and columns.
+-- Cells taken from the front of those that are held: runs of levels, and columns.
 use Rattle.std.proofs.Common.{◌≡◌, ℕ, ◌+◌, ◌-◌, ◌≤◌, ◌<◌, ◌^◌, cond, nat_eq, true, List, [], ◌∷◌, ◌++◌, length, take, drop, replicate, Err, refl, sym, ap, ◌∙◌, arith, append_assoc}
 use Rattle.std.proofs.lemmas.List.{drop-append-le, drop_all, drop-drop, drop-take, length-drop, length-take, replicate-append-replicate, take-append-le, take-take, take_all}
 use Rattle.std.proofs.lemmas.List.Elements.{All-drop, All-take}
@@ -11,16 +11,10 @@ use Rattle.shred.specs.Fits.{is_plain}
 use Rattle.shred.specs.Parts.{ArePlain, Part, cut_off, cut_out, part_of}
 use Rattle.parquet_footer.specs.declared.fault.FileError.{FileError}
 use Rattle.parquet_footer.specs.declared.fault.FileError.TheVariants as errors
-use Rattle.parquet_pages.specs.Held.{HasValuesLeft}
-use Rattle.parquet_pages.specs.Outcome.{FindsWhere}
-use Rattle.parquet_pages.specs.Pages.{is_proper, joined, present}
-use Rattle.parquet_pages.specs.Plain.{plain_at}
-use Rattle.parquet_pages.specs.declared.types.LeafType.{LeafType}
-use Rattle.parquet_pages.specs.declared.types.LeafType.TheVariants.{Boolean}
-use Rattle.parquet_pages.specs.declared.values.PlainReader.{PlainReader}
-use Rattle.parquet_pages.proofs.CodeValues.{done}
-use Rattle.parquet_pages.proofs.PartsJoined.{cut_counts, drop_both, same_column, take_both}
-use Rattle.parquet_pages.proofs.PlainParts.{plain_values, values_split}
+use Rattle.page_cells.specs.Outcome.{FindsWhere}
+use Rattle.parquet_pages.specs.Pages.{joined}
+use Rattle.page_cells.specs.Levels.{present}
+use Rattle.page_cells.proofs.Callers.{drop_both, take_both}
 
 -- ---- lists
 
@@ -83,45 +77,22 @@ drop_goes_on some runs left whole wanted kept less many is so_far =
     ap (λ (n : ℕ). drop (wanted - n) left) (sym many) ∙ sym (drop_behind wanted some left short)
     ∙ ap (drop wanted) (sym is) ∙ so_far
 
--- ---- values
-
--- Of values that are left the first so many are read, and the others are left behind these.
-pub record ArePassed (type : LeafType) (count : ℕ) (r : PlainReader) (values : List Value) : Type 0 where
-  pub front : List Value
-  pub between : List ℕ
-  pub read : plain_at type count r.bytes.now ≡ done front between
-  pub left : (after : PlainReader) → after.leaf_type ≡ type → after.bytes.now ≡ between → after.passed ≡ r.passed
-      → HasValuesLeft type after (drop count values)
-
-pub passes : (type : LeafType) (count : ℕ) (r : PlainReader) (values : List Value) → (type ≡ Boolean → ⊥)
-    → HasValuesLeft type r values → count ≤ length values → ArePassed type count r values
-passes type count r values other held less =
-    let many : length values ≡ length held.all - r.passed = ap length held.left ∙ length-drop r.passed held.all in
-    let passed_few : r.passed ≤ length held.all = held.passed in
-    let few = held.few in
-    let total : length held.all ≡ count + (length held.all - count) = omega arith in
-    let there = sym (plain_values type (length held.all) r.bytes.now other) ∙ held.read in
-    let split = values_split type count (length held.all - count) r.bytes.now held.all [] (rw total at there) in
-    let behind = length-drop count held.all in
-    record {
-      front = take count held.all;
-      between = split.between;
-      read = plain_values type count r.bytes.now other ∙ split.front;
-      left = λ after of_type bytes passed. record {
-        of_type = of_type;
-        all = drop count held.all;
-        read = ap (λ (n : ℕ). plain_at type n after.bytes.now) behind
-            ∙ ap (λ (given : List ℕ). plain_at type (length held.all - count) given) bytes
-            ∙ plain_values type (length held.all - count) split.between other ∙ split.behind;
-        proper = All-drop (λ v. is_proper v ≡ true) count held.all held.proper;
-        few = omega arith;
-        passed = omega (arith, behind, passed);
-        left = ap (drop count) held.left ∙ drop-drop count r.passed held.all
-            ∙ ap (λ (n : ℕ). drop n held.all) (omega (arith, passed)) ∙ sym (drop-drop after.passed count held.all);
-      };
-    }
-
 -- ---- cells
+
+pub same_column : (levels others : List ℕ) (values more : List Value) → levels ≡ others → values ≡ more
+    → ◌≡◌ {A = Column} (record { levels = levels; values = values }) (record { levels = others; values = more })
+same_column levels others values more is are = rw (is, are) refl
+
+-- The highest levels of those that are passed over and of those that are kept are no more than all.
+pub cut_counts : (top skip count : ℕ) (levels : List ℕ)
+    → present top (take skip levels) + present top (part_of skip count levels) ≤ present top levels
+cut_counts top skip count levels =
+    let is_top : ℕ → ℕ = λ level. cond (nat_eq level top) 1 0 in
+    let all : present top (take skip levels) + present top (drop skip levels) ≡ present top levels =
+    sum_by-take-drop is_top levels skip in
+    let few : present top (part_of skip count levels) ≤ present top (drop skip levels) =
+    sum_by-take-le is_top (drop skip levels) count in
+    omega (arith, all, few)
 
 -- the front of what is held is the front of the column
 pub cut_front : (top count : ℕ) (a b : Column) → count ≤ length a.levels → present top a.levels ≡ length a.values

@@ -4,31 +4,27 @@ use Rattle.std.proofs.lemmas.Bool.{ne_eqb}
 use Rattle.std.proofs.lemmas.List.{length-append, nil_from_length}
 use Rattle.std.proofs.lemmas.List.Elements.{All-nil, All-append}
 use Rattle.std.proofs.lemmas.List.Sums.{sum_by-append}
-use Rattle.lake_bytes.specs.Hybrid.{low_first, unpacked, values_of}
+use Rattle.lake_bytes.specs.Hybrid.{values_of}
 use Rattle.lake_bytes.specs.Results.{◌>>=◌}
-use Rattle.lake_bytes.proofs.Callers.{length-unpacked}
 use Rattle.row_core.specs.Rows.{Value}
 use Rattle.shred.specs.Columns.{Column}
 use Rattle.shred.specs.Fits.{is_plain}
 use Rattle.shred.specs.Parts.{ArePlain}
-use Rattle.parquet_pages.specs.Held.{AreLeft, Fills, HasValuesLeft, HoldsPage, IsFilled}
-use Rattle.parquet_pages.specs.Levels.{levels_at}
-use Rattle.parquet_pages.specs.Outcome.{FindsWhere}
-use Rattle.parquet_pages.specs.Pages.{Leaf, highest, joined, no_cells, present}
-use Rattle.parquet_pages.specs.Plain.{plain_at, truths_at, values_at}
-use Rattle.parquet_pages.specs.Reading.{cells_at, chunk_at, column_in, first_place, in_page, page_at, pages_at, tested}
+use Rattle.parquet_pages.specs.Held.{AreLeft, Fills, HoldsPage, IsFilled}
+use Rattle.page_cells.specs.Left.{HasValuesLeft}
+use Rattle.page_cells.specs.Levels.{levels_at, present}
+use Rattle.page_cells.specs.Outcome.{FindsWhere, in_page}
+use Rattle.parquet_pages.specs.Pages.{Leaf, highest, joined, no_cells}
+use Rattle.page_cells.specs.Plain.{plain_at}
+use Rattle.parquet_pages.specs.Reading.{cells_at, chunk_at, column_in, first_place, page_at, pages_at, tested}
 use Rattle.parquet_pages.specs.Views.{leaf_view}
 use Rattle.parquet_pages.specs.declared.reader.ColumnReader.{ColumnReader}
-use Rattle.parquet_pages.specs.declared.types.LeafType.{LeafType}
-use Rattle.parquet_pages.specs.declared.types.LeafType.TheVariants.{Boolean, Byte, Short, Integer, Long, Date, String, Binary}
 use Rattle.parquet_footer.specs.declared.fault.FileError.{FileError}
 use Rattle.parquet_footer.specs.declared.fault.FileError.TheVariants as errors
 use Rattle.parquet_footer.specs.declared.fault.FileFault.{FileFault}
 use Rattle.parquet_pages.proofs.CodeChunks.{page_body}
 use Rattle.parquet_pages.proofs.CodePages.{tested_passes}
-use Rattle.parquet_pages.proofs.CodeSteps.{fine_step, ok_step}
-use Rattle.parquet_pages.proofs.CodeValues.{done}
-use Rattle.parquet_pages.proofs.PlainParts.{plain_read}
+use Rattle.page_cells.proofs.Callers.{fine_step, ok_step, plain_read}
 
 -- ---- a column that was read
 
@@ -114,19 +110,6 @@ left_full l r c left =
     let both = both_full l left.here left.behind here behind in
     let full : IsFull l c = subst (λ (c : Column). IsFull l c) (sym left.parts) both in
     (full.each, full.plain)
-
--- No values are read from no bytes.
-pub none_read : (type : LeafType) → plain_at type 0 [] ≡ done [] []
-unfolding values_at truths_at
-none_read Boolean =
-    rw (nil_from_length (unpacked 1 0 (low_first [])) (length-unpacked 1 0 (low_first []))) refl
-none_read Byte = refl
-none_read Short = refl
-none_read Integer = refl
-none_read Long = refl
-none_read Date = refl
-none_read String = refl
-none_read Binary = refl
 
 -- This column is left of these bytes, and behind the page at hand there are at most so many pages.
 pub record AreLeftWithin (given : List ℕ) (n : ℕ) (l : Leaf) (r : ColumnReader) (c : Column) : Type 0 where

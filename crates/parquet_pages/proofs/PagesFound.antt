@@ -11,18 +11,17 @@ use Rattle.row_core.specs.Conforms.{is_leaf_value}
 use Rattle.row_core.specs.Rows.{Value}
 use Rattle.shred.specs.Columns.{Column}
 use Rattle.parquet_pages.specs.Headers.{Header}
-use Rattle.parquet_pages.specs.Levels.{levels_at}
-use Rattle.parquet_pages.specs.Pages.{ArePages, ChunkHolds, IsBody, IsPage, Leaf, Suits, from_place, has_levels, highest, is_proper, joined, may_stand, no_cells, no_page, page, plain_header, present, without_rows}
-use Rattle.parquet_pages.specs.Plain.{plain_at}
-use Rattle.parquet_pages.specs.Reading.{body_at, cells_at, chunk_at, column_in, first_place, has_mismatch, header_at, in_page, is_too_long, page_at, pages_at, tested}
-use Rattle.parquet_pages.specs.Types.{primitive_of}
+use Rattle.page_cells.specs.Levels.{levels_at, present}
+use Rattle.parquet_pages.specs.Pages.{ArePages, ChunkHolds, IsBody, IsPage, Leaf, Suits, from_place, has_levels, highest, joined, may_stand, no_cells, no_page, page, plain_header, without_rows}
+use Rattle.page_cells.specs.Texts.{is_proper, is_too_long}
+use Rattle.page_cells.specs.Plain.{plain_at}
+use Rattle.parquet_pages.specs.Reading.{body_at, cells_at, chunk_at, column_in, first_place, has_mismatch, header_at, page_at, pages_at, tested}
+use Rattle.page_cells.specs.Outcome.{in_page}
+use Rattle.page_cells.specs.Types.{primitive_of}
 use Rattle.parquet_footer.specs.declared.fault.FileFault.{FileFault}
 use Rattle.parquet_footer.specs.declared.fault.FileFault.TheVariants.{BadOffset, CountMismatch, NotUtf8, SchemaMismatch, TooLarge}
-use Rattle.parquet_pages.proofs.FoundSteps.{allowed, bind_ok, bytes_after, bytes_behind, bytes_first, held, ok_is, told_ok}
+use Rattle.page_cells.proofs.Callers.{allowed, bind_ok, bytes_after, bytes_behind, bytes_first, held, ok_is, told_ok, LevelsInFront, levels_found, all_pass, PlainInFront, plain_found}
 use Rattle.parquet_pages.proofs.HeaderFound.{BodyInFront, HeaderInFront, body_found, header_found, header_told}
-use Rattle.parquet_pages.proofs.LevelsFound.{LevelsInFront, levels_found}
-use Rattle.parquet_pages.proofs.Lists.{all_pass}
-use Rattle.parquet_pages.proofs.PlainFound.{PlainInFront, plain_found}
 
 -- ---- the body
 

@@ -13,15 +13,14 @@ use Rattle.row_core.specs.Conforms.{is_byte, is_leaf_value, is_short, max_bytes}
 use Rattle.row_core.specs.Rows.{Value, text, bytes}
 use Rattle.shred.specs.Columns.{Column}
 use Rattle.parquet_pages.specs.Headers.{Header, header_of}
-use Rattle.parquet_pages.specs.Pages.{ArePages, ChunkHolds, IsBody, IsPage, Leaf, Suits, from_place, has_levels, highest, is_proper, joined, may_stand, no_page, page, plain_header, rle_where, without_rows}
-use Rattle.parquet_pages.specs.Reading.{body_at, cells_at, chunk_at, column_in, encoding_fault, first_place, header_at, is_too_long, page_at, pages_at, tested, unless_fault}
-use Rattle.parquet_pages.specs.Types.{primitive_of}
-use Rattle.parquet_pages.specs.declared.types.LeafType.{LeafType}
-use Rattle.parquet_pages.specs.declared.types.LeafType.TheVariants as leaf
-use Rattle.parquet_pages.proofs.LevelsOnly.{levels_stand}
-use Rattle.parquet_pages.proofs.Lists.{all_behind, all_first, pass_all}
+use Rattle.parquet_pages.specs.Pages.{ArePages, ChunkHolds, IsBody, IsPage, Leaf, Suits, from_place, has_levels, highest, joined, may_stand, no_page, page, plain_header, rle_where, without_rows}
+use Rattle.page_cells.specs.Texts.{is_proper, is_too_long}
+use Rattle.parquet_pages.specs.Reading.{body_at, cells_at, chunk_at, column_in, encoding_fault, first_place, header_at, page_at, pages_at, tested, unless_fault}
+use Rattle.page_cells.specs.Types.{primitive_of}
+use Rattle.page_cells.specs.declared.types.LeafType.{LeafType}
+use Rattle.page_cells.specs.declared.types.LeafType.TheVariants as leaf
+use Rattle.page_cells.proofs.Callers.{levels_stand, all_behind, all_first, pass_all, plain_stands}
 use Rattle.parquet_pages.proofs.PagesFound.{chunk_some}
-use Rattle.parquet_pages.proofs.PlainOnly.{plain_stands}
 
 -- ---- the header
 

@@ -9,9 +9,11 @@ use Rattle.lake_bytes.specs.Hybrid.{values_of}
 use Rattle.shred.specs.Columns.{Column}
 use Rattle.shred.specs.Fits.{is_plain}
 use Rattle.shred.specs.Parts.{cut_off}
-use Rattle.parquet_pages.specs.Held.{AreLeft, Fills, HasValuesLeft, IsMark}
-use Rattle.parquet_pages.specs.Outcome.{FindsWhere}
-use Rattle.parquet_pages.specs.Pages.{Leaf, highest, joined, no_cells, present}
+use Rattle.parquet_pages.specs.Held.{AreLeft, Fills, IsMark}
+use Rattle.page_cells.specs.Left.{HasValuesLeft}
+use Rattle.page_cells.specs.Outcome.{FindsWhere}
+use Rattle.parquet_pages.specs.Pages.{Leaf, highest, joined, no_cells}
+use Rattle.page_cells.specs.Levels.{present}
 use Rattle.parquet_pages.specs.Reading.{page_at, pages_at}
 use Rattle.parquet_pages.specs.Views.{leaf_view}
 use Rattle.parquet_pages.specs.declared.chunk.Mark.{Mark}
@@ -20,9 +22,9 @@ use Rattle.parquet_footer.specs.declared.fault.FileError.{FileError}
 use Rattle.parquet_footer.specs.declared.fault.FileError.TheVariants as errors
 use Rattle.parquet_footer.specs.declared.fault.FileFault.{FileFault}
 use Rattle.parquet_pages.proofs.CodeChunks.{next_page, no_page_left, page_fits, with_column}
-use Rattle.parquet_pages.proofs.CodeSteps.{ok_step}
+use Rattle.page_cells.proofs.Callers.{ok_step}
 use Rattle.parquet_pages.proofs.HeldPages.{IsFull, both_full, page_full}
-use Rattle.parquet_pages.proofs.PartsJoined.{same_column}
+use Rattle.parquet_pages.proofs.HeldCells.{same_column}
 
 -- ---- cells that are passed
 

@@ -6,10 +6,10 @@ use Rattle.shred.specs.Columns.{Column}
 use Rattle.shred.specs.Fits.{is_plain}
 use Rattle.shred.specs.Parts.{ArePlain}
 use Rattle.parquet_footer.specs.declared.fault.FileFault.{FileFault}
-use Rattle.parquet_pages.specs.Levels.{AreLevels}
-use Rattle.parquet_pages.specs.Pages.{ArePages, ChunkHolds, Leaf, from_place, highest, no_cells, no_page, page, present, without_rows}
+use Rattle.page_cells.specs.Levels.{AreLevels, present}
+use Rattle.parquet_pages.specs.Pages.{ArePages, ChunkHolds, Leaf, from_place, highest, no_cells, no_page, page, without_rows}
 use Rattle.parquet_pages.specs.Reading.{chunk_at, first_place, pages_at}
-use Rattle.parquet_pages.proofs.FoundSteps.{bind_ok, ok_is}
+use Rattle.page_cells.proofs.Callers.{bind_ok, ok_is}
 use Rattle.parquet_pages.proofs.HeldPages.{IsFull, pages_full}
 use Rattle.parquet_pages.proofs.PagesFound.{chunk_found, chunk_some}
 

@@ -1,30 +1,18 @@
 -- What a reader of a column's pages has left.
-use Rattle.std.specs.Prelude.{◌≡◌, ℕ, ◌+◌, ◌<◌, ◌≤◌, ◌^◌, List, [], length, drop, All, true, Result, Ok, Err}
+use Rattle.std.specs.Prelude.{◌≡◌, ℕ, ◌+◌, ◌≤◌, List, [], length, Result, Ok, Err}
 use Rattle.lake_bytes.specs.Hybrid.{values_of}
-use Rattle.row_core.specs.Rows.{Value}
 use Rattle.shred.specs.Columns.{Column}
 use Rattle.shred.specs.Parts.{ArePlain}
 use Rattle.parquet_footer.specs.declared.fault.FileError.{FileError}
 use Rattle.parquet_footer.specs.declared.fault.FileError.TheVariants as errors
 use Rattle.parquet_pages.specs.Pages as pages
-use Rattle.parquet_pages.specs.Pages.{highest, is_proper, joined, present}
-use Rattle.parquet_pages.specs.Plain.{plain_at}
+use Rattle.parquet_pages.specs.Pages.{highest, joined}
+use Rattle.page_cells.specs.Left.{HasValuesLeft}
+use Rattle.page_cells.specs.Levels.{present}
 use Rattle.parquet_pages.specs.Reading.{pages_at}
 use Rattle.parquet_pages.specs.Views.{leaf_view}
 use Rattle.parquet_pages.specs.declared.chunk.Mark.{Mark}
 use Rattle.parquet_pages.specs.declared.reader.ColumnReader.{ColumnReader}
-use Rattle.parquet_pages.specs.declared.types.LeafType.{LeafType}
-use Rattle.parquet_pages.specs.declared.values.PlainReader.{PlainReader}
-
--- These values are left of those that the bytes hold: all but the first that were passed.
-pub record HasValuesLeft (type : LeafType) (r : PlainReader) (values : List Value) : Type 0 where
-  pub of_type : r.leaf_type ≡ type
-  pub all : List Value
-  pub read : plain_at type (length all) r.bytes.now ≡ Ok (all, [])
-  pub proper : All (λ v. is_proper v ≡ true) all
-  pub few : length all < 2 ^ 64
-  pub passed : r.passed ≤ length all
-  pub left : values ≡ drop r.passed all
 
 -- These cells are left of the page at hand: there is a value for each highest level, and none that is null or a struct.
 pub record HoldsPage (l : pages.Leaf) (r : ColumnReader) (c : Column) : Type 0 where

@@ -1,6 +1,3 @@
-pub mod Types
-pub mod Plain
-pub mod Levels
 pub mod Headers
 pub mod Pages
 pub mod Reading

@@ -1,16 +1,15 @@
 -- Which bytes are the data pages of a column (Apache Parquet, "Data Pages" and "Column Chunks").
-use Rattle.std.specs.Prelude.{◌≡◌, ℕ, zero, suc, ◌+◌, ◌<◌, ◌≤◌, ◌==◌, ℤ, pos, List, [], ◌∷◌, ◌++◌, length, count_by, All, Bool, true, not, Option, Some, None, Ok, if◌then◌else◌}
-use Rattle.std.specs.Str.{is_utf8}
+use Rattle.std.specs.Prelude.{◌≡◌, ℕ, zero, suc, ◌+◌, ◌<◌, ◌≤◌, ◌==◌, ℤ, pos, List, [], ◌∷◌, ◌++◌, length, All, Bool, true, not, Option, Some, None, Ok, if◌then◌else◌}
 use Rattle.thrift_core.specs.Spelling.{SpellsStruct}
 use Rattle.thrift_core.specs.Tree.{Tree}
 use Rattle.row_core.specs.Conforms.{is_leaf_value}
-use Rattle.row_core.specs.Rows.{Value, text}
 use Rattle.shred.specs.Columns.{Column}
 use Rattle.parquet_pages.specs.Headers.{Header, data_page, header_of}
-use Rattle.parquet_pages.specs.Levels.{AreLevels}
-use Rattle.parquet_pages.specs.Plain.{IsPlain}
-use Rattle.parquet_pages.specs.Types.{physical_type, primitive_of}
-use Rattle.parquet_pages.specs.declared.types.LeafType.{LeafType}
+use Rattle.page_cells.specs.Levels.{AreLevels, present}
+use Rattle.page_cells.specs.Plain.{IsPlain}
+use Rattle.page_cells.specs.Texts.{is_proper}
+use Rattle.page_cells.specs.Types.{physical_type, primitive_of}
+use Rattle.page_cells.specs.declared.types.LeafType.{LeafType}
 
 -- The values of a leaf in a file: its type, and for each node on the way to it that may be null in the file, from the
 -- top, whether the table lets it be null. The highest level is their number.
@@ -20,10 +19,6 @@ pub record Leaf : Type 0 where
 
 abbrev pub highest : Leaf → ℕ
 highest l = length l.nullable
-
--- how many levels are the highest, where nothing is null
-abbrev pub present : (top : ℕ) → List ℕ → ℕ
-present top levels = count_by (λ level. level == top) levels
 
 -- These bytes are the levels of this part of the column, and then its values: one for each highest level.
 pub record IsBody (l : Leaf) (body : List ℕ) (c : Column) : Type 0 where
@@ -81,11 +76,6 @@ pub data ChunkHolds (l : Leaf) (given : List ℕ) (stated : ℤ) : Column → Ty
   from_place : (place : ℕ) (c : Column) → stated ≡ pos place → 4 ≤ place → ArePages l given place c → ChunkHolds l given stated c
 
 -- ---- what a table lets a leaf hold
-
--- a text is UTF-8
-abbrev pub is_proper : Value → Bool
-is_proper (text s) = is_utf8 s
-is_proper v = true
 
 -- the flag of the node at which a null stands; nothing stands at the highest level
 abbrev pub may_stand : List Bool → (level : ℕ) → Bool

@@ -5,7 +5,8 @@ use Rattle.shred.specs.Parts.{Part, cut_out, ArePlain}
 use Rattle.shred.specs.Views.{part_view}
 use Rattle.shred.specs.declared.columns.ColumnPart.{ColumnPart}
 use Rattle.row_core.specs.declared.value.Value.{Value}
-use Rattle.parquet_pages.specs.Pages.{Leaf, highest, present}
+use Rattle.parquet_pages.specs.Pages.{Leaf, highest}
+use Rattle.page_cells.specs.Levels.{present}
 
 -- the cells of at most so many rows, from a place on
 abbrev pub cut_cells : Leaf → (first most : ℕ) → Column → Column

@@ -6,22 +6,18 @@ use Rattle.std.specs.Ordering.{int_eq}
 use Rattle.lake_bytes.specs.Results.{◌>>=◌, refused_as, refused_if}
 use Rattle.lake_bytes.specs.declared.fault.ByteFault.{ByteFault}
 use Rattle.thrift_core.specs.Reading.{struct_at}
-use Rattle.thrift_core.specs.declared.fault.ThriftFault.TheVariants.{Bytes}
-use Rattle.row_core.specs.Conforms.{is_leaf_value, max_bytes}
-use Rattle.row_core.specs.Rows.{Value, text, bytes}
+use Rattle.row_core.specs.Conforms.{is_leaf_value}
 use Rattle.shred.specs.Columns.{Column}
 use Rattle.parquet_pages.specs.Headers.{Header, Content, data_page, dictionary_page, other_page, header_of}
-use Rattle.parquet_pages.specs.Levels.{levels_at}
-use Rattle.parquet_pages.specs.Pages.{Leaf, highest, present, has_levels, joined, no_cells, is_proper, may_stand}
-use Rattle.parquet_pages.specs.Plain.{plain_at}
-use Rattle.parquet_pages.specs.Types.{primitive_of}
+use Rattle.page_cells.specs.Levels.{levels_at, present}
+use Rattle.parquet_pages.specs.Pages.{Leaf, highest, has_levels, joined, no_cells, may_stand}
+use Rattle.page_cells.specs.Outcome.{in_page}
+use Rattle.page_cells.specs.Texts.{is_proper, is_too_long}
+use Rattle.page_cells.specs.Plain.{plain_at}
+use Rattle.page_cells.specs.Types.{primitive_of}
 use Rattle.parquet_footer.specs.declared.fault.FileFault.{FileFault}
 use Rattle.parquet_footer.specs.declared.fault.FileFault.TheVariants.{Encoding, PageKind, BadOffset, CountMismatch, SchemaMismatch, TooLarge, NotUtf8, BadPage}
-use Rattle.parquet_pages.specs.declared.types.LeafType.{LeafType}
-
--- a fault in bytes, told as a page's
-abbrev pub in_page : ByteFault → FileFault
-in_page fault = BadPage (Bytes fault)
+use Rattle.page_cells.specs.declared.types.LeafType.{LeafType}
 
 -- ---- the header
 
@@ -78,12 +74,6 @@ cells_at type top count body = do
   levels ← levels_at top count body
   values ← plain_at type (present top levels.0) levels.1
   Ok (record { levels = levels.0; values = values.0 }, values.1)
-
--- a text or bytes of over 1 MiB
-abbrev pub is_too_long : Value → Bool
-is_too_long (text s) = nat_lt max_bytes (length s)
-is_too_long (bytes s) = nat_lt max_bytes (length s)
-is_too_long v = false
 
 -- a value out of its type's range, or a null where the table has none
 abbrev pub has_mismatch : Leaf → Column → Bool

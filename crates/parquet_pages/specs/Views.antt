@@ -4,8 +4,9 @@ use Rattle.lake_bytes.specs.Hybrid.{values_of}
 use Rattle.shred.specs.Columns.{Column}
 use Rattle.parquet_pages.specs.Headers.{Header, Content, data_page, dictionary_page, other_page}
 use Rattle.parquet_pages.specs.Pages as pages
-use Rattle.parquet_pages.specs.Pages.{highest, present}
-use Rattle.parquet_pages.specs.Plain.{plain_at}
+use Rattle.parquet_pages.specs.Pages.{highest}
+use Rattle.page_cells.specs.Levels.{present}
+use Rattle.page_cells.specs.Plain.{plain_at}
 use Rattle.parquet_pages.specs.declared.header.PageHeader.{PageHeader}
 use Rattle.parquet_pages.specs.declared.header.PageContent.{PageContent}
 use Rattle.parquet_pages.specs.declared.header.PageContent.TheVariants as content

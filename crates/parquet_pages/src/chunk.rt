@@ -4,7 +4,8 @@ ghost use Rattle.std.specs.Prelude.{◌≡◌, ◌≤◌, ◌<◌, length, IfOk,
 ghost use Rattle.lake_bytes.specs.Reading.{IsReading};
 ghost use Rattle.shred.specs.Columns as columns;
 ghost use Rattle.parquet_pages.specs.Held.{IsMark};
-ghost use Rattle.parquet_pages.specs.Outcome.{FindsWhere, GivesWhere};
+ghost use Rattle.page_cells.specs.Outcome.{FindsWhere};
+ghost use Rattle.parquet_pages.specs.Outcome.{GivesWhere};
 ghost use Rattle.parquet_pages.specs.Pages.{ChunkHolds, Suits};
 ghost use Rattle.parquet_pages.specs.Reading.{chunk_at, first_place, pages_at};
 ghost use Rattle.parquet_pages.specs.Views.{leaf_view};

@@ -12,8 +12,5 @@ pub const DATA_PAGE: i64 = 0;
 /// PageType DICTIONARY_PAGE.
 pub(crate) const DICTIONARY_PAGE: i64 = 2;
 
-/// The most bytes of a text, and of bytes: 1 MiB.
-pub(crate) const MAX_CONTENT: usize = 1_048_576;
-
 /// The most bytes of a page, as of a file: 64 MiB.
 pub const MAX_PAGE_SIZE: u64 = 67_108_864;

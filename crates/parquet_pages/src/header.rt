@@ -12,6 +12,7 @@ ghost use Rattle.parquet_footer.specs.declared.fault.FileFault.TheVariants.{BadP
 use crate::enums::{DATA_PAGE, DICTIONARY_PAGE};
 use crate::usual::usual_header;
 use lake_bytes::Cursor;
+use page_cells::bad_page;
 use parquet_footer::{FileError, FileFault};
 use std::alloc::Global;
 use thrift_core::fields::{count, integer, structure};
@@ -70,7 +71,7 @@ pub fn read_header(
     if let Some(usual) = usual_header(&mut cursor) {
         return match usual.header(has_levels) {
             Ok(header) => Ok((header, cursor.left())),
-            Err(fault) => Err(FileError::Fault(bad_page(fault))),
+            Err(fault) => Err(FileError::Fault(bad_header(fault))),
         };
     }
     read_any_header(alloc, bytes, has_levels)
@@ -88,7 +89,7 @@ fn read_any_header(
 {
     let mut cursor = Cursor::new(bytes);
     let tree = read_struct(alloc, &mut cursor).map_err(in_page)?;
-    let header = header(&tree, has_levels).map_err(bad_page)?;
+    let header = header(&tree, has_levels).map_err(bad_header)?;
     Ok((header, cursor.left()))
 }
 
@@ -99,15 +100,15 @@ fn in_page(error: ReadError) -> FileError
 {
     match error {
         ReadError::Memory => FileError::Memory,
-        ReadError::Fault(fault) => FileError::Fault(bad_page(fault)),
+        ReadError::Fault(fault) => FileError::Fault(bad_header(fault)),
     }
 }
 
-/// A fault of a page's header or of what it holds.
-pub(crate) fn bad_page(fault: ThriftFault) -> FileFault
+/// A fault of what a page's header says, as a file's.
+fn bad_header(fault: ThriftFault) -> FileFault
     ensures { result ≡ BadPage fault }
 {
-    FileFault::BadPage { fault }
+    bad_page(fault)
 }
 
 #[tactic(auto, unfolding(crate::specs::Headers::header_of))]

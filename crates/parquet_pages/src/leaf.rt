@@ -1,10 +1,13 @@
 //! A leaf of a table, as a file keeps it.
 
 ghost use Rattle.std.specs.Prelude.{◌≡◌};
+ghost use Rattle.std.specs.List.{list_all};
+ghost use Rattle.lake_bytes.specs.Hybrid.{values_of};
 ghost use Rattle.parquet_pages.specs.Pages.{highest, may_stand};
 ghost use Rattle.parquet_pages.specs.Views.{leaf_view};
 
-use crate::types::LeafType;
+use lake_bytes::Run;
+use page_cells::LeafType;
 
 /// A leaf of a table, and which nodes on the way to it may be null in a file.
 #[derive(Clone, Copy)]
@@ -24,7 +27,7 @@ impl Leaf<'_> {
     }
 
     /// Whether a cell of this level may stand: a null where the table has one, or a value.
-    pub(crate) fn may_stand(&self, level: u64) -> bool
+    fn may_stand(&self, level: u64) -> bool
         ensures { result ≡ may_stand (leaf_view self.now).nullable level }
     {
         match self.nullable.get(level as usize) {
@@ -32,4 +35,13 @@ impl Leaf<'_> {
             None => true,
         }
     }
+}
+
+/// Whether nulls stand only where the table has them.
+pub(crate) fn nulls_may_stand(leaf: &Leaf, levels: &[Run]) -> bool
+    ensures { result ≡ list_all (may_stand (leaf_view leaf.now).nullable) (values_of levels.now) }
+{
+    levels
+        .iter()
+        .all(|run| run.count == 0 || leaf.may_stand(run.value))
 }

@@ -9,17 +9,16 @@ ghost use Rattle.std.specs.List.{list_any};
 ghost use Rattle.parquet_pages.specs.Internal.{HasCells};
 ghost use Rattle.parquet_pages.specs.Outcome.{GivesWhere};
 ghost use Rattle.parquet_pages.specs.Pages.{IsPage, Suits};
-ghost use Rattle.parquet_pages.specs.Reading.{DataPage, data_page_in, num_values_in, encoding_fault, unless_fault, body_at, column_in, is_too_long, page_at, in_page, tested};
+ghost use Rattle.parquet_pages.specs.Reading.{DataPage, data_page_in, num_values_in, encoding_fault, unless_fault, body_at, column_in, page_at, tested};
+ghost use Rattle.page_cells.specs.Texts.{is_too_long};
+ghost use Rattle.page_cells.specs.Outcome.{in_page};
 ghost use Rattle.parquet_pages.specs.Views.{header_view, leaf_view, IsCells, IsPageOf};
 
 use crate::enums::{PLAIN, RLE};
 use crate::header::{PageContent, PageHeader, read_header};
-use crate::leaf::Leaf;
-use crate::levels::{present, read_levels};
-use crate::plain::{bad_bytes, pass_values};
-use crate::testing::{are_in_range, are_proper, nulls_may_stand};
-use crate::types::LeafType;
+use crate::leaf::{Leaf, nulls_may_stand};
 use lake_bytes::{Cursor, HybridError, Run};
+use page_cells::{are_in_range, are_proper, bad_bytes, pass_values, present, read_levels};
 use parquet_footer::{FileError, FileFault};
 use std::alloc::{AllocError, Global};
 

@@ -11,8 +11,8 @@ use Rattle.shred.specs.Ways.{Step, ways, ways_from, under, highest, highest_from
 use Rattle.parquet_schema.specs.FileTree.{FileNode, leaf, group, FileFields}
 use Rattle.parquet_schema.specs.Fitting.{field_named, fitted, fitted_fields, is_number, may_fit, physical_number}
 use Rattle.parquet_schema.specs.Leaves.{LeafIn, bare_leaf, flag_of, leaf_inside, leaves_in, leaves_of_fields}
-use Rattle.parquet_pages.specs.Types.{leaf_type, physical_type, type_number}
-use Rattle.parquet_pages.specs.declared.types.LeafType.{LeafType}
+use Rattle.page_cells.specs.Types.{leaf_type, physical_type, type_number}
+use Rattle.page_cells.specs.declared.types.LeafType.{LeafType}
 
 -- how many flags each leaf has
 abbrev levels : List LeafIn → List ℕ

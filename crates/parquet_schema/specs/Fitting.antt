@@ -11,7 +11,7 @@ use Rattle.shred.specs.Shape.{Shape}
 use Rattle.parquet_footer.specs.Metadata.{SchemaElement}
 use Rattle.parquet_schema.specs.FileTree.{FileNode, leaf, group, FileFields, no_fields, field, FileField, fields_of, count_of}
 use Rattle.parquet_schema.specs.Reading.{file_fields}
-use Rattle.parquet_pages.specs.Types.{leaf_type, physical_type, type_number}
+use Rattle.page_cells.specs.Types.{leaf_type, physical_type, type_number}
 
 -- the number of the physical type of a table's leaf, if a file can hold its values
 abbrev pub physical_number : Primitive → Option ℤ

@@ -4,8 +4,8 @@ use Rattle.schema_tree.specs.Tree as tree
 use Rattle.schema_tree.specs.Tree.{Tree}
 use Rattle.shred.specs.Shape as shapes
 use Rattle.shred.specs.Shape.{Shape}
-use Rattle.parquet_pages.specs.Types.{leaf_type}
-use Rattle.parquet_pages.specs.declared.types.LeafType.{LeafType}
+use Rattle.page_cells.specs.Types.{leaf_type}
+use Rattle.page_cells.specs.declared.types.LeafType.{LeafType}
 
 -- A leaf: the names on the way to it, its type, and for each node on the way that may be null in the file, from the top,
 -- whether the table lets it be null.

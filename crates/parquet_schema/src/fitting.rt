@@ -19,8 +19,8 @@ ghost use Rattle.parquet_schema.specs.Views.{field_view, field_views, leaf_views
 use crate::leaves::{FileLeaf, leaves_of};
 use crate::reading::file_fields;
 use crate::tree::{FileField, FileNode};
+use page_cells::LeafType;
 use parquet_footer::{FileError, FileFault, SchemaElement};
-use parquet_pages::LeafType;
 use schema_tree::{Field, Node, Primitive, Schema};
 use shred::{Shape, ShapeField};
 use std::alloc::{Allocator, Global};

@@ -9,7 +9,7 @@ ghost use Rattle.shred.specs.Views.{shape_view, field_view as shape_field_view, 
 ghost use Rattle.parquet_schema.specs.Leaves.{leaves_under, field_leaves, leaves_in, leaves_of_fields};
 ghost use Rattle.parquet_schema.specs.Views.{leaf_views, way_names};
 
-use parquet_pages::LeafType;
+use page_cells::LeafType;
 use schema_tree::{Field, Node, Schema};
 use shred::{Shape, ShapeField};
 use std::alloc::{AllocError, Allocator, Global};

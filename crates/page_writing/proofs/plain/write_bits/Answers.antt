@@ -2,7 +2,7 @@ use Rattle.std.proofs.Common.{◌-◌, ◌*◌, ◌++◌, ℕ, ap, length, map, 
 use Rattle.std.proofs.lemmas.List.{length-map}
 use Rattle.lake_bytes.specs.Hybrid.{low_bytes}
 use Rattle.shred.specs.Views.{borrowed_value}
-use Rattle.parquet_pages.specs.Plain.{bytes_for_bits}
+use Rattle.page_cells.specs.Plain.{bytes_for_bits}
 use Rattle.page_writing.specs.Writing.{packed_bits}
 use Rattle.page_writing.proofs.Kept.{keeps_more}
 use Rattle.page_writing.proofs.WrittenBits.{bits_written, eight_values, no_bits_left}

@@ -1,7 +1,7 @@
 use Rattle.std.proofs.Common.{◌≡◌, ◌*◌, ◌-◌, ◌++◌, drop, length, map}
 use Rattle.lake_bytes.specs.Hybrid.{low_bytes}
 use Rattle.shred.specs.Views.{borrowed_value}
-use Rattle.parquet_pages.specs.Plain.{bytes_for_bits}
+use Rattle.page_cells.specs.Plain.{bytes_for_bits}
 use Rattle.page_writing.specs.Internal.{BeginsWith}
 use Rattle.page_writing.specs.Writing.{packed_bits}
 use Rattle.page_writing.proofs.plain.write_bits.Given as goal

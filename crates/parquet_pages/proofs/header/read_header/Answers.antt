@@ -17,5 +17,5 @@ returns-in-Err-clause-exact c =
     let usual = c.in-Some.usual in
     let front : ReadsFront SpellsUsual c.args.bytes.now usual c.usual_header.new.cursor =
     rw (← c.new-cursor.ensures) c.in-Some.ensures.spelled in
-    rw c.bad_page.ensures (usual_is_refused c.args.has_levels c.args.bytes.now c.usual_header.new.cursor usual
+    rw c.bad_header.ensures (usual_is_refused c.args.has_levels c.args.bytes.now c.usual_header.new.cursor usual
     c.in-Err.fault front (c.in-Err.ensures c.in-Some.ensures.of_data))

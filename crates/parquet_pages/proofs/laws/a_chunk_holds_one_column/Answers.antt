@@ -3,7 +3,7 @@ use Rattle.shred.specs.Columns.{Column}
 use Rattle.parquet_pages.specs.Pages.{ChunkHolds, Leaf, Suits}
 use Rattle.parquet_pages.specs.Reading.{chunk_at}
 use Rattle.parquet_footer.specs.declared.fault.FileFault.{FileFault}
-use Rattle.parquet_pages.proofs.FoundSteps.{ok_is}
+use Rattle.page_cells.proofs.Callers.{ok_is}
 use Rattle.parquet_pages.proofs.PagesOnly.{chunk_only}
 use Rattle.parquet_pages.proofs.laws.a_chunk_holds_one_column.Goals as goal
 

@@ -8,17 +8,17 @@ use Rattle.lake_bytes.specs.declared.run.HybridError.TheVariants as numbers
 use Rattle.lake_bytes.specs.declared.run.Run.{Run}
 use Rattle.shred.specs.Columns.{Column}
 use Rattle.parquet_pages.specs.Internal.{HasCells}
-use Rattle.parquet_pages.specs.Levels.{levels_at}
-use Rattle.parquet_pages.specs.Outcome.{Passes, says}
-use Rattle.parquet_pages.specs.Pages.{highest, present}
-use Rattle.parquet_pages.specs.Plain.{plain_at}
-use Rattle.parquet_pages.specs.Reading.{in_page}
+use Rattle.page_cells.specs.Levels.{levels_at, present}
+use Rattle.page_cells.specs.Outcome.{Passes, in_page}
+use Rattle.parquet_pages.specs.Outcome.{says}
+use Rattle.parquet_pages.specs.Pages.{highest}
+use Rattle.page_cells.specs.Plain.{plain_at}
 use Rattle.parquet_pages.specs.Views.{leaf_view}
 use Rattle.parquet_footer.specs.declared.fault.FileError.{FileError}
 use Rattle.parquet_footer.specs.declared.fault.FileError.TheVariants as errors
 use Rattle.parquet_footer.specs.declared.fault.FileFault.{FileFault}
 use Rattle.parquet_pages.proofs.CodePages.{levels_fail, values_fail, cells_there, tested_passes}
-use Rattle.parquet_pages.proofs.CodeRuns.{levels_count}
+use Rattle.page_cells.proofs.Callers.{levels_count}
 use Rattle.parquet_pages.proofs.pages.page_in.Goals as goal
 
 refused : (e : HybridError) (told : FileError) (read : Result (List ℕ × List ℕ) ByteFault) (new : List ℕ)

@@ -6,14 +6,13 @@ use Rattle.lake_bytes.specs.declared.run.Run.{Run}
 use Rattle.row_core.specs.Conforms.{is_leaf_value}
 use Rattle.shred.specs.Columns.{Column}
 use Rattle.parquet_pages.specs.Pages.{Leaf, may_stand}
-use Rattle.parquet_pages.specs.Plain.{plain_at}
+use Rattle.page_cells.specs.Plain.{plain_at}
 use Rattle.parquet_pages.specs.Reading.{has_mismatch}
-use Rattle.parquet_pages.specs.Types.{primitive_of}
+use Rattle.page_cells.specs.Types.{primitive_of}
 use Rattle.parquet_pages.specs.Views.{leaf_view}
 use Rattle.parquet_pages.proofs.CodePages.{tested_long, tested_count, tested_texts, tested_mismatch, tested_fine}
 use Rattle.parquet_pages.proofs.pages.test_cells.Goals as goal
-use Rattle.parquet_pages.proofs.pages.test_cells.Goals.{then-not-is_empty-via-then-not-is_empty, then-not-is_empty-via-else-not-is_empty+then-page-left}
-use Rattle.parquet_pages.proofs.pages.test_cells.Goals.{then-not-nulls_may_stand-via-then-not-nulls_may_stand, then-not-nulls_may_stand-via-else-not-nulls_may_stand+then-not-are_in_range}
+use Rattle.parquet_pages.proofs.pages.test_cells.Goals.{then-not-is_empty-via-then-not-is_empty, then-not-is_empty-via-else-not-is_empty+then-page-left, then-not-nulls_may_stand-via-then-not-nulls_may_stand, then-not-nulls_may_stand-via-else-not-nulls_may_stand+then-not-are_in_range}
 
 either : (a b : Bool) → b ≡ true → (a || b) ≡ true
 either true b h = refl

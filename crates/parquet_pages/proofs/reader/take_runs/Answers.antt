@@ -5,7 +5,7 @@ use Rattle.lake_bytes.specs.declared.run.Run.{Run}
 use Rattle.std.specs.declared.collections.VecDeque.{VecDeque}
 use Rattle.std.specs.declared.alloc.Global.{Global}
 use Rattle.parquet_pages.proofs.HeldCells.{drop_goes_on, run_in_two, run_whole, take_goes_on}
-use Rattle.parquet_pages.proofs.PartsJoined.{run_more}
+use Rattle.page_cells.proofs.Callers.{run_more}
 use Rattle.parquet_pages.proofs.reader.take_runs.Goals as goal
 use Rattle.parquet_pages.proofs.reader.take_runs.Goals.{then-kept-run+in_ok-push_front, else-kept-run}
 

@@ -9,8 +9,9 @@ use Rattle.shred.specs.Columns.{Column}
 use Rattle.shred.specs.Parts.{cut_off, cut_out, part_of}
 use Rattle.row_core.specs.declared.value.Value as owned
 use Rattle.shred.specs.declared.columns.ColumnPart.{ColumnPart}
-use Rattle.parquet_pages.specs.Held.{HasValuesLeft}
-use Rattle.parquet_pages.specs.Pages.{highest, joined, present}
+use Rattle.page_cells.specs.Left.{HasValuesLeft}
+use Rattle.parquet_pages.specs.Pages.{highest, joined}
+use Rattle.page_cells.specs.Levels.{present}
 use Rattle.parquet_pages.specs.Parts.{IsPartOf}
 use Rattle.parquet_pages.proofs.HeldCells.{are_there, behind_each, behind_plain, cut_behind, cut_front, front_each, front_plain, kept_is, no_fault, present_is, same_part}
 use Rattle.parquet_pages.proofs.reader.ColumnReader.take.Goals as goal

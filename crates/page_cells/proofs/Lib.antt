@@ -1,0 +1,17 @@
+pub mod CodeFixed
+pub mod CodeLeaves
+pub mod CodeRanges
+pub mod CodeRuns
+pub mod CodeSteps
+pub mod CodeValues
+pub mod FoundSteps
+pub mod LevelsFound
+pub mod LevelsOnly
+pub mod Lists
+pub mod PartsJoined
+pub mod PlainFound
+pub mod PlainOnly
+pub mod PlainParts
+pub mod TruthParts
+pub mod ValuesLeft
+pub mod Callers

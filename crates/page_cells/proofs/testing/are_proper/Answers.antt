@@ -1,0 +1,9 @@
+use Rattle.std.proofs.Common.{sym}
+use Rattle.page_cells.proofs.CodeLeaves.{others_proper}
+use Rattle.page_cells.proofs.CodeRanges.{all_bytes}
+use Rattle.page_cells.proofs.testing.are_proper.Goals as goal
+
+pub returns-in_default : goal.returns-in_default
+returns-in_default c values rest is =
+    sym (others_proper c.args.leaf_type c.in_default.not-String c.args.count c.args.bytes.now values rest
+    (all_bytes c.args.bytes.now c.type_inv.bytes) is)

@@ -1,8 +1,0 @@
-use Rattle.std.proofs.Common.{◌≡◌, [], true, arith}
-use Rattle.std.proofs.lemmas.List.Elements.{All-nil}
-use Rattle.parquet_pages.specs.Pages.{is_proper}
-use Rattle.parquet_pages.proofs.HeldPages.{none_read}
-use Rattle.parquet_pages.proofs.values.PlainReader.none.Goals as goal
-
-pub returns : goal.returns
-returns c = c.new.ensures [] (none_read c.args.leaf_type) (All-nil (λ v. is_proper v ≡ true)) (omega arith)
