@@ -1,12 +1,13 @@
 """Commands on the table in a folder: their words, and what each tells and leaves."""
 
 from typing import NamedTuple
+import json
 import re
 
 from check import check_lines
 from log import Log
 from refusals import ENTRIES, explained
-from table import NotModelled, json_value, unsupported_column
+from table import NotModelled, json_value, unsupported_columns
 from world import World
 
 # The places of each command behind its folder, its options, and whether one has to be given.
@@ -28,6 +29,10 @@ COMMANDS: dict[str, tuple[int, dict[str, bool]]] = {
 NUMBER = (0, 2**64 - 1)
 BOUNDS = {"at": (0, 10**15 - 1), "tries": (1, 64), "max": (0, 65_536), "workers": NUMBER, "rows": NUMBER}
 DEFAULTS = {"at": "0", "tries": "16"}
+
+# The words of JSON, and a sign that stands in front of a number; and how many columns without rows are named.
+WORDS = ("true", "false", "null", "-")
+MOST_NAMED = 10
 
 COMMIT = re.compile(r"_delta_log/[0-9]{20}\.json")
 CHECKPOINT = re.compile(r"_delta_log/[0-9]{20}\.checkpoint\..*\.json")
@@ -52,7 +57,7 @@ class Command(NamedTuple):
 
 
 class BadLine(Exception):
-    """The number of an input line that is no JSON object."""
+    """The number of an input line that is no JSON object, and the line."""
 
 
 class Miscounted(Exception):
@@ -100,9 +105,9 @@ def objects_in(content: bytes) -> list[str]:
         try:
             value = json_value(line.decode())
         except ValueError as error:
-            raise BadLine(place + 1) from error
+            raise BadLine(place + 1, line) from error
         if not isinstance(value, dict):
-            raise BadLine(place + 1)
+            raise BadLine(place + 1, line)
     return [line.decode() for line in lines]
 
 
@@ -126,7 +131,8 @@ def script_line(command: Command, content: bytes) -> str:
 def misused(wrong: BadLine | Miscounted) -> list[str]:
     """What is told of an input that isn't read as the words have it."""
     if isinstance(wrong, BadLine):
-        return [f"bad line {wrong}", "status 2"]
+        number, line = wrong.args
+        return [f"bad line {number}", "status 2", f"hint: the line {flaw(line)}"]
     rows, found = wrong.args
     return ["status 2", f"--rows says {rows}, but the count of rows in the input is {found}; nothing was run"]
 
@@ -153,25 +159,58 @@ def explanation(words: list[str]) -> list[str]:
     return [ENTRIES[words[0]], "status 0"]
 
 
+def flaw(content: bytes) -> str:
+    """Why a text is no JSON object. Of a fault inside of it, the byte is that of Python's own reader."""
+    if not content:
+        return "is empty"
+    try:
+        text = content.decode()
+    except UnicodeDecodeError as error:
+        return f"isn't UTF-8 at byte {error.start + 1}"
+    try:
+        json_value(text)
+    except json.JSONDecodeError as error:
+        rest = text[error.pos :]
+        if error.msg.startswith("Unterminated string") or any(word.startswith(rest) for word in WORDS):
+            return "ends too early"
+        byte = len(text[: error.pos].rpartition("\n")[2].encode()) + 1
+        below = f" of its line {error.lineno}" if error.lineno > 1 else ""
+        return f"can't be read as JSON near byte {byte}{below}"
+    except ValueError as error:
+        raise NotModelled("a text that is JSON, and isn't read") from error
+    return "is JSON, but no object"
+
+
 def limit_passed(told: str, line: str) -> list[str]:
-    """The hint which limit an append passes that is refused for its size; that of a file isn't modelled."""
+    """The hint which limit a job passes that is refused for its size; that of a file isn't modelled."""
     word, _, rest = line.partition(" ")
-    if told != "refused S8 TooLarge" or word != "append":
+    if told != "refused S8 TooLarge":
         return []
-    if int(rest.split(" ")[1]) > 999_999_999_999:
+    if word == "append" and int(rest.split(" ")[1]) > 999_999_999_999:
         return ["hint: the number is above 999,999,999,999"]
-    return [
-        "hint: there are over 65,536 rows, to be handed in as several batches, or the log has its last version"
-    ]
+    if word == "append" and len(json_value(rest.split(" ", 3)[3])) > 65_536:
+        return ["hint: there are over 65,536 rows; hand them in as several batches"]
+    return ["hint: the log has its last version, 999,999,999,999, and takes no further commit"]
+
+
+def schema_flaw(told: str, line: str) -> list[str]:
+    """The hint why the text of a schema is no JSON."""
+    if told != "refused E2 BadSchema G1 BadJson":
+        return []
+    return [f"hint: the schema's text {flaw(line.split(' ', 3)[3].encode())}"]
 
 
 def rowless(line: str) -> list[str]:
     """The note that a table that was created takes no rows."""
     word, _, rest = line.partition(" ")
-    column = unsupported_column(json_value(rest.split(" ", 2)[2])["fields"]) if word == "create" else None
-    if column is None:
+    columns = unsupported_columns(json_value(rest.split(" ", 2)[2])["fields"]) if word == "create" else []
+    if not columns:
         return []
-    return [f"note: the table takes no rows, since the type of the column {column} has none here"]
+    names, more = ", ".join(columns[:MOST_NAMED]), len(columns) - MOST_NAMED
+    which = f"the types of the columns {names} have" if columns[1:] else f"the type of the column {names} has"
+    if more > 0:
+        which = f"the types of the columns {names} and {more} more have"
+    return [f"note: the table takes no rows, since {which} none here"]
 
 
 class Folder:
@@ -206,7 +245,8 @@ class Folder:
             return ["status 1", f"refused F2 NotSaved {fault}", *explained("refused F2")]
         if not told or not told[-1].startswith("refused "):
             return [*told, "status 0", *rowless(line)]
-        return [*told, "status 1", *explained(told[-1]), *limit_passed(told[-1], line)]
+        hints = [*limit_passed(told[-1], line), *schema_flaw(told[-1], line)]
+        return [*told, "status 1", *explained(told[-1]), *hints]
 
     def elsewhere(self, command: Command, run: Run) -> list[str]:
         """Of folders beside the first nothing is modelled but what comes before they are looked at."""

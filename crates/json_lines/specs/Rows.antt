@@ -37,5 +37,5 @@ pub record IsFirstBadLine (text : List ℕ) (number : ℕ) : Type 0 where
 
 -- a fault names the first line that is no object
 abbrev pub IsFirstBad : List ℕ → LineFault → Type 0
-IsFirstBad text (Bad number) = IsFirstBadLine text number
+IsFirstBad text (Bad number flaw) = IsFirstBadLine text number
 IsFirstBad text Memory = Unit {0}

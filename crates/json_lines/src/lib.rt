@@ -6,6 +6,9 @@ ghost use Rattle.serde_json.specs.Read.{read};
 ghost use Rattle.json_text.specs.Rows.{text_data};
 ghost use Rattle.json_lines.specs.Rows.{without_last_newline, input_lines, object_of, only_object, IsFirstBad};
 
+mod flaw;
+
+pub use flaw::{Flaw, flaw_of};
 use json::Scratch;
 use json_text::{TextError, value_in};
 use std::alloc::{AllocError, AllocFailed, Global};
@@ -15,9 +18,9 @@ use thiserror::Error;
 /// Why lines are no objects.
 #[derive(Clone, Copy, Debug, PartialEq, Eq, Error)]
 pub enum LineFault {
-    /// The line of this number, counted from 1, is no JSON object.
+    /// The line of this number, counted from 1, is no JSON object, and why.
     #[error("bad line {0}")]
-    Bad(u64),
+    Bad(u64, Flaw),
     /// A growth was refused.
     #[error("out of memory")]
     Memory,
@@ -44,8 +47,8 @@ impl<T: Drop> From<AllocFailed<T>> for LineFault {
 }
 
 /// The texts of the objects of a text, one a line: a line ends at a newline, and what stands behind the last newline is a
-/// line too, unless it is empty. An empty line is no object. The fault names the first line that is none. Takes time linear
-/// in the text.
+/// line too, unless it is empty. An empty line is no object. The fault names the first line that is none, at which it looks
+/// once more for what is wrong. Takes time linear in the text.
 pub fn objects_in<'a>(alloc: Global, text: &'a [u8]) -> Result<Vec<&'a str>, LineFault>
     // They are the text's lines, and each is that of an object.
     ensures texts { IfOk result (λ objects. map (λ object. object.now) objects.items ≡ input_lines text.now) }
@@ -61,7 +64,7 @@ pub fn objects_in<'a>(alloc: Global, text: &'a [u8]) -> Result<Vec<&'a str>, Lin
     for line in without_last_newline(text).split(|byte| *byte == b'\n') {
         number += 1;
         let Some(object) = object_in(alloc, line, &mut scratch)? else {
-            return Err(LineFault::Bad(number));
+            return Err(LineFault::Bad(number, flaw_of(alloc, line)));
         };
         objects.push(object)?;
     }

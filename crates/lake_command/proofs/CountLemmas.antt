@@ -57,8 +57,8 @@ input_ended contents Misused work text is_broken old new err_old err_new exit of
 input_ended contents Misused work text is_broken old new err_old err_new exit of (inr untold) = let none = untold.meant in cc
 input_ended contents NotRead work text is_broken old new err_old err_new exit (reads, inl broken) ended = inr (inr (inl broken))
 input_ended contents NotRead work text is_broken old new err_old err_new exit (reads, inr long) ended = inr (inr (inr (inr long)))
-input_ended contents (BadLine number) work text is_broken old new err_old err_new exit of (inl told) = inl told.status
-input_ended contents (BadLine number) work text is_broken old new err_old err_new exit of (inr untold) = by_cause untold.cause
+input_ended contents (BadLine number flaw) work text is_broken old new err_old err_new exit of (inl told) = inl told.status
+input_ended contents (BadLine number flaw) work text is_broken old new err_old err_new exit of (inr untold) = by_cause untold.cause
   where
     by_cause : (write_failed new ≡ true) ⊎ (exit.is_short ≡ true) → IsMisused text is_broken (write_failed new) exit
     by_cause (inl failed) = inr (inr (inr (inl failed)))

@@ -32,7 +32,7 @@ IsOutcome (Err failure) work text old new = Leaves failure work text old new
 -- to standard error
 abbrev pub output_of : Result LineReply Failure → Option (List ℕ)
 output_of (Ok reply) = Some (reply_text reply)
-output_of (Err (BadLine number)) = Some (with_newline (failure_text (BadLine number)))
+output_of (Err (BadLine number flaw)) = Some (with_newline (failure_text (BadLine number flaw)))
 output_of (Err Memory) = Some (with_newline (failure_text Memory))
 output_of (Err _) = None
 
@@ -56,11 +56,12 @@ abbrev pub creates_rowless : Work → Bool
 creates_rowless (words.create id schema at) = has_rowless (schema_of schema)
 creates_rowless work = false
 
--- Something may be told on standard error beside a text that is told where replies go: of a refusal what it means, and of a
--- table that was created and takes no rows that it doesn't.
+-- Something may be told on standard error beside a text that is told where replies go: of a refusal what it means, of a bad
+-- line what is wrong with it, and of a table that was created and takes no rows that it doesn't.
 abbrev pub is_explained : Work → Result LineReply Failure → Bool
 is_explained work (Ok reply) = refuses work reply || creates_rowless work
 is_explained work (Err Memory) = true
+is_explained work (Err (BadLine number flaw)) = true
 is_explained work (Err _) = false
 
 -- With a text: it is on the output, behind what was there, and standard error is as it was unless something is told

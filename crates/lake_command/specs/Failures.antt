@@ -26,7 +26,7 @@ use Rattle.lake_command.specs.Folders.{IsAskedBy, JobMayLeave, reads_input, rows
 abbrev pub failure_text : Failure → List ℕ
 failure_text Misused = codes "--at is past 999999999999999"
 failure_text NotRead = codes "refused F3 NotRead"
-failure_text (BadLine number) = codes "bad line " ++ decimal number
+failure_text (BadLine number flaw) = codes "bad line " ++ decimal number
 failure_text (Miscounted rows found) =
     codes "--rows says " ++ (decimal rows ++ (codes ", but the count of rows in the input is " ++ (decimal found ++ codes "; nothing was run")))
 failure_text Memory = codes "refused S6 Memory"
@@ -40,7 +40,7 @@ IsFailureOfInput _ failure = failure ≡ NotRead
 
 -- the failure of lines that are no objects, or for which no memory was left
 abbrev pub IsFailureOfLine : LineFault → Failure → Type 0
-IsFailureOfLine (lines.Bad number) failure = failure ≡ BadLine number
+IsFailureOfLine (lines.Bad number flaw) failure = failure ≡ BadLine number flaw
 IsFailureOfLine lines.Memory failure = failure ≡ Memory
 
 -- a failure of the folder: what isn't loaded leaves it as it was
@@ -72,7 +72,7 @@ AsksSomething work text = (statement : Statement) × IsAskedBy work text stateme
 abbrev pub IsOfInput : Failure → Work → (text : Option (List ℕ)) → (is_broken : Bool) → Type 0
 IsOfInput Misused work text is_broken = 999_999_999_999_999 < moment_of work
 IsOfInput NotRead work text is_broken = (reads_input work ≡ true) × ((is_broken ≡ true) ⊎ IfSome text (λ bytes. MOST_READS ≤ length bytes))
-IsOfInput (BadLine number) work text is_broken = (reads_input work ≡ true) × IfSome text (λ bytes. IsFirstBadLine bytes number)
+IsOfInput (BadLine number flaw) work text is_broken = (reads_input work ≡ true) × IfSome text (λ bytes. IsFirstBadLine bytes number)
 IsOfInput (Miscounted rows found) work text is_broken = (rows_said work ≡ Some rows) × (found ≢ rows) × IfSome text (λ bytes. length (input_lines bytes) ≡ found)
 IsOfInput Memory work text is_broken = reads_input work ≡ true
 IsOfInput (Loading fault) work text is_broken = ⊥

@@ -42,7 +42,7 @@ IsStatusOf kinds status is_short = ((status ≡ 1) × (is_short ≡ true)) ⊎ (
 -- the status of a job that has no reply
 abbrev pub status_of_failure : Failure → ℕ
 status_of_failure Misused = 2
-status_of_failure (BadLine number) = 2
+status_of_failure (BadLine number flaw) = 2
 status_of_failure (Miscounted rows found) = 2
 status_of_failure _ = 1
 

@@ -32,12 +32,13 @@ const LAST_MOMENT: u64 = 999_999_999_999_999;
 /// line. Where saving is refused since another process put an append's or a close's commit meanwhile, the table is loaded
 /// anew and the job is run again, as long as it has tries left: behind the last one, and where the table can't be loaded
 /// again, the failure is `Saving`. Each run takes time for the log and for the data files that it may look at. Loads aren't
-/// there yet.
+/// there yet. Where a reply comes of an append, `rows` is set to the count of its rows, for a message.
 pub fn answer<F: Folder, R: Read>(
     alloc: Global,
     folder: &mut F,
     command: TableCommand<'_>,
     input: &mut Input<R>,
+    rows: &mut u64,
 ) -> Result<LineReply, Failure>
     // Over a steady folder whose checkpoints are sound, or with all commits read, the reply and what the folder then holds
     // are those of the same line of a script over the folder's objects.
@@ -80,6 +81,7 @@ pub fn answer<F: Folder, R: Read>(
     let Some(line) = line_for(alloc, command.job, &text)? else {
         return Ok(LineReply::Refused(Fault::NotYet));
     };
+    *rows = rows_of(&line);
     let tries = tries_of(&command.job);
     let before = folder.faults();
     let outcome = execute_in(alloc, folder, line, tries, command.use_checkpoints);
@@ -166,6 +168,19 @@ fn tries_of(job: &Job<'_>) -> u64
     match job {
         Job::Append { tries, .. } | Job::Close { tries, .. } => (*tries).max(1),
         _ => 1,
+    }
+}
+
+// How many rows a line has, whose texts are at hand.
+fn rows_of(line: &Line<'_>) -> u64 {
+    match line {
+        Line::Job(
+            lake_script::Job::Append {
+                rows: JsonRows::Texts(texts),
+                ..
+            },
+        ) => texts.len() as u64,
+        _ => 0,
     }
 }
 

@@ -9,10 +9,13 @@ ghost use Rattle.refusal_texts.specs.Texts.{refusal_text};
 use crate::exit::{DONE, Exit, MISUSED};
 use crate::failure::Failure;
 use crate::telling::{is_refusal, not_written};
-use batch_core::{GREATEST_NUMBER, SinkFault};
+use batch_core::{GREATEST_NUMBER, MOST_ROWS, SinkFault};
+use commit_core::CreateFault;
+use json_lines::flaw_of;
 use lake_script::{LineReply, Output, OutputError};
 use lake_words::Job;
 use refusal_texts::{Refusal, refusal_named, refusal_of_reply};
+use schema_tree::SchemaFault;
 use std::alloc::Global;
 use std::io::Write;
 use table_folder::SaveFault;
@@ -40,36 +43,56 @@ pub(crate) fn explain_reply<E: Write>(alloc: Global, reply: &LineReply, err: &mu
     }
 }
 
-/// Says which limit a job passes that is refused for its size, as far as the reply and the words tell it.
-pub(crate) fn hint_limit<E: Write>(reply: &LineReply, job: Job<'_>, err: &mut E) {
-    if let Some(limit) = limit_passed(reply, job) {
+/// Says more of a job's refusal than its line does: which limit the job passes, where it had so many rows, and where a
+/// schema's text stops being JSON.
+pub(crate) fn hint_refusal<E: Write>(
+    alloc: Global,
+    reply: &LineReply,
+    job: Job<'_>,
+    rows: u64,
+    err: &mut E,
+) {
+    if let Some(limit) = limit_passed(reply, job, rows) {
         let _ = err.writeln(format_args!("hint: {limit}"));
+    }
+    if let (
+        LineReply::NotCreated(CreateFault::BadSchema(SchemaFault::BadJson)),
+        Job::Create { schema, .. },
+    ) = (reply, job)
+    {
+        let flaw = flaw_of(alloc, schema.as_bytes());
+        let _ = err.writeln(format_args!("hint: the schema's text {flaw}"));
     }
 }
 
-fn limit_passed(reply: &LineReply, job: Job<'_>) -> Option<&'static str> {
-    match (reply, job) {
-        (LineReply::SinkRefused(SinkFault::FileTooLarge), _) => {
+// The limit that a job passes.
+fn limit_passed(reply: &LineReply, job: Job<'_>, rows: u64) -> Option<&'static str> {
+    match reply {
+        LineReply::SinkRefused(SinkFault::FileTooLarge) => {
             Some("the file of these rows would pass 64 MiB; fewer rows make a smaller one")
         }
-        (LineReply::SinkRefused(SinkFault::TooLarge), Job::Append { number, .. }) => {
-            if number > GREATEST_NUMBER {
-                Some("the number is above 999,999,999,999")
-            } else {
-                Some(
-                    "there are over 65,536 rows, to be handed in as several batches, or the log has its last version",
-                )
-            }
+        LineReply::SinkRefused(SinkFault::TooLarge) => Some(count_passed(job, rows)),
+        _ => None,
+    }
+}
+
+// The limit of numbers, of rows or of versions that a job passes, which are tested in this order.
+fn count_passed(job: Job<'_>, rows: u64) -> &'static str {
+    match job {
+        Job::Append { number, .. } if number > GREATEST_NUMBER => {
+            "the number is above 999,999,999,999"
         }
-        (LineReply::SinkRefused(SinkFault::TooLarge), _) => Some("the log has its last version"),
-        (_, _) => None,
+        Job::Append { .. } if rows > MOST_ROWS as u64 => {
+            "there are over 65,536 rows; hand them in as several batches"
+        }
+        _ => "the log has its last version, 999,999,999,999, and takes no further commit",
     }
 }
 
 /// The code of a failure that is told as a refusal.
 pub(crate) fn code_of(failure: &Failure) -> Option<&'static str> {
     match failure {
-        Failure::Misused | Failure::BadLine(_) | Failure::Miscounted { .. } => None,
+        Failure::Misused | Failure::BadLine(..) | Failure::Miscounted { .. } => None,
         Failure::NotRead => Some("F3"),
         Failure::Memory => Some("S6"),
         Failure::Loading(_) => Some("F1"),

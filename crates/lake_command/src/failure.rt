@@ -3,7 +3,7 @@ ghost use Rattle.std.specs.Prelude.{◌≡◌, Some};
 ghost use Rattle.table_folder.specs.declared.fault.LoadFault.TheVariants as loads;
 ghost use Rattle.lake_command.specs.Failures.{failure_text};
 
-use json_lines::LineFault;
+use json_lines::{Flaw, LineFault};
 use lake_script::InputError;
 use std::fmt;
 use std::fmt::{Display, Formatter};
@@ -18,8 +18,8 @@ pub enum Failure {
     Misused,
     /// A read of the input failed, or the input passes its bounds. Nothing was run.
     NotRead,
-    /// The input's line of this number, counted from 1, is no JSON object. Nothing was run.
-    BadLine(u64),
+    /// The input's line of this number, counted from 1, is no JSON object, and why. Nothing was run.
+    BadLine(u64, Flaw),
     /// The input's lines are objects, and another count of them than the words say: `rows` by the words, `found` in the
     /// input. Nothing was run.
     Miscounted { rows: u64, found: u64 },
@@ -38,7 +38,7 @@ impl Display for Failure {
         match self {
             Failure::Misused => f.write_str("--at is past 999999999999999"),
             Failure::NotRead => f.write_str("refused F3 NotRead"),
-            Failure::BadLine(number) => write!(f, "bad line {number}"),
+            Failure::BadLine(number, _flaw) => write!(f, "bad line {number}"),
             Failure::Miscounted { rows, found } => write!(
                 f,
                 "--rows says {rows}, but the count of rows in the input is {found}; nothing was run"
@@ -70,7 +70,7 @@ impl From<LineFault> for Failure {
 
     fn from(fault: LineFault) -> Failure {
         match fault {
-            LineFault::Bad(number) => Failure::BadLine(number),
+            LineFault::Bad(number, flaw) => Failure::BadLine(number, flaw),
             LineFault::Memory => Failure::Memory,
         }
     }

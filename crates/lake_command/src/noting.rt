@@ -1,36 +1,145 @@
 //! What is told beside the reply of a job that is done.
 ghost use Rattle.std.specs.Prelude.{◌≡◌, IfSome, false, true};
+ghost use Rattle.row_core.specs.Unsupported.{has_values};
 ghost use Rattle.schema_tree.specs.Reading.{schema_of};
 ghost use Rattle.lake_command.specs.Endings.{creates_rowless, has_rowless};
 ghost use Rattle.lake_words.specs.Asked.{work_view};
 
 use lake_words::Job;
 use row_core::unsupported;
-use schema_tree::{ColumnPath, Schema};
-use std::alloc::Global;
+use schema_tree::{Field, Node, Primitive, Schema};
+use std::alloc::{AllocError, Allocator, Global};
+use std::fmt;
+use std::fmt::{Display, Formatter};
 use std::io::Write;
 
-/// Tells of a table that was created and takes no rows which of its columns, depth first, is the first one of a type that has
-/// none.
+/// How many columns without rows are named.
+const MOST_NAMED: u64 = 10;
+
+/// Tells of a table that was created and takes no rows which of its columns are of a type that has none.
 pub(crate) fn note_rowless<E: Write>(alloc: Global, job: Job<'_>, err: &mut E)
     ensures { creates_rowless (work_view job.entry) ≡ false → err.new ≡ err.old }
 {
     let Job::Create { schema, .. } = job else {
         return;
     };
-    if let Some(column) = rowless(alloc, schema) {
+    if let Some(columns) = rowless(alloc, schema) {
         let _ = err.writeln(format_args!(
-            "note: the table takes no rows, since the type of the column {column} has none here"
+            "note: the table takes no rows, since {columns} none here"
         ));
     }
 }
 
-// The first column that has no rows.
-fn rowless(alloc: Global, schema: &str) -> Option<ColumnPath>
-    ensures { IfSome result (λ column. has_rowless (schema_of schema.now) ≡ true) }
+// The columns that have no rows, where there are some. They are looked for once more than the first of them, so that what
+// a table takes is said by the same function as where its rows are read.
+fn rowless(alloc: Global, schema: &str) -> Option<NamedColumns>
+    ensures { IfSome result (λ _. has_rowless (schema_of schema.now) ≡ true) }
 {
     match Schema::from_text(alloc, schema) {
-        Ok(schema) => unsupported(alloc, &schema).unwrap_or(None),
+        Ok(schema) => match unsupported(alloc, &schema) {
+            Ok(Some(_first)) => rowless_of(alloc, &schema).ok(),
+            _ => None,
+        },
         Err(_fault) => None,
     }
+}
+
+// The columns of a schema that have no rows. Of many the first are named alone, so the time is linear in the schema.
+fn rowless_of(alloc: Global, schema: &Schema<Global>) -> Result<NamedColumns, AllocError> {
+    let mut columns = NamedColumns {
+        names: String::new(alloc),
+        count: 0,
+    };
+    add_fields(schema.fields(), &mut Vec::new(alloc), &mut columns)?;
+    Ok(columns)
+}
+
+/// The columns of a table that have no rows.
+#[derive(Drop)]
+struct NamedColumns {
+    /// The paths of the first ones, depth first.
+    names: String,
+    /// How many there are.
+    count: u64,
+}
+
+impl NamedColumns {
+    // Adds the column to which these fields lead.
+    fn add(&mut self, path: &[&str]) -> Result<(), AllocError> {
+        self.count = self.count.saturating_add(1);
+        if self.count > MOST_NAMED {
+            return Ok(());
+        }
+        let mut gap = if self.count > 1 { ", " } else { "" };
+        for name in path {
+            self.names.push_str(gap)?;
+            self.names.push_str(name)?;
+            gap = ".";
+        }
+        Ok(())
+    }
+}
+
+impl Display for NamedColumns {
+    fn fmt<W: fmt::Write>(&self, f: &mut Formatter<W>) -> fmt::Result {
+        let NamedColumns { names, count } = self;
+        match *count {
+            1 => write!(f, "the type of the column {names} has"),
+            2..=MOST_NAMED => write!(f, "the types of the columns {names} have"),
+            _ => {
+                let more = count.saturating_sub(MOST_NAMED);
+                write!(f, "the types of the columns {names} and {more} more have")
+            }
+        }
+    }
+}
+
+// Adds the columns below these fields, which lie in the ones above.
+#[cycle(rowless)]
+fn add_fields<'a, A: Allocator>(
+    fields: &'a [Field<A>],
+    above: &mut Vec<&'a str>,
+    columns: &mut NamedColumns,
+) -> Result<(), AllocError> {
+    for field in fields {
+        add_field(field, above, columns)?;
+    }
+    Ok(())
+}
+
+// Adds the columns of a field.
+#[cycle(rowless)]
+fn add_field<'a, A: Allocator>(
+    field: &'a Field<A>,
+    above: &mut Vec<&'a str>,
+    columns: &mut NamedColumns,
+) -> Result<(), AllocError> {
+    above.push(field.name.as_str())?;
+    add_type(&field.data_type, above, columns)?;
+    above.pop();
+    Ok(())
+}
+
+// Adds the columns of a type, to which the fields above lead.
+#[cycle(rowless)]
+fn add_type<'a, A: Allocator>(
+    node: &'a Node<A>,
+    above: &mut Vec<&'a str>,
+    columns: &mut NamedColumns,
+) -> Result<(), AllocError> {
+    match node {
+        Node::Leaf(primitive) if has_values(*primitive) => Ok(()),
+        Node::Struct(fields) => add_fields(fields, above, columns),
+        _ => columns.add(above),
+    }
+}
+
+// Whether there are values of a primitive type.
+fn has_values(primitive: Primitive) -> bool
+    ensures { result ≡ has_values primitive }
+{
+    !matches!(
+        primitive,
+        Primitive::Timestamp | Primitive::Float | Primitive::Double | Primitive::Decimal { .. }
+    )
 }

@@ -16,7 +16,7 @@ ghost use Rattle.lake_command.specs.Folders.{IsAnsweredJob, IsMiscounted, reads_
 
 use crate::answering::answer;
 use crate::exit::{DONE, Exit, MISUSED, REFUSED};
-use crate::explaining::{code_of, explain, explain_reply, hint_limit};
+use crate::explaining::{code_of, explain, explain_reply, hint_refusal};
 use crate::failure::Failure;
 use crate::noting::note_rowless;
 use lake_script::{Fault, Input, LineReply, Output, OutputError, RefusalText};
@@ -63,17 +63,19 @@ pub fn table_command<F: Folder, R: Read, W: Write, E: Write>(
         → object_at (F.objects folder.new) name ≡ Some bytes }
     ensures steady { F.is_steady folder.old → F.is_steady folder.new }
 {
-    match answer(alloc, folder, command, input) {
-        Ok(reply) => tell(alloc, &reply, command.job, output, err),
+    let mut rows = 0;
+    match answer(alloc, folder, command, input, &mut rows) {
+        Ok(reply) => tell(alloc, &reply, command.job, rows, output, err),
         Err(failure) => tell_failure(&failure, output, err),
     }
 }
 
-// Tells a reply, and of one that refuses the job what that means.
+// Tells a reply, and of one that refuses the job, which had so many rows, what that means.
 fn tell<W: Write, E: Write>(
     alloc: Global,
     reply: &LineReply,
     job: Job<'_>,
+    rows: u64,
     output: &mut Output<W>,
     err: &mut E,
 ) -> Exit
@@ -94,7 +96,7 @@ fn tell<W: Write, E: Write>(
         };
     }
     explain_reply(alloc, reply, err);
-    hint_limit(reply, job, err);
+    hint_refusal(alloc, reply, job, rows, err);
     Exit {
         status: REFUSED,
         is_short,
@@ -124,7 +126,7 @@ pub(crate) fn not_written<E: Write>(error: OutputError, is_short: bool, err: &mu
     }
 }
 
-/// Tells why there is no reply, and what that means. A bad line goes where replies go.
+/// Tells why there is no reply, and what that means. A bad line goes where replies go, and what is wrong with it to `err`.
 pub(crate) fn tell_failure<W: Write, E: Write>(
     failure: &Failure,
     output: &mut Output<W>,
@@ -134,29 +136,36 @@ pub(crate) fn tell_failure<W: Write, E: Write>(
     ensures ended { (work : Work) → EndsWith W.contents work (Err failure.now) output.old output.new err.old err.new result }
 {
     let is_short = is_want_of_memory(failure);
-    if matches!(failure, Failure::BadLine(_) | Failure::Memory) {
+    if matches!(failure, Failure::BadLine(..) | Failure::Memory) {
         if let Err(error) = say(failure, output) {
             return not_written(error, is_short, err);
         }
-        if is_short {
-            explain("S6", err);
-        }
     } else {
         let _ = err.writeln(failure);
-        if let Some(code) = code_of(failure) {
-            explain(code, err);
-        }
-        hint(failure, err);
     }
+    explain_failure(failure, err);
     Exit {
         status: status_of(failure),
         is_short,
     }
 }
 
-// Says what to do about a failure, where the folder tells why it failed and there is something to do.
+// Tells what a failure means that is a refusal, and what more there is to say.
+fn explain_failure<E: Write>(failure: &Failure, err: &mut E) {
+    if let Some(code) = code_of(failure) {
+        explain(code, err);
+    }
+    hint(failure, err);
+}
+
+// Says what is wrong with a bad line, and what to do about the folder, where it tells why it failed and there is something
+// to do.
 fn hint<E: Write>(failure: &Failure, err: &mut E) {
     let reason = match failure {
+        Failure::BadLine(_number, flaw) => {
+            let _ = err.writeln(format_args!("hint: the line {flaw}"));
+            return;
+        }
         Failure::Loading(LoadFault::NotLoaded { reason, .. }) => *reason,
         Failure::Saving(SaveFault::NotSaved { reason, .. }) => *reason,
         _ => return,
@@ -180,7 +189,7 @@ fn status_of(failure: &Failure) -> u8
     ensures { result ≡ status_of_failure failure.now }
 {
     match failure {
-        Failure::Misused | Failure::BadLine(_) | Failure::Miscounted { .. } => MISUSED,
+        Failure::Misused | Failure::BadLine(..) | Failure::Miscounted { .. } => MISUSED,
         _ => REFUSED,
     }
 }
