@@ -1,11 +1,10 @@
 -- What lines are told over any store, by what the calls for them tell.
-use Rattle.std.proofs.Common.{◌≡◌, ◌≢◌, ◌⊎◌, ℕ, List, Bool, true, false, Option, None, Some, Result, Ok, Err, inl, inr, refl, sym, ap, ◌∙◌}
+use Rattle.std.proofs.Common.{◌≡◌, ◌≢◌, ◌⊎◌, ℕ, List, Bool, true, false, Option, None, Some, Result, Ok, Err, inl, inr, refl, sym, ap}
 use Rattle.std.specs.Prelude.{◌++◌, codes, option_map}
 use Rattle.hex.specs.Hex.{encode_lower}
 use Rattle.lake_bytes.specs.Outcome.{IsSaid}
 use Rattle.lake_bytes.specs.Lines.{with_newline}
 use Rattle.store_core.specs.Calls.{CountsFault, HasRisen, IsUntouched, MayHaveLanded}
-use Rattle.store_core.specs.Objects.{Objects}
 use Rattle.store_core.specs.declared.fault.StoreFault.{StoreFault}
 use Rattle.store_core.specs.declared.fault.StoreFault.TheVariants as stores
 use Rattle.store_core.specs.declared.store.Put.{Put}
@@ -28,7 +27,7 @@ use Rattle.source_core.specs.Tailing.{ReadRefusal}
 use Rattle.source_core.specs.declared.tail_fault.TailFault.{TailFault}
 use Rattle.source_core.specs.declared.tail_fault.TailFault.TheVariants as tail_faults
 use Rattle.lake_script.specs.declared.reply.LineReply.TheVariants as replies
-use Rattle.lake_script.specs.AnyStore.{IsSnapshotReply, Looks, TellsCheckpoint, TellsCreation, TellsForeign, TellsSnapshotLine, lost_to_append, lost_to_create, lost_to_read, lost_to_show, lost_to_tell}
+use Rattle.lake_script.specs.AnyStore.{Looks, TellsCheckpoint, TellsCreation, TellsForeign, TellsSnapshotLine, lost_to_append, lost_to_create, lost_to_read, lost_to_show, lost_to_tell}
 use Rattle.lake_script.specs.ReplyView.{reply_text, says_lost}
 use Rattle.lake_script.specs.declared.faults.Fault.TheVariants.{NoSuchName}
 use Rattle.lake_script.specs.Replies.{fault_text}
