@@ -101,7 +101,7 @@ abbrev pub sink_answer : Result SinkOutcome SinkFault → List ℕ
 sink_answer (Ok outcome) = with_newline (outcome_text outcome)
 sink_answer (Err why) = with_newline (refused (refusal_text (refusal_view why)))
 
--- an append or a close: the answer is told of a talk with the store in which this job was done
+-- an append or a close: the answer is told of a talk with the store by which this job was driven, or there was no memory to begin
 abbrev pub TellsJob : (is_reliable : Type 0) → SinkJob → (reply : List ℕ) (old new : State) (count later : ℕ) → Type 0
 TellsJob is_reliable job reply old new count later = (known : Loaded) × (answer : Result SinkOutcome SinkFault)
     × (reply ≡ sink_answer answer) × IsDriven is_reliable job known answer old new count later
@@ -170,7 +170,7 @@ TellsCommit version reply old new count later =
 abbrev pub TellsDigits : (name reply : List ℕ) (old new : State) (count later : ℕ) → Type 0
 TellsDigits name reply old new count later = Looks (reply ≡ in_hex (object_at old.0 name)) (reply ≡ no_room_to_show) (reply ≡ lost_to_show) old new count later
 
--- a line that asks nothing of the store is told this
+-- a line that leaves the store and its count as they were is told this
 abbrev pub OnlyTells : (text reply : List ℕ) (old new : State) (count later : ℕ) → Type 0
 OnlyTells text reply old new count later = (reply ≡ text) × IsUntouched old new × (later ≡ count)
 
