@@ -1,7 +1,7 @@
 //! Whether a table is read: what its protocol asks of a reader, and its schema.
 
-ghost use Rattle.std.specs.Prelude.{◌≡◌, List, IfErr, IfOk, map, option_map, string_bytes};
-ghost use Rattle.lake_bytes.specs.Outcome.{Gives, IsSaid};
+ghost use Rattle.std.specs.Prelude.{List, IfOk, map, option_map, string_bytes};
+ghost use Rattle.lake_bytes.specs.Outcome.{Gives};
 ghost use Rattle.schema_tree.specs.Schema.{tree_of};
 ghost use Rattle.delta_actions.specs.Action.{Action, meta_data_view, protocol_view};
 ghost use Rattle.delta_replay.specs.Snapshots.{IsSnapshotOf, TellsSchema};
@@ -39,22 +39,6 @@ pub fn supports_read(
     ensures { Gives says tree_of result
         (readable_by (option_map (λ p. protocol_view p.now) protocol.entry) (option_map (λ m. meta_data_view m.now) meta_data.entry)) }
 {
-    let meta_data = readable_meta_data(alloc, protocol, meta_data)?;
-    schema_in(alloc, meta_data)
-}
-
-/// The metadata of a table whose schema alone is left to be read: all that [`supports_read`] tests but the schema's text is
-/// tested, in its order. Fails as that does. The time is linear in the protocol.
-pub fn readable_meta_data<'a>(
-    alloc: Global,
-    protocol: Option<&Protocol>,
-    meta_data: Option<&'a MetaData>,
-) -> Result<&'a MetaData, SupportError>
-    ensures told { IfOk result (λ found. readable_by (option_map (λ p. protocol_view p.now) protocol.entry)
-        (option_map (λ m. meta_data_view m.now) meta_data.entry) ≡ schema_told (meta_data_view found.now)) }
-    ensures refused { IfErr result (λ error. IsSaid (says error) (readable_by (option_map (λ p. protocol_view p.now) protocol.entry)
-        (option_map (λ m. meta_data_view m.now) meta_data.entry))) }
-{
     let Some(protocol) = protocol else {
         return Err(SupportFault::NoProtocol.into());
     };
@@ -65,7 +49,7 @@ pub fn readable_meta_data<'a>(
     if !meta_data.partition_columns.is_empty() {
         return Err(SupportFault::Partitioned.into());
     }
-    Ok(meta_data)
+    schema_in(alloc, meta_data)
 }
 
 /// Whether a reader of this crate's features reads tables of a protocol.

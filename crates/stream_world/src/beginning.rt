@@ -55,7 +55,6 @@ pub(crate) fn session_of(alloc: Global, job: Job) -> TableSession
             use_checkpoints,
             Log::new(alloc),
             None,
-            None,
         )),
     }
 }
