@@ -29,7 +29,7 @@ def processes():
             with open(f"/proc/{entry}/cmdline", "rb") as file:
                 words = file.read().decode("utf-8", "replace").split("\0")
             folder = os.readlink(f"/proc/{entry}/cwd")
-        except OSError:
+        except (OSError, IndexError):
             continue
         seconds = (int(fields[11]) + int(fields[12])) / TICK
         yield int(entry), int(fields[1]), fields[19], seconds, words, folder
@@ -90,7 +90,10 @@ def main():
         sys.stdout.buffer.flush()
         last = line
     status = run.wait()
-    print_table(seen, (time.monotonic() - began) / 60)
+    try:
+        print_table(seen, (time.monotonic() - began) / 60)
+    except Exception as error:  # what is measured decides nothing
+        print(f"cost: the table can't be made: {error}")
     sys.stdout.flush()
     sys.stdout.buffer.write(last)
     sys.stdout.buffer.flush()
