@@ -1,7 +1,7 @@
 //! Whether a table is read: what its protocol asks of a reader, and its schema.
 
-ghost use Rattle.std.specs.Prelude.{List, IfOk, map, option_map, string_bytes};
-ghost use Rattle.lake_bytes.specs.Outcome.{Gives};
+ghost use Rattle.std.specs.Prelude.{◌≡◌, List, IfErr, IfOk, map, option_map, string_bytes};
+ghost use Rattle.lake_bytes.specs.Outcome.{Gives, IsSaid};
 ghost use Rattle.schema_tree.specs.Schema.{tree_of};
 ghost use Rattle.delta_actions.specs.Action.{Action, meta_data_view, protocol_view};
 ghost use Rattle.delta_replay.specs.Snapshots.{IsSnapshotOf, TellsSchema};
@@ -39,6 +39,21 @@ pub fn supports_read(
     ensures { Gives says tree_of result
         (readable_by (option_map (λ p. protocol_view p.now) protocol.entry) (option_map (λ m. meta_data_view m.now) meta_data.entry)) }
 {
+    schema_in(alloc, readable_meta_data(alloc, protocol, meta_data)?)
+}
+
+/// The metadata of such a table, of which only the schema's text is still to be read: that is [`supports_read`] without
+/// C6, for a caller who has the schema of this text from before. Time is linear in the protocol.
+pub fn readable_meta_data<'a>(
+    alloc: Global,
+    protocol: Option<&Protocol>,
+    meta_data: Option<&'a MetaData>,
+) -> Result<&'a MetaData, SupportError>
+    ensures refused { IfErr result (λ fault. IsSaid (says fault)
+        (readable_by (option_map (λ p. protocol_view p.now) protocol.entry) (option_map (λ m. meta_data_view m.now) meta_data.entry))) }
+    ensures passed { IfOk result (λ found.
+        readable_by (option_map (λ p. protocol_view p.now) protocol.entry) (option_map (λ m. meta_data_view m.now) meta_data.entry) ≡ schema_told (meta_data_view found.now)) }
+{
     let Some(protocol) = protocol else {
         return Err(SupportFault::NoProtocol.into());
     };
@@ -49,7 +64,7 @@ pub fn supports_read(
     if !meta_data.partition_columns.is_empty() {
         return Err(SupportFault::Partitioned.into());
     }
-    schema_in(alloc, meta_data)
+    Ok(meta_data)
 }
 
 /// Whether a reader of this crate's features reads tables of a protocol.
@@ -75,8 +90,8 @@ fn check_features(alloc: Global, features: &[String]) -> Result<(), SupportError
     Ok(())
 }
 
-/// The schema that a metadata tells.
-fn schema_in(alloc: Global, meta_data: &MetaData) -> Result<Schema<Global>, SupportError>
+/// The schema that a metadata's text tells: C6 where it is none, `Memory` where memory runs out. Time is linear in the text.
+pub fn schema_in(alloc: Global, meta_data: &MetaData) -> Result<Schema<Global>, SupportError>
     ensures { Gives says tree_of result (schema_told (meta_data_view meta_data.now)) }
 {
     match Schema::from_text(alloc, &meta_data.schema_string) {

@@ -4,4 +4,5 @@ pub mod LogCache
 pub mod Logs
 pub mod Readings
 pub mod Reads
+pub mod SchemaCodes
 pub mod Views

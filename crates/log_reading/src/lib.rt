@@ -8,6 +8,7 @@ mod log;
 mod log_cache;
 mod reading;
 mod reads;
+mod schema_text;
 mod schemas;
 mod starting;
 
@@ -17,5 +18,6 @@ pub use log::{Log, Standing, begin_log};
 pub use log_cache::LogCache;
 pub use reading::{LaterSchema, Reading};
 pub use reads::{first_standing, removes_rows, standing_at, supported};
-pub use schemas::{SchemaText, changes_schema, in_force};
+pub use schema_text::{SchemaText, TableSchema};
+pub use schemas::{changes_schema, in_force};
 pub use starting::CheckpointSchema;

@@ -13,7 +13,7 @@ mod tailing;
 
 pub use items::{Item, LogFile, VersionFault};
 pub use log_offsets::{Offset, offset_text, read_offset};
-pub use places::TableSchema;
+pub use log_reading::TableSchema;
 pub use printing::handed_text;
 pub use read_state::{Handing, ReadRows};
 pub use source_laws::what_a_read_is_shown;

@@ -38,7 +38,7 @@ fn begin_read(
     let (max, offset) = text.split_once(' ').ok_or(Failure::Misspelled)?;
     let max = max.parse()?;
     let place = read_offset(alloc, offset)?.ok_or(Failure::Misspelled)?;
-    let session = SourceSession::read(alloc, place, max, true, Log::new(alloc), None);
+    let session = SourceSession::read(alloc, place, max, true, Log::new(alloc), None, None);
     begin(alloc, reader, session, out)
 }
 

@@ -55,6 +55,7 @@ pub(crate) fn session_of(alloc: Global, job: Job) -> TableSession
             use_checkpoints,
             Log::new(alloc),
             None,
+            None,
         )),
     }
 }

@@ -82,9 +82,7 @@ fn listed_names<R: Files + AllocGlobal + Clone + Drop>(
     ensures { IfOk result (λ names. All (λ name. IsTrue (is_listed listed name)) (map string_bytes names.items)) }
 {
     // A folder that can't be read is told before its log's.
-    if let Err(e) = fs::read_dir(rt, folder) {
-        return Err(fault_at(rt.alloc(), folder, e));
-    }
+    drop(fs::read_dir(rt, folder).map_err(|e| fault_at(rt.alloc(), folder, e))?);
     let log = format!(in rt.alloc(); "{folder}/{LOG}")?;
     let mut names = Vec::new(rt.alloc());
     if is_there(rt, log.as_str())? {
@@ -97,10 +95,7 @@ fn listed_names<R: Files + AllocGlobal + Clone + Drop>(
 
 // Whether anything has that path.
 fn is_there<R: Files + AllocGlobal>(rt: &R, path: &str) -> Result<bool, FolderFault> {
-    match fs::exists(rt, path) {
-        Ok(stands) => Ok(stands),
-        Err(e) => Err(fault_at(rt.alloc(), path, e)),
-    }
+    fs::exists(rt, path).map_err(|e| fault_at(rt.alloc(), path, e))
 }
 
 // Adds the names of a folder's plain files that are listed, each behind the prefix. A folder of which the table's files are
@@ -115,15 +110,9 @@ fn add_names<R: Files + AllocGlobal>(
     requires { All (λ name. IsTrue (is_listed listed name)) (map string_bytes names.old.items) }
     ensures { OnOk result (All (λ name. IsTrue (is_listed listed name)) (map string_bytes names.new.items)) }
 {
-    let files = match open_names(rt, path) {
-        Ok(files) => files,
-        Err(e) => return Err(fault_at(rt.alloc(), path, e)),
-    };
+    let files = open_names(rt, path).map_err(|e| fault_at(rt.alloc(), path, e))?;
     for file in files {
-        let file = match file {
-            Ok(file) => file,
-            Err(e) => return Err(fault_at(rt.alloc(), path, e)),
-        };
+        let file = file.map_err(|e| fault_at(rt.alloc(), path, e))?;
         if let Some(name) = plain_name(rt, listed, path, prefix, file.as_slice())? {
             names.push(name)?;
         }

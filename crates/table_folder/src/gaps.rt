@@ -1,5 +1,4 @@
-//! Whether commits are missing from a listing of a folder. No clause stands on it: it only says when a folder is listed
-//! again.
+//! Whether commits are missing from a listing of a folder, which is then listed again. No clause stands on it.
 use store_core::{has_version, is_commit};
 
 /// Whether a version lacks its commit between the first commit and the last commit or checkpoint of names in the order of
