@@ -54,7 +54,7 @@ leaf_again p v e = absurd (false≢true e)
 
 -- ---- what was put under names is found there
 
-other_name : (k n : List ℕ) → bytes_eq k n ≡ false → k ≡ n → ⊥
+pub other_name : (k n : List ℕ) → bytes_eq k n ≡ false → k ≡ n → ⊥
 other_name k n e same = false≢true (sym e ∙ (bytes_eq-Decides k n).1 same)
 
 -- a name that none of the fields has keeps its value
@@ -90,7 +90,7 @@ first_known : (all : Fields) (l : List ℕ) (e : Data) (ms : Members) (b : Bool)
 first_known all l e ms true is h = (is, h)
 first_known all l e ms false is h = absurd cc
 
-one_known : (all : Fields) (k : List ℕ) (d : Data) (ms : Members) → is_named k all ≡ true → unknown_name all ms ≡ None → unknown_name all (put k d ms) ≡ None
+pub one_known : (all : Fields) (k : List ℕ) (d : Data) (ms : Members) → is_named k all ≡ true → unknown_name all ms ≡ None → unknown_name all (put k d ms) ≡ None
 one_known all k d no_members named known = rw named refl
 one_known all k d (member l e ms) named known =
     let p = first_known all l e ms (is_named l all) refl known in

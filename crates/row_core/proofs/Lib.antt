@@ -8,6 +8,7 @@ pub mod PrintedFields
 pub mod OrderedMembers
 pub mod PrintedMembers
 pub mod ReadFields
+pub mod InOrder
 pub mod Values
 pub mod ByteLists
 pub mod FirstColumn

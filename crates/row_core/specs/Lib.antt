@@ -8,3 +8,4 @@ pub mod ToldOutside
 pub mod Reading
 pub mod Printing
 pub mod Printer
+pub mod InOrder

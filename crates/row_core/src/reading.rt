@@ -1,13 +1,14 @@
 //! JSON values read as rows.
 
-ghost use Rattle.std.specs.Prelude.{◌≡◌, ◌≤◌, ◌^◌, option_map, unwrap_or, IsTrue, true, Some, None};
+ghost use Rattle.std.specs.Prelude.{◌≡◌, ◌≤◌, ◌^◌, ◌↔◌, option_map, unwrap_or, IsTrue, true, Some, None};
 ghost use Rattle.serde_json.specs.Data.{null, object};
 ghost use Rattle.schema_tree.specs.Limits.{is_named, is_sound, are_sound};
-ghost use Rattle.json_text.specs.View.{view as json_view, named_view};
+ghost use Rattle.json_text.specs.View.{view as json_view, named_view, members_view};
 ghost use Rattle.lake_bytes.specs.Outcome.{Gives};
 ghost use Rattle.lake_bytes.specs.Results.{refused_as};
 ghost use Rattle.row_core.specs.Fault.{says, tells, inside};
-ghost use Rattle.row_core.specs.Reading.{row_of, value_of, field_values, leaf_value, whole_value, text_value, bytes_value, unless_null, under, unknown_name};
+ghost use Rattle.row_core.specs.InOrder.{field_names, member_names};
+ghost use Rattle.row_core.specs.Reading.{row_of, value_of, field_values, leaf_value, whole_value, text_value, bytes_value, unless_null, unknown_name};
 ghost use Rattle.row_core.specs.Views.{value_view, row_views};
 ghost use Rattle.schema_tree.specs.Schema.{tree_of};
 ghost use Rattle.schema_tree.specs.Tree.{struct, fields_of};
@@ -31,8 +32,8 @@ use std::alloc::{Allocator, Global};
 /// and depth first, and behind a struct's fields the names that none of them has: V1 for null or nothing where there
 /// may be none, V2 for another kind, V3 for a value out of its type's range, V5 for a name.
 ///
-/// The time is linear in the value and the schema, but for looking names up in each object; where V5 is answered,
-/// each name up to that one was compared with those of the fields.
+/// The time is linear in the value and the schema, but for looking names up in each object whose members don't stand
+/// in the order of the fields; where V5 is answered, each name up to that one was compared with those of the fields.
 #[tactic(auto, unfolding(crate::specs::Reading::row_of))]
 pub fn row_from_json<A: Allocator>(
     alloc: Global,
@@ -162,6 +163,21 @@ fn has_just<'a, 't, A: Allocator>(fields: &'a [Field<A>], members: &Named<'a, 't
     found == members.len()
 }
 
+/// Whether there are as many members as fields, each with the name of the field at its place. Takes no memory.
+fn stands_in_order<A: Allocator>(fields: &[Field<A>], members: &[(&str, Json<'_>)]) -> bool
+    ensures { IsTrue result ↔ (member_names members.now ≡ field_names (field_views fields.now)) }
+{
+    if fields.len() != members.len() {
+        return false;
+    }
+    for (i, field) in fields.iter().enumerate() {
+        if field.name.as_str() != members[i].0 {
+            return false;
+        }
+    }
+    true
+}
+
 /// The value of a type that a value other than null is.
 #[cycle(read)]
 fn type_value<'a, 't, A: Allocator>(
@@ -180,7 +196,8 @@ fn type_value<'a, 't, A: Allocator>(
     }
 }
 
-/// The struct of these fields that an object is.
+/// The struct of these fields that an object is. Its members are looked up by name only where they don't stand in the
+/// order of the fields.
 #[cycle(read)]
 fn struct_value<'a, 't, A: Allocator>(
     alloc: Global,
@@ -191,10 +208,36 @@ fn struct_value<'a, 't, A: Allocator>(
     ensures { Gives says value_view result
         (value_of (struct (fields_of (field_views fields.now))) (json_view value.now)) }
 {
-    match named(alloc, value)? {
-        Some(members) => named_struct(alloc, fields, &members),
-        None => Err(RowFault::wrong_kind().into()),
+    match value {
+        Json::Object(members) if stands_in_order(fields, members) => {
+            let values = values_in_order(alloc, fields, members)?;
+            Ok(Value::Struct(values))
+        }
+        _ => match named(alloc, value)? {
+            Some(members) => named_struct(alloc, fields, &members),
+            None => Err(RowFault::wrong_kind().into()),
+        },
     }
+}
+
+/// The values of the fields, in order, where the members are just these and stand in that order.
+#[cycle(read)]
+fn values_in_order<'a, 't, A: Allocator>(
+    alloc: Global,
+    fields: &'a [Field<A>],
+    members: &'a [(&'t str, Json<'t>)],
+) -> Result<Vec<Value>, RowError>
+    requires sound { are_sound (fields_of (field_views fields.now)) ≡ true }
+    requires in_order { member_names members.now ≡ field_names (field_views fields.now) }
+    ensures { Gives says (λ values. row_views values.items) result
+        (field_values (fields_of (field_views fields.now)) (object (members_view members.now))) }
+{
+    let mut values = Vec::with_capacity(alloc, fields.len())?;
+    for (i, field) in fields.iter().enumerate() {
+        let value = field_value(alloc, field, Some(&members[i].1))?;
+        values.push(value)?;
+    }
+    Ok(values)
 }
 
 /// The struct of these fields that an object's members are.
@@ -234,25 +277,26 @@ fn field_values<'a, 't, A: Allocator>(
 {
     let mut values = Vec::with_capacity(alloc, fields.len())?;
     for field in fields {
-        let value = field_value(alloc, field, members)?;
+        let value = field_value(alloc, field, member_of(members, field.name.as_str()))?;
         values.push(value)?;
     }
     Ok(values)
 }
 
-/// The value of a field of an object, a fault told from outside the field.
+/// The value of a field, a fault told from outside the field.
 #[cycle(read)]
 fn field_value<'a, 't, A: Allocator>(
     alloc: Global,
     field: &'a Field<A>,
-    members: &Named<'a, 't>,
+    value: Option<&'a Json<'t>>,
 ) -> Result<Value, RowError>
     requires { is_sound (field_view field.now).data_type ≡ true }
-    ensures { let c = field_view field.now in let d = under c.name (object (named_view members.now.entries)) in
+    ensures { let c = field_view field.now in
+        let d = unwrap_or (option_map (λ v. json_view v.now) value.entry) null in
         Gives says value_view result
         (refused_as (inside c.name) (unless_null c.nullable d (value_of c.data_type d))) }
 {
-    match value_or_null(alloc, field, member_of(members, field.name.as_str())) {
+    match value_or_null(alloc, field, value) {
         Ok(value) => Ok(value),
         Err(error) => Err(error.inside(alloc, field.name.as_str())),
     }
