@@ -1,11 +1,11 @@
 -- What the metadata of a snapshot tells.
-use Rattle.std.proofs.Common.{◌≡◌, Bor, Global, IfOk, Option, Some, None, Result, Ok, Err, option_map, refl, sym, ap}
+use Rattle.std.proofs.Common.{◌≡◌, Bor, Global, IfOk, Option, Some, None, Result, Ok, Err, option_map, sym, ap}
 use Rattle.lake_bytes.specs.Outcome.{Gives}
 use Rattle.lake_bytes.specs.Results.{◌>>=◌}
 use Rattle.schema_tree.specs.Schema.{tree_of}
 use Rattle.schema_tree.specs.Tree.{Tree}
 use Rattle.schema_tree.specs.declared.schema.Schema.{Schema}
-use Rattle.delta_actions.specs.Action.{MetaDataAction, ProtocolAction, meta_data, meta_data_view}
+use Rattle.delta_actions.specs.Action.{ProtocolAction, meta_data, meta_data_view}
 use Rattle.delta_actions.specs.declared.action.MetaData.{MetaData}
 use Rattle.delta_replay.specs.Snapshots.{TellsSchema}
 use Rattle.delta_replay.specs.Support.{Unsupported, readable_by, readable_protocol, says, schema_told, unless_partitioned}

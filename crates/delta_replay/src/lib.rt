@@ -20,5 +20,5 @@ mod writable;
 pub use closing::closes;
 pub use kept::{FileAction, Snapshot};
 pub use newest::{newest_meta_data, newest_protocol};
-pub use readable::{readable_meta_data, schema_in, supports_read};
+pub use readable::{readable_meta_data, schema_in};
 pub use support::{SupportError, SupportFault};

@@ -1,6 +1,6 @@
 //! Whether a table is read: what its protocol asks of a reader, and its schema.
 
-ghost use Rattle.std.specs.Prelude.{◌≡◌, List, IfErr, IfOk, map, option_map, string_bytes};
+ghost use Rattle.std.specs.Prelude.{◌≡◌, List, IfErr, IfOk, Some, map, option_map, string_bytes};
 ghost use Rattle.lake_bytes.specs.Outcome.{Gives, IsSaid};
 ghost use Rattle.schema_tree.specs.Schema.{tree_of};
 ghost use Rattle.delta_actions.specs.Action.{Action, meta_data_view, protocol_view};
@@ -31,7 +31,7 @@ impl Snapshot {
 /// C1 without a protocol, C2 without a metadata, C5 for another reader version, C3 for the first other reader feature, C4
 /// for a table with partition columns, and C6 for the schema's text, in this order; `Memory` where memory runs out. The
 /// time is linear in the protocol and the schema's text.
-pub fn supports_read(
+pub(crate) fn supports_read(
     alloc: Global,
     protocol: Option<&Protocol>,
     meta_data: Option<&MetaData>,
@@ -42,8 +42,9 @@ pub fn supports_read(
     schema_in(alloc, readable_meta_data(alloc, protocol, meta_data)?)
 }
 
-/// The metadata of such a table, of which only the schema's text is still to be read: that is [`supports_read`] without
-/// C6, for a caller who has the schema of this text from before. Time is linear in the protocol.
+/// The metadata of a table of which only the schema's text is still to be read, for a caller who may have the schema of this
+/// text from before: that is [`Snapshot::supports_read`] without C6. So C1, C2, C5, C3 and C4, in this order; `Memory` where
+/// memory runs out. Time is linear in the protocol.
 pub fn readable_meta_data<'a>(
     alloc: Global,
     protocol: Option<&Protocol>,
@@ -53,6 +54,7 @@ pub fn readable_meta_data<'a>(
         (readable_by (option_map (λ p. protocol_view p.now) protocol.entry) (option_map (λ m. meta_data_view m.now) meta_data.entry))) }
     ensures passed { IfOk result (λ found.
         readable_by (option_map (λ p. protocol_view p.now) protocol.entry) (option_map (λ m. meta_data_view m.now) meta_data.entry) ≡ schema_told (meta_data_view found.now)) }
+    ensures same { IfOk result (λ found. option_map (λ m. m.now) meta_data.entry ≡ Some found.now) }
 {
     let Some(protocol) = protocol else {
         return Err(SupportFault::NoProtocol.into());

@@ -15,7 +15,7 @@ use table_log::Version;
 /// schema.
 pub fn tell_read(alloc: Global, log: &Log, version: u64, out: &mut Vec<u8>) -> Result<(), Failure> {
     writeln!(out, "first {}", first_standing(log))?;
-    match supported(alloc, log) {
+    match supported(alloc, log, None) {
         Ok(told) => writeln!(out, "read {}", told.schema.to_text(alloc)?)?,
         Err(SupportError::Memory) => return Err(Failure::Memory),
         Err(SupportError::Fault(fault)) => writeln!(out, "refused {fault}")?,
