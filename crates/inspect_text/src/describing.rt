@@ -9,7 +9,7 @@ use crate::refusal::Refusal;
 use crate::rows::row_lines;
 use crate::schema::schema_lines;
 use crate::tree::push_value;
-use lake_bytes::Cursor;
+use lake_bytes::{ByteFault, Cursor};
 use schema_tree::Schema;
 use std::alloc::{AllocError, Global};
 use std::fmt::Display;
@@ -51,21 +51,32 @@ fn value_in_front(alloc: Global, kind: Kind, bytes: &[u8]) -> Result<String, Ref
     let mut cursor = Cursor::new(bytes);
     let text = match kind {
         Kind::Varint => text_of(alloc, cursor.varint()?)?,
-        Kind::Zig16 => text_of(alloc, cursor.zigzag_i16()?)?,
-        Kind::Zig32 => text_of(alloc, cursor.zigzag_i32()?)?,
-        Kind::Zig64 => text_of(alloc, cursor.zigzag_i64()?)?,
-        Kind::U32 => text_of(alloc, cursor.u32_le()?)?,
-        Kind::I32 => text_of(alloc, cursor.i32_le()?)?,
-        Kind::I64 => text_of(alloc, cursor.i64_le()?)?,
         Kind::Page => header_tree_line(alloc, &read_struct(alloc, &mut cursor)?)?,
-        _ => {
-            let mut text = String::new(alloc);
-            push_value(&mut text, &read_struct(alloc, &mut cursor)?)?;
-            text
-        }
+        Kind::Thrift => struct_text(alloc, &mut cursor)?,
+        _ => text_of(alloc, signed_in_front(kind, &mut cursor)?)?,
     };
     let left = cursor.left().len();
     Ok(format!(in alloc; "{text}, {left} left")?)
+}
+
+/// The number in front, of a kind that fits 64 bits with a sign.
+fn signed_in_front(kind: Kind, cursor: &mut Cursor) -> Result<i64, ByteFault> {
+    match kind {
+        Kind::Zig16 => Ok(i64::from(cursor.zigzag_i16()?)),
+        Kind::Zig32 => Ok(i64::from(cursor.zigzag_i32()?)),
+        Kind::Zig64 => cursor.zigzag_i64(),
+        Kind::U32 => Ok(i64::from(cursor.u32_le()?)),
+        Kind::I32 => Ok(i64::from(cursor.i32_le()?)),
+        _ => cursor.i64_le(),
+    }
+}
+
+/// The struct in front.
+fn struct_text(alloc: Global, cursor: &mut Cursor) -> Result<String, Refusal> {
+    let tree = read_struct(alloc, cursor)?;
+    let mut text = String::new(alloc);
+    push_value(&mut text, &tree)?;
+    Ok(text)
 }
 
 fn text_of<N: Display + Drop>(alloc: Global, number: N) -> Result<String, AllocError> {

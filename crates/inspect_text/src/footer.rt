@@ -8,8 +8,14 @@ use std::alloc::{AllocError, Global};
 /// What a footer says: how many rows the file has, the nodes of the schema, and each row group with its chunks.
 pub fn footer_lines(alloc: Global, bytes: &[u8]) -> Result<Vec<String>, Refusal> {
     let footer = Footer::read(alloc, bytes)?;
+    let mut lines = Vec::new(alloc);
+    push_footer(alloc, &footer, &mut lines)?;
+    Ok(lines)
+}
+
+fn push_footer(alloc: Global, footer: &Footer, lines: &mut Vec<String>) -> Result<(), AllocError> {
     let rows = footer.num_rows;
-    let mut lines = vec![in alloc; format!(in alloc; "{rows} rows")?]?;
+    lines.push(format!(in alloc; "{rows} rows")?)?;
     for node in &footer.schema {
         lines.push(node_line(alloc, node)?)?;
     }
@@ -19,7 +25,7 @@ pub fn footer_lines(alloc: Global, bytes: &[u8]) -> Result<Vec<String>, Refusal>
             lines.push(chunk_line(alloc, chunk)?)?;
         }
     }
-    Ok(lines)
+    Ok(())
 }
 
 fn node_line(alloc: Global, node: &SchemaElement) -> Result<String, AllocError> {

@@ -29,13 +29,34 @@ pub fn push_pages(
 ) -> Result<(), Refusal> {
     let (front, footer) = split_file(bytes)?;
     let footer = Footer::of_bytes(alloc, footer)?;
+    push_fitted(alloc, schema, &footer, front, lines)
+}
+
+/// Puts the rows' number, the chunks and their pages behind the lines; the bytes are the file's before its footer.
+fn push_fitted(
+    alloc: Global,
+    schema: &Schema<Global>,
+    footer: &Footer,
+    bytes: &[u8],
+    lines: &mut Vec<String>,
+) -> Result<(), Refusal> {
     let file = fit(alloc, schema, &footer.schema)?;
+    push_groups(alloc, footer, &file.leaves, bytes, lines)
+}
+
+fn push_groups(
+    alloc: Global,
+    footer: &Footer,
+    leaves: &[FileLeaf],
+    bytes: &[u8],
+    lines: &mut Vec<String>,
+) -> Result<(), Refusal> {
     let rows = footer.num_rows;
     lines.push(format!(in alloc; "{rows} rows")?)?;
     for group in &footer.row_groups {
         lines.push(group_line(alloc, group)?)?;
-        for leaf in &file.leaves {
-            push_chunk(alloc, group, leaf, front, lines)?;
+        for leaf in leaves {
+            push_chunk(alloc, group, leaf, bytes, lines)?;
         }
     }
     Ok(())
@@ -81,10 +102,9 @@ fn push_chunk_pages(
         if left == 0 {
             break;
         }
-        let page = read_page(alloc, leaf, bytes, place, left);
         push_header(alloc, leaf, bytes, place, lines)?;
-        let page = page?;
-        lines.push(level_line(alloc, leaf, &page)?)?;
+        let page = read_page(alloc, leaf, bytes, place, left)?;
+        push_levels(alloc, leaf, &page, lines)?;
         left = left.saturating_sub(page.num_values());
         place = page.next();
     }
@@ -108,9 +128,20 @@ fn push_header(
     Ok(())
 }
 
-/// The levels of a page, as runs that are as long as can be, and how many of its values aren't null.
-fn level_line(alloc: Global, leaf: &Leaf, page: &Page) -> Result<String, AllocError> {
+/// Puts the levels of a page behind the lines, as runs that are as long as can be, and how many of its values aren't null.
+fn push_levels(
+    alloc: Global,
+    leaf: &Leaf,
+    page: &Page,
+    lines: &mut Vec<String>,
+) -> Result<(), AllocError> {
     let runs = longest_runs(alloc, page.levels())?;
+    lines.push(level_line(alloc, leaf.highest(), &runs)?)?;
+    Ok(())
+}
+
+/// Runs of levels, and how many of these are the highest.
+fn level_line(alloc: Global, highest: u64, runs: &[Run]) -> Result<String, AllocError> {
     let title = if runs.is_empty() {
         "no levels"
     } else {
@@ -118,11 +149,11 @@ fn level_line(alloc: Global, leaf: &Leaf, page: &Page) -> Result<String, AllocEr
     };
     let mut line = String::from_str(alloc, title)?;
     let mut present = 0u64;
-    for run in &runs {
+    for run in runs {
         let level = run.value;
         let count = run.count;
         write!(line, " {level}*{count}")?;
-        if level == leaf.highest() {
+        if level == highest {
             present = present.saturating_add(count);
         }
     }

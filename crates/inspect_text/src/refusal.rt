@@ -15,7 +15,7 @@ use thiserror::Error;
 use thrift_core::{ReadError, ThriftFault};
 
 /// Why bytes aren't what they were said to be, or couldn't be written.
-#[derive(Debug, Drop, Error)]
+#[derive(Debug, Error)]
 pub enum Refusal {
     /// A growth of memory was refused.
     #[error("out of memory")]
@@ -47,6 +47,24 @@ pub enum Refusal {
     /// They are no commit.
     #[error("refused {0}")]
     Commit(ActionFault),
+}
+
+// One call where it is dropped, in place of all that it may hold: functions that hold one are shorter to prove.
+impl Drop for Refusal {
+    fn drop(self) {
+        match self {
+            Refusal::Memory => {}
+            Refusal::NoRoom => {}
+            Refusal::BadSpelling => {}
+            Refusal::Number(_) => {}
+            Refusal::Struct(_) => {}
+            Refusal::File(_) => {}
+            Refusal::Schema(_) => {}
+            Refusal::Row(_) => {}
+            Refusal::Columns(_) => {}
+            Refusal::Commit(_) => {}
+        }
+    }
 }
 
 impl From<AllocError> for Refusal {

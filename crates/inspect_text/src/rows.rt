@@ -15,12 +15,24 @@ pub fn row_lines<H: Allocator + Copy>(
     bytes: &[u8],
 ) -> Result<Vec<String>, Refusal> {
     let rows = read_rows(alloc, heap, schema, bytes)?;
+    let mut lines = Vec::new(alloc);
+    push_rows(alloc, schema, &rows, &mut lines)?;
+    Ok(lines)
+}
+
+/// Puts behind the lines how many rows these are, and then the rows.
+fn push_rows(
+    alloc: Global,
+    schema: &Schema<Global>,
+    rows: &[Value],
+    lines: &mut Vec<String>,
+) -> Result<(), AllocError> {
     let count = rows.len();
-    let mut lines = vec![in alloc; format!(in alloc; "{count} rows")?]?;
-    for row in &rows {
+    lines.push(format!(in alloc; "{count} rows")?)?;
+    for row in rows {
         lines.push(printed(alloc, schema, row)?)?;
     }
-    Ok(lines)
+    Ok(())
 }
 
 /// A row, or the value of a leaf, as JSON.

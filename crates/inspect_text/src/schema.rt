@@ -9,11 +9,21 @@ use std::str::from_utf8;
 /// copies too.
 pub fn schema_lines(alloc: Global, bytes: &[u8]) -> Result<Vec<String>, Refusal> {
     let schema = schema_of(alloc, bytes)?.copy_into(alloc)?;
-    let mut lines = vec![in alloc; schema.to_text(alloc)?]?;
+    let mut lines = Vec::new(alloc);
+    push_schema(alloc, &schema, &mut lines)?;
+    Ok(lines)
+}
+
+fn push_schema(
+    alloc: Global,
+    schema: &Schema<Global>,
+    lines: &mut Vec<String>,
+) -> Result<(), AllocError> {
+    lines.push(schema.to_text(alloc)?)?;
     for leaf in &schema.leaves(alloc)? {
         lines.push(leaf_line(alloc, leaf)?)?;
     }
-    Ok(lines)
+    Ok(())
 }
 
 /// The schema that bytes are the text of.
