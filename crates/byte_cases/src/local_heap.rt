@@ -1,9 +1,10 @@
 //! Schemas copied into a heap of a fixed size, and back, and Thrift structs and the footers of files read into one.
 
-use crate::notation::{Names, number, schema_in_front, spelled};
+use crate::tables::push_refusal;
 use inspect_text::{Refusal, push_value, row_lines, schema_of};
 use lake_bytes::Cursor;
 use linked_list_allocator::LocalHeap;
+use schema_tree::Schema;
 use std::alloc::Global;
 use thrift_core::{ReadError, read_struct};
 
@@ -22,48 +23,105 @@ enum Order {
     HeapFirst,
 }
 
-/// Copies a schema into a heap of so many bytes, for `BYTES SCHEMA`, and that copy back into memory. Tells whether all
-/// three are the same, and still once one of them is dropped, for each order; or, where the heap has no room, the schema
-/// as it stands then, and whether one of a single column has room. At the end stands how much of the heap is in use.
-pub fn heap_line(alloc: Global, names: &Names, rest: &str) -> Result<String, Refusal> {
-    let (size, bytes) = size_in_front(alloc, names, rest)?;
+/// Puts behind the lines what comes of a heap of so many bytes: for `heap` of a schema that is copied into it, for
+/// `heap-file` of a table's file whose footer is read into it, and for `heap-tree` of a struct that is read into it, and
+/// then of one of one number. At the end stands how much of the heap is in use.
+pub fn push_heap(
+    alloc: Global,
+    what: &str,
+    size: usize,
+    schema: &[u8],
+    bytes: &[u8],
+    lines: &mut Vec<String>,
+) -> Result<(), Refusal> {
     let heap = LocalHeap::new(alloc, size)?;
-    let schema = schema_of(alloc, &bytes)?;
-    if schema.copy_into(&heap).is_ok() {
-        let memory_first = compared(alloc, &heap, &bytes, Order::MemoryFirst)?;
-        let heap_first = compared(alloc, &heap, &bytes, Order::HeapFirst)?;
-        let used = heap.used();
-        return Ok(format!(in alloc; "{memory_first} | {heap_first} | {used} in use")?);
+    push_in(alloc, &heap, what, schema, bytes, lines)
+}
+
+fn push_in(
+    alloc: Global,
+    heap: &LocalHeap,
+    what: &str,
+    schema: &[u8],
+    bytes: &[u8],
+    lines: &mut Vec<String>,
+) -> Result<(), Refusal> {
+    match what {
+        "heap" => push_copies(alloc, heap, bytes, lines)?,
+        "heap-file" => push_file(alloc, heap, schema, bytes, lines)?,
+        _ => {
+            push_struct(alloc, heap, bytes, lines)?;
+            push_struct(alloc, heap, ONE_NUMBER, lines)?;
+        }
     }
-    let text = schema.to_text(alloc)?;
-    let after = match compared(alloc, &heap, ONE_COLUMN, Order::MemoryFirst) {
-        Err(Refusal::Memory) => "out of memory",
-        told => told?,
-    };
     let used = heap.used();
-    Ok(format!(in alloc; "out of memory | {text} | {after} | {used} in use")?)
+    lines.push(format!(in alloc; "{used} in use")?)?;
+    Ok(())
 }
 
-/// The number in front of `BYTES ..`, and the bytes behind it.
-fn size_in_front(alloc: Global, names: &Names, rest: &str) -> Result<(usize, Vec<u8>), Refusal> {
-    let (size, rest) = rest.split_once(' ').ok_or(Refusal::BadSpelling)?;
-    let bytes = spelled(alloc, names, rest)?;
-    Ok((number(size)?, bytes))
+/// Copies a schema into the heap, and that copy back into memory. Tells whether all three are the same, and still once one
+/// of them is dropped, for each order; or, where the heap has no room, the schema as it stands then, and whether one of a
+/// single column has room.
+fn push_copies(
+    alloc: Global,
+    heap: &LocalHeap,
+    bytes: &[u8],
+    lines: &mut Vec<String>,
+) -> Result<(), Refusal> {
+    let schema = schema_of(alloc, bytes)?;
+    if !has_room(heap, &schema) {
+        return push_without_room(alloc, heap, &schema, lines);
+    }
+    push_compared(alloc, heap, bytes, Order::MemoryFirst, lines)?;
+    push_compared(alloc, heap, bytes, Order::HeapFirst, lines)
 }
 
-/// Whether the schema that is read, its copy in the heap and the copy of that in memory are the same, and still once
-/// one of the first two is dropped.
-fn compared(
+/// Whether a schema can be copied into the heap.
+fn has_room(heap: &LocalHeap, schema: &Schema<Global>) -> bool {
+    schema.copy_into(heap).is_ok()
+}
+
+fn push_without_room(
+    alloc: Global,
+    heap: &LocalHeap,
+    schema: &Schema<Global>,
+    lines: &mut Vec<String>,
+) -> Result<(), Refusal> {
+    lines.push(String::from_str(alloc, "out of memory")?)?;
+    lines.push(schema.to_text(alloc)?)?;
+    let told = push_compared(alloc, heap, ONE_COLUMN, Order::MemoryFirst, lines);
+    if matches!(&told, Err(Refusal::Memory)) {
+        return Ok(lines.push(String::from_str(alloc, "out of memory")?)?);
+    }
+    told
+}
+
+/// Puts behind the lines whether the schema that is read, its copy in the heap and the copy of that in memory are the same,
+/// and still once one of the first two is dropped.
+fn push_compared(
     alloc: Global,
     heap: &LocalHeap,
     bytes: &[u8],
     order: Order,
-) -> Result<&'static str, Refusal> {
+    lines: &mut Vec<String>,
+) -> Result<(), Refusal> {
     let first = schema_of(alloc, bytes)?;
     let inside = first.copy_into(heap)?;
     let back = inside.copy_into(alloc)?;
     let at_first = first.same(&inside) && inside.same(&back) && back.same(&first);
-    let then = match order {
+    let then = stays_same(order, first, inside, back);
+    let told = if at_first && then { "same" } else { "differ" };
+    Ok(lines.push(String::from_str(alloc, told)?)?)
+}
+
+/// Whether the other two are the same once one is dropped.
+fn stays_same(
+    order: Order,
+    first: Schema<Global>,
+    inside: Schema<&LocalHeap>,
+    back: Schema<Global>,
+) -> bool {
+    match order {
         Order::MemoryFirst => {
             drop(first);
             inside.same(&back)
@@ -72,40 +130,32 @@ fn compared(
             drop(inside);
             first.same(&back)
         }
-    };
-    Ok(if at_first && then { "same" } else { "differ" })
+    }
 }
 
-/// The rows of a file of a table, for `BYTES SCHEMA FILE`, whose footer is read into a heap of so many bytes; or why it is
-/// refused. At the end stands how much of the heap is in use.
-pub fn heap_file_lines(alloc: Global, names: &Names, rest: &str) -> Result<Vec<String>, Refusal> {
-    let (size, rest) = rest.split_once(' ').ok_or(Refusal::BadSpelling)?;
-    let (schema, rest) = schema_in_front(alloc, names, rest)?;
-    let bytes = spelled(alloc, names, rest)?;
-    let heap = LocalHeap::new(alloc, number(size)?)?;
-    let mut lines = match row_lines(alloc, &heap, &schema, &bytes) {
-        Ok(lines) => lines,
-        Err(refusal) => vec![in alloc; format!(in alloc; "{refusal}")?]?,
-    };
-    let used = heap.used();
-    lines.push(format!(in alloc; "{used} in use")?)?;
-    Ok(lines)
+/// Puts behind the lines the rows of a file of a table, whose footer is read into the heap; or why it is refused.
+fn push_file(
+    alloc: Global,
+    heap: &LocalHeap,
+    schema: &[u8],
+    bytes: &[u8],
+    lines: &mut Vec<String>,
+) -> Result<(), Refusal> {
+    let schema = schema_of(alloc, schema)?;
+    match row_lines(alloc, heap, &schema, bytes) {
+        Ok(mut rows) => Ok(lines.append(&mut rows)?),
+        Err(refusal) => Ok(push_refusal(alloc, refusal, lines)?),
+    }
 }
 
-/// Reads a struct into a heap of so many bytes, for `BYTES STRUCT`, and drops it. Tells the struct, or that the heap has
-/// no room for it, and how many bytes are left behind it; the same of a struct of one number in that heap; and how much
-/// of the heap is then in use.
-pub fn heap_tree_line(alloc: Global, names: &Names, rest: &str) -> Result<String, Refusal> {
-    let (size, bytes) = size_in_front(alloc, names, rest)?;
-    let heap = LocalHeap::new(alloc, size)?;
-    let first = struct_in(alloc, &heap, &bytes)?;
-    let after = struct_in(alloc, &heap, ONE_NUMBER)?;
-    let used = heap.used();
-    Ok(format!(in alloc; "{first} | {after} | {used} in use")?)
-}
-
-/// The struct in front of the bytes, read into the heap, and how many bytes are left.
-fn struct_in(alloc: Global, heap: &LocalHeap, bytes: &[u8]) -> Result<String, Refusal> {
+/// Reads the struct in front of the bytes into the heap, and drops it. Puts it behind the lines, or that the heap has no
+/// room for it, and how many bytes are left.
+fn push_struct(
+    alloc: Global,
+    heap: &LocalHeap,
+    bytes: &[u8],
+    lines: &mut Vec<String>,
+) -> Result<(), Refusal> {
     let mut cursor = Cursor::new(bytes);
     let mut text = String::new(alloc);
     match read_struct(heap, &mut cursor) {
@@ -115,5 +165,5 @@ fn struct_in(alloc: Global, heap: &LocalHeap, bytes: &[u8]) -> Result<String, Re
     }
     let left = cursor.left().len();
     write!(text, ", {left} left")?;
-    Ok(text)
+    Ok(lines.push(text)?)
 }

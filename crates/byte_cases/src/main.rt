@@ -1,5 +1,5 @@
 //! A program that answers lines on standard input, each of which says which bytes, schemas or rows are read or written.
-//! `cases.rt` lists the lines.
+//! `byte_words` lists the lines.
 #![tactic(auto)]
 
 mod cases;
@@ -7,9 +7,9 @@ mod columns;
 mod files;
 mod levels;
 mod local_heap;
-mod notation;
 mod rows;
 mod spoiling;
+mod tables;
 mod writing;
 
 use std::io;

@@ -1,41 +1,34 @@
-//! What is written, by the words of a line of cases.
+//! What is written.
 
-use crate::files::{rows_file, table_file};
-use crate::levels::{written_chunk, written_hybrid};
-use crate::notation::{Names, number, spelled};
+use crate::files::{numbers_file, rows_file};
+use crate::levels::written_chunk;
+use byte_words::Source;
 use delta_actions::{print_commit, read_commit};
 use inspect_text::Refusal;
-use lake_bytes::{Cursor, write_i32_le, write_i64_le, write_u32_le, write_varint, write_zigzag};
+use lake_bytes::Cursor;
 use std::alloc::Global;
 use thrift_core::{FieldForm, Form, is_writable, read_struct, write_struct};
 
-/// The bytes that are written: of a number for `varint N`, `zigzag N`, `u32 N`, `i32 N` and `i64 N`; for
-/// `rows SCHEMA N ..` the file of a table's rows of these numbers, where `N..M` stands for those from N up to M, which
-/// isn't one, and for `file SCHEMA ROWS` that of rows that are a JSON array; for `hybrid WIDTH VALUE ..` runs of these
-/// values, `VALUE*N` for N of them; for `chunk TYPE HIGHEST COLUMN` the pages of a column; for `commit BYTES` the
-/// actions that the bytes are, printed again; for `thrift BYTES` the struct that they are, written again as a
-/// [`SAMPLE`].
-pub fn written(alloc: Global, names: &Names, text: &str) -> Result<Vec<u8>, Refusal> {
-    let (what, rest) = text.split_once(' ').unwrap_or((text, ""));
-    let mut out = Vec::new(alloc);
-    match what {
-        "varint" => write_varint(&mut out, number(rest)?)?,
-        "zigzag" => write_zigzag(&mut out, number(rest)?)?,
-        "u32" => write_u32_le(&mut out, number(rest)?)?,
-        "i32" => write_i32_le(&mut out, number(rest)?)?,
-        "i64" => write_i64_le(&mut out, number(rest)?)?,
-        "rows" => return rows_file(alloc, names, rest),
-        "file" => return table_file(alloc, names, rest),
-        "hybrid" => return written_hybrid(alloc, rest),
-        "chunk" => return written_chunk(alloc, names, rest),
-        "commit" => {
-            let actions = read_commit(alloc, &spelled(alloc, names, rest)?)?;
-            return Ok(print_commit(alloc, &actions)?);
-        }
-        "thrift" => return written_struct(alloc, &spelled(alloc, names, rest)?),
-        _ => return Err(Refusal::BadSpelling),
+/// The bytes that are made of what a line gives.
+pub fn written(alloc: Global, source: Source<'_>) -> Result<Vec<u8>, Refusal> {
+    match source {
+        Source::Bytes(bytes) => Ok(bytes),
+        Source::Numbers { schema, numbers } => numbers_file(alloc, &schema, &numbers),
+        Source::Rows { schema, rows } => rows_file(alloc, &schema, &rows),
+        Source::Chunk {
+            leaf,
+            highest,
+            column,
+        } => written_chunk(alloc, leaf, highest, &column),
+        Source::Commit(bytes) => written_commit(alloc, &bytes),
+        Source::Thrift(bytes) => written_struct(alloc, &bytes),
     }
-    Ok(out)
+}
+
+/// The actions that the bytes are, printed again.
+fn written_commit(alloc: Global, bytes: &[u8]) -> Result<Vec<u8>, Refusal> {
+    let actions = read_commit(alloc, bytes)?;
+    Ok(print_commit(alloc, &actions)?)
 }
 
 /// The struct that the bytes are, written again as a [`SAMPLE`]. They are misspelled where it can't be.

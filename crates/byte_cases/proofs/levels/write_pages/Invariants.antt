@@ -1,5 +1,5 @@
 use Rattle.std.proofs.Common.{length}
-use Rattle.byte_cases.proofs.levels.written_chunk.Given as goal
+use Rattle.byte_cases.proofs.levels.write_pages.Given as goal
 
 -- fewer levels are left each time
 abbrev pub decreases-loop-levels : goal.decreases-loop-levels

@@ -4,12 +4,12 @@
 //! were named so. `*N` directly behind one of these stands for it N times. `<` and `>` stand around bytes: `>` is their
 //! count in four bytes, the low byte first. `@N=AC02` changes the bytes before it, from place N on.
 
-use inspect_text::{Refusal, decoded, schema_of};
+use crate::fault::WordFault;
+use crate::numbers::number;
+use hex::FromHexError;
 use lake_bytes::write_u32_le;
-use schema_tree::Schema;
 use std::alloc::Global;
 use std::collections::BTreeMap;
-use std::str::FromStr;
 
 /// Bytes by their names.
 pub type Names = BTreeMap<String, Vec<u8>>;
@@ -27,7 +27,7 @@ struct Spelling<'a> {
 }
 
 /// The bytes that a text spells.
-pub fn spelled(alloc: Global, names: &Names, text: &str) -> Result<Vec<u8>, Refusal> {
+pub(crate) fn spelled(alloc: Global, names: &Names, text: &str) -> Result<Vec<u8>, WordFault> {
     let mut spelling = Spelling {
         alloc,
         names,
@@ -48,13 +48,33 @@ pub fn spelled(alloc: Global, names: &Names, text: &str) -> Result<Vec<u8>, Refu
         is_quoted = !is_quoted;
     }
     if !is_quoted {
-        return Err(Refusal::BadSpelling);
+        return Err(WordFault::Misspelled);
     }
     Ok(spelling.bytes)
 }
 
+/// The bytes that the first word of a text spells, and those that the text behind it does.
+pub(crate) fn two_spelled(
+    alloc: Global,
+    names: &Names,
+    text: &str,
+) -> Result<(Vec<u8>, Vec<u8>), WordFault> {
+    let (first, rest) = text.split_once(' ').ok_or(WordFault::Misspelled)?;
+    let first = spelled(alloc, names, first)?;
+    Ok((first, spelled(alloc, names, rest)?))
+}
+
+/// The bytes of hexadecimal digits.
+fn decoded(alloc: Global, digits: &str) -> Result<Vec<u8>, WordFault> {
+    match hex::decode(alloc, digits) {
+        Ok(bytes) => Ok(bytes),
+        Err(FromHexError::OutOfMemory) => Err(WordFault::Memory),
+        Err(_) => Err(WordFault::Misspelled),
+    }
+}
+
 impl Spelling<'_> {
-    fn word(&mut self, word: &str) -> Result<(), Refusal> {
+    fn word(&mut self, word: &str) -> Result<(), WordFault> {
         if word == "<" {
             self.start = self.bytes.len();
             return Ok(());
@@ -82,18 +102,18 @@ impl Spelling<'_> {
     }
 
     /// The bytes of a name or of hexadecimal digits.
-    fn item(&self, item: &str) -> Result<Vec<u8>, Refusal> {
+    fn item(&self, item: &str) -> Result<Vec<u8>, WordFault> {
         match item.strip_prefix('$') {
             Some(name) => {
-                let bytes = self.names.get(name).ok_or(Refusal::BadSpelling)?;
+                let bytes = self.names.get(name).ok_or(WordFault::Misspelled)?;
                 Ok(Vec::from_slice(self.alloc, bytes)?)
             }
-            None => decoded(self.alloc, item.as_bytes()),
+            None => decoded(self.alloc, item),
         }
     }
 
     /// So many times the last bytes.
-    fn repeat(&mut self, times: u32) -> Result<(), Refusal> {
+    fn repeat(&mut self, times: u32) -> Result<(), WordFault> {
         for _ in 0..times {
             self.bytes.extend_from_slice(&self.last)?;
         }
@@ -101,32 +121,14 @@ impl Spelling<'_> {
     }
 
     /// Other bytes from a place on.
-    fn change(&mut self, change: &str) -> Result<(), Refusal> {
-        let (place, digits) = change.split_once('=').ok_or(Refusal::BadSpelling)?;
+    fn change(&mut self, change: &str) -> Result<(), WordFault> {
+        let (place, digits) = change.split_once('=').ok_or(WordFault::Misspelled)?;
         let mut place = number::<usize>(place)?;
-        for byte in &decoded(self.alloc, digits.as_bytes())? {
-            let slot = self.bytes.get_mut(place).ok_or(Refusal::BadSpelling)?;
+        for byte in &decoded(self.alloc, digits)? {
+            let slot = self.bytes.get_mut(place).ok_or(WordFault::Misspelled)?;
             *slot = *byte;
             place = place.saturating_add(1);
         }
         Ok(())
     }
-}
-
-/// The schema that the first word of a text spells, and what stands behind it.
-pub fn schema_in_front<'a>(
-    alloc: Global,
-    names: &Names,
-    text: &'a str,
-) -> Result<(Schema<Global>, &'a str), Refusal> {
-    let (schema, rest) = text.split_once(' ').ok_or(Refusal::BadSpelling)?;
-    Ok((schema_of(alloc, &spelled(alloc, names, schema)?)?, rest))
-}
-
-/// The number that a word spells.
-pub fn number<N: FromStr>(word: &str) -> Result<N, Refusal>
-where
-    N::Err: Drop,
-{
-    word.parse::<N>().ok().ok_or(Refusal::BadSpelling)
 }
