@@ -1,18 +1,26 @@
-//! Why cases can't be told.
+//! Why a line of a case can't be told.
 
 use std::alloc::{AllocError, AllocFailed};
 use std::io;
-use thiserror::Error;
+use std::num::ParseIntError;
 
-/// Why a case can't be told.
-#[derive(Clone, Copy, Debug, PartialEq, Eq, Error)]
+/// Why a line of a case can't be told.
+#[derive(Clone, Copy)]
 pub enum Failure {
     /// A growth of memory was refused.
-    #[error("out of memory")]
     Memory,
-    /// A line of the input is no question.
-    #[error("a question is misspelled")]
+    /// The line is none of a case.
     Misspelled,
+}
+
+impl Failure {
+    /// It in words.
+    pub fn text(self) -> &'static str {
+        match self {
+            Failure::Memory => "out of memory",
+            Failure::Misspelled => "a question is misspelled",
+        }
+    }
 }
 
 impl From<AllocError> for Failure {
@@ -24,6 +32,12 @@ impl From<AllocError> for Failure {
 impl<T: Drop> From<AllocFailed<T>> for Failure {
     fn from(_error: AllocFailed<T>) -> Failure {
         Failure::Memory
+    }
+}
+
+impl From<ParseIntError> for Failure {
+    fn from(_error: ParseIntError) -> Failure {
+        Failure::Misspelled
     }
 }
 
