@@ -1,23 +1,21 @@
 //! The lines of a case.
 
-ghost use Rattle.std.specs.Prelude.{◌<◌, ◌^◌, IfOk};
-
 use crate::conflicts::{Contest, tell_contest};
-use crate::failure::Failure;
-use crate::faults::{add_turns, turn_of};
 use crate::reads::{Reader, tell_read};
 use crate::sinks::{Sinks, tell_sink};
-use crate::telling::{tell_checkpoint, tell_landed, tell_reply, tell_standing};
-use crate::waiting::{Ending, finish};
-use commit_core::{CreateFault, CreateSession};
-use session_core::{Request, ask};
+use case_calls::{CaseStore, creation_of, tell_call};
+use case_words::{Failure, head, refuse, say, show, tell};
+use commit_core::CreateSession;
+use session_core::drive;
+use snapshot_core::{SnapshotFault, checkpoint};
 use std::alloc::Global;
 use std::collections::BTreeMap;
-use store_core::{Flaky, MemoryStore, Store};
+use store_core::MemoryStore;
+use table_log::Loaded;
 
 /// What a case has.
 pub struct Case {
-    store: Flaky<MemoryStore>,
+    store: CaseStore,
     contest: Contest,
     sinks: Sinks,
     reader: Reader,
@@ -27,14 +25,18 @@ impl Case {
     /// A store in which nothing stands, and which loses no call yet, no candidate, and nothing that waits.
     pub fn new(alloc: Global) -> Case {
         Case {
-            store: Flaky::new(alloc, MemoryStore::new(alloc), Vec::new(alloc)),
-            contest: Contest::new(alloc),
+            store: CaseStore::new(alloc, MemoryStore::new(alloc), Vec::new(alloc)),
+            contest: Contest {
+                lines: Vec::new(alloc),
+                contender: None,
+            },
             sinks: BTreeMap::new(alloc),
             reader: None,
         }
     }
 }
 
+// One call where it is dropped.
 impl Drop for Case {
     fn drop(self) {
         let Case {
@@ -46,16 +48,9 @@ impl Drop for Case {
     }
 }
 
-/// Does what a line says, and adds how it ended:
+/// Does what a line says, and adds how it ended. Besides the lines of calls:
 ///
-/// - `turns KIND ..`: the calls behind those whose turns are told already meet these turns, each `pass`, `lost` (the
-///   request is), `mute` (the answer is lost), `late` or `twice`; past them every call passes;
-/// - `arm KIND`: the next put of a commit's name meets this turn;
-/// - `list`, `get NAME`, `put NAME TEXT` and `commit V TEXT`: one call by `ask`, the bytes being the text as it stands;
 /// - `create ID AT SCHEMA`: a `CreateSession` is driven to its end, with the moment in milliseconds, below 2^63;
-/// - `land K`: the put in flight of that number, from 0, takes effect;
-/// - `faults`: how many calls were lost;
-/// - `object NAME`: what stands under a name in the store below, without a call of the store above;
 /// - `action JSON`: a line of the commit that is begun;
 /// - `candidate WORD ..`: the commit that is begun is the candidate, which reads what each word names besides its own, be it
 ///   `application=ID` or `domain=NAME`;
@@ -79,99 +74,45 @@ pub fn tell_line(
     line: &str,
     out: &mut String,
 ) -> Result<(), Failure> {
-    let (word, rest) = line.split_once(' ').unwrap_or((line, ""));
+    let (word, rest) = head(line);
     let store = &mut case.store;
     match word {
-        "turns" | "arm" | "land" | "faults" | "object" => {
-            tell_fault(alloc, store, word, rest, out)
-        }
         "action" | "candidate" | "conflict" | "race" => {
             tell_contest(alloc, store, &mut case.contest, word, rest, out)
         }
         "append" | "close" | "start" | "step" | "memory" => {
             tell_sink(alloc, store, &mut case.sinks, line, out)
         }
-        "read" | "turn" | "starve" => { tell_read(alloc, store, &mut case.reader, word, rest, out) }
+        "read" | "turn" | "starve" => tell_read(alloc, store, &mut case.reader, word, rest, out),
         "create" => create(alloc, store, rest, out),
         "checkpoint" if rest.is_empty() => tell_checkpoint(alloc, store, out),
-        _ => {
-            let request = request_of(alloc, word, rest)?;
-            Ok(tell_reply(alloc, &ask(alloc, store, request), out)?)
-        }
+        _ => tell_call(alloc, store, word, rest, out),
     }
-}
-
-// Does what a line says of what becomes of calls, or of what stands below, and adds how it ended.
-fn tell_fault(
-    alloc: Global,
-    store: &mut Flaky<MemoryStore>,
-    word: &str,
-    rest: &str,
-    out: &mut String,
-) -> Result<(), Failure> {
-    match word {
-        "turns" => add_turns(alloc, store, rest),
-        "arm" => {
-            store.arm(turn_of(rest)?);
-            Ok(())
-        }
-        "land" => tell_landed(store.land(rest.parse()?), out),
-        "faults" if rest.is_empty() => Ok(writeln!(out, "faults {}", store.faults())?),
-        "object" => tell_standing(alloc, store, rest, out),
-        _ => Err(Failure::Misspelled),
-    }
-}
-
-// The call that a line asks for.
-fn request_of(alloc: Global, word: &str, rest: &str) -> Result<Request, Failure> {
-    if word == "list" && rest.is_empty() {
-        return Ok(Request::List);
-    }
-    if word == "get" {
-        return Ok(Request::Get(String::from_str(alloc, rest)?));
-    }
-    let (under, text) = rest.split_once(' ').ok_or(Failure::Misspelled)?;
-    let bytes = text.as_bytes().to_vec(alloc)?;
-    match word {
-        "put" => Ok(Request::PutFile(String::from_str(alloc, under)?, bytes)),
-        "commit" => Ok(Request::PutCommit(under.parse()?, bytes)),
-        _ => Err(Failure::Misspelled),
-    }
-}
-
-/// The moment that a word spells.
-pub fn moment(word: &str) -> Result<u64, Failure>
-    ensures { IfOk result (λ at. at < 2 ^ 63) }
-{
-    let at: u64 = word.parse()?;
-    if at >= 1 << 63 {
-        return Err(Failure::Misspelled);
-    }
-    Ok(at)
 }
 
 // Drives the creation of a table, and adds how it ended.
 fn create(
     alloc: Global,
-    store: &mut Flaky<MemoryStore>,
+    store: &mut CaseStore,
     text: &str,
     out: &mut String,
 ) -> Result<(), Failure> {
-    let (id, rest) = text.split_once(' ').ok_or(Failure::Misspelled)?;
-    let (at, schema) = rest.split_once(' ').ok_or(Failure::Misspelled)?;
-    let at = moment(at)?;
-    let id = String::from_str(alloc, id)?;
-    let schema = String::from_str(alloc, schema)?;
-    let session = CreateSession::new(alloc, id, at, schema);
-    finish(alloc, store, session, out)
+    let creation = creation_of(text)?;
+    let id = String::from_str(alloc, creation.id)?;
+    let schema = String::from_str(alloc, creation.schema)?;
+    let mut session = CreateSession::new(alloc, id, creation.at, schema);
+    match drive(alloc, store, &mut session) {
+        Ok(()) => say(out, "created"),
+        Err(fault) => refuse(out, &fault),
+    }
 }
 
-impl Ending for Result<(), CreateFault> {
-    fn tell(&self, _alloc: Global, _is_short: bool, out: &mut String) -> Result<(), Failure> {
-        match self {
-            Ok(()) => writeln!(out, "created")?,
-            Err(fault) => writeln!(out, "refused {fault}")?,
-        }
-        Ok(())
+// Puts the checkpoint of the newest version, and adds that version, or why none was put.
+fn tell_checkpoint(alloc: Global, store: &mut CaseStore, out: &mut String) -> Result<(), Failure> {
+    let mut known = Loaded::new(alloc);
+    match checkpoint(alloc, store, true, &mut known) {
+        Ok(version) => tell(out, "checkpointed", &version),
+        Err(SnapshotFault::Memory) => Err(Failure::Memory),
+        Err(fault) => show(out, &fault),
     }
 }
