@@ -18,7 +18,7 @@ install:
 
 # Proves and builds the program that prints what bytes are, and says where it lies.
 inspect:
-	@cd crates/lake_inspect && rt run -- $$(cat args) < stdin > /dev/null
+	@cd crates/lake_inspect && rt run -- data/schema.json < stdin > /dev/null
 	@echo "built: crates/lake_inspect/out/lake_inspect"
 
 # Times the built program on a few scripts and folders; run `make lake` before it.

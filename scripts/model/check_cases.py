@@ -78,6 +78,14 @@ class Tally:
                 print("  model ", *map(shortened, mine))
 
 
+def lines_of_kind(kind: str, name: str) -> list[str]:
+    """The lines of `crates/lake_cases`' stored input or output that are of a kind."""
+    lines = lines_of("lake_cases", name)
+    start = lines.index(f">>>> {kind}") + 1
+    behind = [place for place, line in enumerate(lines) if line.startswith(">>>> ") and place >= start]
+    return lines[start : min(behind, default=len(lines))]
+
+
 def stored_scripts(lines: list[str]) -> dict[str, list[str]]:
     """The stored answers of scripts by the names of the cases."""
     stored: dict[str, list[str]] = {}
@@ -92,26 +100,26 @@ def stored_scripts(lines: list[str]) -> dict[str, list[str]]:
 
 
 def check_scripts() -> Tally:
-    """Compares the cases of `crates/lake_cases`."""
+    """Compares the scripts and command lines of `crates/lake_cases`."""
     tally = Tally()
-    stored = stored_scripts(lines_of("lake_cases", "stdout"))
-    for case in script_cases(lines_of("lake_cases", "stdin")):
-        name = f"lake_cases: {case.name}"
+    stored = stored_scripts(lines_of_kind("scripts", "stdout"))
+    for case in script_cases(lines_of_kind("scripts", "stdin")):
+        name = f"scripts: {case.name}"
         tally.compare(name, partial(script_answer, case), stored.pop(case.name, []))
     if stored:
-        raise SystemExit("lake_cases: a stored answer is left over")
+        raise SystemExit("scripts: a stored answer is left over")
     return tally
 
 
 def check_sessions() -> Tally:
-    """Compares the cases of `crates/store_cases`."""
+    """Compares the calls of `crates/lake_cases`."""
     tally = Tally()
-    stored = stored_scripts(lines_of("store_cases", "stdout"))
-    for case in session_cases(lines_of("store_cases", "stdin")):
-        name = f"store_cases: {case.name}"
+    stored = stored_scripts(lines_of_kind("calls", "stdout"))
+    for case in session_cases(lines_of_kind("calls", "stdin")):
+        name = f"calls: {case.name}"
         tally.compare(name, partial(session_answer, case), stored.pop(case.name, []))
     if stored:
-        raise SystemExit("store_cases: a stored answer is left over")
+        raise SystemExit("calls: a stored answer is left over")
     return tally
 
 
@@ -234,32 +242,40 @@ def spoiled_lines(tell: Callable[[bytes], list[str]], content: bytes) -> list[st
 
 
 class Inspector:
-    """Answers the lines of `crates/byte_cases` that are of files and rows."""
+    """Answers the lines of `crates/lake_inspect` that are of files and rows."""
 
-    def __init__(self) -> None:
-        self.names: dict[str, bytes | None] = {}
+    def __init__(self, files: list[bytes]) -> None:
+        self.names: dict[str, bytes | None] = {
+            str(number): content for number, content in enumerate(files, 1)
+        }
 
     def answer(self, line: str, number: int) -> list[str]:
         """The lines that are told of a line of this number."""
-        word, _, rest = line.partition(" ")
+        asked = line.removeprefix("whole ")
         try:
-            if word == "let":
-                return [f"{len(self.let(rest))} bytes"]
-            if word == "write":
-                return [shortened(self.written(rest).hex())]
-            if word == "file":
-                schema, content = self.file(rest)
-                return [shortened(" | ".join(row_lines(schema, content)))]
-            if word == "pages":
-                schema, content = self.file(rest)
-                return [shortened(" | ".join(page_lines(schema, content)))]
-            if word == "spoil" and rest.startswith("file "):
-                schema, content = self.file(rest.removeprefix("file "))
+            if asked.startswith("spoil file "):
+                schema, content = self.file(asked.removeprefix("spoil file "))
                 return spoiled_lines(partial(row_lines, schema), content)
+            told = self.told(asked)
         except Misspelled:
             return [f"bad line {number}"]
         except (ReadFault, RowFault) as fault:
-            return [f"refused {fault}"]
+            told = [f"refused {fault}"]
+        if asked != line:
+            return [*told[:1], *(f"  {part}" for part in told[1:])]
+        return [shortened(" | ".join(told))]
+
+    def told(self, line: str) -> list[str]:
+        """What is told of a line, in its parts."""
+        word, _, rest = line.partition(" ")
+        if word == "let":
+            return [f"{len(self.let(rest))} bytes"]
+        if word == "write":
+            return [self.written(rest).hex()]
+        if word == "file":
+            return row_lines(*self.file(rest))
+        if word == "pages":
+            return page_lines(*self.file(rest))
         raise NotModelled(f"the line {word}")
 
     def spelled(self, text: str) -> bytes:
@@ -350,31 +366,20 @@ def stored_answers(lines: list[str]) -> Iterator[list[str]]:
 
 
 def check_lines() -> Tally:
-    """Compares the lines of `crates/byte_cases`; comments and blank lines are no cases."""
+    """Compares the lines of `crates/lake_inspect`; comments and blank lines are no cases."""
     tally = Tally()
-    inspector = Inspector()
-    stored = stored_answers(lines_of("byte_cases", "stdout"))
-    for number, line in enumerate(lines_of("byte_cases", "stdin"), 1):
+    files = [CRATES / "lake_inspect" / "data" / file for file in lines_of("lake_inspect", "args")]
+    inspector = Inspector([file.read_bytes() for file in files])
+    stored = stored_answers(lines_of("lake_inspect", "stdout"))
+    for number, line in enumerate(lines_of("lake_inspect", "stdin"), 1):
         told = next(stored, [])
         if line and not line.startswith("#"):
-            name = f"byte_cases: line {number}, {shortened(line)}"
+            name = f"lake_inspect: line {number}, {shortened(line)}"
             tally.compare(name, partial(inspector.answer, line, number), told)
         elif told != [line]:
-            raise SystemExit(f"byte_cases: line {number} has no stored answer")
+            raise SystemExit(f"lake_inspect: line {number} has no stored answer")
     if next(stored, None) is not None:
-        raise SystemExit("byte_cases: a stored answer is left over")
-    return tally
-
-
-def check_tool() -> Tally:
-    """Compares what `crates/lake_inspect` is run on: the pages of a file in hexadecimal."""
-    tally = Tally()
-    words = lines_of("lake_inspect", "args")
-    if words[:3] != ["pages", "--hex", "--schema"]:
-        raise SystemExit("lake_inspect: other arguments")
-    content = bytes.fromhex("".join(lines_of("lake_inspect", "stdin")))
-    stored = lines_of("lake_inspect", "stdout")
-    tally.compare("lake_inspect", lambda: page_lines(schema_of(words[3]), content), stored)
+        raise SystemExit("lake_inspect: a stored answer is left over")
     return tally
 
 
@@ -387,12 +392,12 @@ NO_MEMORY = re.compile(
 def refusals_of_memory() -> list[str]:
     """The stored answers that say that memory was refused: none may, but of a heap of a fixed size.
 
-    Those are the answers to the lines of `crates/byte_cases` whose first word begins with `heap`.
+    Those are the answers to the lines of `crates/lake_inspect` whose first word begins with `heap`.
     """
     found: list[str] = []
     for stored in sorted(CRATES.glob("*/stdout")):
         crate = stored.parent.name
-        asked = lines_of(crate, "stdin") if crate == "byte_cases" else []
+        asked = lines_of(crate, "stdin") if crate == "lake_inspect" else []
         answers = [[line] for line in lines_of(crate, "stdout")]
         if asked:
             answers = list(stored_answers(lines_of(crate, "stdout")))
@@ -410,14 +415,13 @@ def main() -> int:
         print("memory was refused,", refusal)
     total = Tally()
     checks = {
-        "lake_cases": check_scripts,
-        "store_cases": check_sessions,
-        "byte_cases": check_lines,
-        "lake_inspect": check_tool,
+        "scripts": check_scripts,
+        "calls": check_sessions,
+        "lake_inspect": check_lines,
     }
-    for crate, check in checks.items():
+    for name, check in checks.items():
         tally = check()
-        print(f"{crate}: {tally}")
+        print(f"{name}: {tally}")
         total.add(tally)
     print(total)
     return 1 if total.differ or refusals else 0

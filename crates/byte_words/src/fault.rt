@@ -1,24 +1,26 @@
-//! Why words can't be read.
+//! Why a line gets no whole answer.
 
 use std::alloc::{AllocError, AllocFailed};
 
-/// Why words can't be read.
-#[derive(Clone, Copy, Debug, PartialEq, Eq)]
-pub enum WordFault {
+/// Why a line gets no whole answer.
+#[derive(Clone, Copy)]
+pub enum LineFault {
     /// A growth of memory was refused.
     Memory,
-    /// They are misspelled.
+    /// Its words are misspelled.
     Misspelled,
+    /// What it asks for is refused, and why is told already.
+    Refused,
 }
 
-impl From<AllocError> for WordFault {
-    fn from(_error: AllocError) -> WordFault {
-        WordFault::Memory
+impl From<AllocError> for LineFault {
+    fn from(_error: AllocError) -> LineFault {
+        LineFault::Memory
     }
 }
 
-impl<T: Drop> From<AllocFailed<T>> for WordFault {
-    fn from(_error: AllocFailed<T>) -> WordFault {
-        WordFault::Memory
+impl<T: Drop> From<AllocFailed<T>> for LineFault {
+    fn from(_error: AllocFailed<T>) -> LineFault {
+        LineFault::Memory
     }
 }

@@ -1,92 +1,98 @@
-//! Levels as words spell them: hybrids of runs, and which nodes may be null.
+//! Numbers and levels as bytes: those that a line spells, and what bytes hold.
 
-ghost use Rattle.std.specs.Prelude.{◌≤◌, IfOk};
+ghost use Rattle.std.specs.Prelude.{◌≤◌};
 
-use crate::fault::WordFault;
-use crate::numbers::number;
-use crate::spelling::{Names, spelled};
-use lake_bytes::{Cursor, HybridError, hybrid_read, hybrid_write};
-use std::alloc::{AllocError, Global};
+use crate::fault::LineFault;
+use crate::told::Told;
+use crate::words::Words;
+use lake_bytes::{
+    Cursor, hybrid_read, hybrid_write, write_i32_le, write_i64_le, write_u32_le, write_varint,
+    write_zigzag,
+};
+use std::alloc::AllocError;
 
-/// The values in front of a hybrid, for `WIDTH COUNT BYTES`: each with how often it stands there, and how many bytes are
-/// left; or why it is refused.
-pub(crate) fn hybrid_line(alloc: Global, names: &Names, rest: &str) -> Result<String, WordFault> {
-    let (width, rest) = rest.split_once(' ').ok_or(WordFault::Misspelled)?;
-    let (count, rest) = rest.split_once(' ').unwrap_or((rest, ""));
-    let width = width_of(width)?;
-    let count = number(count)?;
-    let bytes = spelled(alloc, names, rest)?;
-    match runs_line(alloc, &bytes, width, count) {
-        Ok(line) => Ok(line),
-        Err(HybridError::Memory) => Err(WordFault::Memory),
-        Err(HybridError::Fault(fault)) => Ok(format!(in alloc; "refused {fault}")?),
+impl Words<'_> {
+    /// The bytes of a number, for the kinds `varint`, `zigzag`, `u32`, `i32` and `i64`; of a hybrid for `hybrid`.
+    pub fn written(&mut self, kind: &str) -> Result<Vec<u8>, LineFault> {
+        let word = self.rest();
+        let mut out = Vec::new(self.alloc());
+        let grown = match kind {
+            "varint" => write_varint(&mut out, self.number(word)),
+            "zigzag" => write_zigzag(&mut out, self.number(word)),
+            "u32" => write_u32_le(&mut out, self.number(word)),
+            "i32" => write_i32_le(&mut out, self.number(word)),
+            "i64" => write_i64_le(&mut out, self.number(word)),
+            "hybrid" => self.write_hybrid(&mut out),
+            _ => return Err(LineFault::Misspelled),
+        };
+        self.grown(grown);
+        self.end()?;
+        Ok(out)
     }
-}
 
-/// So many values in front of bytes, and how many bytes are left.
-fn runs_line(alloc: Global, bytes: &[u8], width: u32, count: u64) -> Result<String, HybridError>
-    requires { width ≤ 32 }
-{
-    let mut cursor = Cursor::new(bytes);
-    let runs = hybrid_read(alloc, &mut cursor, width, count)?;
-    let mut line = String::new(alloc);
-    for run in &runs {
-        let value = run.value;
-        let count = run.count;
-        write!(line, "{value}*{count} ")?;
+    /// Writes a hybrid, for `WIDTH VALUE ..`, where `VALUE*N` stands for it N times.
+    fn write_hybrid(&mut self, out: &mut Vec<u8>) -> Result<(), AllocError> {
+        let width = self.last_word();
+        let width = self.width(width);
+        let values = self.values();
+        hybrid_write(out, width, &values)
     }
-    let left = cursor.left().len();
-    write!(line, "{left} left")?;
-    Ok(line)
-}
 
-/// The bytes of a hybrid, for `WIDTH VALUE ..`, where `VALUE*N` stands for it N times.
-pub(crate) fn written_hybrid(alloc: Global, rest: &str) -> Result<Vec<u8>, WordFault> {
-    let (width, words) = rest.split_once(' ').unwrap_or((rest, ""));
-    let width = width_of(width)?;
-    let values = values_in(alloc, words)?;
-    let mut bytes = Vec::new(alloc);
-    hybrid_write(&mut bytes, width, &values)?;
-    Ok(bytes)
-}
-
-fn values_in(alloc: Global, words: &str) -> Result<Vec<u64>, WordFault> {
-    let mut values = Vec::new(alloc);
-    for word in words.split_whitespace() {
-        let (value, times) = word.split_once('*').unwrap_or((word, "1"));
-        push_times(number(value)?, number(times)?, &mut values)?;
-    }
-    Ok(values)
-}
-
-fn push_times(value: u64, times: u32, values: &mut Vec<u64>) -> Result<(), AllocError> {
-    for _ in 0..times {
-        values.push(value)?;
-    }
-    Ok(())
-}
-
-/// The bits of a value: 0 to 32.
-fn width_of(word: &str) -> Result<u32, WordFault>
-    ensures { IfOk result (λ width. width ≤ 32) }
-{
-    let width = number::<u32>(word)?;
-    if width > 32 {
-        return Err(WordFault::Misspelled);
-    }
-    Ok(width)
-}
-
-/// The flags that a word spells, `n` for one that is set and `r` for one that isn't; `-` is none.
-pub(crate) fn flags_of(alloc: Global, word: &str) -> Result<Vec<bool>, WordFault> {
-    let mut flags = Vec::new(alloc);
-    for letter in word.bytes() {
-        match letter {
-            b'n' => flags.push(true)?,
-            b'r' => flags.push(false)?,
-            b'-' => {}
-            _ => return Err(WordFault::Misspelled),
+    fn values(&mut self) -> Vec<u64> {
+        let mut values = Vec::new(self.alloc());
+        for word in self.rest().split_whitespace() {
+            let (value, times) = word.split_once('*').unwrap_or((word, "1"));
+            let value = self.number::<u64>(value);
+            for _ in 0..self.number::<u32>(times) {
+                self.grown(values.extend_from_slice(&[value]));
+            }
         }
+        values
     }
-    Ok(flags)
+
+    /// The bits of a value, 0 to 32, that a word spells.
+    fn width(&mut self, word: &str) -> u32
+        ensures { result ≤ 32 }
+    {
+        let width = self.number::<u32>(word);
+        if width > 32 {
+            self.misspelled();
+            return 0;
+        }
+        width
+    }
+
+    /// The flags that the next word spells, `n` for one that is set and `r` for one that isn't; `-` is none.
+    pub fn flags(&mut self) -> Vec<bool> {
+        let mut flags = Vec::new(self.alloc());
+        for letter in self.word().bytes() {
+            if letter != b'n' && letter != b'r' && letter != b'-' {
+                self.misspelled();
+            }
+            if letter != b'-' {
+                self.grown(flags.extend_from_slice(&[letter == b'n']));
+            }
+        }
+        flags
+    }
+}
+
+/// Tells the values in front of a hybrid, for `WIDTH COUNT BYTES`: each with how often it stands there, and how many bytes
+/// are left; or why it is refused.
+pub fn tell_hybrid(words: &mut Words<'_>, told: &mut Told) -> Result<(), LineFault> {
+    let word = words.word();
+    let width = words.width(word);
+    let word = words.last_word();
+    let count = words.number(word);
+    let bytes = words.rest_bytes()?;
+    let mut cursor = Cursor::new(&bytes);
+    let runs = told.given(hybrid_read(words.alloc(), &mut cursor, width, count))?;
+    for run in &runs {
+        told.show("", &run.value);
+        told.show("*", &run.count);
+        told.put(" ");
+    }
+    told.show("", &cursor.left().len());
+    told.put(" left");
+    Ok(())
 }

@@ -1,19 +1,21 @@
-//! Lines of cases as words: what each line asks for, the bytes, numbers and levels that it spells, how an answer is put as
-//! a line, and how bytes are spoiled. It knows nothing of schemas, rows and files.
+//! Lines of cases as words: what a line asks for, the bytes, numbers and levels that it spells, and what is told of it, as
+//! text. It knows nothing of schemas, rows and files.
+//!
+//! Reading words and telling go on after a fault: it is remembered, and told at the end. So what is called on the way gives
+//! no results that have to be looked at.
 #![tactic(auto)]
 
-mod answer;
 mod fault;
 mod levels;
-mod numbers;
-mod order;
-mod source;
+mod question;
 mod spelling;
 mod spoiling;
+mod told;
+mod words;
 
-pub use answer::{push_hex, told};
-pub use fault::WordFault;
-pub use order::{Order, Question, order_in};
-pub use source::Source;
-pub use spelling::Names;
-pub use spoiling::{Outcome, Reader, spoil};
+pub use fault::LineFault;
+pub use levels::tell_hybrid;
+pub use question::{HeapKind, Kind, Question, TableKind, question_named};
+pub use spoiling::spoiled;
+pub use told::Told;
+pub use words::{Names, Words};

@@ -4,21 +4,12 @@
 //! were named so. `*N` directly behind one of these stands for it N times. `<` and `>` stand around bytes: `>` is their
 //! count in four bytes, the low byte first. `@N=AC02` changes the bytes before it, from place N on.
 
-use crate::fault::WordFault;
-use crate::numbers::number;
-use hex::FromHexError;
+use crate::words::Words;
 use lake_bytes::write_u32_le;
-use std::alloc::Global;
-use std::collections::BTreeMap;
-
-/// Bytes by their names.
-pub type Names = BTreeMap<String, Vec<u8>>;
 
 /// The bytes so far.
 #[derive(Drop)]
-struct Spelling<'a> {
-    alloc: Global,
-    names: &'a Names,
+struct Spelling {
     bytes: Vec<u8>,
     /// What a `*N` stands behind.
     last: Vec<u8>,
@@ -26,109 +17,88 @@ struct Spelling<'a> {
     start: usize,
 }
 
-/// The bytes that a text spells.
-pub(crate) fn spelled(alloc: Global, names: &Names, text: &str) -> Result<Vec<u8>, WordFault> {
-    let mut spelling = Spelling {
-        alloc,
-        names,
-        bytes: Vec::new(alloc),
-        last: Vec::new(alloc),
-        start: 0,
-    };
-    let mut is_quoted = false;
-    for part in text.split('\'') {
-        if is_quoted {
-            spelling.last = Vec::from_slice(alloc, part.as_bytes())?;
-            spelling.repeat(1)?;
-        } else {
-            for word in part.split_whitespace() {
-                spelling.word(word)?;
+impl Words<'_> {
+    /// The bytes that a text spells.
+    pub fn spelled(&mut self, text: &str) -> Vec<u8> {
+        let alloc = self.alloc();
+        let mut spelling = Spelling {
+            bytes: Vec::new(alloc),
+            last: Vec::new(alloc),
+            start: 0,
+        };
+        let mut is_quoted = false;
+        for part in text.split('\'') {
+            if is_quoted {
+                spelling.last = self.copied(part.as_bytes());
+                self.repeat(&mut spelling, 1);
+            } else {
+                self.spell_words(part, &mut spelling);
             }
+            is_quoted = !is_quoted;
         }
-        is_quoted = !is_quoted;
+        if !is_quoted {
+            self.misspelled();
+        }
+        spelling.bytes
     }
-    if !is_quoted {
-        return Err(WordFault::Misspelled);
+
+    fn spell_words(&mut self, part: &str, spelling: &mut Spelling) {
+        for word in part.split_whitespace() {
+            self.spell(word, spelling);
+        }
     }
-    Ok(spelling.bytes)
-}
 
-/// The bytes that the first word of a text spells, and those that the text behind it does.
-pub(crate) fn two_spelled(
-    alloc: Global,
-    names: &Names,
-    text: &str,
-) -> Result<(Vec<u8>, Vec<u8>), WordFault> {
-    let (first, rest) = text.split_once(' ').ok_or(WordFault::Misspelled)?;
-    let first = spelled(alloc, names, first)?;
-    Ok((first, spelled(alloc, names, rest)?))
-}
-
-/// The bytes of hexadecimal digits.
-fn decoded(alloc: Global, digits: &str) -> Result<Vec<u8>, WordFault> {
-    match hex::decode(alloc, digits) {
-        Ok(bytes) => Ok(bytes),
-        Err(FromHexError::OutOfMemory) => Err(WordFault::Memory),
-        Err(_) => Err(WordFault::Misspelled),
-    }
-}
-
-impl Spelling<'_> {
-    fn word(&mut self, word: &str) -> Result<(), WordFault> {
+    fn spell(&mut self, word: &str, spelling: &mut Spelling) {
         if word == "<" {
-            self.start = self.bytes.len();
-            return Ok(());
-        }
-        if word == ">" {
-            let count = self.bytes.len().saturating_sub(self.start);
+            spelling.start = spelling.bytes.len();
+        } else if word == ">" {
+            let count = spelling.bytes.len().saturating_sub(spelling.start);
             let count = u32::try_from(count).unwrap_or(u32::MAX);
-            write_u32_le(&mut self.bytes, count)?;
-            return Ok(());
+            self.grown(write_u32_le(&mut spelling.bytes, count));
+        } else if let Some(change) = word.strip_prefix('@') {
+            self.change(change, &mut spelling.bytes);
+        } else {
+            self.spell_item(word, spelling);
         }
-        if let Some(change) = word.strip_prefix('@') {
-            return self.change(change);
+    }
+
+    /// An item, so many times; or the last one so many times in place of once.
+    fn spell_item(&mut self, word: &str, spelling: &mut Spelling) {
+        let (item, times) = word.split_once('*').unwrap_or((word, "1"));
+        let mut times = self.number::<u32>(times);
+        if item.is_empty() {
+            times = times.saturating_sub(1);
+        } else {
+            spelling.last = self.item(item);
         }
-        match word.split_once('*') {
-            Some(("", times)) => self.repeat(number::<u32>(times)?.saturating_sub(1)),
-            Some((item, times)) => {
-                self.last = self.item(item)?;
-                self.repeat(number(times)?)
-            }
-            None => {
-                self.last = self.item(word)?;
-                self.repeat(1)
-            }
-        }
+        self.repeat(spelling, times);
     }
 
     /// The bytes of a name or of hexadecimal digits.
-    fn item(&self, item: &str) -> Result<Vec<u8>, WordFault> {
+    fn item(&mut self, item: &str) -> Vec<u8> {
         match item.strip_prefix('$') {
-            Some(name) => {
-                let bytes = self.names.get(name).ok_or(WordFault::Misspelled)?;
-                Ok(Vec::from_slice(self.alloc, bytes)?)
-            }
-            None => decoded(self.alloc, item),
+            Some(name) => self.named(name),
+            None => self.decoded(item),
         }
     }
 
     /// So many times the last bytes.
-    fn repeat(&mut self, times: u32) -> Result<(), WordFault> {
+    fn repeat(&mut self, spelling: &mut Spelling, times: u32) {
         for _ in 0..times {
-            self.bytes.extend_from_slice(&self.last)?;
+            self.grown(spelling.bytes.extend_from_slice(&spelling.last));
         }
-        Ok(())
     }
 
     /// Other bytes from a place on.
-    fn change(&mut self, change: &str) -> Result<(), WordFault> {
-        let (place, digits) = change.split_once('=').ok_or(WordFault::Misspelled)?;
-        let mut place = number::<usize>(place)?;
-        for byte in &decoded(self.alloc, digits)? {
-            let slot = self.bytes.get_mut(place).ok_or(WordFault::Misspelled)?;
-            *slot = *byte;
+    fn change(&mut self, change: &str, bytes: &mut [u8]) {
+        let (place, digits) = change.split_once('=').unwrap_or(("", ""));
+        let mut place = self.number::<usize>(place);
+        for byte in &self.decoded(digits) {
+            match bytes.get_mut(place) {
+                Some(slot) => *slot = *byte,
+                None => self.misspelled(),
+            }
             place = place.saturating_add(1);
         }
-        Ok(())
     }
 }

@@ -11,10 +11,16 @@ use std::borrow::CowStr;
 
 /// A file's path as the log has it (Delta PROTOCOL.md, "Add File and Remove File"). It is kept once: what it decodes to
 /// is decoded again where it is wanted.
-#[derive(Drop)]
 pub struct FilePath {
     text: String,
     ghost decodes: { is_utf8 (percent_decode (string_bytes text)) ≡ true },
+}
+
+// By hand, so that a drop is one call to prove and not all that it holds (docs/GATE.md).
+impl Drop for FilePath {
+    fn drop(self) {
+        let FilePath { text: _ } = self;
+    }
 }
 
 impl FilePath {

@@ -8,12 +8,21 @@ use json_fields::TextMap;
 use std::alloc::{AllocError, Global};
 
 /// The encoding of a table's files (Delta PROTOCOL.md, "Format Specification").
-#[derive(Drop)]
 pub struct TableFormat {
     /// The encoding's name.
     pub provider: String,
     /// The encoding's settings.
     pub options: TextMap,
+}
+
+// By hand, so that a drop is one call to prove and not all that it holds (docs/GATE.md).
+impl Drop for TableFormat {
+    fn drop(self) {
+        let TableFormat {
+            provider: _,
+            options: _,
+        } = self;
+    }
 }
 
 impl TableFormat {

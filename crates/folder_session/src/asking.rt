@@ -5,11 +5,17 @@ ghost use Rattle.session_core.specs.Talks.{IsAnswerOf, asked_view, is_lost, kind
 ghost use Rattle.table_folder.specs.Faults.{CountsLoad, IsNotLoaded};
 
 use session_core::{Reply, Request};
+use std::alloc::Global;
+use store_core::Names;
 use table_folder::{Folder, LoadFault};
 
 /// Makes the call over a folder, whose answer is handed on as it is. A put isn't asked for; of one it would be told that there is no
 /// memory for it.
-pub(crate) fn ask<F: Folder>(folder: &mut F, request: Request) -> Result<Reply, LoadFault>
+pub(crate) fn ask<F: Folder>(
+    alloc: Global,
+    folder: &mut F,
+    request: Request,
+) -> Result<Reply, LoadFault>
     ensures kind { IfOk result (λ reply. IsAnswerOf (kind_of (asked_view request)) (told_view reply)) }
     ensures exact { F.is_steady folder.old → IfOk result (λ reply. IsExact (F.objects folder.old) (asked_view request) (told_view reply)) }
     ensures never_lost { IfOk result (λ reply. is_lost (told_view reply) ≡ false) }
@@ -21,7 +27,7 @@ pub(crate) fn ask<F: Folder>(folder: &mut F, request: Request) -> Result<Reply, 
     ensures stays_reliable { F.is_reliable folder.old → F.is_reliable folder.new }
 {
     match request {
-        Request::List => Ok(Reply::Names(folder.names()?)),
+        Request::List => Ok(Reply::Names(Names::new(alloc, folder.names()?)?)),
         Request::Get(name) => Ok(Reply::Object(folder.read(name.as_str())?)),
         Request::PutFile(_, _) | Request::PutCommit(_, _) => Ok(Reply::Memory),
     }

@@ -7,6 +7,7 @@ ghost use Rattle.folder_session.specs.Driving.{ReadsBy};
 
 use crate::asking::ask;
 use session_core::{Session, Step};
+use std::alloc::Global;
 use table_folder::{Folder, LoadFault};
 
 /// Drives a session that only reads over a folder's files to its end: makes each call that it asks for, and tells it the answer.
@@ -15,6 +16,7 @@ use table_folder::{Folder, LoadFault};
 /// The folder is listed where the session asks for the names, and a file is opened where it asks for that one. Beside that and the
 /// session, the time is constant for each call.
 pub fn drive_reads<F: Folder, N: Session>(
+    alloc: Global,
     folder: &mut F,
     session: &mut N,
 ) -> Result<N::Outcome, LoadFault>
@@ -38,7 +40,7 @@ pub fn drive_reads<F: Folder, N: Session>(
     'calls: loop {
         match session.next(reply) {
             Step::Done(outcome) => return Ok(outcome),
-            Step::Ask(request) => reply = Some(ask(folder, request)?),
+            Step::Ask(request) => reply = Some(ask(alloc, folder, request)?),
         }
     }
 }

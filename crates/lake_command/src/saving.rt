@@ -108,6 +108,6 @@ fn execute_loaded<F: Folder>(
         use_checkpoints,
         &mut LogCache::new(alloc),
     );
-    save(alloc, folder, &mut store, &loaded)?;
+    save(alloc, folder, &mut store, loaded.as_slice())?;
     Ok(reply)
 }

@@ -35,7 +35,6 @@ use std::io::Write;
 use store_core::{Put, Store, StoreFault};
 
 /// What a line is told.
-#[derive(Drop)]
 pub enum LineReply {
     /// Version 0 was put.
     Created,
@@ -65,6 +64,28 @@ pub enum LineReply {
     Digits(String),
     /// What was set counts from now on.
     Noted,
+}
+
+// By hand, so that a drop is one call to prove and not all that it holds (docs/GATE.md).
+impl Drop for LineReply {
+    fn drop(self) {
+        match self {
+            LineReply::Created => {}
+            LineReply::NotCreated(_) => {}
+            LineReply::SinkTold(_) => {}
+            LineReply::SinkRefused(_) => {}
+            LineReply::NotTailed(_) => {}
+            LineReply::Checkpointed(_) => {}
+            LineReply::NoSnapshot(_) => {}
+            LineReply::NoHistory(_) => {}
+            LineReply::Put(_) => {}
+            LineReply::Refused(_) => {}
+            LineReply::Unanswered(_) => {}
+            LineReply::Bytes(_) => {}
+            LineReply::Digits(_) => {}
+            LineReply::Noted => {}
+        }
+    }
 }
 
 impl LineReply {

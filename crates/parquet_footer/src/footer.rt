@@ -14,7 +14,6 @@ use crate::metadata::read_metadata;
 use std::alloc::{Allocator, Global};
 
 /// What a file's footer says (Parquet, FileMetaData), as far as rows are read by it.
-#[derive(Drop)]
 pub struct Footer<A: Allocator = Global> {
     /// The nodes of the schema, depth first. The first is the root.
     pub schema: Vec<SchemaElement<A>, A>,
@@ -24,8 +23,18 @@ pub struct Footer<A: Allocator = Global> {
     pub row_groups: Vec<RowGroup<A>, A>,
 }
 
+// By hand, so that a drop is one call to prove and not all that it holds (docs/GATE.md).
+impl<A: Allocator> Drop for Footer<A> {
+    fn drop(self) {
+        let Footer {
+            schema: _,
+            num_rows: _,
+            row_groups: _,
+        } = self;
+    }
+}
+
 /// A node of the schema (Parquet, SchemaElement).
-#[derive(Drop)]
 pub struct SchemaElement<A: Allocator = Global> {
     /// The physical type, by its number: 2 is INT64. A leaf has one.
     pub physical_type: Option<i64>,
@@ -37,8 +46,19 @@ pub struct SchemaElement<A: Allocator = Global> {
     pub num_children: u64,
 }
 
+// By hand, so that a drop is one call to prove and not all that it holds (docs/GATE.md).
+impl<A: Allocator> Drop for SchemaElement<A> {
+    fn drop(self) {
+        let SchemaElement {
+            physical_type: _,
+            repetition_type: _,
+            name: _,
+            num_children: _,
+        } = self;
+    }
+}
+
 /// A row group (Parquet, RowGroup).
-#[derive(Drop)]
 pub struct RowGroup<A: Allocator = Global> {
     /// Its column chunks.
     pub columns: Vec<ColumnChunk<A>, A>,
@@ -46,8 +66,17 @@ pub struct RowGroup<A: Allocator = Global> {
     pub num_rows: u64,
 }
 
+// By hand, so that a drop is one call to prove and not all that it holds (docs/GATE.md).
+impl<A: Allocator> Drop for RowGroup<A> {
+    fn drop(self) {
+        let RowGroup {
+            columns: _,
+            num_rows: _,
+        } = self;
+    }
+}
+
 /// One column of a row group (Parquet, ColumnChunk with its ColumnMetaData).
-#[derive(Drop)]
 pub struct ColumnChunk<A: Allocator = Global> {
     /// The names from below the root to the leaf, in the bytes of the file.
     pub path_in_schema: Vec<Vec<u8, A>, A>,
@@ -57,6 +86,18 @@ pub struct ColumnChunk<A: Allocator = Global> {
     pub num_values: u64,
     /// The offset of its first data page in the file, as the file states it.
     pub data_page_offset: i64,
+}
+
+// By hand, so that a drop is one call to prove and not all that it holds (docs/GATE.md).
+impl<A: Allocator> Drop for ColumnChunk<A> {
+    fn drop(self) {
+        let ColumnChunk {
+            path_in_schema: _,
+            codec: _,
+            num_values: _,
+            data_page_offset: _,
+        } = self;
+    }
 }
 
 impl<A: Allocator + Copy> Footer<A> {

@@ -14,10 +14,16 @@ use std::alloc::{AllocError, Allocator, Global};
 /// A field's metadata (Delta PROTOCOL.md, "Struct Field"): a JSON object, kept as its text. The text has no spaces,
 /// and keys in order of bytes, where no number has a fraction or an exponent or doesn't fit 64 bits; how it is written
 /// otherwise is left open.
-#[derive(Drop)]
 pub struct Metadata<A: Allocator> {
     text: String<A>,
     ghost is_object: { IsCompactObject (string_bytes text) },
+}
+
+// By hand, so that a drop is one call to prove and not all that it holds (docs/GATE.md).
+impl<A: Allocator> Drop for Metadata<A> {
+    fn drop(self) {
+        let Metadata { text: _ } = self;
+    }
 }
 
 impl Metadata<Global> {

@@ -32,10 +32,16 @@ use std::alloc::{AllocError, Allocator, Global};
 pub const MAX_DEPTH: u32 = 16;
 
 /// The schema of a table: a struct, within the limits (Delta PROTOCOL.md, "Schema Serialization Format").
-#[derive(Drop)]
 pub struct Schema<A: Allocator> {
     pub(crate) fields: Vec<Field<A>, A>,
     ghost within_limits: { IsWithinLimits (struct (fields_of (field_views fields.items))) },
+}
+
+// By hand, so that a drop is one call to prove and not all that it holds (docs/GATE.md).
+impl<A: Allocator> Drop for Schema<A> {
+    fn drop(self) {
+        let Schema { fields: _ } = self;
+    }
 }
 
 impl Schema<Global> {

@@ -2,6 +2,7 @@
 use Rattle.std.specs.Prelude.{◌≡◌, ℕ, List, [], ◌∷◌, ◌++◌, map, Bool, true, false, Option, Some, None, IsSome, option_map, Contains, string_bytes}
 use Rattle.std.specs.List.{list_any}
 use Rattle.store_core.specs.Calls.{HasRisen, StandsAfter}
+use Rattle.store_core.specs.Listed.{listed}
 use Rattle.store_core.specs.Objects.{Objects, object_at}
 use Rattle.store_core.specs.declared.fault.StoreFault.{StoreFault}
 use Rattle.store_core.specs.declared.fault.StoreFault.TheVariants as faults
@@ -39,7 +40,7 @@ fault_reply faults.Lost = replies.Lost
 fault_reply faults.Memory = replies.Memory
 
 abbrev pub told_view : Reply → Told
-told_view (replies.Names names) = told_names (map string_bytes names.items)
+told_view (replies.Names names) = told_names (listed names)
 told_view (replies.Object found) = told_object (option_map (λ bytes. bytes.items) found)
 told_view (replies.Put put) = told_put put
 told_view replies.Lost = told_lost

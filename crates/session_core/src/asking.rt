@@ -5,7 +5,7 @@ ghost use Rattle.session_core.specs.Talks.{CountsTold, IsAnswerOf, asked_view, f
 
 use crate::naming::commit_name;
 use std::alloc::Global;
-use store_core::{Put, Store, StoreFault};
+use store_core::{Names, Put, Store, StoreFault};
 
 /// A call that a session asks for.
 #[derive(Drop)]
@@ -24,7 +24,7 @@ pub enum Request {
 #[derive(Drop)]
 pub enum Reply {
     /// All names that stand, in the order of their bytes.
-    Names(Vec<String>),
+    Names(Names),
     /// The bytes under the name, or `None` where it is absent.
     Object(Option<Vec<u8>>),
     /// How the put went.

@@ -1,4 +1,5 @@
 mod Answers
 mod FlightLemmas
 mod NameLemmas
+mod Placing
 mod Trees

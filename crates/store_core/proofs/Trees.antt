@@ -12,13 +12,17 @@ use Rattle.std.specs.BTreeMap.{IsOrdered, insert_entry, is_at, get_by_text}
 use Rattle.std.specs.String.{string_bytes, string_cmp}
 use Rattle.std.specs.FinMap as finite
 use Rattle.std.proofs.lemmas.Map.Text.{is_eq-slice_cmp}
-use Rattle.std.specs.Prelude.{unwrap_or, IfOk, OnOk}
+use Rattle.std.specs.Prelude.{unwrap_or, IfOk, IfSome, OnOk}
 use Rattle.store_core.specs.Calls.{HasLanded, StandsAfter, put_told}
 use Rattle.store_core.specs.declared.store.Put.{Put}
 use Rattle.store_core.specs.declared.fault.StoreFault.{StoreFault}
 use Rattle.store_core.specs.Objects.{Objects, IsInOrder, name_order, object_at, names_of, with_object}
 use Rattle.store_core.specs.ObjectLaws.{sorted_from_in_order, T_from_true, with_object_absent, object_at-with_object_same}
-use Rattle.store_core.specs.Memory.{Tree, Stored, object_of, objects_of, stored_objects, stored_of}
+use Rattle.store_core.specs.Listed.{listed}
+use Rattle.store_core.specs.Memory.{AreNamesOf, Tree, Stored, object_of, objects_of, stored_objects, stored_of}
+use Rattle.store_core.specs.declared.names.Names.{Names}
+use Rattle.store_core.proofs.Placing.{names_inserted}
+use Rattle.std.specs.BTreeSet.{insert_key}
 
 -- the entries of a tree
 abbrev Entries : Type 0
@@ -103,3 +107,17 @@ pub stands_where_told : (r : Result Put StoreFault) (objects new : Objects) (nam
     → IfOk r (λ put. StandsAfter put bytes (object_at new name))
 stands_where_told (Ok put) objects new name bytes told landed = stands_after put objects new name bytes told landed.0
 stands_where_told (Err e) objects new name bytes told landed = tt
+
+-- names that are kept of a tree in order rise
+pub kept_rise : (tree : Tree) (kept : Option Names) → IsOrdered string_cmp tree → AreNamesOf tree kept → IfSome kept (λ names. IsStrictlySortedBy name_order (listed names))
+kept_rise tree None h are = tt
+kept_rise tree (Some names) h are = subst (IsStrictlySortedBy name_order) (sym are) (names_rise tree.entries h)
+
+-- names that are kept, with one more, are those of the tree into which it was put
+pub kept_inserted : (old new : Tree) (key : String Global) (name : List ℕ) (bytes : Vec ℕ Global) (kept : Option Names) → string_bytes key ≡ name → new.entries ≡ insert_entry string_cmp old.entries key bytes
+    → IfSome kept (λ later. listed later ≡ insert_key name_order (names_of (objects_of old)) name) → AreNamesOf new kept
+kept_inserted old new key name bytes None e h are = tt
+kept_inserted old new key name bytes (Some later) e h are =
+    let put : objects_of new ≡ insert_entry name_order (objects_of old) name bytes.items =
+    ap (map object_of) h ∙ objects_inserted old.entries key bytes ∙ ap (λ k. insert_entry name_order (objects_of old) k bytes.items) e in
+    are ∙ sym (ap names_of put ∙ names_inserted (objects_of old) name bytes.items)

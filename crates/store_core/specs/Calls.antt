@@ -1,7 +1,7 @@
 -- What a call of a store tells and leaves, also of a store that loses calls.
 -- Of a store two things are told: its objects, and its puts in flight. A put in flight was sent, its answer was lost,
 -- and it may take effect later, between two calls.
-use Rattle.std.specs.Prelude.{◌≡◌, ◌<◌, ◌+◌, ◌-◌, ◌^◌, ◌⊎◌, ◌++◌, ◌∷◌, [], ℕ, List, Option, None, Some, IsSome, Result, Ok, Err}
+use Rattle.std.specs.Prelude.{◌≡◌, ◌<◌, ◌+◌, ◌-◌, ◌^◌, ◌⊎◌, ◌++◌, ◌∷◌, ℕ, List, Option, None, Some, IsSome, Result, Ok, Err}
 use Rattle.store_core.specs.Objects.{Objects, with_object}
 use Rattle.store_core.specs.declared.store.Put.{Put}
 use Rattle.store_core.specs.declared.store.Put.TheVariants.{Created, Exists}

@@ -1,5 +1,6 @@
 pub mod Calls
 pub mod Memory
+pub mod Listed
 pub mod Names
 pub mod ObjectLaws
 pub mod Objects

@@ -1,10 +1,12 @@
 -- The tree of a store in memory, as the objects that stand.
-use Rattle.std.specs.Prelude.{ℕ, List, map, Vec, String}
+use Rattle.std.specs.Prelude.{◌≡◌, ℕ, List, map, Vec, String, Option, IfSome}
 use Rattle.std.specs.Global.{Global}
 use Rattle.std.specs.BTreeMap.{BTreeMap}
 use Rattle.std.specs.String.{string_bytes}
 use Rattle.std.specs.FinMap as finite
-use Rattle.store_core.specs.Objects.{Objects, IsInOrder, name_order}
+use Rattle.store_core.specs.Listed.{listed}
+use Rattle.store_core.specs.Objects.{Objects, IsInOrder, name_order, names_of}
+use Rattle.store_core.specs.declared.names.Names.{Names}
 use Rattle.store_core.specs.ObjectLaws.{in_order_from_sorted, true_from_T}
 
 -- what a store in memory stands for: a finite map from names to bytes
@@ -26,6 +28,10 @@ object_of entry = (string_bytes entry.0, entry.1.items)
 -- the objects of the tree
 abbrev pub objects_of : Tree → Objects
 objects_of tree = map object_of tree.entries
+
+-- names that are kept, if any are, are those of the tree's objects
+abbrev pub AreNamesOf : Tree → Option Names → Type 0
+AreNamesOf tree kept = IfSome kept (λ names. listed names ≡ names_of (objects_of tree))
 
 -- what stands for the tree, whose names rise
 abbrev pub stored_of : Tree → Stored

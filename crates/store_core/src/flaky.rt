@@ -7,7 +7,7 @@ ghost use Rattle.store_core.specs.Objects.{object_at};
 ghost use Rattle.store_core.specs.Turns.{armed_behind, first_turn, later_turns, puts_sent, turn_of_put, turns_left, HasLandedAs, SendsLate};
 
 use crate::naming::is_commit;
-use crate::{Put, Store, StoreFault};
+use crate::{Names, Put, Store, StoreFault};
 use std::alloc::{AllocError, Global};
 
 /// What becomes of a call.
@@ -185,10 +185,10 @@ impl<S: Store> Flaky<S> {
 /// place. Where it passes, or none is left, it answers and leaves what the store below does; what becomes of the other turns
 /// is said at each call.
 impl<S: Store> Store for Flaky<S> {
-    ghost use Rattle.std.specs.Prelude.{◌≢◌, ◌⊎◌, ◌++◌, [], None, Ok, Err, map, IfOk, OnOk, IsErrOf};
+    ghost use Rattle.std.specs.Prelude.{◌≢◌, ◌⊎◌, ◌++◌, [], None, Ok, Err, IfOk, OnOk, IsErrOf};
     ghost use Rattle.std.specs.Option.{option_map};
-    ghost use Rattle.std.specs.String.{string_bytes};
     ghost use Rattle.std.specs.List.Sorted.{IsStrictlySortedBy};
+    ghost use Rattle.store_core.specs.Listed.{listed};
     ghost use Rattle.store_core.specs.Objects.{object_at, names_of, name_order};
     ghost use Rattle.store_core.specs.Calls.{CountsFault, CountsOne, HasLanded, HasRisen, MayHaveLanded, IsUntouched, StandsAfter, put_told};
     ghost use Rattle.store_core.specs.Turns.{armed_behind, first_turn, later_turns, puts_sent, turn_of_put, turns_left, IsSoundPut, LosesAnswer, LosesLook, PassesLook, SendsLate, LandsTwice};
@@ -202,9 +202,9 @@ impl<S: Store> Store for Flaky<S> {
     ghost is_reliable = { λ flaky. (turns_left flaky ≡ []) × (flaky.armed ≡ None) × S.is_reliable flaky.store };
 
     /// Where its turn is neither to pass nor to land twice, it is lost, and the store below isn't asked.
-    fn list(&mut self) -> Result<Vec<String>, StoreFault>
-        ensures names { IfOk result (λ names. map string_bytes names.items ≡ names_of (S.objects self.old.store)) }
-        ensures rising { IfOk result (λ names. IsStrictlySortedBy name_order (map string_bytes names.items)) }
+    fn list(&mut self) -> Result<Names, StoreFault>
+        ensures names { IfOk result (λ names. listed names ≡ names_of (S.objects self.old.store)) }
+        ensures rising { IfOk result (λ names. IsStrictlySortedBy name_order (listed names)) }
         ensures untouched { IsUntouched (S.objects self.old.store, S.in_flight self.old.store ++ puts_sent self.old)
             (S.objects self.new.store, S.in_flight self.new.store ++ puts_sent self.new) }
         ensures faults { CountsOne result self.old.lost self.new.lost }

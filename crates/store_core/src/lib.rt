@@ -10,6 +10,7 @@ mod fault;
 mod flaky;
 mod laws;
 mod memory;
+mod names;
 mod naming;
 mod store;
 
@@ -21,5 +22,6 @@ pub use laws::{
     the_same_under_each_name_is_the_same, what_stands_stays,
 };
 pub use memory::MemoryStore;
+pub use names::Names;
 pub use naming::{has_version, is_commit};
 pub use store::{Put, Store};

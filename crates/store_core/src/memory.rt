@@ -1,22 +1,28 @@
 //! A store in memory, which loses no call.
-ghost use Rattle.std.specs.Prelude.{◌≡◌, [], None, Ok, map, IfOk, OnOk, OnErr, IsErrOf};
+ghost use Rattle.std.specs.Prelude.{◌≡◌, ℕ, List, [], None, Ok, map, IfOk, IfSome, OnOk, OnErr, IsErrOf};
 ghost use Rattle.std.specs.Option.{option_map};
 ghost use Rattle.std.specs.BTreeMap.{IsOrdered};
+ghost use Rattle.std.specs.BTreeSet.{insert_key};
+ghost use Rattle.std.specs.List.Sorted.{IsStrictlySortedBy};
 ghost use Rattle.std.specs.String.{string_bytes, string_cmp};
-ghost use Rattle.store_core.specs.Objects.{object_at, names_of};
+ghost use Rattle.store_core.specs.Listed.{listed};
+ghost use Rattle.store_core.specs.Objects.{name_order, object_at, names_of};
 ghost use Rattle.store_core.specs.Calls.{HasLanded, put_told};
-ghost use Rattle.store_core.specs.Memory.{objects_of, stored_objects};
+ghost use Rattle.store_core.specs.Memory.{AreNamesOf, objects_of, stored_objects};
 
-use crate::{Put, Store, StoreFault};
+use crate::{Names, Put, Store, StoreFault};
 use std::alloc::Global;
 use std::collections::BTreeMap;
 use std::marker::Model;
+use std::rc::Rc;
 
 /// A store in memory, seen as the finite map from names to bytes that stands. No call is lost.
 #[derive(Drop)]
 pub struct MemoryStore {
     alloc: Global,
     objects: BTreeMap<String, Vec<u8>>,
+    // The names, once they were listed, with those that were put since. None where there was no room to keep them.
+    names: Option<Names>,
 }
 
 impl Model for MemoryStore {
@@ -24,7 +30,7 @@ impl Model for MemoryStore {
     ghost use Rattle.std.specs.Coded.{coded_ℕ, coded_list};
     ghost use Rattle.std.specs.BTreeMap.{IsOrdered};
     ghost use Rattle.std.specs.String.{string_cmp};
-    ghost use Rattle.store_core.specs.Memory.{Stored, stored_of};
+    ghost use Rattle.store_core.specs.Memory.{AreNamesOf, Stored, stored_of};
 
     ghost Value = { Stored };
 
@@ -32,7 +38,7 @@ impl Model for MemoryStore {
 
     ghost view = { λ store. stored_of store.objects };
 
-    ghost invariant = { λ store. IsOrdered string_cmp store.objects };
+    ghost invariant = { λ store. IsOrdered string_cmp store.objects × AreNamesOf store.objects store.names };
 }
 
 impl MemoryStore {
@@ -43,6 +49,7 @@ impl MemoryStore {
         MemoryStore {
             alloc,
             objects: BTreeMap::new(alloc),
+            names: None,
         }
     }
 }
@@ -59,9 +66,10 @@ impl Store for MemoryStore {
 
     ghost is_reliable = { λ _. Unit {0} };
 
-    /// Copies the names, in time linear in their bytes.
-    fn list(&mut self) -> Result<Vec<String>, StoreFault> {
-        names_in(self.alloc, &self.objects)
+    /// Shares the names, in constant time. Only the first time they are copied, in time linear in their bytes, and behind a put
+    /// while others shared them.
+    fn list(&mut self) -> Result<Names, StoreFault> {
+        list_in(self.alloc, &self.objects, &mut self.names)
     }
 
     /// Copies the object's bytes. Finding it takes time logarithmic in the number of names.
@@ -69,9 +77,10 @@ impl Store for MemoryStore {
         copy_of(self.alloc, &self.objects, name)
     }
 
-    /// Copies the name and moves the bytes, in time logarithmic in the number of names.
+    /// Copies the name and moves the bytes, in time logarithmic in the number of names, but that those behind it make room
+    /// for it in the list of names.
     fn put_absent(&mut self, name: &str, bytes: Vec<u8>) -> Result<Put, StoreFault> {
-        put_in(self.alloc, &mut self.objects, name, bytes)
+        put_in(self.alloc, &mut self.objects, &mut self.names, name, bytes)
     }
 
     fn faults(&self) -> u64 {
@@ -91,6 +100,56 @@ fn names_in(alloc: Global, objects: &BTreeMap<String, Vec<u8>>) -> Result<Vec<St
         names.push(String::from_str(alloc, name)?)?;
     }
     Ok(names)
+}
+
+// The names, and they are kept.
+fn list_in(
+    alloc: Global,
+    objects: &BTreeMap<String, Vec<u8>>,
+    kept: &mut Option<Names>,
+) -> Result<Names, StoreFault>
+    requires { AreNamesOf objects.now kept.old }
+    ensures names { IfOk result (λ names. listed names ≡ names_of (objects_of objects.now)) }
+    ensures kept { AreNamesOf objects.now kept.new }
+    ensures never_lost { IsErrOf result StoreFault.Lost → ⊥ }
+{
+    if let Some(names) = kept {
+        return Ok(names.clone()?);
+    }
+    let names = Names::new(alloc, names_in(alloc, objects)?)?;
+    *kept = Some(names.clone()?);
+    Ok(names)
+}
+
+// The names with one more in its place. None where they are shared, or memory runs out.
+fn with_name(alloc: Global, names: Names, name: &str) -> Option<Names>
+    requires { IsStrictlySortedBy name_order (listed names) }
+    ensures { IfSome result (λ later. listed later ≡ insert_key name_order (listed names) name.now) }
+{
+    let Ok(mut list) = Rc::try_unwrap(names.shared) else {
+        return None;
+    };
+    let Ok(name) = String::from_str(alloc, name) else {
+        return None;
+    };
+    let Err(place) = list.binary_search(&name) else {
+        return None;
+    };
+    match list.insert(place, name) {
+        Ok(()) => Names::new(alloc, list).ok(),
+        Err(_refused) => None,
+    }
+}
+
+// Keeps one name more in its place, where any are kept and there is room; else none is kept any more.
+fn keep_name(alloc: Global, kept: &mut Option<Names>, name: &str)
+    requires { IfSome kept.old (λ names. IsStrictlySortedBy name_order (listed names)) }
+    ensures { (names : List (List ℕ)) → IfSome kept.old (λ kept. listed kept ≡ names)
+        → IfSome kept.new (λ later. listed later ≡ insert_key name_order names name.now) }
+{
+    if let Some(names) = kept.take() {
+        *kept = with_name(alloc, names, name);
+    }
 }
 
 // A copy of the bytes under a name.
@@ -114,20 +173,24 @@ fn copy_of(
 fn put_in(
     alloc: Global,
     objects: &mut BTreeMap<String, Vec<u8>>,
+    kept: &mut Option<Names>,
     name: &str,
     bytes: Vec<u8>,
 ) -> Result<Put, StoreFault>
-    requires { IsOrdered string_cmp objects.old }
+    requires ordered { IsOrdered string_cmp objects.old }
+    requires names { AreNamesOf objects.old kept.old }
     ensures told { IfOk result (λ put. put ≡ put_told (object_at (objects_of objects.old) name.now)) }
     ensures created { result ≡ Ok Put.Created → object_at (objects_of objects.old) name.now ≡ None }
     ensures landed { OnOk result (HasLanded name.now bytes.items (objects_of objects.old, []) (objects_of objects.new, [])) }
     ensures memory { OnErr result (objects_of objects.new ≡ objects_of objects.old) }
     ensures never_lost { IsErrOf result StoreFault.Lost → ⊥ }
     ensures ordered { IsOrdered string_cmp objects.new }
+    ensures kept { AreNamesOf objects.new kept.new }
 {
     if objects.contains_key(name) {
         return Ok(Put::Exists);
     }
     objects.insert(String::from_str(alloc, name)?, bytes)?;
+    keep_name(alloc, kept, name);
     Ok(Put::Created)
 }

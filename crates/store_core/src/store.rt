@@ -1,12 +1,12 @@
 //! What a store of objects is to the code above it.
-ghost use Rattle.std.specs.Prelude.{◌≡◌, ℕ, List, None, Ok, map, IfOk, OnOk, IsErrOf};
+ghost use Rattle.std.specs.Prelude.{◌≡◌, ℕ, List, None, Ok, IfOk, OnOk, IsErrOf};
 ghost use Rattle.std.specs.Option.{option_map};
-ghost use Rattle.std.specs.String.{string_bytes};
 ghost use Rattle.std.specs.List.Sorted.{IsStrictlySortedBy};
+ghost use Rattle.store_core.specs.Listed.{listed};
 ghost use Rattle.store_core.specs.Objects.{Objects, object_at, names_of, name_order, IsInOrder};
 ghost use Rattle.store_core.specs.Calls.{Flight, HasLanded, MayHaveLanded, IsUntouched, CountsFault, StandsAfter, put_told};
 
-use crate::StoreFault;
+use crate::{Names, StoreFault};
 
 /// What a put answers.
 #[derive(Clone, Copy, Debug, PartialEq, Eq)]
@@ -36,9 +36,9 @@ pub trait Store {
     ghost is_reliable: { Self → Type 0 };
 
     /// All names that stand, in the order of their bytes, each once.
-    fn list(&mut self) -> Result<Vec<String>, StoreFault>
-        ensures names { IfOk result (λ names. map string_bytes names.items ≡ names_of (objects self.old)) }
-        ensures rising { IfOk result (λ names. IsStrictlySortedBy name_order (map string_bytes names.items)) }
+    fn list(&mut self) -> Result<Names, StoreFault>
+        ensures names { IfOk result (λ names. listed names ≡ names_of (objects self.old)) }
+        ensures rising { IfOk result (λ names. IsStrictlySortedBy name_order (listed names)) }
 
         ensures untouched { IsUntouched (objects self.old, in_flight self.old) (objects self.new, in_flight self.new) }
         ensures faults { CountsFault result (fault_count self.old) (fault_count self.new) }

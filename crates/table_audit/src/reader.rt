@@ -46,7 +46,7 @@ impl<S: Store> ObjectReader for S {
     ghost is_reliable = { λ store. S.is_reliable store };
 
     fn names(&mut self) -> Result<Vec<String>, StoreFault> {
-        self.list()
+        Ok(self.list()?.to_vec()?)
     }
 
     fn read(&mut self, name: &str) -> Result<Option<Vec<u8>>, StoreFault> {

@@ -100,7 +100,10 @@ impl Folder for MemoryFolder {
 
     /// Copies the names.
     fn names(&mut self) -> Result<Vec<String>, FolderFault> {
-        self.store.list().map_err(|_| FolderFault::Memory)
+        match self.store.list() {
+            Ok(names) => Ok(names.to_vec()?),
+            Err(_fault) => Err(FolderFault::Memory),
+        }
     }
 
     /// Copies the object's bytes.

@@ -73,7 +73,7 @@ fn names_to_save<S: Store>(
     ensures stays_reliable { S.is_reliable store.old → S.is_reliable store.new }
 {
     let names = store.list()?;
-    let lacking = lacking_names(alloc, loaded, &names)?;
+    let lacking = lacking_names(alloc, loaded, names.as_slice())?;
     Ok(names_in_order(alloc, &lacking)?)
 }
 

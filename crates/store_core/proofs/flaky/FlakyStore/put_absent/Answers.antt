@@ -1,4 +1,4 @@
-use Rattle.std.proofs.Common.{◌≡◌, ℕ, List, map, ap, subst, ◌∙◌, Result}
+use Rattle.std.proofs.Common.{◌≡◌, map, ap, subst, ◌∙◌, Result}
 use Rattle.std.specs.Result.{IsErrOf}
 use Rattle.store_core.specs.Memory.{object_of}
 use Rattle.store_core.specs.Turns.{puts_sent}
