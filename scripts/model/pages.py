@@ -1,6 +1,6 @@
 """Tells the chunks and pages of a table's Apache Parquet file in lines.
 
-The lines are those of `lake_inspect pages`; what is read and what is refused is that of
+The lines are those of a line `pages` of `lake_inspect`; what is read and what is refused is that of
 `parquet_reader.py`.
 """
 
