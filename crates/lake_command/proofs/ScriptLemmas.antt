@@ -9,7 +9,7 @@ use Rattle.lake_script.specs.declared.inputs.TheConstants.{MOST_BYTES}
 use Rattle.lake_script.specs.declared.engine.End.{End}
 use Rattle.lake_script.specs.declared.engine.End.TheVariants.{Done, BadLine, NotRead, NotWritten}
 use Rattle.lake_script.proofs.Callers.{few_lines}
-use Rattle.lake_script.specs.Runs.{FallsShort, MayBeTold, Tells}
+use Rattle.lake_script.specs.Runs.{FallsShort, MayBeTold, Runs, Tells}
 use Rattle.lake_script.specs.Sound.{IsScriptRun}
 use Rattle.lake_script.specs.Scripts.{IsScript, IsExpectedOver}
 use Rattle.lake_script.specs.Tables.{nothing, entries_of, AreOfTable, expected_output as expected_by_table}
@@ -93,6 +93,13 @@ has_told Done P fine run = run
 has_told (BadLine number) P fine run = run
 has_told NotRead P fine run = absurd (fine refl)
 has_told NotWritten P fine run = absurd (fine refl)
+
+-- what is written of a text without actors over nothing, also where memory was refused
+pub may_of_run : (end : End) (old new : Option (List ℕ)) (text : List ℕ) (before after : Objects) → status_of end ≢ 1 → before ≡ []
+    → Finishes end (λ _. Tells old new (λ written. Runs 1 before (lines_of text) written after)) → Tells old new (MayBeTold [] text)
+may_of_run end old new text before after fine empty run =
+    let told = has_told end _ fine run in
+    (told.0, told.1, (after, subst (λ (o : Objects). Runs 1 o (lines_of text) told.0 after) empty told.2))
 
 -- what is written of a text with actors over nothing
 pub played_of_run : (end : End) (old new : Option (List ℕ)) (text : List ℕ) (before after : Objects) (uses : Bool) → status_of end ≢ 1 → before ≡ []

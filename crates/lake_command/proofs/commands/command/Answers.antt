@@ -3,7 +3,7 @@ use Rattle.lake_script.specs.Tables.{nothing}
 use Rattle.lake_script.proofs.Callers.{well_of_empty}
 use Rattle.lake_command.specs.Status.{status_of}
 use Rattle.world_script.specs.Words.{needs_world}
-use Rattle.lake_command.proofs.ScriptLemmas.{by_table_of, no_job, no_other, of_such, over_of, played_of_run, script_of_run, short_of_run, so_of_run, output_of_run, written_of}
+use Rattle.lake_command.proofs.ScriptLemmas.{by_table_of, may_of_run, no_job, no_other, of_such, over_of, played_of_run, script_of_run, short_of_run, so_of_run, output_of_run, written_of}
 use Rattle.lake_command.proofs.commands.command.Goals as goal
 
 pub returns-in-Ok-Script-clause-script : goal.returns-in-Ok-Script-clause-script
@@ -19,7 +19,8 @@ returns-in-Ok-Script-clause-script g c = λ command spells fine.
     (c.run-ran.ensures.script nothing (search rules) (well_of_empty _ _ (search rules)) (search rules) (sym c.short.ensures ∙ whole)))
     (λ short. of_such end _ (λ text. needs_world text ≡ false) _ _ ends (λ text is run. short_of_run end (Some text) _ _ _ ends run (search rules))
     (c.run-ran.ensures.short (search rules) (well_of_empty _ _ (search rules)) (sym c.short.ensures ∙ short)))
-    (search rules)
+    (of_such end _ (λ text. needs_world text ≡ false) _ _ ends (λ text is run. may_of_run end _ _ text _ _ ends (search rules) run)
+    (c.run-ran.ensures.tells (search rules) (well_of_empty _ _ (search rules))))
     (of_such end _ (λ text. needs_world text ≡ true) _ _ ends (λ text is run. played_of_run end _ _ text _ _ c.in-Ok-Script.use_checkpoints ends (search rules) run) (c.run-ran.ensures.plays (search rules)))
     (of_such end _ (λ text. needs_world text ≡ true) _ _ ends (λ text is run. so_of_run end _ _ text _ c.in-Ok-Script.use_checkpoints ends run) (c.run-ran.ensures.headline (search rules) (search rules)))
 

@@ -24,13 +24,13 @@ returns-clause-told g c = λ steady restores.
     (c.in_ok-load_files.ensures.loaded on []) in
     let kept = c.in_ok-loaded.ensures.untouched.0 in
     let is = subst (IsLoadedFor old statement) (sym kept) loaded_all in
-    let names = ap (map string_bytes) c.deref-2.ensures.value ∙ c.in_ok-loaded.ensures.names ∙ ap names_of (sym kept) in
+    let names = c.as_slice.ensures ∙ c.in_ok-loaded.ensures.names ∙ ap names_of (sym kept) in
     let well = loaded_well c.args.use_checkpoints old _ statement is restores in
     let unchanged : g.F.Folder.objects c.load_files.new.folder ≡ old = c.in_ok-load_files.ensures.untouched on ∙ same in
     let going = c.in_ok-load_files.ensures.steady on in
     let end = stored_objects c.execute-reply.new.store in
     let new = g.F.Folder.objects c.save.new.folder in
-    let listed = map string_bytes c.deref-2.result.now in
+    let listed = map string_bytes c.as_slice.result.now in
     let saved = c.in_ok-save.ensures.saved going ∙ ap (λ (o : Objects). with_copies end o (to_save listed (names_of end))) unchanged in
     line_done old _ end new statement (reply_text c.execute-reply.result) listed (g.met.F.Folder.in_order c.args.folder.now) is names (c.execute-reply.ensures.told tt well) saved
 
@@ -47,13 +47,13 @@ returns-clause-puts g c = λ steady restores.
     (c.in_ok-load_files.ensures.loaded on []) in
     let kept = c.in_ok-loaded.ensures.untouched.0 in
     let is = subst (IsLoadedFor old statement) (sym kept) loaded_all in
-    let names = ap (map string_bytes) c.deref-2.ensures.value ∙ c.in_ok-loaded.ensures.names ∙ ap names_of (sym kept) in
+    let names = c.as_slice.ensures ∙ c.in_ok-loaded.ensures.names ∙ ap names_of (sym kept) in
     let well = loaded_well c.args.use_checkpoints old _ statement is restores in
     let unchanged : g.F.Folder.objects c.load_files.new.folder ≡ old = c.in_ok-load_files.ensures.untouched on ∙ same in
     let going = c.in_ok-load_files.ensures.steady on in
     let end = stored_objects c.execute-reply.new.store in
     let new = g.F.Folder.objects c.save.new.folder in
-    let listed = map string_bytes c.deref-2.result.now in
+    let listed = map string_bytes c.as_slice.result.now in
     let front = subst (λ (o : Objects). HasSavedFront end (to_save listed (names_of end)) o new) unchanged (c.in_ok-save.ensures.front going) in
     front_saved old _ end new statement listed (g.met.F.Folder.in_order c.args.folder.now) is names (c.execute-reply.ensures.grows tt well) front
 
@@ -70,13 +70,13 @@ returns-in_err-save-clause-puts g c = λ steady restores.
     (c.in_ok-load_files.ensures.loaded on []) in
     let kept = c.in_ok-loaded.ensures.untouched.0 in
     let is = subst (IsLoadedFor old statement) (sym kept) loaded_all in
-    let names = ap (map string_bytes) c.deref-2.ensures.value ∙ c.in_ok-loaded.ensures.names ∙ ap names_of (sym kept) in
+    let names = c.as_slice.ensures ∙ c.in_ok-loaded.ensures.names ∙ ap names_of (sym kept) in
     let well = loaded_well c.args.use_checkpoints old _ statement is restores in
     let unchanged : g.F.Folder.objects c.load_files.new.folder ≡ old = c.in_ok-load_files.ensures.untouched on ∙ same in
     let going = c.in_ok-load_files.ensures.steady on in
     let end = stored_objects c.execute-reply.new.store in
     let new = g.F.Folder.objects c.save.new.folder in
-    let listed = map string_bytes c.deref-2.result.now in
+    let listed = map string_bytes c.as_slice.result.now in
     let front = subst (λ (o : Objects). HasSavedFront end (to_save listed (names_of end)) o new) unchanged (c.in_err-save.ensures.front going) in
     front_saved old _ end new statement listed (g.met.F.Folder.in_order c.args.folder.now) is names (c.execute-reply.ensures.grows tt well) front
 
@@ -93,12 +93,12 @@ returns-in_err-save-clause-named g c = λ steady restores.
     (c.in_ok-load_files.ensures.loaded on []) in
     let kept = c.in_ok-loaded.ensures.untouched.0 in
     let is = subst (IsLoadedFor old statement) (sym kept) loaded_all in
-    let names = ap (map string_bytes) c.deref-2.ensures.value ∙ c.in_ok-loaded.ensures.names ∙ ap names_of (sym kept) in
+    let names = c.as_slice.ensures ∙ c.in_ok-loaded.ensures.names ∙ ap names_of (sym kept) in
     let well = loaded_well c.args.use_checkpoints old _ statement is restores in
     let unchanged : g.F.Folder.objects c.load_files.new.folder ≡ old = c.in_ok-load_files.ensures.untouched on ∙ same in
     let going = c.in_ok-load_files.ensures.steady on in
     let end = stored_objects c.execute-reply.new.store in
-    let listed = map string_bytes c.deref-2.result.now in
+    let listed = map string_bytes c.as_slice.result.now in
     subst (λ (r : Result LineReply Failure). IfErr r (λ failure. NamesPut failure statement old)) (sym (fails_as c.from_residual-in_err-save.result c.in_err-save.field-0.0 c.from_residual-in_err-save.ensures.1))
     (named_put c.in_err-save.field-0.0 old _ end statement listed (g.met.F.Folder.in_order c.args.folder.now) is names (c.execute-reply.ensures.grows tt well) c.in_err-save.ensures.named)
 
