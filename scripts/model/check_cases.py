@@ -78,6 +78,14 @@ class Tally:
                 print("  model ", *map(shortened, mine))
 
 
+def lines_of_kind(kind: str, name: str) -> list[str]:
+    """The lines of `crates/lake_cases`' stored input or output that are of a kind."""
+    lines = lines_of("lake_cases", name)
+    start = lines.index(f">>>> {kind}") + 1
+    behind = [place for place, line in enumerate(lines) if line.startswith(">>>> ") and place >= start]
+    return lines[start : min(behind, default=len(lines))]
+
+
 def stored_scripts(lines: list[str]) -> dict[str, list[str]]:
     """The stored answers of scripts by the names of the cases."""
     stored: dict[str, list[str]] = {}
@@ -92,26 +100,26 @@ def stored_scripts(lines: list[str]) -> dict[str, list[str]]:
 
 
 def check_scripts() -> Tally:
-    """Compares the cases of `crates/lake_cases`."""
+    """Compares the scripts and command lines of `crates/lake_cases`."""
     tally = Tally()
-    stored = stored_scripts(lines_of("lake_cases", "stdout"))
-    for case in script_cases(lines_of("lake_cases", "stdin")):
-        name = f"lake_cases: {case.name}"
+    stored = stored_scripts(lines_of_kind("scripts", "stdout"))
+    for case in script_cases(lines_of_kind("scripts", "stdin")):
+        name = f"scripts: {case.name}"
         tally.compare(name, partial(script_answer, case), stored.pop(case.name, []))
     if stored:
-        raise SystemExit("lake_cases: a stored answer is left over")
+        raise SystemExit("scripts: a stored answer is left over")
     return tally
 
 
 def check_sessions() -> Tally:
-    """Compares the cases of `crates/store_cases`."""
+    """Compares the calls of `crates/lake_cases`."""
     tally = Tally()
-    stored = stored_scripts(lines_of("store_cases", "stdout"))
-    for case in session_cases(lines_of("store_cases", "stdin")):
-        name = f"store_cases: {case.name}"
+    stored = stored_scripts(lines_of_kind("calls", "stdout"))
+    for case in session_cases(lines_of_kind("calls", "stdin")):
+        name = f"calls: {case.name}"
         tally.compare(name, partial(session_answer, case), stored.pop(case.name, []))
     if stored:
-        raise SystemExit("store_cases: a stored answer is left over")
+        raise SystemExit("calls: a stored answer is left over")
     return tally
 
 
@@ -407,13 +415,13 @@ def main() -> int:
         print("memory was refused,", refusal)
     total = Tally()
     checks = {
-        "lake_cases": check_scripts,
-        "store_cases": check_sessions,
+        "scripts": check_scripts,
+        "calls": check_sessions,
         "lake_inspect": check_lines,
     }
-    for crate, check in checks.items():
+    for name, check in checks.items():
         tally = check()
-        print(f"{crate}: {tally}")
+        print(f"{name}: {tally}")
         total.add(tally)
     print(total)
     return 1 if total.differ or refusals else 0

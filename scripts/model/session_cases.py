@@ -1,7 +1,7 @@
 """Cases of sessions that are answered call by call, and what this model tells of them.
 
-Of `crates/store_cases` those are answered that have calls, faults, creations, appends, closes, checkpoints
-and reads alone; `crates/store_cases/src/calls.rt` says how their lines are spelled.
+Of the calls of `crates/lake_cases` those are answered that have calls, faults, creations, appends, closes,
+checkpoints and reads alone; its `src/calls.rt` says how their lines are spelled.
 """
 
 from collections.abc import Iterator

@@ -1,9 +1,8 @@
 //! Calls, and what they answer.
 
-use crate::turns::{CaseStore, add_turns, arm, landed, put_text};
-use case_words::{Failure, halves, number, say, tell, tell_text};
+use crate::turns::{CaseStore, add_turns, land, put_text, turn_of};
+use case_words::Told;
 use session_core::{Reply, Request, ask};
-use std::alloc::Global;
 use store_core::Store;
 
 /// Does what a line says of calls, and adds how it ended:
@@ -15,107 +14,98 @@ use store_core::Store;
 /// - `faults`: how many calls were lost;
 /// - `object NAME`: what stands under a name in the store below, without a call of the store above;
 /// - `list`, `get NAME`, `put NAME TEXT` and `commit V TEXT`: one call by `ask`, the bytes being the text as it stands.
-pub fn tell_call(
-    alloc: Global,
-    store: &mut CaseStore,
-    word: &str,
-    rest: &str,
-    out: &mut String,
-) -> Result<(), Failure> {
+pub fn tell_call(store: &mut CaseStore, word: &str, rest: &str, told: &mut Told) {
     match word {
-        "turns" => add_turns(store, rest),
-        "arm" => arm(store, rest),
-        "land" => say(out, landed(store, rest)?),
-        "faults" if rest.is_empty() => tell(out, "faults", &store.faults()),
-        "object" => tell_standing(alloc, store, rest, out),
+        "turns" => add_turns(store, rest, told),
+        "arm" => {
+            let turn = turn_of(rest, told);
+            if !told.is_bad() {
+                store.arm(turn);
+            }
+        }
+        "land" => land(store, rest, told),
+        "faults" if rest.is_empty() => told.tell("faults", &store.faults()),
+        "object" => tell_standing(store, rest, told),
         _ => {
-            let request = request_of(alloc, word, rest)?;
-            tell_reply(alloc, ask(alloc, store, request), out)
+            let request = request_of(word, rest, told);
+            if !told.is_bad() {
+                tell_reply(&ask(told.alloc, store, request), told);
+            }
         }
     }
 }
 
 // Adds what stands under a name in the store below, which loses no call.
-fn tell_standing(
-    alloc: Global,
-    store: &mut CaseStore,
-    name: &str,
-    out: &mut String,
-) -> Result<(), Failure> {
+fn tell_standing(store: &mut CaseStore, name: &str, told: &mut Told) {
     match store.store.get(name) {
-        Ok(Some(bytes)) => tell_object("stands", alloc, &bytes, out),
-        Ok(None) => say(out, "absent"),
-        Err(_fault) => Err(Failure::Memory),
+        Ok(Some(bytes)) => tell_object("stands", &bytes, told),
+        Ok(None) => told.say("absent"),
+        Err(_fault) => told.lacks_memory(),
     }
 }
 
 // The call that a line asks for.
-fn request_of(alloc: Global, word: &str, rest: &str) -> Result<Request, Failure> {
+fn request_of(word: &str, rest: &str, told: &mut Told) -> Request {
     match word {
-        "list" if rest.is_empty() => Ok(Request::List),
-        "get" => Ok(Request::Get(String::from_str(alloc, rest)?)),
-        "put" => put_of(alloc, rest),
-        "commit" => {
-            let (version, text) = halves(rest)?;
-            let version = number(version)?;
-            Ok(Request::PutCommit(version, text.as_bytes().to_vec(alloc)?))
+        "list" if rest.is_empty() => Request::List,
+        "get" => Request::Get(told.copy_of(rest)),
+        "put" => {
+            let (name, text) = told.halves(rest);
+            Request::PutFile(told.copy_of(name), told.bytes_of(text.as_bytes()))
         }
-        _ => Err(Failure::Misspelled),
-    }
-}
-
-// The put of these words: `NAME TEXT`.
-fn put_of(alloc: Global, text: &str) -> Result<Request, Failure> {
-    let (name, text) = halves(text)?;
-    let name = String::from_str(alloc, name)?;
-    match text.as_bytes().to_vec(alloc) {
-        Ok(bytes) => Ok(Request::PutFile(name, bytes)),
-        Err(_error) => Err(Failure::Memory),
+        "commit" => {
+            let (version, text) = told.halves(rest);
+            Request::PutCommit(told.number(version), told.bytes_of(text.as_bytes()))
+        }
+        _ => {
+            told.misspelled();
+            Request::List
+        }
     }
 }
 
 // Adds the answer of a call.
-fn tell_reply(alloc: Global, reply: Reply, out: &mut String) -> Result<(), Failure> {
+fn tell_reply(reply: &Reply, told: &mut Told) {
     match reply {
-        Reply::Names(names) => tell_names(names.as_slice(), out),
-        Reply::Object(Some(bytes)) => tell_object("object", alloc, &bytes, out),
-        Reply::Object(None) => say(out, "object -"),
-        Reply::Put(put) => say(out, put_text(put)),
-        Reply::Lost => say(out, "lost"),
-        Reply::Memory => say(out, "memory"),
+        Reply::Names(names) => tell_names(names.as_slice(), told),
+        Reply::Object(Some(bytes)) => tell_object("object", bytes, told),
+        Reply::Object(None) => told.say("object -"),
+        Reply::Put(put) => told.say(put_text(*put)),
+        Reply::Lost => told.say("lost"),
+        Reply::Memory => told.say("memory"),
     }
 }
 
 // Adds names in a line.
-fn tell_names(names: &[String], out: &mut String) -> Result<(), Failure> {
-    out.push_str("names")?;
+fn tell_names(names: &[String], told: &mut Told) {
+    told.text("names");
     for name in names {
-        out.push(' ')?;
-        out.push_str(name)?;
+        told.text(" ");
+        told.text(name);
     }
-    Ok(out.push('\n')?)
+    told.text("\n");
 }
 
 // Adds the bytes of an object, behind a word.
-fn tell_object(word: &str, alloc: Global, bytes: &[u8], out: &mut String) -> Result<(), Failure> {
-    out.push_str(word)?;
-    out.push(' ')?;
-    tell_text(alloc, bytes, out)?;
-    Ok(out.push('\n')?)
+fn tell_object(word: &str, bytes: &[u8], told: &mut Told) {
+    told.text(word);
+    told.text(" ");
+    told.add(bytes);
+    told.text("\n");
 }
 
 /// Adds a call that is asked for; of a file with the count of its bytes, of a commit with its bytes.
-pub fn tell_request(alloc: Global, request: &Request, out: &mut String) -> Result<(), Failure> {
+pub fn tell_request(request: &Request, told: &mut Told) {
     match request {
-        Request::List => say(out, "asks for the names"),
-        Request::Get(name) => tell(out, "asks for", name),
+        Request::List => told.say("asks for the names"),
+        Request::Get(name) => told.tell("asks for", name),
         Request::PutFile(name, bytes) => {
-            tell(out, "asks to put", name)?;
-            tell(out, "file", &bytes.len())
+            told.tell("asks to put", name);
+            told.tell("file", &bytes.len());
         }
         Request::PutCommit(version, bytes) => {
-            tell(out, "asks to put commit", version)?;
-            tell_text(alloc, bytes, out)
+            told.tell("asks to put commit", version);
+            told.add(bytes);
         }
     }
 }

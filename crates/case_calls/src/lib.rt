@@ -1,13 +1,18 @@
-//! Calls of a store as lines of cases: what becomes of them, what they answer, and sessions that wait for their answers. It
-//! knows nothing of tables and their logs.
+//! Stores and folders of cases: calls of a store as lines, what becomes of them, and what they answer; sessions that wait for
+//! their answers; scripts with what stands before they run; and folders that another process writes to as well. It knows nothing
+//! of tables and their logs.
 #![tactic(auto)]
 
 mod calls;
-mod jobs;
+mod rows;
+mod scripts;
+mod shared;
 mod turns;
 mod waiting;
 
 pub use calls::{tell_call, tell_request};
-pub use jobs::{Creation, Job, Trial, creation_of, job_of, place_of, rows_of};
+pub use rows::rows_of;
+pub use scripts::{Run, Script};
+pub use shared::{Rival, SharedFolder};
 pub use turns::CaseStore;
-pub use waiting::{Waiting, begin, step};
+pub use waiting::{Waiting, begin, place_of, step};

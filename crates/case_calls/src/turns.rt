@@ -1,39 +1,38 @@
 //! What becomes of calls.
 
-use case_words::Failure;
+use case_words::Told;
 use store_core::{Flaky, MemoryStore, Put, StoreFault, Turn};
 
 /// The store of a case, which loses calls as it is told to.
 pub type CaseStore = Flaky<MemoryStore>;
 
-// The turn of this name.
-fn turn_of(word: &str) -> Result<Turn, Failure> {
+/// The turn of this name.
+pub fn turn_of(word: &str, told: &mut Told) -> Turn {
     match word {
-        "pass" => Ok(Turn::Pass),
-        "lost" => Ok(Turn::LoseRequest),
-        "mute" => Ok(Turn::LoseAnswer),
-        "late" => Ok(Turn::LandLate),
-        "twice" => Ok(Turn::LandTwice),
-        _ => Err(Failure::Misspelled),
+        "pass" => Turn::Pass,
+        "lost" | "request" => Turn::LoseRequest,
+        "mute" | "answer" => Turn::LoseAnswer,
+        "late" => Turn::LandLate,
+        "twice" => Turn::LandTwice,
+        _ => {
+            told.misspelled();
+            Turn::Pass
+        }
     }
 }
 
 /// Adds turns of these names, with a space between each two, behind those that the store was given. Where one of them is
 /// misspelled, none is added.
-pub fn add_turns(store: &mut CaseStore, words: &str) -> Result<(), Failure> {
+pub fn add_turns(store: &mut CaseStore, words: &str, told: &mut Told) {
     for word in words.split(' ') {
-        turn_of(word)?;
+        turn_of(word, told);
     }
-    for word in words.split(' ') {
-        store.turns.push(turn_of(word)?)?;
+    if !told.is_bad() {
+        for word in words.split(' ') {
+            let turn = turn_of(word, told);
+            told.note(store.turns.push(turn));
+        }
     }
-    Ok(())
-}
-
-/// The next put of a commit's name meets the turn of this name.
-pub fn arm(store: &mut CaseStore, word: &str) -> Result<(), Failure> {
-    store.arm(turn_of(word)?);
-    Ok(())
 }
 
 /// How a put went, in a word.
@@ -44,12 +43,16 @@ pub fn put_text(put: Put) -> &'static str {
     }
 }
 
-/// Lets the put in flight of this number take effect. What that tells, in a word.
-pub fn landed(store: &mut CaseStore, number: &str) -> Result<&'static str, Failure> {
-    match store.land(number.parse()?) {
-        Ok(Some(put)) => Ok(put_text(put)),
-        Ok(None) => Ok("none"),
-        Err(StoreFault::Lost) => Ok("lost"),
-        Err(StoreFault::Memory) => Err(Failure::Memory),
+/// Lets the put in flight of this number take effect, and adds what that tells.
+pub fn land(store: &mut CaseStore, number: &str, told: &mut Told) {
+    let number = told.number(number);
+    if told.is_bad() {
+        return;
+    }
+    match store.land(number as usize) {
+        Ok(Some(put)) => told.say(put_text(put)),
+        Ok(None) => told.say("none"),
+        Err(StoreFault::Lost) => told.say("lost"),
+        Err(StoreFault::Memory) => told.lacks_memory(),
     }
 }

@@ -5,9 +5,9 @@ ghost use Rattle.session_core.specs.Talks.{IsReplyTo, asked_view, kind_of, told_
 
 use crate::calls::tell_request;
 use crate::turns::CaseStore;
-use case_words::Failure;
+use case_words::Told;
 use session_core::{Reply, Request, Session, Step, ask};
-use std::alloc::Global;
+use std::collections::BTreeMap;
 
 /// A session that waits for the answer to a call.
 pub struct Waiting<N: Session + Drop> {
@@ -39,52 +39,50 @@ impl<N: Session + Drop> Waiting<N> {
 
 /// Begins a session, in place of one that waits. Adds what it asks for first, or else tells how it ended.
 pub fn begin<N: Session + Drop>(
-    alloc: Global,
     waiting: &mut Option<Waiting<N>>,
     session: N,
-    out: &mut String,
-) -> Result<Option<N::Outcome>, Failure>
+    told: &mut Told,
+) -> Option<N::Outcome>
 where
     N::Outcome: Drop,
     requires new { N.awaits session ≡ None }
     requires unended { N.done session ≡ false }
 {
     *waiting = None;
-    go_on(alloc, waiting, session, None, out)
+    go_on(waiting, session, None, told)
 }
 
 /// Makes the call that a session asks for; or tells it that memory ran out in that call, which isn't made. Adds what it asks
 /// for next, or else tells how it ended.
 pub fn step<N: Session + Drop>(
-    alloc: Global,
     store: &mut CaseStore,
     waiting: &mut Option<Waiting<N>>,
     is_short: bool,
-    out: &mut String,
-) -> Result<Option<N::Outcome>, Failure>
+    told: &mut Told,
+) -> Option<N::Outcome>
 where
     N::Outcome: Drop,
 {
     let Some(found) = waiting.take() else {
-        return Err(Failure::Misspelled);
+        told.misspelled();
+        return None;
     };
     let (session, request) = found.into_parts();
     let reply = if is_short {
         Reply::Memory
     } else {
-        ask(alloc, store, request)
+        ask(told.alloc, store, request)
     };
-    go_on(alloc, waiting, session, Some(reply), out)
+    go_on(waiting, session, Some(reply), told)
 }
 
 // Tells a session an answer. It waits where it asks for another call.
 fn go_on<N: Session + Drop>(
-    alloc: Global,
     waiting: &mut Option<Waiting<N>>,
     session: N,
     reply: Option<Reply>,
-    out: &mut String,
-) -> Result<Option<N::Outcome>, Failure>
+    told: &mut Told,
+) -> Option<N::Outcome>
 where
     N::Outcome: Drop,
     requires unended { N.done session ≡ false }
@@ -93,11 +91,25 @@ where
     let mut session = session;
     match session.next(reply) {
         Step::Ask(request) => {
-            let told = tell_request(alloc, &request, out);
+            tell_request(&request, told);
             *waiting = Some(Waiting { session, request });
-            told?;
-            Ok(None)
+            None
         }
-        Step::Done(outcome) => Ok(Some(outcome)),
+        Step::Done(outcome) => Some(outcome),
+    }
+}
+
+/// The place of this name, an empty one where none stands. `None` where memory runs out.
+pub fn place_of<'m, V: Drop>(
+    places: &'m mut BTreeMap<String, Option<V>>,
+    name: &str,
+    told: &mut Told,
+) -> Option<&'m mut Option<V>> {
+    match places.entry(told.copy_of(name)) {
+        Ok(entry) => Some(entry.or_insert(None)),
+        Err(_error) => {
+            told.lacks_memory();
+            None
+        }
     }
 }

@@ -1,29 +1,29 @@
 //! Bytes that are made of lines, and spoiled.
 
-use crate::failure::Failure;
-use std::alloc::Global;
-use std::io::Write;
+use crate::told::Told;
 
 /// Adds a line.
-pub fn add_line(bytes: &mut Vec<u8>, line: &str) -> Result<(), Failure> {
-    bytes.extend_from_slice(line.as_bytes())?;
-    bytes.push(b'\n')?;
-    Ok(())
+pub fn add_line(bytes: &mut Vec<u8>, line: &str, told: &mut Told) {
+    told.note(bytes.extend_from_slice(line.as_bytes()));
+    told.note(bytes.push(b'\n'));
 }
 
 /// Adds so many lines, each of its place, from 0, between two texts.
-pub fn add_many(bytes: &mut Vec<u8>, many: u64, before: &str, behind: &str) -> Result<(), Failure> {
+pub fn add_many(bytes: &mut Vec<u8>, many: u64, before: &str, behind: &str, told: &mut Told) {
+    let mut lines = Told::new(told.alloc);
     for place in 0..many {
-        writeln!(bytes, "{before}{place}{behind}")?;
+        lines.with(before, &place);
+        lines.say(behind);
     }
-    Ok(())
+    told.note(bytes.extend_from_slice(lines.bytes()));
+    told.heed(&lines);
 }
 
 /// The bytes with one of them changed.
-pub fn changed(alloc: Global, bytes: &[u8], at: usize, byte: u8) -> Result<Vec<u8>, Failure> {
-    let mut changed = bytes.to_vec(alloc)?;
+pub fn changed(bytes: &[u8], at: usize, byte: u8, told: &mut Told) -> Vec<u8> {
+    let mut changed = told.bytes_of(bytes);
     if let Some(place) = changed.get_mut(at) {
         *place = byte;
     }
-    Ok(changed)
+    changed
 }

@@ -1,15 +1,15 @@
-//! Lines of cases: the words and numbers that they are made of, and the lines that tell how they end. It knows nothing of
-//! tables and their logs.
+//! Cases as they are written and told: lines of words and numbers, the bytes that a text spells, streams that fail where a case
+//! wants it, and what is told of all that. It knows nothing of stores, tables and their logs.
 #![tactic(auto)]
 
 mod bytes;
-mod failure;
-mod reads;
-mod telling;
+mod notation;
+mod streams;
+mod told;
 mod words;
 
 pub use bytes::{add_line, add_many, changed};
-pub use failure::Failure;
-pub use reads::{Reads, reads_of};
-pub use telling::{add_one, refuse, say, show, tell, tell_counts, tell_pair, tell_text};
-pub use words::{count, halves, head, moment, number};
+pub use notation::Names;
+pub use streams::{Manner, SOUND, Sink, Source};
+pub use told::{Told, add_one};
+pub use words::{head, reads_of};

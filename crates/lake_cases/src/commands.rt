@@ -1,107 +1,99 @@
 //! The command lines of a case: each is run, and what it tells is added.
 
-use crate::running::tell_written;
-use crate::table::tell_objects;
-use case_text::{Case, Failure, Run, SharedFolder, Sink, Source};
+use crate::scripts::tell_written;
+use crate::tables::tell_objects;
+use case_calls::{Run, Script, SharedFolder};
+use case_words::Told;
 use folder_check::{FolderReader, NoProgress};
 use lake_command::{check_command, command, table_command};
 use lake_script::{Input, Output};
 use lake_words::{Command, read_words};
-use std::io::Write;
 use std::{fs, mem};
 use store_core::MemoryStore;
-use table_folder::{DirFolder, MemoryFolder, Stop, load};
+use table_folder::{DirFolder, LoadFault, MemoryFolder, Stop, load};
 
 /// Runs the command lines of a case, and adds what each writes, its exit status, and what it tells on standard error.
-pub fn tell_runs(rt: &HostRuntime, case: &mut Case, out: &mut Vec<u8>) -> Result<(), Failure> {
-    let alloc = rt.alloc();
-    case.end_run(alloc);
-    if let Some(folder) = &case.folder {
-        let _removed = fs::remove_dir_all(rt, folder.as_str());
-        fs::create_dir(rt, folder.as_str())?;
+pub fn tell_runs(rt: &HostRuntime, script: &mut Script<'_>, told: &mut Told) {
+    script.end_run(told.alloc);
+    if let Some(path) = script.folder {
+        let _removed = fs::remove_dir_all(rt, path);
+        told.note(fs::create_dir(rt, path));
     }
-    let store = mem::replace(&mut case.store.store, MemoryStore::new(alloc));
-    let mut files = MemoryFolder::new(alloc, store, Stop::Never);
-    for run in &case.runs {
+    let store = mem::replace(&mut script.store.store, MemoryStore::new(told.alloc));
+    let mut files = MemoryFolder::new(told.alloc, store, Stop::Never);
+    for run in &script.runs {
         files.stop = run.stop;
-        let folder = SharedFolder::new(alloc, files, &run.rivals);
-        files = tell_run(rt, case, run, folder, out)?;
+        files = tell_run(rt, script, run, files, told);
     }
-    if case.tells_objects {
-        tell_files(rt, case, &mut files, out)?;
+    if script.has("objects") {
+        tell_files(rt, script, &mut files, told);
     }
-    Ok(())
 }
 
 // Adds the names of the files that are left, each with its count of bytes.
-fn tell_files(
-    rt: &HostRuntime,
-    case: &Case,
-    folder: &mut MemoryFolder,
-    out: &mut Vec<u8>,
-) -> Result<(), Failure> {
-    match &case.folder {
-        Some(path) => {
-            let mut folder = DirFolder::new(rt.clone()?, path.as_str())?;
-            let mut store = load(rt.alloc(), &mut folder).map_err(|_| Failure::Memory)?;
-            tell_objects(&mut store, out)
-        }
-        None => tell_objects(&mut folder.store, out),
+fn tell_files(rt: &HostRuntime, script: &Script<'_>, files: &mut MemoryFolder, told: &mut Told) {
+    match script.folder {
+        Some(path) => match files_of(rt, path) {
+            Ok(store) => {
+                let mut store = store;
+                tell_objects(&mut store, told);
+            }
+            Err(_fault) => told.lacks_memory(),
+        },
+        None => tell_objects(&mut files.store, told),
     }
 }
 
-// Runs one command line, and tells what came of it and the files that are left.
-fn tell_run(
-    rt: &HostRuntime,
-    case: &Case,
-    run: &Run,
-    folder: SharedFolder<'_>,
-    out: &mut Vec<u8>,
-) -> Result<MemoryFolder, Failure> {
-    let mut told = Vec::new(rt.alloc());
-    let mut err = Vec::new(rt.alloc());
-    let mut reader = FolderReader::new(folder, NoProgress);
-    let status = run_command(rt, case, run, &mut reader, &mut told, &mut err);
-    tell_written(rt.alloc(), &told, case.last, out)?;
-    writeln!(out, "status {status}")?;
-    tell_written(rt.alloc(), &err, None, out)?;
-    Ok(reader.folder.into_files())
+// The files of a folder on the disk.
+fn files_of(rt: &HostRuntime, path: &str) -> Result<MemoryStore, LoadFault> {
+    let mut folder = DirFolder::new(rt.clone()?, path)?;
+    load(rt.alloc(), &mut folder)
 }
 
-// Runs one command line, over the folder in memory unless the case is on the disk.
-fn run_command(
+// Runs one command line over these files, and tells what came of it. The files that are left.
+fn tell_run(
     rt: &HostRuntime,
-    case: &Case,
-    run: &Run,
-    reader: &mut FolderReader<SharedFolder<'_>, NoProgress>,
-    told: &mut Vec<u8>,
-    err: &mut Vec<u8>,
-) -> u8 {
-    let source = Source {
-        rest: &run.input,
-        manner: case.input,
-    };
-    let sink = Sink {
-        told,
-        manner: case.output,
-        is_full: case.is_full,
-        is_stuck: case.is_stuck,
-    };
-    let mut input = Input::new(source);
-    let mut output = Output::new(rt.alloc(), sink);
-    let exit = match read_words(rt.alloc(), &run.words) {
-        Ok(Command::Table(job)) if case.folder.is_none() => table_command(
-            rt.alloc(),
+    script: &Script<'_>,
+    run: &Run<'_>,
+    files: MemoryFolder,
+    told: &mut Told,
+) -> MemoryFolder {
+    let mut written = Vec::new(told.alloc);
+    let mut err = Vec::new(told.alloc);
+    let words = words_of(run.words, told);
+    let folder = SharedFolder::new(told.alloc, files, &run.rivals);
+    let mut reader = FolderReader::new(folder, NoProgress);
+    let mut input = Input::new(script.source(&run.input));
+    let mut output = Output::new(told.alloc, script.sink(&mut written));
+    let is_on_disk = script.folder.is_some();
+    let exit = match read_words(told.alloc, &words) {
+        Ok(Command::Table(job)) if !is_on_disk => table_command(
+            told.alloc,
             &mut reader.folder,
             job,
             &mut input,
             &mut output,
-            err,
+            &mut err,
         ),
-        Ok(Command::Check { .. }) if case.folder.is_none() => {
-            check_command(rt.alloc(), reader, &mut output, err)
+        Ok(Command::Check { .. }) if !is_on_disk => {
+            check_command(told.alloc, &mut reader, &mut output, &mut err)
         }
-        _ => command(rt, &run.words, &mut input, &mut output, err, NoProgress),
+        _ => command(rt, &words, &mut input, &mut output, &mut err, NoProgress),
     };
-    exit.status
+    tell_written(&written, script.number_of("last"), told);
+    told.tell("status", &exit.status);
+    tell_written(&err, usize::MAX, told);
+    reader.folder.into_files()
+}
+
+// The words of a command line, behind the program's name.
+fn words_of(text: &str, told: &mut Told) -> Vec<String> {
+    let mut words = Vec::new(told.alloc);
+    let name = told.copy_of("lake");
+    told.note(words.push(name));
+    for word in text.split_whitespace() {
+        let word = told.copy_of(word);
+        told.note(words.push(word));
+    }
+    words
 }

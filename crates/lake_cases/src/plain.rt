@@ -1,123 +1,107 @@
 //! Scripts of the plain table, which the slow program of the definitions answers.
 
-use case_text::{Failure, number};
+use crate::tables::tell_count;
+use case_words::{Told, head};
 use row_core::Value;
-use std::alloc::Global;
-use std::io::Write;
 use std::str;
-use table_model::{Answer, AppendAnswer, Batch, Closing, Offset, Table, is_lawful};
+use table_model::{Answer, AppendAnswer, Batch, Closing, Offset, Table};
 
 /// Answers the lines of a script over a plain table that was just created: `append APP NUMBER ROW ..`, `close APP` and
 /// `read MAX VERSION FILE ROW`. Blank lines have no answer.
-pub fn tell_plain(alloc: Global, script: &[u8], out: &mut Vec<u8>) -> Result<(), Failure> {
-    let script = str::from_utf8(script).ok().ok_or(Failure::Misspelled)?;
-    let mut table = Table::created(alloc)?;
-    for line in script.lines() {
-        if !line.is_empty() {
-            tell_line(alloc, &mut table, line, out)?;
-        }
-    }
-    let count = table.entries().len();
-    let judged = if is_lawful(table.entries()) {
-        "lawful"
-    } else {
-        "unlawful"
+pub fn tell_plain(script: &[u8], told: &mut Told) {
+    let Ok(table) = Table::created(told.alloc) else {
+        return told.lacks_memory();
     };
-    writeln!(out, "{count} entries, {judged}")?;
-    Ok(())
+    let mut table = table;
+    for line in str::from_utf8(script).unwrap_or("").lines() {
+        let (word, rest) = head(line);
+        match word {
+            "append" => append(&mut table, rest, told),
+            "close" => close(&mut table, rest, told),
+            "read" => read(&table, rest, told),
+            "" => {}
+            _ => told.misspelled(),
+        }
+    }
+    tell_count(table.entries(), told);
 }
 
-fn tell_line(
-    alloc: Global,
-    table: &mut Table,
-    line: &str,
-    out: &mut Vec<u8>,
-) -> Result<(), Failure> {
-    let (word, rest) = line.split_once(' ').ok_or(Failure::Misspelled)?;
-    match word {
-        "append" => {
-            let answer = table.append(alloc, batch_of(alloc, rest)?)?;
-            tell_appended(answer, out)
-        }
-        "close" => {
-            match table.close(String::from_str(alloc, rest)?)? {
-                Closing::Closed(version) => writeln!(out, "Closed {version}")?,
-                Closing::AlreadyClosed => writeln!(out, "AlreadyClosed")?,
-            }
-            Ok(())
-        }
-        "read" => {
-            let (max, place) = rest.split_once(' ').ok_or(Failure::Misspelled)?;
-            let answer = table.read(alloc, number(max)?, place_of(place)?)?;
-            tell_answer(&answer, out)
-        }
-        _ => Err(Failure::Misspelled),
+// Appends the batch of an application, a number, and rows of one column.
+fn append(table: &mut Table, words: &str, told: &mut Told) {
+    let (application, words) = head(words);
+    let (number, words) = head(words);
+    let mut rows = Vec::new(told.alloc);
+    for word in words.split_whitespace() {
+        add_row(&mut rows, word, told);
     }
-}
-
-// The batch of an application, a number, and rows of one column.
-fn batch_of(alloc: Global, text: &str) -> Result<Batch, Failure> {
-    let mut words = text.split(' ');
-    let application = words.next().ok_or(Failure::Misspelled)?;
-    let application = String::from_str(alloc, application)?;
-    let number_word = words.next().ok_or(Failure::Misspelled)?;
-    let mut rows = Vec::new(alloc);
-    for word in words {
-        rows.push(Value::Struct(vec![in alloc; Value::Int(number(word)?)]?))?;
-    }
-    Ok(Batch {
-        application,
-        number: number(number_word)?,
+    let batch = Batch {
+        application: told.copy_of(application),
+        number: told.number(number),
         rows,
-    })
-}
-
-fn place_of(text: &str) -> Result<Offset, Failure> {
-    let (version, rest) = text.split_once(' ').ok_or(Failure::Misspelled)?;
-    let (file, row) = rest.split_once(' ').ok_or(Failure::Misspelled)?;
-    Ok(Offset {
-        version: number(version)?,
-        file: number(file)?,
-        row: number(row)?,
-    })
-}
-
-fn tell_appended(answer: AppendAnswer, out: &mut Vec<u8>) -> Result<(), Failure> {
-    match answer {
-        AppendAnswer::Committed(version) => writeln!(out, "Committed {version}")?,
-        AppendAnswer::Already(number) => writeln!(out, "Already {number}")?,
-        AppendAnswer::Stale(last) => writeln!(out, "Stale {last}")?,
-        AppendAnswer::Differs => writeln!(out, "Differs")?,
-        AppendAnswer::StreamClosed => writeln!(out, "StreamClosed")?,
-    }
-    Ok(())
-}
-
-// Adds what a read hands out: the rows and the next place, in one line.
-fn tell_answer(answer: &Answer, out: &mut Vec<u8>) -> Result<(), Failure> {
-    match answer {
-        Answer::Handed(rows, next) => {
-            for row in rows {
-                match number_of(row) {
-                    Some(number) => write!(out, "{number} ")?,
-                    None => write!(out, "? ")?,
-                }
-            }
-            writeln!(out, "next {} {} {}", next.version, next.file, next.row)?;
-        }
-        Answer::Beyond(next) => writeln!(out, "BeyondLog {next}")?,
-        Answer::BadPlace(version) => writeln!(out, "BadPlace {version}")?,
-    }
-    Ok(())
-}
-
-// The number of a row of one column.
-fn number_of(row: &Value) -> Option<i64> {
-    let Value::Struct(values) = row else {
-        return None;
     };
-    match values.as_slice() {
-        [Value::Int(number)] => Some(*number),
-        _ => None,
+    match table.append(told.alloc, batch) {
+        Ok(AppendAnswer::Committed(version)) => told.tell("Committed", &version),
+        Ok(AppendAnswer::Already(number)) => told.tell("Already", &number),
+        Ok(AppendAnswer::Stale(last)) => told.tell("Stale", &last),
+        Ok(AppendAnswer::Differs) => told.say("Differs"),
+        Ok(AppendAnswer::StreamClosed) => told.say("StreamClosed"),
+        Err(_error) => told.lacks_memory(),
     }
+}
+
+// Adds a row of this number.
+fn add_row(rows: &mut Vec<Value>, word: &str, told: &mut Told) {
+    let Ok(number) = word.parse::<i64>() else {
+        return told.misspelled();
+    };
+    let mut values = Vec::new(told.alloc);
+    told.note(values.push(Value::Int(number)));
+    told.note(rows.push(Value::Struct(values)));
+}
+
+// Closes the stream of an application.
+fn close(table: &mut Table, application: &str, told: &mut Told) {
+    match table.close(told.copy_of(application)) {
+        Ok(Closing::Closed(version)) => told.tell("Closed", &version),
+        Ok(Closing::AlreadyClosed) => told.say("AlreadyClosed"),
+        Err(_error) => told.lacks_memory(),
+    }
+}
+
+// Reads at most so many rows from an offset on, and adds what is handed out: the rows and the next offset, in one line.
+fn read(table: &Table, words: &str, told: &mut Told) {
+    let (max, words) = told.halves(words);
+    let (version, words) = told.halves(words);
+    let (file, row) = told.halves(words);
+    let max = told.number(max);
+    let offset = Offset {
+        version: told.number(version),
+        file: told.number(file),
+        row: told.number(row),
+    };
+    match table.read(told.alloc, max, offset) {
+        Ok(Answer::Handed(rows, next)) => {
+            for row in &rows {
+                tell_row(row, told);
+            }
+            told.with("next ", &next.version);
+            told.with(" ", &next.file);
+            told.tell("", &next.row);
+        }
+        Ok(Answer::Beyond(next)) => told.tell("BeyondLog", &next),
+        Ok(Answer::BadPlace(version)) => told.tell("BadPlace", &version),
+        Err(_error) => told.lacks_memory(),
+    }
+}
+
+// Adds the number of a row of one column.
+fn tell_row(row: &Value, told: &mut Told) {
+    if let Value::Struct(values) = row
+        && let [Value::Int(number)] = values.as_slice()
+    {
+        told.with("", number);
+    } else {
+        told.text("?");
+    }
+    told.text(" ");
 }

@@ -1,9 +1,8 @@
 //! What has to hold of a log and of what was told of it.
 
 use crate::findings::Findings;
-use crate::log::{Batch, Entry, Log};
+use crate::log::Entry;
 use crate::talk::{Acknowledged, Closed, Talk};
-use std::alloc::{AllocError, Global};
 
 const RISING: &str = "numbers rise, and none stands behind its close";
 
@@ -17,89 +16,63 @@ const CLOSED: &str = "each stream that was told closed is";
 
 const HISTORY: &str = "a history tells each version";
 
+/// What is counted of a log.
+#[derive(Clone, Copy)]
+pub struct Counts {
+    /// How many batches were acknowledged.
+    pub acknowledged: u64,
+    pub closes: u64,
+}
+
 /// Notes the laws that a log breaks, by itself and by what was told.
 pub fn judge_log(
-    alloc: Global,
-    log: &Log,
-    talk: &Talk,
+    entries: &[Entry<'_>],
+    is_lawful: bool,
+    talk: &Talk<'_>,
     findings: &mut Findings,
-) -> Result<(), AllocError> {
-    let entries = log.entries.as_slice();
-    for (version, entry) in entries.iter().enumerate() {
-        let later = entries.get(version.saturating_add(1)..).unwrap_or(&[]);
-        judge_entry(alloc, entry, later, talk, findings)?;
-    }
-    findings.need(log.is_lawful, LAWFUL, "the slow program says that it isn't")?;
+) -> Counts {
+    let counts = judge_entries(entries, talk, findings);
+    findings.need(is_lawful, LAWFUL, "the slow program says that it isn't");
     for told in &talk.acknowledged {
-        judge_acknowledged(alloc, entries, talk, *told, findings)?;
+        judge_acknowledged(entries, talk, *told, findings);
     }
     for told in &talk.closed {
-        findings.need(is_closed(entries, told), CLOSED, &told.application)?;
+        findings.need(is_closed(entries, told), CLOSED, told.application);
     }
-    match talk.history {
-        Some(count) => {
-            findings.need(
-                count == entries.len() as u64,
-                HISTORY,
-                "another count of them",
-            )
-        }
-        None => Ok(()),
-    }
+    let count = entries.len() as u64;
+    let is_told = talk.history.unwrap_or(count) == count;
+    findings.need(is_told, HISTORY, "another count of them");
+    counts
 }
 
-// Notes where numbers don't rise from an entry to a later one, a later one stands behind this close, or a batch wasn't
-// submitted with these rows.
-fn judge_entry(
-    alloc: Global,
-    entry: &Entry,
-    later: &[Entry],
-    talk: &Talk,
-    findings: &mut Findings,
-) -> Result<(), AllocError> {
-    if let Entry::Close(application) = entry {
-        let is_last = !stands_in(later, application, u64::MAX) && !closes(later, application);
-        findings.need(is_last, RISING, application)?;
-    }
-    for batch in entry.batches() {
-        if stands_in(later, &batch.application, batch.number) {
-            note(alloc, RISING, batch, findings)?;
+// Notes the laws that each entry breaks, and counts.
+fn judge_entries(entries: &[Entry<'_>], talk: &Talk<'_>, findings: &mut Findings) -> Counts {
+    let mut counts = Counts {
+        acknowledged: 0,
+        closes: 0,
+    };
+    for (version, entry) in entries.iter().enumerate() {
+        let later = entries.get(version.saturating_add(1)..).unwrap_or(&[]);
+        let is_last = !stands_in(later, entry);
+        if entry.is_close {
+            counts.closes = counts.closes.saturating_add(1);
+            findings.need(is_last, RISING, entry.application);
         }
-        if !was_submitted(talk, batch) {
-            note(alloc, STANDING, batch, findings)?;
+        if entry.is_batch {
+            findings.need_of_batch(is_last, RISING, entry);
+            findings.need_of_batch(was_submitted(talk, entry), STANDING, entry);
         }
-    }
-    Ok(())
-}
-
-fn note(
-    alloc: Global,
-    law: &str,
-    batch: &Batch,
-    findings: &mut Findings,
-) -> Result<(), AllocError> {
-    let number = batch.number;
-    let application = &batch.application;
-    let what = format!(in alloc; "batch {number} of {application}")?;
-    findings.need(false, law, &what)
-}
-
-// Whether entries have a batch of an application, of at most this number.
-fn stands_in(entries: &[Entry], application: &str, most: u64) -> bool {
-    for entry in entries {
-        for batch in entry.batches() {
-            if batch.application.as_str() == application && batch.number <= most {
-                return true;
-            }
+        if was_acknowledged(talk, entry) {
+            counts.acknowledged = counts.acknowledged.saturating_add(1);
         }
     }
-    false
+    counts
 }
 
-// Whether entries have the close of an application's stream.
-fn closes(entries: &[Entry], application: &str) -> bool {
-    for entry in entries {
-        if entry.closes(application) {
+// Whether entries have one of the same application, of at most the same number: of a close, any.
+fn stands_in(entries: &[Entry<'_>], entry: &Entry<'_>) -> bool {
+    for other in entries {
+        if other.number <= entry.number && other.application == entry.application {
             return true;
         }
     }
@@ -107,9 +80,18 @@ fn closes(entries: &[Entry], application: &str) -> bool {
 }
 
 // Whether a batch was submitted with its rows.
-fn was_submitted(talk: &Talk, batch: &Batch) -> bool {
+fn was_submitted(talk: &Talk<'_>, entry: &Entry<'_>) -> bool {
     for other in &talk.submitted {
-        if other.is(batch) {
+        if entry.is(other) {
+            return true;
+        }
+    }
+    false
+}
+
+fn was_acknowledged(talk: &Talk<'_>, entry: &Entry<'_>) -> bool {
+    for told in &talk.acknowledged {
+        if entry.has_key_of(&talk.batch_at(told.place)) {
             return true;
         }
     }
@@ -119,71 +101,34 @@ fn was_submitted(talk: &Talk, batch: &Batch) -> bool {
 // Notes where a batch that was told to stand doesn't stand once, in the version that was told, with the rows that its
 // session had submitted.
 fn judge_acknowledged(
-    alloc: Global,
-    entries: &[Entry],
-    talk: &Talk,
+    entries: &[Entry<'_>],
+    talk: &Talk<'_>,
     told: Acknowledged,
     findings: &mut Findings,
-) -> Result<(), AllocError> {
-    let Some(batch) = talk.submitted.get(told.place) else {
-        return Ok(());
-    };
+) {
+    let batch = talk.batch_at(told.place);
     let mut count = 0u64;
     let mut is_there = false;
     for (version, entry) in entries.iter().enumerate() {
-        for other in entry.batches() {
-            if other.has_key_of(batch) {
-                count = count.saturating_add(1);
-                is_there = other.is(batch) && is_at(told.version, version);
-            }
+        if entry.has_key_of(&batch) {
+            count = count.saturating_add(1);
+            is_there = entry.is(&batch) && is_at(told.version, version);
         }
     }
-    if count == 1 && is_there {
-        return Ok(());
-    }
-    note(alloc, ACKNOWLEDGED, batch, findings)
+    findings.need_of_batch(count == 1 && is_there, ACKNOWLEDGED, &batch);
 }
 
 // Whether a version is that which was told, if one was.
 fn is_at(told: Option<u64>, version: usize) -> bool {
-    match told {
-        Some(told) => told == version as u64,
-        None => true,
-    }
+    let version = version as u64;
+    told.unwrap_or(version) == version
 }
 
 // Whether a stream that was told closed is, by the entry of the version that was told.
-fn is_closed(entries: &[Entry], told: &Closed) -> bool {
+fn is_closed(entries: &[Entry<'_>], told: &Closed<'_>) -> bool {
     for (version, entry) in entries.iter().enumerate() {
-        if is_at(told.version, version) && entry.closes(&told.application) {
+        if entry.is_close && entry.application == told.application && is_at(told.version, version) {
             return true;
-        }
-    }
-    false
-}
-
-/// How many batches of a log were acknowledged, and how many entries are closes.
-pub fn count_told(entries: &[Entry], talk: &Talk) -> (u64, u64) {
-    let mut acknowledged = 0u64;
-    let mut closes = 0u64;
-    for entry in entries {
-        if matches!(entry, Entry::Close(_)) {
-            closes = closes.saturating_add(1);
-        }
-        for batch in entry.batches() {
-            if was_acknowledged(talk, batch) {
-                acknowledged = acknowledged.saturating_add(1);
-            }
-        }
-    }
-    (acknowledged, closes)
-}
-
-fn was_acknowledged(talk: &Talk, batch: &Batch) -> bool {
-    for told in &talk.acknowledged {
-        match talk.submitted.get(told.place) {
-            Some(other) if other.has_key_of(batch) => return true,
-            _ => {}
         }
     }
     false

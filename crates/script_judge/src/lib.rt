@@ -6,11 +6,14 @@ mod findings;
 mod handing;
 mod laws;
 mod log;
+mod offset;
 mod replies;
 mod talk;
 mod trial;
 
 pub use findings::Findings;
-pub use log::{Batch, Entry, Log, rows_in};
-pub use talk::{Acknowledged, BEGINNING, Closed, Read, Talk, hear};
-pub use trial::tell_judged;
+pub use log::Entry;
+pub use offset::{BEGINNING, Offset, START};
+pub use replies::Replies;
+pub use talk::{Acknowledged, Closed, Read, Talk};
+pub use trial::Trial;

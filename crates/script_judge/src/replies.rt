@@ -1,16 +1,16 @@
 //! The replies to a script, taken one after the other.
 
+use case_words::head;
+
 /// The most rows that a read hands out.
 pub const MOST_ROWS: u64 = 65_536;
 
-/// The codes of the refusals that an append may be told over a table that sessions alone write.
-pub const OF_APPENDS: [&str; 7] = ["S1", "S2", "S3", "S4", "S5", "S7", "S8"];
-
-/// Those of any job where the application's id is none.
-pub const OF_IDS: &str = "S11";
+/// The codes of the refusals that an append may be told over a table that sessions alone write, or whose application's id is
+/// none.
+pub const OF_APPENDS: [&str; 8] = ["S1", "S2", "S3", "S4", "S5", "S7", "S8", "S11"];
 
 /// Those of a close.
-pub const OF_CLOSES: [&str; 2] = ["S4", "S5"];
+pub const OF_CLOSES: [&str; 3] = ["S4", "S5", "S11"];
 
 /// Those of a checkpoint.
 pub const OF_CHECKPOINTS: [&str; 1] = ["K5"];
@@ -53,14 +53,17 @@ impl<'a> Replies<'a> {
 
 /// The number behind a word in a reply of these two.
 pub fn number_behind(reply: &str, word: &str) -> Option<u64> {
-    reply.strip_prefix(word)?.parse().ok()
+    match reply.strip_prefix(word) {
+        Some(number) => number.parse().ok(),
+        None => None,
+    }
 }
 
 /// Whether a reply is a refusal with one of these codes.
 pub fn is_refusal(reply: &str, codes: &[&str]) -> bool {
     match reply.strip_prefix("refused ") {
         Some(text) => {
-            let (code, _fields) = text.split_once(' ').unwrap_or((text, ""));
+            let (code, _fields) = head(text);
             codes.contains(&code)
         }
         None => false,

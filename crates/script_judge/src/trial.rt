@@ -1,47 +1,79 @@
-//! What is told of a script: what was counted, and that it was lawful, or which law was broken.
+//! A script that is judged, and what is told of that: what was counted, and that it was lawful, or which law was broken.
 
 use crate::findings::Findings;
-use crate::handing::{count_handed, judge_reads};
-use crate::laws::{count_told, judge_log};
+use crate::handing::judge_reads;
+use crate::laws::judge_log;
 use crate::log::Log;
-use crate::talk::{Talk, hear};
-use std::alloc::{AllocError, Global};
-use std::fmt::Write;
+use crate::talk::Talk;
+use case_words::Told;
+use std::alloc::Global;
 use std::mem;
 
-/// Judges a script by what it was told and by the log that is left, if a table is, and adds a line on it.
-pub fn tell_judged(
-    alloc: Global,
-    script: &str,
-    told: &str,
-    log: Option<&Log>,
-    out: &mut String,
-) -> Result<(), AllocError> {
-    let mut talk = hear(alloc, script, told)?;
-    let mut findings = mem::replace(&mut talk.findings, Findings::new(alloc));
-    match log {
-        Some(log) => {
-            judge_log(alloc, log, &talk, &mut findings)?;
-            judge_reads(alloc, log, &talk, &mut findings)?;
-        }
-        None => findings.need(false, "a table is left", "the store holds none")?,
-    }
-    match (&findings.broken, log) {
-        (None, Some(log)) => tell_counts(&talk, log, out),
-        (Some(broken), _) => writeln!(out, "broken: {broken}"),
-        (None, None) => Ok(()),
+/// A script, what it was told, and the log that is left.
+pub struct Trial {
+    pub script: Told,
+    pub replies: Told,
+    /// The entries, a line each: `creation`, `batch APP NUMBER ROWS` or `close APP`.
+    pub log: Told,
+    /// Whether a table is left.
+    pub is_table: bool,
+}
+
+// One call where it is dropped.
+impl Drop for Trial {
+    fn drop(self) {
+        let Trial {
+            script: _,
+            replies: _,
+            log: _,
+            is_table: _,
+        } = self;
     }
 }
 
-fn tell_counts(talk: &Talk, log: &Log, out: &mut String) -> Result<(), AllocError> {
-    let replies = talk.replies;
-    let versions = log.entries.len();
-    let (acknowledged, closes) = count_told(&log.entries, talk);
-    let handed = count_handed(talk);
-    write!(out, "{replies} replies, {versions} versions, ")?;
-    write!(
-        out,
-        "{acknowledged} batches acknowledged, {closes} closes, "
-    )?;
-    writeln!(out, "{handed} rows handed to readers, lawful")
+impl Trial {
+    /// An empty script, and an empty log.
+    pub fn new(alloc: Global) -> Trial {
+        Trial {
+            script: Told::new(alloc),
+            replies: Told::new(alloc),
+            log: Told::new(alloc),
+            is_table: true,
+        }
+    }
+
+    /// Adds a line that is written by hand: of the script (`> LINE`), of what it was told (`< LINE`), or an entry of the log
+    /// (`= ENTRY`); or that no table is left (`= nothing`).
+    pub fn add(&mut self, word: &str, rest: &str, told: &mut Told) {
+        match word {
+            ">" => self.script.say(rest),
+            "<" => self.replies.say(rest),
+            "=" if rest == "nothing" => self.is_table = false,
+            "=" => self.log.say(rest),
+            _ => told.misspelled(),
+        }
+    }
+
+    /// Judges it, and adds a line on it. Whether the log is lawful is given.
+    pub fn judge(&self, is_lawful: bool, told: &mut Told) {
+        let mut talk = Talk::hear(told.alloc, self.script.as_text(), self.replies.as_text());
+        let mut findings = mem::replace(&mut talk.findings, Findings::new(told.alloc));
+        let log = Log::of(self.log.as_text(), told.alloc, told);
+        findings.need(self.is_table, "a table is left", "the store holds none");
+        let counts = judge_log(&log.entries, is_lawful, &talk, &mut findings);
+        let handed = judge_reads(&log, &talk, &mut findings);
+        if findings.is_broken {
+            told.text("broken: ");
+            told.add(findings.broken.bytes());
+        } else {
+            told.with("", &talk.replies.count);
+            told.with(" replies, ", &log.entries.len());
+            told.with(" versions, ", &counts.acknowledged);
+            told.with(" batches acknowledged, ", &counts.closes);
+            told.with(" closes, ", &handed);
+            told.text(" rows handed to readers, lawful");
+        }
+        told.text("\n");
+        told.heed(&findings.broken);
+    }
 }

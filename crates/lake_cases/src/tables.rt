@@ -1,0 +1,153 @@
+//! What is told of the store that a script leaves: the slow program of the definitions looks at it.
+
+use case_words::Told;
+use row_core::{Value, row_to_json};
+use schema_tree::Schema;
+use std::alloc::Global;
+use store_core::{MemoryStore, Store};
+use table_model::{Batch, Entry, is_lawful};
+use table_store::{Held, held_by};
+
+/// Adds which table a store holds, whether it is lawful, and, where they are told, its entries, one a line.
+pub fn tell_table(store: &mut MemoryStore, tells_entries: bool, told: &mut Told) {
+    match held_by(told.alloc, store) {
+        Ok(Some(held)) => tell_held(&held, tells_entries, told),
+        Ok(None) => told.say("no table"),
+        Err(_fault) => told.lacks_memory(),
+    }
+}
+
+fn tell_held(held: &Held, tells_entries: bool, told: &mut Told) {
+    let Some(schema) = &held.schema else {
+        told.text("table of any schema, ");
+        return tell_count(&held.entries, told);
+    };
+    told.text("table ");
+    match schema.to_text(told.alloc) {
+        Ok(text) => told.text(&text),
+        Err(_error) => told.lacks_memory(),
+    }
+    told.text(", ");
+    tell_count(&held.entries, told);
+    if tells_entries {
+        for entry in &held.entries {
+            tell_entry(schema, entry, told);
+        }
+    }
+}
+
+/// Adds how many entries there are, and whether they are lawful.
+pub fn tell_count(entries: &[Entry], told: &mut Told) {
+    told.with("", &entries.len());
+    told.say(if is_lawful(entries) {
+        " entries, lawful"
+    } else {
+        " entries, unlawful"
+    });
+}
+
+// Adds an entry: of a group that isn't one batch the count, and its batches, one a line.
+fn tell_entry(schema: &Schema<Global>, entry: &Entry, told: &mut Told) {
+    match entry {
+        Entry::Creation => told.say("creation"),
+        Entry::Close(application) => told.tell("close of", application),
+        Entry::Group(batches) => {
+            if batches.len() != 1 {
+                told.with("group of ", &batches.len());
+                told.say(" batches");
+            }
+            for batch in batches {
+                tell_batch(schema, batch, told);
+            }
+        }
+    }
+}
+
+// Adds a batch: its number, its application, and its rows as JSON.
+fn tell_batch(schema: &Schema<Global>, batch: &Batch, told: &mut Told) {
+    told.with("batch ", &batch.number);
+    told.text(" of ");
+    told.text(&batch.application);
+    told.text(":");
+    add_rows(schema, &batch.rows, [" ", " "], told);
+    told.text("\n");
+}
+
+// Adds rows as JSON, the first one behind the one text, and each other one behind the other.
+fn add_rows(schema: &Schema<Global>, rows: &[Value], gaps: [&str; 2], told: &mut Told) {
+    let [mut gap, next] = gaps;
+    for row in rows {
+        told.text(gap);
+        add_row(schema, row, told);
+        gap = next;
+    }
+}
+
+// Adds a row as JSON.
+fn add_row(schema: &Schema<Global>, row: &Value, told: &mut Told) {
+    match row_to_json(told.alloc, schema, row) {
+        Ok(json) => match json.to_string(told.alloc) {
+            Ok(text) => told.text(&text),
+            Err(_error) => told.lacks_memory(),
+        },
+        Err(_error) => told.lacks_memory(),
+    }
+}
+
+/// Adds the names of a store's objects, each with its count of bytes.
+pub fn tell_objects(store: &mut MemoryStore, told: &mut Told) {
+    match store.list() {
+        Ok(names) => {
+            for name in names.as_slice() {
+                tell_object(store, name, told);
+            }
+        }
+        Err(_fault) => told.lacks_memory(),
+    }
+}
+
+// Adds a name, and the count of its object's bytes.
+fn tell_object(store: &mut MemoryStore, name: &str, told: &mut Told) {
+    match store.get(name) {
+        Ok(Some(bytes)) => told.tell(name, &bytes.len()),
+        Ok(None) => told.tell(name, &0u64),
+        Err(_fault) => told.lacks_memory(),
+    }
+}
+
+/// Adds the log that a store holds as the judge of scripts reads it. Whether it is lawful; nothing where there is no table.
+pub fn add_log(store: &mut MemoryStore, log: &mut Told) -> Option<bool> {
+    match held_by(log.alloc, store) {
+        Ok(Some(held)) => {
+            if let Some(schema) = &held.schema {
+                for entry in &held.entries {
+                    add_entry(schema, entry, log);
+                }
+            }
+            Some(is_lawful(&held.entries))
+        }
+        Ok(None) => None,
+        Err(_fault) => {
+            log.lacks_memory();
+            None
+        }
+    }
+}
+
+// Adds an entry. Scripts make groups of one batch alone.
+fn add_entry(schema: &Schema<Global>, entry: &Entry, log: &mut Told) {
+    match entry {
+        Entry::Creation => log.say("creation"),
+        Entry::Close(application) => log.tell("close", application),
+        Entry::Group(batches) => {
+            for batch in batches {
+                log.text("batch ");
+                log.text(&batch.application);
+                log.with(" ", &batch.number);
+                log.text(" [");
+                add_rows(schema, &batch.rows, ["", ","], log);
+                log.say("]");
+            }
+        }
+    }
+}
