@@ -63,27 +63,40 @@ fn tell_run(
     let words = words_of(run.words, told);
     let folder = SharedFolder::new(told.alloc, files, &run.rivals);
     let mut reader = FolderReader::new(folder, NoProgress);
+    let status = run_command(rt, script, run, &words, &mut reader, &mut written, &mut err);
+    tell_written(&written, script.number_of("last"), told);
+    told.tell("status", &status);
+    tell_written(&err, usize::MAX, told);
+    reader.folder.into_files()
+}
+
+// Runs one command line, over the folder in memory unless the case is on the disk. Its status.
+fn run_command(
+    rt: &HostRuntime,
+    script: &Script<'_>,
+    run: &Run<'_>,
+    words: &[String],
+    reader: &mut FolderReader<SharedFolder<'_>, NoProgress>,
+    written: &mut Vec<u8>,
+    err: &mut Vec<u8>,
+) -> u8 {
     let mut input = Input::new(script.source(&run.input));
-    let mut output = Output::new(told.alloc, script.sink(&mut written));
-    let is_on_disk = script.folder.is_some();
-    let exit = match read_words(told.alloc, &words) {
-        Ok(Command::Table(job)) if !is_on_disk => table_command(
-            told.alloc,
+    let mut output = Output::new(rt.alloc(), script.sink(written));
+    let exit = match read_words(rt.alloc(), words) {
+        Ok(Command::Table(job)) if script.folder.is_none() => table_command(
+            rt.alloc(),
             &mut reader.folder,
             job,
             &mut input,
             &mut output,
-            &mut err,
+            err,
         ),
-        Ok(Command::Check { .. }) if !is_on_disk => {
-            check_command(told.alloc, &mut reader, &mut output, &mut err)
+        Ok(Command::Check { .. }) if script.folder.is_none() => {
+            check_command(rt.alloc(), reader, &mut output, err)
         }
-        _ => command(rt, &words, &mut input, &mut output, &mut err, NoProgress),
+        _ => command(rt, words, &mut input, &mut output, err, NoProgress),
     };
-    tell_written(&written, script.number_of("last"), told);
-    told.tell("status", &exit.status);
-    tell_written(&err, usize::MAX, told);
-    reader.folder.into_files()
+    exit.status
 }
 
 // The words of a command line, behind the program's name.

@@ -11,6 +11,7 @@ use case_calls::{CaseStore, Script};
 use case_words::{Names, Told, add_line};
 use lake_script::{End, Input, Outcome, Output};
 use sha2::{Digest, Sha256};
+use std::alloc::Global;
 use std::mem;
 use store_core::MemoryStore;
 use world_script::{Ran, run};
@@ -82,15 +83,29 @@ fn tell_script(script: &mut Script<'_>, told: &mut Told) {
 
 /// Runs a script over its store, and adds what it writes.
 pub fn run_script(script: &mut Script<'_>, written: &mut Vec<u8>, told: &mut Told) -> Outcome {
-    let alloc = told.alloc;
-    let use_checkpoints = !script.has("replays");
-    let mut input = Input::new(script.source(&script.text));
-    let mut output = Output::new(alloc, script.sink(written));
-    let none = CaseStore::new(alloc, MemoryStore::new(alloc), Vec::new(alloc));
+    let none = CaseStore::new(
+        told.alloc,
+        MemoryStore::new(told.alloc),
+        Vec::new(told.alloc),
+    );
     let store = mem::replace(&mut script.store, none);
-    let Ran { outcome, store } = run(alloc, &mut input, &mut output, store, use_checkpoints);
+    let Ran { outcome, store } = run_over(script, &script.text, store, written, told.alloc);
     script.store = store;
     outcome
+}
+
+// Runs a text as a script over a store, and adds what it writes.
+fn run_over(
+    script: &Script<'_>,
+    text: &[u8],
+    store: CaseStore,
+    written: &mut Vec<u8>,
+    alloc: Global,
+) -> Ran<CaseStore> {
+    let mut input = Input::new(script.source(text));
+    let mut output = Output::new(alloc, script.sink(written));
+    let use_checkpoints = !script.has("replays");
+    run(alloc, &mut input, &mut output, store, use_checkpoints)
 }
 
 /// Adds what was written. Of many lines the last alone are told, and of those before them the count and the SHA-256.

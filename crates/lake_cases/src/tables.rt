@@ -119,17 +119,22 @@ fn tell_object(store: &mut MemoryStore, name: &str, told: &mut Told) {
 pub fn add_log(store: &mut MemoryStore, log: &mut Told) -> Option<bool> {
     match held_by(log.alloc, store) {
         Ok(Some(held)) => {
-            if let Some(schema) = &held.schema {
-                for entry in &held.entries {
-                    add_entry(schema, entry, log);
-                }
-            }
+            add_entries(&held, log);
             Some(is_lawful(&held.entries))
         }
         Ok(None) => None,
         Err(_fault) => {
             log.lacks_memory();
             None
+        }
+    }
+}
+
+// Adds the entries of a log whose schema is known.
+fn add_entries(held: &Held, log: &mut Told) {
+    if let Some(schema) = &held.schema {
+        for entry in &held.entries {
+            add_entry(schema, entry, log);
         }
     }
 }
