@@ -7,6 +7,7 @@ import re
 from check import check_lines
 from log import Log
 from refusals import ENTRIES, explained
+from script_lines import why_bad
 from table import NotModelled, json_value, unsupported_columns
 from world import World
 
@@ -146,8 +147,13 @@ def script_lines(run: Run) -> list[str]:
     """What a script tells, which has a store of its own, and its status."""
     if run.words[1:] not in ([], ["--no-checkpoint"]):
         raise NotModelled("words that are refused")
-    told, end = World({}, len(run.words) == 1).answers(run.input.decode())
-    return [*told, "status 0" if end == "Done" else "status 2"]
+    script = run.input.decode()
+    told, end = World({}, len(run.words) == 1).answers(script)
+    if end == "Done":
+        return [*told, "status 0"]
+    number = int(end.removeprefix("BadLine "))
+    line = script.split("\n")[number - 1]
+    return [*told, "status 2", f"line {number}: {why_bad(line)}"]
 
 
 def explanation(words: list[str]) -> list[str]:

@@ -7,13 +7,37 @@ whole line are read first, so a malformed line is bad whatever would be answered
 from typing import Any, NamedTuple
 import re
 
-from table import LARGEST_MOMENT, MOST_ROWS, MOST_TRIES, json_value
+from table import LARGEST_MOMENT, MOST_ROWS, MOST_TRIES, NotModelled, json_value
 
 LARGEST_COUNT = 2**64 - 1
 KINDS = ("pass", "lost", "mute", "late", "twice")
 
 # The lines that are answered by what actors do; a script with one of them needs a world.
 ACTOR_WORDS = ("fault", "start", "until", "step", "finish", "die", "land")
+
+# What the lines of a script take behind their first word, as standard error says it of a bad one.
+MOMENT = f"a moment of at most {LARGEST_MOMENT} milliseconds"
+KIND_WORDS = "`pass`, `lost`, `mute`, `late` or `twice`"
+FORMS = {
+    "create": f"takes ID AT SCHEMA: AT is {MOMENT}",
+    "append": f"takes APP NUMBER AT ROWS: a number below 2^64, {MOMENT} and a JSON array",
+    "close": f"takes APP AT: AT is {MOMENT}",
+    "checkpoint": "stands alone",
+    "snapshot": "stands alone",
+    "history": "stands alone",
+    "tail": f"takes MAX OFFSET: MAX is a number of at most {MOST_ROWS}",
+    "show": "takes V: a number below 2^64",
+    "hex": "takes NAME",
+    "tries": f"takes N: a number from 1 to {MOST_TRIES}",
+    "fault": f"takes KIND: {KIND_WORDS}",
+    "start": "takes ACTOR JOB: JOB is an `append`, `close`, `checkpoint` or `tail` line",
+    "until": "takes ACTOR",
+    "step": f"takes ACTOR KIND: KIND is {KIND_WORDS}",
+    "finish": "takes ACTOR",
+    "die": "takes ACTOR",
+    "land": "takes K: a number below 2^64",
+    "foreign": "takes V LINE: V is a number below 2^64",
+}
 
 
 class BadLine(Exception):
@@ -160,3 +184,13 @@ def line(text: str) -> Line:
     if word in ("land", "show"):
         return Plain(word, (number(rest),))
     raise BadLine
+
+
+def why_bad(text: str) -> str:
+    """Why a line is bad, as standard error says it."""
+    word = text.partition(" ")[0]
+    if word in FORMS:
+        return f"`{word}` {FORMS[word]}"
+    if not re.fullmatch("[ -~]{0,250}", word) or re.search(r"[\\\"']", word):
+        raise NotModelled("a word that isn't shown as it is")
+    return f"no line begins with `{word}`" if word else "no line begins with a space"

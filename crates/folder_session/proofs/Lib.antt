@@ -1,2 +1,4 @@
+mod BesideLemmas
+mod JobLemmas
 mod Showing
 mod Unspelled

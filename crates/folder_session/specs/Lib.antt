@@ -1,1 +1,3 @@
+pub mod Beside
 pub mod Driving
+pub mod Jobs

@@ -1,5 +1,5 @@
 // One call of a folder, as a session that only reads asks for it.
-ghost use Rattle.std.specs.Prelude.{◌≡◌, IfOk, false};
+ghost use Rattle.std.specs.Prelude.{◌≡◌, IfOk, MatchOption, false};
 ghost use Rattle.session_core.specs.Shown.{IsExact};
 ghost use Rattle.session_core.specs.Talks.{IsAnswerOf, asked_view, is_lost, kind_of, told_view};
 ghost use Rattle.table_folder.specs.Faults.{CountsLoad, IsNotLoaded};
@@ -8,6 +8,16 @@ use session_core::{Reply, Request};
 use std::alloc::Global;
 use store_core::Names;
 use table_folder::{Folder, LoadFault};
+
+/// What a listing is told as. Names that don't rise, which no folder lists, are told as a want of memory.
+pub(crate) fn listed_as(names: Option<Names>) -> Reply
+    ensures { MatchOption names (result ≡ Reply.Memory) (λ names. result ≡ Reply.Names names) }
+{
+    match names {
+        Some(names) => Reply::Names(names),
+        None => Reply::Memory,
+    }
+}
 
 /// Makes the call over a folder, whose answer is handed on as it is. A put isn't asked for; of one it would be told that there is no
 /// memory for it.
@@ -27,7 +37,7 @@ pub(crate) fn ask<F: Folder>(
     ensures stays_reliable { F.is_reliable folder.old → F.is_reliable folder.new }
 {
     match request {
-        Request::List => Ok(Reply::Names(Names::new(alloc, folder.names()?)?)),
+        Request::List => Ok(listed_as(Names::rising(alloc, folder.names()?)?)),
         Request::Get(name) => Ok(Reply::Object(folder.read(name.as_str())?)),
         Request::PutFile(_, _) | Request::PutCommit(_, _) => Ok(Reply::Memory),
     }

@@ -89,7 +89,7 @@ pub fn run_script(script: &mut Script<'_>, written: &mut Vec<u8>, told: &mut Tol
         Vec::new(told.alloc),
     );
     let store = mem::replace(&mut script.store, none);
-    let Ran { outcome, store } = run_over(script, &script.text, store, written, told.alloc);
+    let Ran { outcome, store, .. } = run_over(script, &script.text, store, written, told.alloc);
     script.store = store;
     outcome
 }

@@ -1,4 +1,6 @@
 pub mod AgainLemmas
+pub mod BesideLemmas
+pub mod BesideReplies
 pub mod CheckLemmas
 pub mod CountLemmas
 pub mod EndingLemmas

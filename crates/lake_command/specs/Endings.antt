@@ -1,5 +1,5 @@
 -- How a job on the table in a folder ends: what comes of it, what is told and where, and the exit status.
-use Rattle.std.specs.Prelude.{◌≡◌, ◌⊎◌, ◌≤◌, ◌||◌, ℕ, Bool, true, false, List, Option, Some, None, Result, Ok, Err, IfErr, IfSome, if◌then◌else◌, length, is_some}
+use Rattle.std.specs.Prelude.{◌≡◌, ◌⊎◌, ◌≤◌, ◌||◌, ℕ, Bool, true, false, List, Option, Some, None, Result, Ok, Err, IfErr, IfSome, if◌then◌else◌, length}
 use Rattle.std.specs.Io.KnownBytes.{Appends}
 use Rattle.store_core.specs.Objects.{Objects}
 use Rattle.lake_script.specs.ReplyView as replies
@@ -8,12 +8,8 @@ use Rattle.lake_script.specs.Streams.{held, write_failed, StandsIn}
 use Rattle.lake_script.specs.declared.inputs.TheConstants.{MOST_READS}
 use Rattle.lake_script.specs.declared.outputs.Output.{Output}
 use Rattle.lake_script.specs.declared.reply.LineReply.{LineReply}
-use Rattle.row_core.specs.Unsupported.{unsupported}
-use Rattle.schema_tree.specs.Fault.{Fault}
-use Rattle.schema_tree.specs.Reading.{schema_of}
-use Rattle.schema_tree.specs.Tree.{Tree}
 use Rattle.lake_words.specs.Asked.{Work}
-use Rattle.lake_words.specs.Asked as words
+use Rattle.lake_hints.specs.Rowless.{creates_rowless}
 use Rattle.lake_command.specs.Failures.{HasCause, Leaves, failure_text}
 use Rattle.lake_command.specs.Folders.{IsJobAnswer}
 use Rattle.lake_command.specs.Status.{is_want_of_memory, refuses, status_of_failure}
@@ -45,16 +41,6 @@ status_of_outcome work (Err failure) = status_of_failure failure
 abbrev pub is_short_outcome : Result LineReply Failure → Bool
 is_short_outcome (Ok reply) = replies.is_short reply
 is_short_outcome (Err failure) = is_want_of_memory failure
-
--- a column of the schema is of a type that has no rows
-abbrev pub has_rowless : Result Tree Fault → Bool
-has_rowless (Ok tree) = is_some (unsupported tree)
-has_rowless (Err fault) = false
-
--- it creates a table that takes no rows
-abbrev pub creates_rowless : Work → Bool
-creates_rowless (words.create id schema at) = has_rowless (schema_of schema)
-creates_rowless work = false
 
 -- Something may be told on standard error beside a text that is told where replies go: of a refusal what it means, of a bad
 -- line what is wrong with it, and of a table that was created and takes no rows that it doesn't.

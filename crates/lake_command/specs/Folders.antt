@@ -8,7 +8,7 @@ use Rattle.json_lines.specs.Rows.{input_lines, object_of}
 use Rattle.lake_words.specs.Asked.{Work}
 use Rattle.lake_words.specs.Asked as words
 use Rattle.lake_script.specs.Growth.{MayPut}
-use Rattle.script_lines.specs.Lines.{Statement, create, task, append, close, checkpoint, tail, snapshot, history}
+use Rattle.script_lines.specs.Lines.{Statement, Task, create, task, append, close, checkpoint, tail, snapshot, history}
 use Rattle.lake_script.specs.Runs.{Executes}
 use Rattle.lake_script.specs.ReplyView.{reply_text}
 use Rattle.lake_script.specs.Told.{not_yet}
@@ -68,10 +68,18 @@ pub record IsAnsweredJob (work : Work) (text : Option (List ℕ)) (old : Objects
   pub done : refuses work reply ≡ false
   pub answer : IsJobAnswer work text old (reply_text reply) new
 
--- it asks for something else than rows from an offset on
-abbrev pub IsNoRead : Statement → Type 0
-IsNoRead (task (tail max offset)) = ⊥
-IsNoRead statement = Unit {0}
+-- it creates a table, or is a job that puts something
+abbrev pub IsPutter : Statement → Type 0
+IsPutter (create id at schema) = Unit {0}
+IsPutter (task (append application number at items)) = Unit {0}
+IsPutter (task (close application at)) = Unit {0}
+IsPutter (task checkpoint) = Unit {0}
+IsPutter _ = ⊥
+
+-- it asks for something else than a job that puts or reads rows, closes a stream or puts a checkpoint
+abbrev pub IsNoTask : Statement → Type 0
+IsNoTask (task job) = ⊥
+IsNoTask statement = Unit {0}
 
 -- behind a line, however it ends: what stood, or what the line may put, all of it or
 -- its data file alone

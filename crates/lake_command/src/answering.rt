@@ -29,10 +29,10 @@ use table_folder::{Folder, Reason, SaveFault};
 const LAST_MOMENT: u64 = 999_999_999_999_999;
 
 /// Does a job on the table in a folder, and finds its reply. An append reads its rows from the input, one JSON object a
-/// line. Where saving is refused since another process put an append's or a close's commit meanwhile, the table is loaded
-/// anew and the job is run again, as long as it has tries left: behind the last one, and where the table can't be loaded
-/// again, the failure is `Saving`. Each run takes time for the log and for the data files that it may look at. Loads aren't
-/// there yet. Where a reply comes of an append, `rows` is set to the count of its rows, for a message.
+/// line. Where saving is refused since another process put an append's or a close's commit meanwhile, the job is run again
+/// over the folder as it stands by then, as long as it has tries left: behind the last one, and where the table can't be read
+/// again, the failure is `Saving`. Each run takes time for the folder's names and the files that it opens. Loads aren't there
+/// yet. Where a reply comes of an append, `rows` is set to the count of its rows, for a message.
 pub fn answer<F: Folder, R: Read>(
     alloc: Global,
     folder: &mut F,

@@ -23,6 +23,7 @@ use crate::telling::{table_command, tell_failure};
 use clap::Error;
 use clap::error::ErrorKind;
 use folder_check::{FolderReader, Progress};
+use lake_hints::tell_bad_line;
 use lake_script::{End, Fault, Input, Output, RefusalText};
 use lake_words::{Command, TableCommand, read_words};
 use std::alloc::AllocError;
@@ -44,14 +45,17 @@ fn misused(error: &Error) -> u8
     }
 }
 
-// The status of a script that ended so. A fault of the program itself is told on `err`; where that
-// fails too, nothing is left to tell it on.
-fn ended<E: Write>(end: End, err: &mut E) -> u8
+// The status of a script that ended so. Why a line is bad, by what was kept of it, and a fault of the program itself are told
+// on `err`; where that fails too, nothing is left to tell it on.
+fn ended<E: Write>(end: End, kept: Option<&[u8]>, err: &mut E) -> u8
     ensures { result ≡ status_of end }
 {
     let fault = match end {
         End::Done => return DONE,
-        End::BadLine(_number) => return MISUSED,
+        End::BadLine(number) => {
+            tell_bad_line(number, kept, err);
+            return MISUSED;
+        }
         End::NotRead => Fault::NotRead,
         End::NotWritten => Fault::NotWritten,
     };
@@ -116,8 +120,8 @@ fn check_on_disk<H: Files + AllocGlobal + Clone + Drop, P: Progress + Drop, W: W
 /// Runs the command that the words ask for: a script over a store in which nothing stands yet, or a job on the table in a
 /// folder on the disk, of which [`table_command`] tells what is claimed over any folder, or a check of one, of which
 /// [`check_command`] does, or it tells what a code means. Replies go to `output`. What `clap` says of the words, the
-/// program's own faults, what refusals mean and what lies beside a table go to `err`, and how far a check is to
-/// `progress`.
+/// program's own faults, why a line of a script is bad, what refusals mean and what lies beside a table go to `err`, and how
+/// far a check is to `progress`.
 pub fn command<
     H: Files + AllocGlobal + Clone + Drop,
     S: AsStr,
@@ -179,7 +183,7 @@ pub fn command<
             let store = MemoryStore::new(alloc);
             let ran = run(alloc, input, output, store, use_checkpoints);
             Exit {
-                status: ended(ran.outcome.end, err),
+                status: ended(ran.outcome.end, ran.bad.as_deref(), err),
                 is_short: ran.outcome.short(),
             }
         }

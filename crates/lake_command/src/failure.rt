@@ -25,7 +25,7 @@ pub enum Failure {
     Miscounted { rows: u64, found: u64 },
     /// No room was left for the rows. Nothing was run.
     Memory,
-    /// The table wasn't loaded, or a file that a read came to. Nothing was put, and no row is told.
+    /// The table wasn't loaded, or a file that a job came to. Nothing was put, and no row is told.
     Loading(LoadFault),
     /// What the job put wasn't saved whole.
     Saving(SaveFault),

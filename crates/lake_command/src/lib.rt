@@ -11,7 +11,7 @@ mod exit;
 mod explaining;
 mod failure;
 mod looking;
-mod noting;
+mod putting;
 mod saving;
 mod telling;
 

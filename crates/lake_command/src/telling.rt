@@ -16,9 +16,9 @@ ghost use Rattle.lake_command.specs.Folders.{IsAnsweredJob, IsMiscounted, reads_
 
 use crate::answering::answer;
 use crate::exit::{DONE, Exit, MISUSED, REFUSED};
-use crate::explaining::{code_of, explain, explain_reply, hint_refusal};
+use crate::explaining::{code_of, explain, explain_reply};
 use crate::failure::Failure;
-use crate::noting::note_rowless;
+use lake_hints::{hint_refusal, note_rowless};
 use lake_script::{Fault, Input, LineReply, Output, OutputError, RefusalText};
 use lake_words::{Job, TableCommand};
 use std::alloc::Global;

@@ -280,7 +280,7 @@ static REFUSALS: [Refusal; 48] = [
     Refusal {
         code: "F1",
         name: "NotLoaded",
-        meaning: "the folder or the file that follows isn't there or can't be read, or memory ran out; nothing was run",
+        meaning: "the folder or the file that follows isn't there or can't be read, or memory ran out; nothing was put",
         again: Again::After("the folder is made, or the file can be read"),
     },
     Refusal {

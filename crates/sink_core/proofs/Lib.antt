@@ -5,6 +5,7 @@ pub mod DrivenAppend
 pub mod DrivenClose
 pub mod DrivenPlans
 pub mod FileSteps
+pub mod Kept
 pub mod LogEnd
 pub mod Quiet
 pub mod RaceSteps

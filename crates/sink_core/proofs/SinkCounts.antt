@@ -1,41 +1,22 @@
 -- How many calls the talk of a sink's session has, and how many of them are puts of a commit that found their version taken.
-use Rattle.std.proofs.Common.{◌≡◌, ◌∙◌, ◌⊎◌, ◌+◌, ◌*◌, ◌≤◌, ◌==◌, eqb-true, nat_lt, if◌then◌else◌, ℕ, suc, List, [], ◌∷◌, ◌++◌, length, length-append, append_assoc, Bool, true, false, not, ◌&&◌, Option, Some, None, Result, Ok, Err, Vec, Global, refl, sym, ap, subst, inl, inr, arith}
+use Rattle.std.proofs.Common.{◌≡◌, ◌∙◌, ◌+◌, ◌*◌, ◌≤◌, ℕ, suc, List, [], ◌∷◌, ◌++◌, length, length-append, append_assoc, Bool, true, false, Option, Some, None, Result, Err, Vec, Global, refl, sym, ap, subst, inl, inr, arith}
 use Rattle.std.proofs.lemmas.List.{length-map}
-use Rattle.serde_json.specs.Data.{Items}
-use Rattle.lake_bytes.specs.Results.{◌>>=◌, refused_if, refused_as}
-use Rattle.store_core.specs.Objects.{Objects, object_at}
 use Rattle.store_core.specs.declared.store.Put.TheVariants.{Created, Exists}
-use Rattle.session_core.specs.Names.{commit_name}
 use Rattle.session_core.specs.Sessions.{AllAsked}
 use Rattle.session_core.specs.Shown.{AllGets}
-use Rattle.session_core.specs.Talks.{Asked, Bears, Told, Talk, list_names, get_object, put_file, put_commit, told_names, told_object, told_put, told_lost, told_memory}
-use Rattle.row_core.specs.Rows.{Row}
-use Rattle.schema_tree.specs.Tree.{Tree}
+use Rattle.session_core.specs.Talks.{Asked, Told, Talk, list_names, get_object, put_file, put_commit, told_names, told_object, told_put, told_lost, told_memory}
 use Rattle.delta_actions.specs.Action.{Action, views}
 use Rattle.delta_actions.specs.declared.action.Action.{Action as CodeAction}
-use Rattle.delta_replay.specs.Closes.{is_closed}
-use Rattle.delta_replay.specs.Keys.{last_number}
-use Rattle.delta_replay.specs.Support.{writable}
-use Rattle.table_log.specs.Loads.{IsFront, checkpoint_of}
 use Rattle.table_log.specs.declared.loading.Loaded.{Loaded}
-use Rattle.commit_core.specs.Commits.{commit_text}
-use Rattle.commit_core.specs.CommitSessions.{CommitEnds, CommitJob, ComesTo, HoldsOfCommit, IsUnfinished, Winner, commits_view, got_told, put_told, taken}
-use Rattle.commit_core.specs.declared.commit_fault.CommitFault.{CommitFault}
-use Rattle.commit_core.specs.declared.commit_state.CommitOutcome.{CommitOutcome}
-use Rattle.commit_core.specs.declared.commit_state.CommitOutcome.TheVariants as outcomes
-use Rattle.commit_core.proofs.Callers.{bears_end, bears_front, came_by}
-use Rattle.batch_core.specs.Refusals.{SinkRefusal, read_only, stale, stream_closed}
-use Rattle.batch_core.specs.Requests.{SinkRequest, has_same, is_repeat, request_behind}
-use Rattle.batch_core.specs.RowsIn.{rows_from, takes_rows}
+use Rattle.commit_core.specs.CommitSessions.{CommitJob, ComesTo, Winner, commits_view, got_told, taken}
+use Rattle.commit_core.proofs.Callers.{came_by}
+use Rattle.batch_core.specs.Requests.{SinkRequest}
 use Rattle.batch_core.specs.declared.fault.SinkFault.{SinkFault}
 use Rattle.batch_core.specs.declared.fault.SinkFault.TheVariants as faults
-use Rattle.batch_core.proofs.FileLemmas.{reads_as_file}
-use Rattle.sink_core.specs.SinkLaws.{FileOfItems, HadSchema, IsCommittedIn, IsCommitOfJob, IsFileOfJob, StandsIn, TellsCommit, WasSo, versions_taken}
+use Rattle.sink_core.specs.SinkLaws.{versions_taken}
 use Rattle.sink_core.specs.SinkSessions.{AnswerEnds, HoldsOf, InRace, IsOldBatch, IsNoCommitPut, LooksAt, Point, PutsFile, Reaches, Settled, Settles, SinkAsks, SinkJob, SinkTask, actions_of, anew, appends, asked_of, closes, conflicts, file_of, goes_on, loaded, race_of, ready, repeated, rules, settled_by, settles, stood}
 use Rattle.sink_core.specs.SinkSessions as talks
 use Rattle.sink_core.specs.declared.sink_state.SinkOutcome.{SinkOutcome}
-use Rattle.sink_core.specs.declared.sink_state.SinkOutcome.TheVariants.{Already, AlreadyClosed, Closed, Committed}
-use Rattle.sink_core.proofs.ReachLemmas.{NotCreated, created_behind, listed_uncreated, more_uncreated, file_uncreated, race_uncreated, reaches_known, reaches_uncreated, unput_uncreated}
 
 -- ---- how many versions it tried
 

@@ -1,5 +1,5 @@
 -- What the laws of a sink's sessions say of stores.
-use Rattle.std.specs.Prelude.{◌≡◌, ◌≤◌, ℕ, suc, List, [], ◌∷◌, length, true, Option, Some, Result, Ok}
+use Rattle.std.specs.Prelude.{◌≡◌, ◌≤◌, ℕ, suc, List, [], ◌∷◌, length, true, Option, None, Some, Result, Ok, Err}
 use Rattle.serde_json.specs.Data.{Items}
 use Rattle.store_core.specs.Objects.{Objects, object_at}
 use Rattle.store_core.specs.declared.store.Put.TheVariants.{Exists}
@@ -19,6 +19,7 @@ use Rattle.batch_core.specs.Committing.{batch_actions}
 use Rattle.batch_core.specs.Requests.{IsWrittenFor, has_same}
 use Rattle.batch_core.specs.RowsIn.{rows_from}
 use Rattle.batch_core.specs.declared.fault.SinkFault.{SinkFault}
+use Rattle.batch_core.specs.declared.fault.SinkFault.TheVariants as faults
 use Rattle.sink_core.specs.SinkSessions.{SinkJob, SinkTask, appends, closes, file_of}
 use Rattle.sink_core.specs.declared.sink_state.SinkOutcome.{SinkOutcome}
 use Rattle.sink_core.specs.declared.sink_state.SinkOutcome.TheVariants.{Committed, Closed}
@@ -75,6 +76,15 @@ abbrev pub TellsCommit : Result SinkOutcome SinkFault → (version : ℕ) → Ty
 TellsCommit (Ok (Committed at)) version = at ≡ version
 TellsCommit (Ok (Closed at)) version = at ≡ version
 TellsCommit answer version = ⊥
+
+-- The answer is told only where the rules were applied to a log that was loaded.
+abbrev pub IsBehindRules : Result SinkOutcome SinkFault → Type 0
+IsBehindRules (Err faults.BadApp) = ⊥
+IsBehindRules (Err faults.TooLarge) = ⊥
+IsBehindRules (Err (faults.BadLog version)) = ⊥
+IsBehindRules (Err (faults.Lost None)) = ⊥
+IsBehindRules (Err faults.Memory) = ⊥
+IsBehindRules answer = Unit {0}
 
 -- its commit stands at that version
 abbrev pub IsCommittedIn : Objects → SinkJob → (version : ℕ) → Type 0

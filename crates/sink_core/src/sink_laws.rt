@@ -6,8 +6,8 @@ ghost use Rattle.store_core.specs.declared.store.Put.TheVariants.{Created};
 ghost use Rattle.session_core.specs.Sessions.{AllAsked};
 ghost use Rattle.session_core.specs.Talks.{Asked, Bears, Talk, list_names, put_commit, put_file, told_names, told_put};
 ghost use Rattle.batch_core.specs.declared.fault.SinkFault.TheVariants.{Contended};
-ghost use Rattle.sink_core.specs.SinkLaws.{IsCommittedIn, IsCommitOfJob, IsFileOfJob, StandsIn, TellsCommit, versions_taken};
-ghost use Rattle.sink_core.specs.SinkSessions.{SinkAsks, SinkEnds, SinkJob};
+ghost use Rattle.sink_core.specs.SinkLaws.{IsBehindRules, IsCommittedIn, IsCommitOfJob, IsFileOfJob, StandsIn, TellsCommit, versions_taken};
+ghost use Rattle.sink_core.specs.SinkSessions.{HandsBack, SinkAsks, SinkEnds, SinkJob};
 ghost use Rattle.sink_core.specs.declared.sink_state.SinkEnd.{SinkEnd};
 ghost use Rattle.sink_core.specs.declared.sink_state.SinkOutcome.TheVariants.{Already};
 
@@ -42,6 +42,13 @@ pub fn a_created_commit_is_told()
 /// Where a session tells that it was contended, just as many of its puts of a commit as tries were given found their version taken.
 pub fn a_contended_sink_tried_all()
     ensures { (job : SinkJob) (before talk : Talk) (end : SinkEnd) (newest : ℕ) → SinkEnds job before talk end → end.answer ≡ Err (Contended newest) → versions_taken talk ≡ job.tries }
+{}
+
+/// With an answer that it tells only behind its rules, a session hands back what it had learnt of the log: what was known at a point to
+/// which it came by a front of its talk. With another answer it may hand back less: where its job isn't fine, a commit is missing or can't
+/// be read, no commit has the version that it comes to, another call than a put of its commit was lost, or memory ran out.
+pub fn a_sink_hands_back_what_it_learnt()
+    ensures { (job : SinkJob) (before talk : Talk) (end : SinkEnd) → SinkEnds job before talk end → IsBehindRules end.answer → HandsBack job before talk end.known }
 {}
 
 /// A session makes at most as many calls as names were listed, two for each try, and four.

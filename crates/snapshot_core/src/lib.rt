@@ -13,4 +13,4 @@ pub use checkpoint_laws::a_checkpoint_asks_for_little;
 pub use checkpoint_session::{CheckpointSession, CheckpointStage, Checkpointed};
 pub use checkpointing::checkpoint;
 pub use fault::SnapshotFault;
-pub use telling::snapshot;
+pub use telling::{snapshot, snapshot_text};

@@ -1,5 +1,6 @@
 mod Answers
+pub mod Callers
 mod FlightLemmas
 mod NameLemmas
-mod Placing
+pub mod Placing
 mod Trees

@@ -1,9 +1,10 @@
 -- A name that is put into its place among names that rise.
 use Rattle.std.proofs.Common.{◌≡◌, ◌≤◌, ◌<◌, ◌+◌, ◌++◌, ◌∷◌, [], ℕ, zero, suc, List, String, Global, false, refl, sym, ◌∙◌, ap, subst, map, take, drop, length, slice_index_or, arith}
+use Rattle.std.specs.declared.cmp.Ordering.{Ordering}
 use Rattle.std.specs.declared.cmp.Ordering.TheVariants.{Less, Equal, Greater}
 use Rattle.std.specs.Ordering.{is_lt, match_ordering, ordering_reverse, ordering_index}
 use Rattle.std.specs.BTreeSet.{insert_key}
-use Rattle.std.specs.List.{AllZip}
+use Rattle.std.specs.List.{AllByRecursion, AllZip}
 use Rattle.std.specs.List.Sorted.{IsNonDecreasingBy, IsPartitionPoint, IsStrictlySortedBy}
 use Rattle.std.specs.BTreeMap.{insert_entry}
 use Rattle.std.specs.String.{string_bytes, string_cmp}
@@ -54,6 +55,42 @@ placed (x ∷ xs) name (suc i) within p =
     let rest = map string_bytes xs in
     ap (λ names. string_bytes x ∷ names) (placed xs name i (omega (arith, within)) (λ k d low high. p.0 (suc k) d (omega arith) (omega (arith, high)), λ k d low high. p.1 (suc k) d (omega (arith, low)) (omega (arith, high))))
     ∙ sym (ap (λ o. match_ordering o (n ∷ string_bytes x ∷ rest) (string_bytes x ∷ rest) (string_bytes x ∷ insert_key name_order rest n)) (behind (string_bytes x) n (p.0 0 x (omega arith) (omega arith))))
+
+-- below the first of names that rise, it is below all
+below_rest : (name first : List ℕ) (names : List (List ℕ)) → name_order name first ≡ Less → AllByRecursion (λ other. name_order first other ≡ Less) names → AllByRecursion (λ other. name_order name other ≡ Less) names
+below_rest name first [] h rest = tt
+below_rest name first (x ∷ xs) h rest = (nat_list_cmp_total.trans name first x h rest.0, below_rest name first xs h rest.1)
+
+-- names each of which is below the next rise
+pub rises_from : (names : List (String Global)) → ((k : ℕ) (d : String Global) → suc k < length names → name_order (string_bytes (slice_index_or names k d)) (string_bytes (slice_index_or names (suc k) d)) ≡ Less) → IsStrictlySortedBy name_order (map string_bytes names)
+unfolding IsStrictlySortedBy
+rises_from [] next = tt
+rises_from (x ∷ []) next = (tt, tt)
+rises_from (x ∷ y ∷ rest) next =
+    let first = next zero x (omega arith) in
+    let later = rises_from (y ∷ rest) (λ k d within. next (suc k) d (omega (arith, within))) in
+    ((first, below_rest (string_bytes x) (string_bytes y) (map string_bytes rest) first later.0), later)
+
+-- what is so of all names and of one more is so once that is in its place
+all_inserted : (P : List ℕ → Type 0) (names : List (List ℕ)) (name : List ℕ) → AllByRecursion P names → P name → AllByRecursion P (insert_key name_order names name)
+all_inserted P [] name all one = (one, tt)
+all_inserted P (x ∷ xs) name all one =
+    elim (name_order name x) as (λ o. AllByRecursion P (match_ordering o (name ∷ x ∷ xs) (x ∷ xs) (x ∷ insert_key name_order xs name))) [
+      | Less ↦ (one, all)
+      | Equal ↦ all
+      | Greater ↦ (all.0, all_inserted P xs name all.1 one)
+    ]
+
+-- names that rise do so with one more in its place
+pub rises_with : (names : List (List ℕ)) (name : List ℕ) → IsStrictlySortedBy name_order names → IsStrictlySortedBy name_order (insert_key name_order names name)
+unfolding IsStrictlySortedBy
+rises_with [] name h = (tt, tt)
+rises_with (x ∷ xs) name h = by_order (name_order name x) refl (rises_with xs name h.1)
+  where
+    by_order : (o : Ordering) → name_order name x ≡ o → IsStrictlySortedBy name_order (insert_key name_order xs name) → IsStrictlySortedBy name_order (match_ordering o (name ∷ x ∷ xs) (x ∷ xs) (x ∷ insert_key name_order xs name))
+    by_order Less e later = ((e, below_rest name x xs e h.0), h)
+    by_order Equal e later = h
+    by_order Greater e later = (all_inserted (λ other. name_order x other ≡ Less) xs name h.0 (before name x e), later)
 
 -- the names of objects among which one more was put in its place
 pub names_inserted : (objects : Objects) (name bytes : List ℕ) → names_of (insert_entry name_order objects name bytes) ≡ insert_key name_order (names_of objects) name

@@ -108,10 +108,9 @@ pub stands_where_told : (r : Result Put StoreFault) (objects new : Objects) (nam
 stands_where_told (Ok put) objects new name bytes told landed = stands_after put objects new name bytes told landed.0
 stands_where_told (Err e) objects new name bytes told landed = tt
 
--- names that are kept of a tree in order rise
-pub kept_rise : (tree : Tree) (kept : Option Names) → IsOrdered string_cmp tree → AreNamesOf tree kept → IfSome kept (λ names. IsStrictlySortedBy name_order (listed names))
-kept_rise tree None h are = tt
-kept_rise tree (Some names) h are = subst (IsStrictlySortedBy name_order) (sym are) (names_rise tree.entries h)
+-- the names of a tree in order rise
+pub tree_rises : (tree : Tree) → IsOrdered string_cmp tree → IsStrictlySortedBy name_order (names_of (objects_of tree))
+tree_rises tree h = names_rise tree.entries h
 
 -- names that are kept, with one more, are those of the tree into which it was put
 pub kept_inserted : (old new : Tree) (key : String Global) (name : List ℕ) (bytes : Vec ℕ Global) (kept : Option Names) → string_bytes key ≡ name → new.entries ≡ insert_entry string_cmp old.entries key bytes

@@ -9,6 +9,7 @@
 mod fault;
 mod flaky;
 mod laws;
+mod listing;
 mod memory;
 mod names;
 mod naming;

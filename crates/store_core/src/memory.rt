@@ -3,7 +3,6 @@ ghost use Rattle.std.specs.Prelude.{◌≡◌, ℕ, List, [], None, Ok, map, IfO
 ghost use Rattle.std.specs.Option.{option_map};
 ghost use Rattle.std.specs.BTreeMap.{IsOrdered};
 ghost use Rattle.std.specs.BTreeSet.{insert_key};
-ghost use Rattle.std.specs.List.Sorted.{IsStrictlySortedBy};
 ghost use Rattle.std.specs.String.{string_bytes, string_cmp};
 ghost use Rattle.store_core.specs.Listed.{listed};
 ghost use Rattle.store_core.specs.Objects.{name_order, object_at, names_of};
@@ -108,7 +107,8 @@ fn list_in(
     objects: &BTreeMap<String, Vec<u8>>,
     kept: &mut Option<Names>,
 ) -> Result<Names, StoreFault>
-    requires { AreNamesOf objects.now kept.old }
+    requires ordered { IsOrdered string_cmp objects.now }
+    requires kept { AreNamesOf objects.now kept.old }
     ensures names { IfOk result (λ names. listed names ≡ names_of (objects_of objects.now)) }
     ensures kept { AreNamesOf objects.now kept.new }
     ensures never_lost { IsErrOf result StoreFault.Lost → ⊥ }
@@ -123,7 +123,6 @@ fn list_in(
 
 // The names with one more in its place. None where they are shared, or memory runs out.
 fn with_name(alloc: Global, names: Names, name: &str) -> Option<Names>
-    requires { IsStrictlySortedBy name_order (listed names) }
     ensures { IfSome result (λ later. listed later ≡ insert_key name_order (listed names) name.now) }
 {
     let Ok(mut list) = Rc::try_unwrap(names.shared) else {
@@ -143,7 +142,6 @@ fn with_name(alloc: Global, names: Names, name: &str) -> Option<Names>
 
 // Keeps one name more in its place, where any are kept and there is room; else none is kept any more.
 fn keep_name(alloc: Global, kept: &mut Option<Names>, name: &str)
-    requires { IfSome kept.old (λ names. IsStrictlySortedBy name_order (listed names)) }
     ensures { (names : List (List ℕ)) → IfSome kept.old (λ kept. listed kept ≡ names)
         → IfSome kept.new (λ later. listed later ≡ insert_key name_order names name.now) }
 {

@@ -1,40 +1,15 @@
-//! The names that a store lists.
-ghost use Rattle.std.specs.Prelude.{◌≡◌, IfOk, map};
+//! The names that a store lists, as a type.
+ghost use Rattle.std.specs.Prelude.{map};
+ghost use Rattle.std.specs.List.Sorted.{IsStrictlySortedBy, IsStrictlySortedBy-prop};
 ghost use Rattle.std.specs.String.{string_bytes};
-ghost use Rattle.store_core.specs.Listed.{listed};
+ghost use Rattle.store_core.specs.Objects.{name_order};
 
-use std::alloc::{AllocError, Global};
 use std::rc::Rc;
 
-/// The names that stood in a store when they were listed, in that order. They are shared: to clone them takes constant time
-/// and no memory, however many they are.
-#[derive(Clone, Drop)]
+/// The names that stood in a store when they were listed: they rise by their bytes, and each is there once. They are shared: to
+/// clone them takes constant time and no memory, however many they are. It fails only where they are shared 2^64 - 1 times.
+#[derive(Drop)]
 pub struct Names {
     pub shared: Rc<Vec<String>>,
-}
-
-impl Names {
-    /// These names. Fails where memory runs out.
-    pub fn new(alloc: Global, names: Vec<String>) -> Result<Names, AllocError>
-        ensures { IfOk result (λ shared. listed shared ≡ map string_bytes names.items) }
-    {
-        match Rc::new(alloc, names) {
-            Ok(shared) => Ok(Names { shared }),
-            Err(_refused) => Err(AllocError),
-        }
-    }
-
-    /// The names.
-    pub fn as_slice(&self) -> &[String]
-        ensures { map string_bytes result.now ≡ listed self.now }
-    {
-        self.shared.as_ref().as_slice()
-    }
-
-    /// A copy of the names, in time linear in their bytes. Fails where memory runs out.
-    pub fn to_vec(&self) -> Result<Vec<String>, AllocError>
-        ensures { IfOk result (λ names. map string_bytes names.items ≡ listed self.now) }
-    {
-        self.shared.as_ref().clone()
-    }
+    pub ghost rising: { IsStrictlySortedBy name_order (map string_bytes shared.value.items) } by { IsStrictlySortedBy-prop name_order (map string_bytes shared.value.items) },
 }

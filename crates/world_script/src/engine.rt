@@ -35,6 +35,10 @@ use stream_model::every_world;
 pub struct Ran<S> {
     pub outcome: Outcome,
     pub store: S,
+    /// The bad line at which [`run`](crate::run) ended, without its newline, where there was room to keep it; else `None`, and so
+    /// from [`play`] and [`run_any`](crate::run_any). Of a long line the characters that end by byte 256 are kept, of one that
+    /// isn't UTF-8 at most 256 bytes, from the first on that is no text.
+    pub bad: Option<Vec<u8>>,
 }
 
 // Answers one line. False where the line is bad. Where a growth was refused, it says so.
@@ -159,6 +163,7 @@ fn answer_text<S: Store, W: Write>(
     Ran {
         outcome,
         store: scene.world.store.store,
+        bad: None,
     }
 }
 

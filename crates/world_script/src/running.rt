@@ -20,6 +20,7 @@ use crate::words::needs_world;
 use lake_script::{End, Input, InputError, Outcome, Output, run_text};
 use std::alloc::Global;
 use std::io::{Read, Write};
+use std::str;
 use store_core::Store;
 
 /// Runs a script that is given as text, of at most 1 GiB, over a store: in a world where it has actors ([`play`]), and else as
@@ -65,7 +66,39 @@ pub fn run_any<S: Store, W: Write>(
     }
     let mut store = store;
     let outcome = run_text(alloc, text, &mut store, output, use_checkpoints);
-    Ran { outcome, store }
+    Ran {
+        outcome,
+        store,
+        bad: None,
+    }
+}
+
+// How many bytes of a bad line are kept at most.
+const MOST_KEPT: usize = 256;
+
+// The part of a line that is kept: its first characters, or where it isn't UTF-8, the bytes from the first on that is no text.
+fn kept_part(line: &[u8]) -> &[u8]
+    ensures { length result.now ≤ 256 }
+{
+    match str::from_utf8(line) {
+        Ok(text) => text[..text.floor_char_boundary(MOST_KEPT)].as_bytes(),
+        Err(error) => {
+            let rest = &line[error.valid_up_to()..];
+            &rest[..rest.len().min(MOST_KEPT)]
+        }
+    }
+}
+
+// What is kept of the bad line at which a run of a text ended.
+fn bad_line(alloc: Global, text: &[u8], end: End) -> Option<Vec<u8>>
+    ensures { IfSome result (λ kept. length kept.items ≤ 256) }
+{
+    let End::BadLine(number) = end else {
+        return None;
+    };
+    let before = number.checked_sub(1)?;
+    let line = text.split(|byte| *byte == b'\n').nth(before as usize)?;
+    Vec::from_slice(alloc, kept_part(line)).ok()
 }
 
 /// Runs a script over a store, which it hands back: reads its input to the end, then answers each line, up to the first bad one, as
@@ -108,12 +141,19 @@ pub fn run<R: Read, W: Write, S: Store>(
     ensures too_long { IfSome (unread R.remaining input.old) (λ text. MOST_BYTES < length text → result.outcome.end ≡ End.NotRead) }
     ensures not_written { result.outcome.end ≡ End.NotWritten → (write_failed output.new ≡ true) ⊎ (fell_short result.outcome ≡ true) }
     ensures broken_output { Finishes result.outcome.end (λ _. write_failed output.new ≡ write_failed output.old) }
+    // Of a bad line not much is kept, however long it is.
+    ensures kept { IfSome result.bad (λ kept. length kept.items ≤ 256) }
 {
     match input.read_to_end(alloc) {
-        Ok(text) => run_any(alloc, text.as_slice(), store, output, use_checkpoints),
+        Ok(text) => {
+            let mut ran = run_any(alloc, text.as_slice(), store, output, use_checkpoints);
+            ran.bad = bad_line(alloc, text.as_slice(), ran.outcome.end);
+            ran
+        }
         Err(error) => Ran {
             outcome: Outcome::new(End::NotRead, error == InputError::Memory),
             store,
+            bad: None,
         },
     }
 }

@@ -2,7 +2,7 @@ use Rattle.std.proofs.Common.{◌≡◌, true, false, is_some, sym, ◌∙◌, r
 use Rattle.store_core.specs.Objects.{object_at}
 use Rattle.store_core.specs.ObjectLaws.{with_object_stands}
 use Rattle.store_core.specs.Memory.{objects_of}
-use Rattle.store_core.proofs.Trees.{kept_inserted, kept_rise, stands_in_tree, landed_in_tree}
+use Rattle.store_core.proofs.Trees.{kept_inserted, stands_in_tree, landed_in_tree}
 use Rattle.store_core.proofs.Answers.{put_told_stands, put_told_absent, none_from_is_some}
 use Rattle.store_core.proofs.memory.put_in.Goals as goal
 
@@ -30,9 +30,6 @@ pub returns-clause-landed : goal.returns-clause-landed
 returns-clause-landed c =
     let absent : is_some (object_at (objects_of c.args.objects.now) c.args.name.now) ≡ false = stands_in_tree c.args.objects.now c.args.name.now ∙ sym c.contains_key.ensures ∙ c.if-contains_key.false in
     (landed_in_tree c.args.objects.now c.insert.new.self c.in_ok-from_str.field-0 c.args.name.now c.args.bytes c.in_ok-from_str.ensures.ok absent c.in_ok-insert.ensures.entries, refl)
-
-pub keep_name-requires : goal.keep_name-requires
-keep_name-requires c = kept_rise c.args.objects.now c.args.kept.now c.requires.ordered c.requires.names
 
 pub returns-clause-kept : goal.returns-clause-kept
 returns-clause-kept c =

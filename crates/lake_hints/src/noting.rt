@@ -1,9 +1,9 @@
-//! What is told beside the reply of a job that is done.
+//! What is told of a table that was created and takes no rows.
 ghost use Rattle.std.specs.Prelude.{◌≡◌, IfSome, false, true};
 ghost use Rattle.row_core.specs.Unsupported.{has_values};
 ghost use Rattle.schema_tree.specs.Reading.{schema_of};
-ghost use Rattle.lake_command.specs.Endings.{creates_rowless, has_rowless};
 ghost use Rattle.lake_words.specs.Asked.{work_view};
+ghost use Rattle.lake_hints.specs.Rowless.{creates_rowless, has_rowless};
 
 use lake_words::Job;
 use row_core::unsupported;
@@ -16,8 +16,9 @@ use std::io::Write;
 /// How many columns without rows are named.
 const MOST_NAMED: u64 = 10;
 
-/// Tells of a table that was created and takes no rows which of its columns are of a type that has none.
-pub(crate) fn note_rowless<E: Write>(alloc: Global, job: Job<'_>, err: &mut E)
+/// Tells of a table that was created and takes no rows which of its columns are of a type that has none. Where that can't be written,
+/// nothing is left to tell it on. Takes time linear in the schema's text.
+pub fn note_rowless<E: Write>(alloc: Global, job: Job<'_>, err: &mut E)
     ensures { creates_rowless (work_view job.entry) ≡ false → err.new ≡ err.old }
 {
     let Job::Create { schema, .. } = job else {

@@ -1,0 +1,108 @@
+-- What is found where objects stand beside those of a folder, and what a put there tells and leaves.
+use Rattle.std.proofs.Common.{◌≡◌, ℕ, List, [], ◌∷◌, ◌++◌, Bool, true, false, cond, Option, Some, None, IsSome, refl, sym, ap, subst, ◌∙◌}
+use Rattle.std.specs.Prelude.{bytes_eq, is_some, option_map}
+use Rattle.std.proofs.lemmas.Slice.Eq.{bytes_eq-Decides}
+use Rattle.store_core.specs.Calls.{IsUntouched, put_told}
+use Rattle.store_core.specs.Objects.{Objects, IsInOrder, names_of, object_at, with_object}
+use Rattle.store_core.specs.ObjectLaws.{IsInOrder-with_object, object_at-with_object_other, same_objects, with_object_stands}
+use Rattle.store_core.specs.declared.store.Put.{Put}
+use Rattle.store_core.specs.declared.store.Put.TheVariants.{Exists}
+use Rattle.session_core.specs.Stores.{State, Answers, AnswersPut, Talked}
+use Rattle.session_core.specs.Talks.{Asked, Told, told_put, Talk}
+use Rattle.table_folder.proofs.Callers.{IsInOrder-with_copies, first_of, found_after_put, list_any-names, object_at-with_copies}
+use Rattle.folder_session.specs.Beside.{AreApart, with_beside}
+
+-- ---- what is found
+
+-- what is found where something stands, and only there
+found_where_stands : (found : Option (List ℕ)) → cond (is_some found) found None ≡ found
+found_where_stands None = refl
+found_where_stands (Some bytes) = refl
+
+-- what stands in the folder, or else what stands beside it
+pub object_at-with_beside : (objects added : Objects) (name : List ℕ) → object_at (with_beside objects added) name ≡ first_of (object_at objects name) (object_at added name)
+object_at-with_beside objects added name =
+    object_at-with_copies added objects (names_of added) name
+    ∙ ap (λ (b : Bool). first_of (object_at objects name) (cond b (object_at added name) None)) (list_any-names added name)
+    ∙ ap (first_of (object_at objects name)) (found_where_stands (object_at added name))
+
+-- of what isn't in the folder
+pub found_beside : (objects added : Objects) (name : List ℕ) → object_at objects name ≡ None → object_at (with_beside objects added) name ≡ object_at added name
+found_beside objects added name none = object_at-with_beside objects added name ∙ ap (λ (found : Option (List ℕ)). first_of found (object_at added name)) none
+
+-- of what is
+pub found_inside : (objects added : Objects) (name bytes : List ℕ) → object_at objects name ≡ Some bytes → object_at (with_beside objects added) name ≡ Some bytes
+found_inside objects added name bytes is = object_at-with_beside objects added name ∙ ap (λ (found : Option (List ℕ)). first_of found (object_at added name)) is
+
+-- ---- what the folder was told to have
+
+-- a file was found
+pub was_found : {A : Type 0} (view : A → List ℕ) (found : Option A) (at : Option (List ℕ)) → option_map view found ≡ at → is_some found ≡ true → IsSome at
+was_found view None at is some = absurd cc
+was_found view (Some file) at is some = subst IsSome is refl
+
+-- and none was
+pub was_absent : {A : Type 0} (view : A → List ℕ) (found : Option A) (at : Option (List ℕ)) → option_map view found ≡ at → is_some found ≡ false → at ≡ None
+was_absent view None at is none = sym is
+was_absent view (Some file) at is none = absurd cc
+
+-- ---- a put
+
+first_of_three : (one two three : Option (List ℕ)) → first_of one (first_of two three) ≡ first_of (first_of one two) three
+first_of_three None two three = refl
+first_of_three (Some bytes) two three = refl
+
+-- what is put beside the folder is put into what stands in both
+pub with_beside-with_object : (objects added : Objects) (name bytes : List ℕ) → IsInOrder objects → with_beside objects (with_object added name bytes) ≡ with_object (with_beside objects added) name bytes
+with_beside-with_object objects added name bytes order =
+    same_objects (with_beside objects (with_object added name bytes)) (with_object (with_beside objects added) name bytes)
+    (IsInOrder-with_copies (with_object added name bytes) objects (names_of (with_object added name bytes)) order)
+    (IsInOrder-with_object (with_beside objects added) name bytes (IsInOrder-with_copies added objects (names_of added) order))
+    (λ other. object_at-with_beside objects (with_object added name bytes) other
+    ∙ ap (first_of (object_at objects other)) (found_after_put added name bytes other (bytes_eq other name) refl)
+    ∙ first_of_three (object_at objects other) (object_at added other) (cond (bytes_eq other name) (Some bytes) None)
+    ∙ ap (λ (found : Option (List ℕ)). first_of found (cond (bytes_eq other name) (Some bytes) None)) (sym (object_at-with_beside objects added other))
+    ∙ sym (found_after_put (with_beside objects added) name bytes other (bytes_eq other name) refl))
+
+-- a name that is put beside the folder isn't one of the folder's
+pub apart_put : (objects added : Objects) (name bytes : List ℕ) → object_at objects name ≡ None → AreApart objects added → AreApart objects (with_object added name bytes)
+apart_put objects added name bytes none apart other stands = by_name (bytes_eq other name) refl
+  where
+    false≢true : false ≡ true → ⊥
+    false≢true e = cc
+
+    by_name : (same : Bool) → bytes_eq other name ≡ same → object_at objects other ≡ None
+    by_name true e = ap (object_at objects) ((bytes_eq-Decides other name).0 e) ∙ none
+    by_name false e =
+        apart other (subst IsSome (object_at-with_object_other added name bytes other (λ is. false≢true (sym e ∙ (bytes_eq-Decides other name).1 is))) stands)
+
+-- what stands in both is as it was where what stands beside the folder is
+pub beside_untouched : (objects old new : Objects) → new ≡ old → IsUntouched (with_beside objects old, []) (with_beside objects new, [])
+beside_untouched objects old new same = (ap (λ (added : Objects). with_beside objects added) same, refl)
+
+-- what a put tells and leaves whose name stands in the folder
+pub put_inside : (objects old new : Objects) (name bytes : List ℕ) → IsSome (object_at objects name) → new ≡ old → AnswersPut (with_beside objects old, []) name bytes (told_put Exists) (with_beside objects new, [])
+put_inside objects old new name bytes stands same = by_found (object_at objects name) refl stands
+  where
+    by_found : (found : Option (List ℕ)) → object_at objects name ≡ found → IsSome found → AnswersPut (with_beside objects old, []) name bytes (told_put Exists) (with_beside objects new, [])
+    by_found None is some = absurd cc
+    by_found (Some kept) is some =
+        let found = found_inside objects old name kept is in (
+          sym (ap put_told found),
+          (ap (λ (added : Objects). with_beside objects added) same ∙ sym (with_object_stands (with_beside objects old) name bytes (ap is_some found)), refl),
+        )
+
+-- and one whose name doesn't
+pub put_beside : (objects old new : Objects) (name bytes : List ℕ) (put : Put) → IsInOrder objects → object_at objects name ≡ None → put ≡ put_told (object_at old name) → new ≡ with_object old name bytes
+    → AnswersPut (with_beside objects old, []) name bytes (told_put put) (with_beside objects new, [])
+put_beside objects old new name bytes put order none told landed = (
+  told ∙ ap put_told (sym (found_beside objects old name none)),
+  (ap (λ (added : Objects). with_beside objects added) landed ∙ with_beside-with_object objects old name bytes order, refl),
+)
+
+-- ---- a talk
+
+-- a talk goes on at its end
+pub answered_more : (old mid new : State) (talk : Talk) (asked : Asked) (told : Told) → Talked Answers old talk mid → Answers mid asked told new → Talked Answers old (talk ++ (asked, told) ∷ []) new
+answered_more old mid new [] asked told is one = (new, subst (λ (s : State). Answers s asked told new) is one, refl)
+answered_more old mid new (call ∷ talk) asked told is one = (is.0, is.1, answered_more is.0 mid new talk asked told is.2 one)

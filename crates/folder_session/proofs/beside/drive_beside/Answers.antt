@@ -1,0 +1,109 @@
+use Rattle.std.proofs.Common.{◌≡◌, ℕ, List, Option, IfSome, [], ◌∷◌, ◌++◌, Some, None, true, false, option_map, refl, sym, ap, subst, ◌∙◌, arith, length-append}
+use Rattle.store_core.specs.Listed.{listed}
+use Rattle.store_core.specs.Memory.{stored_objects}
+use Rattle.store_core.specs.Objects.{Objects, names_of}
+use Rattle.store_core.specs.declared.names.Names.{Names}
+use Rattle.session_core.specs.Stores.{Answers, State, Talked}
+use Rattle.session_core.specs.Talks.{Asked, Talk, Told, asked_view, told_view, has_lost, heard}
+use Rattle.session_core.proofs.Callers.{asked_more, bears_grows, exact_never_lost, talk_alone, talk_borne, talk_grows}
+use Rattle.folder_session.specs.Beside.{AreApart, with_beside}
+use Rattle.folder_session.proofs.BesideLemmas.{answered_more}
+use Rattle.folder_session.proofs.beside.drive_beside.Goals as goal
+
+pub calls-init : goal.calls-init
+calls-init g c =
+    let objects : Objects = g.F.Folder.objects c.args.folder.now in
+    let none = c.new-added.ensures in
+    let same : ◌≡◌ {A = State} (with_beside objects (stored_objects c.new-added.result), []) (objects, []) = λ i. (with_beside objects (none i), []) in
+    record {
+      unended = c.requires.unended;
+      answered = rw c.requires.new tt;
+      never_lost = refl;
+      job = refl;
+      apart = λ steady name stands. let wrong = rw none at stands in absurd cc;
+      steady = λ steady. c.in_ok-names.ensures.steady steady;
+      untouched = λ steady. c.in_ok-names.ensures.untouched steady;
+      faults = c.in_ok-names.ensures.faults;
+      reliable = λ reliable. c.in_ok-names.ensures.stays_reliable reliable;
+      listed = λ steady. rising c.in_ok-names-2.field-0 c.in-Some.names c.in-Some.is c.in_ok-names-2.ensures ∙ c.in_ok-names.ensures.names steady;
+      driven = λ steady before fits. record {
+        talk = [];
+        taken = [];
+        asked = None;
+        fit = fits;
+        all = refl;
+        talked = same;
+        exact = λ reliable. same;
+        asked_for = tt;
+        counted = ((λ e. absurd cc), (λ e. refl));
+        heard = refl;
+        few = omega arith;
+      };
+    }
+  where
+    rising : (found : Option Names) (names : Names) {told : List (List ℕ)} → found ≡ Some names → IfSome found (λ shared. listed shared ≡ told) → listed names ≡ told
+    rising found names {told} is some = subst (λ (o : Option Names). IfSome o (λ shared. listed shared ≡ told)) is some
+
+pub returns-in-Done-clause-driven : goal.returns-in-Done-clause-driven
+returns-in-Done-clause-driven g c = λ steady before fits.
+    let i = c.calls.invariant.driven steady before fits in
+    let step = c.in-Done.ensures.goes before i.taken i.asked i.fit in
+    record {
+      drives = record {
+        talk = i.talk;
+        talked = i.talked;
+        exact = i.exact;
+        asked = i.asked_for;
+        borne = talk_borne _ _ i.talk (talk_alone _ _ i.talk i.talked);
+        still_borne = bears_grows _ _ before (talk_grows _ _ i.talk (talk_alone _ _ i.talk i.talked));
+        ended = rw c.calls.invariant.job at (rw i.all at step);
+        counted = i.counted;
+        told = c.in-Done.ensures.told ∙ sym i.heard;
+        few = omega (arith, i.few);
+      };
+      apart = c.calls.invariant.apart steady;
+    }
+
+pub calls-preserved : goal.calls-preserved
+calls-preserved g c =
+    let objects : Objects = g.F.Folder.objects c.args.folder.now in
+    let steps = c.in-Ask.ensures.steps in
+    let answered = c.in_ok-ask_beside-in-Ask.ensures in
+    let i = c.calls.invariant in
+    let asked : Asked = asked_view c.in-Ask.request in
+    let told : Told = told_view c.in_ok-ask_beside-in-Ask.field-0 in
+    record {
+      unended = steps.2;
+      answered = rw steps.0 answered.kind;
+      never_lost = answered.never_lost;
+      job = c.in-Ask.ensures.same ∙ i.job;
+      apart = λ steady. subst (λ (o : Objects). AreApart o (stored_objects c.ask_beside.new.added)) (i.untouched steady) (answered.apart (i.steady steady) (subst (λ (o : Objects). AreApart o (stored_objects c.calls.added)) (sym (i.untouched steady)) (i.apart steady)));
+      steady = λ steady. answered.steady (i.steady steady);
+      untouched = λ steady. answered.untouched (i.steady steady) ∙ i.untouched steady;
+      faults = answered.faults ∙ i.faults;
+      listed = i.listed;
+      reliable = λ reliable. answered.stays_reliable (i.reliable reliable);
+      driven = λ steady before fits.
+          let d = i.driven steady before fits in
+          let step = c.in-Ask.ensures.goes before d.taken d.asked d.fit in
+          let talk : Talk = d.talk ++ (asked, told) ∷ [] in
+          let answers = subst (λ (o : Objects). Answers (with_beside o (stored_objects c.calls.added), []) asked told (with_beside o (stored_objects c.ask_beside.new.added), [])) (i.untouched steady) (answered.answers (i.steady steady) (i.listed steady ∙ sym (ap names_of (i.untouched steady)))) in
+          let exact : Talked Answers (objects, []) talk (with_beside objects (stored_objects c.ask_beside.new.added), []) = answered_more _ _ _ d.talk asked told (d.exact tt) answers in
+          let unlost : has_lost talk ≡ false = exact_never_lost _ _ talk exact in
+          record {
+            talk = talk;
+            taken = heard d.taken d.asked (option_map told_view c.calls.reply);
+            asked = Some asked;
+            fit = step.0;
+            all = ap (λ (t : Talk). t ++ (asked, told) ∷ []) d.all;
+            talked = c.a_store_answers_as_any_store_may.ensures _ _ talk exact;
+            exact = λ reliable. exact;
+            asked_for = asked_more (g.N.Session.asks (g.N.Session.job c.args.session.now) before) [] d.talk asked told d.asked_for (rw i.job at (rw d.all at step.1));
+            counted = ((λ lost. absurd (has_not talk unlost lost)), (λ e. refl));
+            heard = unlost ∙ sym answered.never_lost;
+            few = let longer = length-append d.talk ((asked, told) ∷ []) in omega (arith, d.few, steps.1, longer);
+          };
+    }
+  where
+    has_not : (talk : Talk) → has_lost talk ≡ false → has_lost talk ≡ true → ⊥
+    has_not talk unlost lost = let wrong : false ≡ true = sym unlost ∙ lost in cc

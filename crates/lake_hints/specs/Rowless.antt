@@ -1,0 +1,18 @@
+-- Which tables take no rows.
+use Rattle.std.specs.Prelude.{Bool, false, Result, Ok, Err, is_some}
+use Rattle.row_core.specs.Unsupported.{unsupported}
+use Rattle.schema_tree.specs.Fault.{Fault}
+use Rattle.schema_tree.specs.Reading.{schema_of}
+use Rattle.schema_tree.specs.Tree.{Tree}
+use Rattle.lake_words.specs.Asked.{Work}
+use Rattle.lake_words.specs.Asked as words
+
+-- a column of the schema is of a type that has no rows
+abbrev pub has_rowless : Result Tree Fault → Bool
+has_rowless (Ok tree) = is_some (unsupported tree)
+has_rowless (Err fault) = false
+
+-- it creates a table that takes no rows
+abbrev pub creates_rowless : Work → Bool
+creates_rowless (words.create id schema at) = has_rowless (schema_of schema)
+creates_rowless work = false
