@@ -146,11 +146,22 @@ const SCRIPT: &str =
      Lines:\n  \
        create ID AT SCHEMA\n  \
        append APP NUMBER AT ROWS      ROWS is a JSON array of objects\n  \
+       close APP AT                   no new batch of APP is taken any more\n  \
        tail MAX OFFSET\n  \
        checkpoint, snapshot, history\n  \
        show V                         the bytes of commit V\n  \
        hex NAME                       an object in hexadecimal\n  \
-       foreign V LINE                 another tool's commit V of one action\n\
+       foreign V LINE                 another tool's commit V of one action\n  \
+       tries N                        how many versions an append or a close tries from here on\n  \
+       fault KIND                     the next commit put meets KIND: pass, lost, mute, late or twice\n\
+     \n\
+     Lines of actors, each of which has a session of its own:\n  \
+       start ACTOR JOB                JOB is an append, close, checkpoint or tail line\n  \
+       step ACTOR KIND                its next call meets KIND\n  \
+       until ACTOR                    it is led on until its next call puts a commit\n  \
+       finish ACTOR                   it is led on to its end\n  \
+       die ACTOR                      it is dropped\n  \
+       land K                         put K in flight, from 0, takes effect\n\
      \n\
      Example:\n  \
        create 00000000-0000-4000-8000-000000000001 0 {\"type\":\"struct\",\"fields\":[{\"name\":\"x\",\"type\":\"long\",\"nullable\":false,\"metadata\":{}}]}\n  \
@@ -235,13 +246,9 @@ fn workers<'a>(alloc: Global) -> Arg<'a>
     ensures rule { rule_of result ≡ workers }
     ensures local { result.global ≡ false }
 {
-    option(
-        alloc,
-        "workers",
-        "N",
-        "How many batches are put at once, 1 to 64",
+    option(alloc, "workers", "N", "How many batches are put at once").value_parser(
+        ValueParser::Unsigned(0, u64::MAX),
     )
-    .value_parser(ValueParser::Unsigned(0, u64::MAX))
 }
 
 // A command with one more argument.
