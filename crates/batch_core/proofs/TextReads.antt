@@ -1,19 +1,12 @@
 -- The text of actions in which no float stands reads as these actions.
-use Rattle.std.proofs.Common.{◌≡◌, ◌≤◌, ◌∙◌, ℕ, List, [], ◌∷◌, ◌++◌, map, Option, Some, option_and_then, refl, sym, ap, subst, append-nil}
+use Rattle.std.proofs.Common.{◌≡◌, ◌≤◌, ℕ, List, [], ◌∷◌, ◌++◌, map, Some, refl, ap, subst}
 use Rattle.std.specs.List.{AllByRecursion, flat_map}
 use Rattle.std.specs.Str.{IsUtf8}
-use Rattle.json.specs.Json.{Json, if_last, value}
-use Rattle.json.specs.Token.{Token}
-use Rattle.json.specs.Lex.{tokens}
-use Rattle.json.specs.Print.{print}
 use Rattle.json.specs.Tree as tree
-use Rattle.json.proofs.Printed.Tokens.{tokens-print}
-use Rattle.json.proofs.Printed.Trees.{ArePrintable-json_tokens, value-json_tokens}
 use Rattle.serde_json.specs.Data.{Data}
-use Rattle.serde_json.specs.Read.{max_depth, of_json, read}
+use Rattle.serde_json.specs.Read.{max_depth, of_json}
 use Rattle.serde_json.specs.Written.{IsInOrder, blank, compact_text, outline}
-use Rattle.serde_json.proofs.Texts.{print-outline}
-use Rattle.json_fields.proofs.Callers.{compact_is_one_line}
+use Rattle.json_fields.proofs.Callers.{compact_is_one_line, text_compact, text_read, text_tokens}
 use Rattle.delta_actions.specs.Action.{Action}
 use Rattle.delta_actions.specs.Commit.{IsCommit}
 use Rattle.delta_actions.specs.Printing.{IsPrintable, data_of, ended}
@@ -27,27 +20,14 @@ pub record IsReadBack (d : Data) : Type 0 where
   pub same : of_json (outline d) ≡ Some d
   pub integers : blank (outline d) ≡ outline d
 
-module _ (d : Data) (is : IsReadBack d) where
-  text_tokens : tokens (compact_text d) ≡ tree.json_tokens (outline d)
-  text_tokens = ap tokens (sym (print-outline d)) ∙ tokens-print (tree.json_tokens (outline d)) (ArePrintable-json_tokens (outline d) is.numbers)
-
-  text_compact : compact_text d ≡ print (tokens (compact_text d))
-  text_compact = sym (ap print text_tokens ∙ print-outline d)
-
-  text_read : read (compact_text d) ≡ Some d
-  text_read =
-      let json = outline d in
-      ap (λ (ts : List Token). option_and_then of_json (option_and_then (λ (p : Json × List Token). if_last p.0 p.1) (value max_depth ts))) (text_tokens ∙ sym (append-nil (tree.json_tokens json)))
-      ∙ (ap (λ (v : Option (Json × List Token)). option_and_then of_json (option_and_then (λ (p : Json × List Token). if_last p.0 p.1) v)) (value-json_tokens json max_depth [] is.shallow) ∙ is.same)
-
 line_for : (action : Action) → IsPrintable action → IsReadBack (data_of action) → IsLineFor (compact_text (data_of action)) action
 line_for action printable is =
     let text = compact_text (data_of action) in
-    let order : IsInOrder text (data_of action) = (outline (data_of action), text_tokens (data_of action) is, is.integers) in
-    let compact = text_compact (data_of action) is in
+    let order : IsInOrder text (data_of action) = (outline (data_of action), text_tokens (data_of action) is.numbers, is.integers) in
+    let compact = text_compact (data_of action) is.numbers in
     record {
       printed = record { order = order; compact = compact; exact = λ none. refl };
-      reads = reads_as text action printable is.utf8 (λ shallow. text_read (data_of action) is);
+      reads = reads_as text action printable is.utf8 (λ shallow. text_read (data_of action) is.numbers is.shallow is.same);
       one_line = compact_is_one_line text compact;
       written = is_written text action compact order;
     }

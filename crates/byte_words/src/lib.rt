@@ -18,4 +18,4 @@ pub use levels::tell_hybrid;
 pub use question::{HeapKind, Kind, Question, TableKind, question_named};
 pub use spoiling::spoiled;
 pub use told::Told;
-pub use words::{Names, Words};
+pub use words::{Bindings, Words};

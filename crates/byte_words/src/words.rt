@@ -7,20 +7,20 @@ use std::collections::BTreeMap;
 use std::str::FromStr;
 
 /// Bytes by their names.
-pub type Names = BTreeMap<String, Vec<u8>>;
+pub type Bindings = BTreeMap<String, Vec<u8>>;
 
 /// The words of a line, read from the left. What can't be read is remembered, and told by [`Words::end`].
 #[derive(Drop)]
 pub struct Words<'a> {
     alloc: Global,
-    names: &'a Names,
+    names: &'a Bindings,
     rest: &'a str,
     fault: Option<LineFault>,
 }
 
 impl<'a> Words<'a> {
     /// The words of a text, in which bytes have these names.
-    pub fn new(alloc: Global, names: &'a Names, text: &'a str) -> Words<'a> {
+    pub fn new(alloc: Global, names: &'a Bindings, text: &'a str) -> Words<'a> {
         Words {
             alloc,
             names,

@@ -11,7 +11,7 @@ mod turns;
 mod waiting;
 
 pub use calls::{tell_call, tell_request};
-pub use rows::rows_of;
+pub use rows::spelled_rows;
 pub use scripts::{Run, Script};
 pub use shared::{Rival, SharedFolder};
 pub use turns::CaseStore;

@@ -5,7 +5,7 @@ use json_text::{ArrayText, JsonRows, TextError};
 
 /// The rows of these words: a JSON array, or `fill N`, which is so many rows with a text of 1 MiB under `s`. `None` where they are
 /// misspelled or memory runs out.
-pub fn rows_of(text: &str, told: &mut Told) -> Option<JsonRows<'static>> {
+pub fn spelled_rows(text: &str, told: &mut Told) -> Option<JsonRows<'static>> {
     match text.strip_prefix("fill ") {
         Some(count) => {
             let rows = filled(count, told);

@@ -2,7 +2,7 @@
 
 use crate::shared::Rival;
 use crate::turns::{CaseStore, add_turns};
-use case_words::{Manner, Names, Sink, Source, Told, head};
+use case_words::{Bindings, Manner, Sink, Source, Told, head};
 use std::alloc::Global;
 use std::mem;
 use store_core::{MemoryStore, Store};
@@ -106,7 +106,7 @@ impl<'a> Script<'a> {
     ///   behind N bytes; `output ends N`: behind N bytes it takes no more; `output sticks`: a flush fails;
     /// - `last N` tells just the last N lines, and of the others the count and the SHA-256;
     /// - `objects` and `entries` tell the names and sizes of the objects, and the table's entries, that are left.
-    pub fn direct(&mut self, names: &Names<'_>, directive: &'a str, told: &mut Told) {
+    pub fn direct(&mut self, names: &Bindings<'_>, directive: &'a str, told: &mut Told) {
         let (word, rest) = head(directive);
         match word {
             "text" => names.spell(rest, &mut self.text, told),
@@ -221,7 +221,7 @@ impl<'a> Script<'a> {
     }
 
     // Adds a file that another process makes during the last command line.
-    fn add_rival(&mut self, names: &Names<'_>, text: &'a str, told: &mut Told) {
+    fn add_rival(&mut self, names: &Bindings<'_>, text: &'a str, told: &mut Told) {
         let (behind, text) = told.halves(text);
         let (name, text) = head(text);
         let behind = told.number(behind);
@@ -239,7 +239,7 @@ impl<'a> Script<'a> {
     }
 
     // Adds a text so many times, `#` in it being the count.
-    fn repeat(&mut self, names: &Names<'_>, text: &str, told: &mut Told) {
+    fn repeat(&mut self, names: &Bindings<'_>, text: &str, told: &mut Told) {
         let (times, text) = told.halves(text);
         for count in 0..told.number(times) {
             let mut line = Told::new(told.alloc);
@@ -255,7 +255,7 @@ impl<'a> Script<'a> {
     }
 
     // Puts an object, unless its name stands.
-    fn put(&mut self, names: &Names<'_>, text: &str, told: &mut Told) {
+    fn put(&mut self, names: &Bindings<'_>, text: &str, told: &mut Told) {
         let (name, text) = head(text);
         let mut bytes = Vec::new(told.alloc);
         names.spell(text, &mut bytes, told);
@@ -266,7 +266,7 @@ impl<'a> Script<'a> {
     }
 
     // Puts the commit of a version, unless it stands.
-    fn put_commit(&mut self, names: &Names<'_>, text: &str, told: &mut Told) {
+    fn put_commit(&mut self, names: &Bindings<'_>, text: &str, told: &mut Told) {
         let (version, text) = head(text);
         let version = told.number(version);
         match format!(in told.alloc; "_delta_log/{version:020}.json {text}") {

@@ -9,7 +9,7 @@ mod told;
 mod words;
 
 pub use bytes::{add_line, add_many, changed};
-pub use notation::Names;
+pub use notation::Bindings;
 pub use streams::{Manner, SOUND, Sink, Source};
 pub use told::{Told, add_one};
 pub use words::{head, reads_of};

@@ -7,21 +7,21 @@ use std::alloc::Global;
 const LETTERS: [(char, u8); 3] = [('n', b'\n'), ('r', b'\r'), ('t', b'\t')];
 
 /// Bytes by their names.
-pub struct Names<'a> {
+pub struct Bindings<'a> {
     named: Vec<(&'a str, Vec<u8>)>,
 }
 
 // One call where it is dropped.
-impl Drop for Names<'_> {
+impl Drop for Bindings<'_> {
     fn drop(self) {
-        let Names { named: _ } = self;
+        let Bindings { named: _ } = self;
     }
 }
 
-impl<'a> Names<'a> {
+impl<'a> Bindings<'a> {
     /// Nothing is named.
-    pub fn new(alloc: Global) -> Names<'a> {
-        Names {
+    pub fn new(alloc: Global) -> Bindings<'a> {
+        Bindings {
             named: Vec::new(alloc),
         }
     }

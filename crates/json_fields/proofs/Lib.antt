@@ -4,4 +4,5 @@ mod Held
 mod Steps
 mod Depths
 mod OneLine
+mod ReadBack
 pub mod Callers

@@ -8,7 +8,7 @@ use crate::commands::tell_runs;
 use crate::plain::tell_plain;
 use crate::tables::{tell_objects, tell_table};
 use case_calls::{CaseStore, Script};
-use case_words::{Names, Told, add_line};
+use case_words::{Bindings, Told, add_line};
 use lake_script::{End, Input, Outcome, Output};
 use sha2::{Digest, Sha256};
 use std::alloc::Global;
@@ -18,7 +18,7 @@ use world_script::{Ran, run};
 
 /// Runs the cases of an input, and adds what is told of them.
 pub fn tell_scripts(rt: &HostRuntime, text: &str, told: &mut Told) {
-    let mut names = Names::new(told.alloc);
+    let mut names = Bindings::new(told.alloc);
     let mut script = Script::new(told.alloc, "");
     for (place, line) in text.split('\n').enumerate() {
         if let Some(name) = line.strip_prefix("== ") {
@@ -35,7 +35,12 @@ pub fn tell_scripts(rt: &HostRuntime, text: &str, told: &mut Told) {
 }
 
 // Names a text, or shapes the case that is read.
-fn direct<'a>(names: &mut Names<'a>, script: &mut Script<'a>, directive: &'a str, told: &mut Told) {
+fn direct<'a>(
+    names: &mut Bindings<'a>,
+    script: &mut Script<'a>,
+    directive: &'a str,
+    told: &mut Told,
+) {
     match directive.strip_prefix("let ") {
         Some(rest) => {
             let (name, text) = told.halves(rest);

@@ -1,6 +1,6 @@
 //! The appends of batches and the closes of streams, one call of the store after the other.
 
-use case_calls::{CaseStore, Waiting, begin, place_of, rows_of, step};
+use case_calls::{CaseStore, Waiting, begin, place_of, spelled_rows, step};
 use case_words::Told;
 use sink_core::{SinkEnd, SinkFault, SinkOutcome, SinkSession};
 use std::collections::BTreeMap;
@@ -55,7 +55,7 @@ fn append(sink: &mut Sink, application: &str, words: &str, told: &mut Told) -> O
     let at = told.moment(at);
     let tries = told.count(tries);
     let application = told.copy_of(application);
-    let rows = rows_of(rows, told)?;
+    let rows = spelled_rows(rows, told)?;
     if told.is_bad() {
         return None;
     }

@@ -81,7 +81,7 @@ pub fn answer<F: Folder, R: Read>(
     let Some(line) = line_for(alloc, command.job, &text)? else {
         return Ok(LineReply::Refused(Fault::NotYet));
     };
-    *rows = rows_of(&line);
+    *rows = count_rows(&line);
     let tries = tries_of(&command.job);
     let before = folder.faults();
     let outcome = execute_in(alloc, folder, line, tries, command.use_checkpoints);
@@ -172,7 +172,7 @@ fn tries_of(job: &Job<'_>) -> u64
 }
 
 // How many rows a line has, whose texts are at hand.
-fn rows_of(line: &Line<'_>) -> u64 {
+fn count_rows(line: &Line<'_>) -> u64 {
     match line {
         Line::Job(
             lake_script::Job::Append {

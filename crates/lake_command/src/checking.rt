@@ -6,10 +6,10 @@ ghost use Rattle.lake_script.specs.Streams.{held, write_failed, StandsIn};
 ghost use Rattle.lake_command.specs.Checks.{Checks, IsOfTooLarge, IsOfVerdict, IsTextTold, status_of_verdict};
 
 use crate::exit::{DONE, Exit, REFUSED};
-use crate::explaining::explain;
 use crate::failure::Failure;
 use crate::telling::{not_written, tell_failure};
 use folder_check::{CheckFault, FolderReader, Progress, Report};
+use lake_hints::explain;
 use lake_script::{Output, OutputError};
 use std::alloc::{AllocError, Global};
 use std::io::Write;

@@ -17,13 +17,13 @@ ghost use Rattle.lake_words.specs.Words.{commands};
 
 use crate::checking::check_command;
 use crate::exit::{DONE, Exit, MISUSED, REFUSED};
-use crate::explaining::{explain, explain_command};
+use crate::explaining::explain_command;
 use crate::failure::Failure;
 use crate::telling::{table_command, tell_failure};
 use clap::Error;
 use clap::error::ErrorKind;
 use folder_check::{FolderReader, Progress};
-use lake_hints::tell_bad_line;
+use lake_hints::{explain, tell_bad_line};
 use lake_script::{End, Fault, Input, Output, RefusalText};
 use lake_words::{Command, TableCommand, read_words};
 use std::alloc::AllocError;

@@ -1,4 +1,4 @@
-//! What a refusal means, told on standard error or asked for.
+//! What a refusal means, where it is asked for, and the code of a failure.
 ghost use Rattle.std.specs.Prelude.{◌≡◌, Err, OnOk, true};
 ghost use Rattle.std.specs.Io.KnownBytes.{Appends};
 ghost use Rattle.lake_bytes.specs.Lines.{with_newline};
@@ -8,35 +8,11 @@ ghost use Rattle.refusal_texts.specs.Texts.{refusal_text};
 
 use crate::exit::{DONE, Exit, MISUSED};
 use crate::failure::Failure;
-use crate::telling::{is_refusal, not_written};
-use lake_script::{LineReply, Output, OutputError};
-use refusal_texts::{Refusal, refusal_named, refusal_of_reply};
-use std::alloc::Global;
+use crate::telling::not_written;
+use lake_script::{Output, OutputError};
+use refusal_texts::{Refusal, refusal_named};
 use std::io::Write;
 use table_folder::SaveFault;
-
-/// Tells what the refusal of that code means, where there is one. Where that can't be written, nothing is left to tell it on.
-pub(crate) fn explain<E: Write>(code: &str, err: &mut E) {
-    if let Some(refusal) = refusal_named(code) {
-        let _ = err.writeln(refusal);
-    }
-}
-
-/// Tells what a reply's refusal means: of a history that ends early that is its last line's.
-pub(crate) fn explain_reply<E: Write>(alloc: Global, reply: &LineReply, err: &mut E) {
-    let mut text = Output::new(alloc, Vec::new(alloc));
-    if reply.give(&mut text).is_err() || text.flush().is_err() {
-        return;
-    }
-    for line in text.writer.split(|byte| *byte == b'\n') {
-        if !is_refusal(line) {
-            continue;
-        }
-        if let Some(refusal) = refusal_of_reply(line) {
-            let _ = err.writeln(refusal);
-        }
-    }
-}
 
 /// The code of a failure that is told as a refusal.
 pub(crate) fn code_of(failure: &Failure) -> Option<&'static str> {

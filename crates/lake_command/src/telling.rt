@@ -16,9 +16,9 @@ ghost use Rattle.lake_command.specs.Folders.{IsAnsweredJob, IsMiscounted, reads_
 
 use crate::answering::answer;
 use crate::exit::{DONE, Exit, MISUSED, REFUSED};
-use crate::explaining::{code_of, explain, explain_reply};
+use crate::explaining::code_of;
 use crate::failure::Failure;
-use lake_hints::{hint_refusal, note_rowless};
+use lake_hints::{explain, explain_reply, hint_reason, hint_refusal, note_rowless};
 use lake_script::{Fault, Input, LineReply, Output, OutputError, RefusalText};
 use lake_words::{Job, TableCommand};
 use std::alloc::Global;
@@ -161,17 +161,13 @@ fn explain_failure<E: Write>(failure: &Failure, err: &mut E) {
 // Says what is wrong with a bad line, and what to do about the folder, where it tells why it failed and there is something
 // to do.
 fn hint<E: Write>(failure: &Failure, err: &mut E) {
-    let reason = match failure {
+    match failure {
         Failure::BadLine(_number, flaw) => {
             let _ = err.writeln(format_args!("hint: the line {flaw}"));
-            return;
         }
-        Failure::Loading(LoadFault::NotLoaded { reason, .. }) => *reason,
-        Failure::Saving(SaveFault::NotSaved { reason, .. }) => *reason,
-        _ => return,
-    };
-    if let Some(hint) = reason.hint() {
-        let _ = err.writeln(format_args!("hint: {hint}"));
+        Failure::Loading(LoadFault::NotLoaded { reason, .. })
+        | Failure::Saving(SaveFault::NotSaved { reason, .. }) => hint_reason(*reason, err),
+        _ => {}
     }
 }
 
@@ -226,8 +222,8 @@ fn text_refuses(text: &[u8], job: Job<'_>) -> bool
     is_refusal(text) || (job == Job::History && has_refusal(text))
 }
 
-/// Whether a text begins with `refused `.
-pub(crate) fn is_refusal(text: &[u8]) -> bool
+// Whether a text begins with `refused `.
+fn is_refusal(text: &[u8]) -> bool
     ensures { result ≡ is_refusal text.now }
 {
     text.starts_with(b"refused ")

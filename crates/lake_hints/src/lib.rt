@@ -1,11 +1,16 @@
 //! What the program tells on standard error beside a reply: of a table that takes no rows which columns have none, of a refusal
-//! which limit was passed, and of a bad line of a script what is wrong with it.
+//! what it means and which limit was passed, of a folder's call that failed what to do about it, and of a bad line of a script
+//! what is wrong with it.
 #![tactic(auto)]
 
 mod flaws;
 mod hinting;
+mod meanings;
 mod noting;
+mod remedies;
 
 pub use flaws::tell_bad_line;
 pub use hinting::hint_refusal;
+pub use meanings::{explain, explain_reply};
 pub use noting::note_rowless;
+pub use remedies::hint_reason;

@@ -6,13 +6,13 @@ use crate::heaps::tell_heap;
 use crate::spoiling::tell_spoiled;
 use crate::tables::tell_table;
 use crate::writing::written;
-use byte_words::{LineFault, Names, Question, Told, Words, question_named, tell_hybrid};
+use byte_words::{Bindings, LineFault, Question, Told, Words, question_named, tell_hybrid};
 use std::alloc::Global;
 
 /// The answer to a line of this number. It is one line: ` | ` stands between what is told of one thing and of the next,
 /// and the middle of a long one is left out. The answers to `whole ..` and to `spoil ..` are all that is told, each in
 /// a line, which are set in but for the first.
-pub fn answered(alloc: Global, names: &mut Names, line: &str, number: u64) -> Told {
+pub fn answered(alloc: Global, names: &mut Bindings, line: &str, number: u64) -> Told {
     let asked = line.strip_prefix("whole ").unwrap_or(line);
     let is_whole = asked.len() < line.len() || line.starts_with("spoil ");
     let mut told = Told::new(alloc, if is_whole { "\n  " } else { " | " });
@@ -25,7 +25,7 @@ pub fn answered(alloc: Global, names: &mut Names, line: &str, number: u64) -> To
 }
 
 /// Names bytes for `NAME BYTES` and `NAME write ..`, and tells how many they are.
-fn name(alloc: Global, names: &mut Names, text: &str, told: &mut Told) -> Result<(), LineFault> {
+fn name(alloc: Global, names: &mut Bindings, text: &str, told: &mut Told) -> Result<(), LineFault> {
     let (name, text) = text.split_once(' ').ok_or(LineFault::Misspelled)?;
     let bytes = bytes_of(&mut Words::new(alloc, names, text), told)?;
     told.show("", &bytes.len());

@@ -23,14 +23,14 @@ mod tree;
 mod writing;
 
 use crate::lines::answered;
-use byte_words::Names;
+use byte_words::Bindings;
 use std::collections::BTreeMap;
 use std::env::Env;
 use std::rt::Files;
 use std::{env, fs, io};
 
 /// The bytes of the files that the command line names, by their numbers. Tells which of them can't be read.
-fn files_named<R: Files + Env + Eprint + AllocGlobal>(rt: &R) -> io::Result<Names> {
+fn files_named<R: Files + Env + Eprint + AllocGlobal>(rt: &R) -> io::Result<Bindings> {
     let mut names = BTreeMap::new(rt.alloc());
     let mut number = 0u64;
     for file in env::args(rt)?.skip(1) {

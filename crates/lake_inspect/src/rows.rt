@@ -110,11 +110,11 @@ pub fn rows_in(
     let mut scratch = Scratch::new(told.alloc());
     let value = json_of(told.alloc(), text, &mut scratch)?;
     let items = items_of(&value)?;
-    told.given(rows_of(told.alloc(), schema, items))
+    told.given(rows_from_json(told.alloc(), schema, items))
 }
 
 /// The rows that JSON values are.
-fn rows_of(
+fn rows_from_json(
     alloc: Global,
     schema: &Schema<Global>,
     values: &[Json<'_>],

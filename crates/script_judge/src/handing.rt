@@ -2,7 +2,7 @@
 
 use crate::findings::Findings;
 use crate::log::Log;
-use crate::offset::Offset;
+use crate::offset::ReaderOffset;
 use crate::talk::{Read, Talk};
 
 const FRONT: &str =
@@ -67,7 +67,7 @@ fn was_handed_a_front(log: &Log<'_>, talk: &Talk<'_>, reader: &str) -> bool {
 
 // How many rows stand before an offset. `None` where it is none of this log.
 fn position_of(log: &Log<'_>, text: &str) -> Option<usize> {
-    let offset = Offset::of(text)?;
+    let offset = ReaderOffset::of(text)?;
     let entry = log.at(offset.version as usize)?;
     let files = if entry.is_batch { 1 } else { 0 };
     let row = offset.row as usize;

@@ -13,7 +13,7 @@ mod trial;
 
 pub use findings::Findings;
 pub use log::Entry;
-pub use offset::{BEGINNING, Offset, START};
+pub use offset::{BEGINNING, ReaderOffset, START};
 pub use replies::Replies;
 pub use talk::{Acknowledged, Closed, Read, Talk};
 pub use trial::Trial;

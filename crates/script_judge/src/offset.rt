@@ -5,29 +5,29 @@ use case_words::Told;
 /// The offset of the beginning.
 pub const BEGINNING: &str = "{\"file\":0,\"row\":0,\"version\":0}";
 
-/// An offset.
+/// An offset, as a reader is told it.
 #[derive(Clone, Copy)]
-pub struct Offset {
+pub struct ReaderOffset {
     pub file: u64,
     pub row: u64,
     pub version: u64,
 }
 
 /// That of the beginning.
-pub const START: Offset = Offset {
+pub const START: ReaderOffset = ReaderOffset {
     file: 0,
     row: 0,
     version: 0,
 };
 
-impl Offset {
+impl ReaderOffset {
     /// The offset that a text is, in the form in which it is printed. `None` where it is none.
-    pub fn of(text: &str) -> Option<Offset> {
+    pub fn of(text: &str) -> Option<ReaderOffset> {
         let file = number_in(text, "{\"file\":", ",\"row\":");
         let row = number_in(text, ",\"row\":", ",\"version\":");
         let version = number_in(text, ",\"version\":", "}");
         match (file, row, version) {
-            (Some(file), Some(row), Some(version)) => Some(Offset { file, row, version }),
+            (Some(file), Some(row), Some(version)) => Some(ReaderOffset { file, row, version }),
             _ => None,
         }
     }

@@ -95,7 +95,7 @@ fn owned_array(alloc: Global, text: &str) -> Result<ArrayText, FieldError>
 }
 
 /// The members of a JSON array as rows, which borrow the text, or own it.
-pub fn rows_of<'a>(
+pub fn array_rows<'a>(
     alloc: Global,
     text: &'a str,
     scratch: &'a mut Scratch,

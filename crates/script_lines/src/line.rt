@@ -3,7 +3,9 @@ ghost use Rattle.std.specs.Prelude.{◌≡◌, option_map};
 ghost use Rattle.script_lines.specs.Fields.{LineGives};
 ghost use Rattle.script_lines.specs.Lines.{task_view, statement_view, append_head, append_from, close_from, tail_from, task_from, bare_task, task_of, create_from, start_from, step_from, foreign_from, bare_statement, counted_from, plain_from, statement_from, statement_of};
 
-use crate::fields::{FieldError, max_of, moment_of, number_of, rows_of, tries_of, word_and_rest};
+use crate::fields::{
+    FieldError, array_rows, max_of, moment_of, number_of, tries_of, word_and_rest,
+};
 use crate::kind::Kind;
 use crate::verb::Verb;
 use json::Scratch;
@@ -120,7 +122,7 @@ fn append_from<'a>(
     ensures { LineGives task_view result (append_from text.now) }
 {
     let (application, number, at, rows) = append_head(text).ok_or(FieldError::Malformed)?;
-    let rows = rows_of(alloc, rows, scratch, is_owned)?;
+    let rows = array_rows(alloc, rows, scratch, is_owned)?;
     Ok(Job::Append {
         application,
         number,

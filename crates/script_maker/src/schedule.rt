@@ -4,7 +4,7 @@
 use crate::random::Random;
 use crate::streams::Streams;
 use case_words::Told;
-use script_judge::{BEGINNING, Offset, START, Talk};
+use script_judge::{BEGINNING, ReaderOffset, START, Talk};
 use std::alloc::Global;
 
 /// How many lines a round has, about.
@@ -129,7 +129,7 @@ enum Stage {
 struct Reader {
     name: &'static str,
     stage: Stage,
-    offset: Offset,
+    offset: ReaderOffset,
 }
 
 /// A script that is made line by line.
@@ -225,7 +225,7 @@ impl Schedule {
         let talk = Talk::hear(replies.alloc, self.text.as_text(), replies.as_text());
         for reader in &mut self.readers {
             if let Some(text) = talk.offset_of(reader.name)
-                && let Some(offset) = Offset::of(text)
+                && let Some(offset) = ReaderOffset::of(text)
             {
                 reader.offset = offset;
             }
@@ -348,11 +348,11 @@ impl Schedule {
     }
 
     // An offset that a reader was told, or one that may be none.
-    fn some_offset(&mut self) -> Offset {
+    fn some_offset(&mut self) -> ReaderOffset {
         let place = self.random.place(READERS.len());
         match self.readers.get(place) {
             Some(reader) if self.random.chance(70) => reader.offset,
-            _ => Offset {
+            _ => ReaderOffset {
                 file: self.random.below(8) / 7,
                 row: self.random.below(3),
                 version: self.random.below(self.lines / 5),
@@ -388,7 +388,7 @@ impl Schedule {
     }
 
     // Adds the line by which a reader begins.
-    fn begin_read(&mut self, place: usize, limit: &str, offset: Offset) {
+    fn begin_read(&mut self, place: usize, limit: &str, offset: ReaderOffset) {
         self.text.with("start r", &place);
         self.text.text(" tail ");
         self.text.text(limit);

@@ -23,7 +23,7 @@ struct Rows {
 
 /// A batch that was handed in.
 #[derive(Clone, Copy)]
-struct Batch {
+struct SubmittedBatch {
     number: u64,
     rows: Rows,
 }
@@ -33,7 +33,7 @@ struct Batch {
 struct Stream {
     number: u64,
     ending: &'static str,
-    batches: Vec<Batch>,
+    batches: Vec<SubmittedBatch>,
 }
 
 // One call where it is dropped.
@@ -157,7 +157,7 @@ impl Stream {
         let number = self.next_number(random);
         let rows = Rows::new(next_row, random);
         self.tell_batch(number, random.below(100), rows, told);
-        told.note(self.batches.push(Batch { number, rows }));
+        told.note(self.batches.push(SubmittedBatch { number, rows }));
         next_row.saturating_add(rows.count)
     }
 

@@ -1,23 +1,24 @@
 -- What a load, the put of a checkpoint, and a creation may ask for and tell.
 use Rattle.std.proofs.Common.{◌≡◌, ◌∙◌, ◌<◌, ℕ, suc, List, [], Result, Ok, Err, IsSome, sym, ap, subst}
 use Rattle.store_core.specs.Objects.{Objects, object_at}
-use Rattle.store_core.specs.declared.store.Put.{Put}
 use Rattle.session_core.specs.Sessions.{AllAsked}
 use Rattle.session_core.specs.Talks.{Asked, Bears, Talk, get_object, list_names, put_commit, put_file, told_object, told_put}
 use Rattle.delta_actions.specs.Action.{Action}
+use Rattle.delta_replay.specs.Snapshots.{IsSnapshotOf}
 use Rattle.delta_replay.specs.Support.{checkpointable, fault_of}
+use Rattle.delta_replay.specs.declared.kept.Snapshot.{Snapshot}
 use Rattle.delta_replay.specs.declared.support.SupportFault.{SupportFault}
 use Rattle.table_log.proofs.Callers.{own_checkpoint, same_values}
 use Rattle.table_log.specs.Counts.{count_in}
 use Rattle.table_log.specs.Versions.{commits_in, versions_from}
-use Rattle.snapshot_core.proofs.Callers.{all_same, checkpoint_same}
+use Rattle.snapshot_core.proofs.Callers.{all_same, checkpoint_same, known_same}
 use Rattle.table_log.specs.LoadSessions.{HasListed, IsLoadBehind, LoadAsks, LoadEnds, LoadJob, is_lost_load}
 use Rattle.table_log.specs.Names.{commit_name}
 use Rattle.table_log.specs.declared.fault.LogFault.{LogFault}
 use Rattle.table_log.specs.declared.fault.LogFault.TheVariants as load_faults
 use Rattle.table_log.specs.declared.loading.Loaded.{Loaded}
 use Rattle.table_store.specs.Schema.{Schema}
-use Rattle.snapshot_core.specs.CheckpointSessions.{CheckpointAsks, CheckpointEnds, IsRefusedBehind, PutTold, is_lost_checkpoint}
+use Rattle.snapshot_core.specs.CheckpointSessions.{CheckpointAsks, CheckpointEnds, IsPutBehind, IsRefusedBehind, is_lost_checkpoint}
 use Rattle.snapshot_core.specs.Taking.{IsTableId}
 use Rattle.snapshot_core.specs.declared.checkpoint_session.Checkpointed.{Checkpointed}
 use Rattle.snapshot_core.specs.declared.fault.SnapshotFault.{SnapshotFault}
@@ -71,11 +72,13 @@ module _ (objects : Objects) (sound : IsSoundStore objects) (job : LoadJob) (bef
   checkpoint_asks schema talk (put_commit version bytes) borne asks = absurd asks
 
   -- what was told behind the put
-  put_row : (talk : Talk) (checkpointed : Checkpointed) (put : Put) → Bears objects talk → (told : PutTold job before talk checkpointed.version (told_put put)) → IsLoadBehind job before told.front checkpointed.loaded → HasCheckpoint objects talk checkpointed
-  put_row talk checkpointed put borne told behind =
-      let both = told_stands objects job before talk checkpointed.version put borne told in
-      let same : next_version talk ≡ next_version told.front = ap next_version told.talked ∙ file_next told.front told.name told.bytes (told_put put) in
-      let row = loaded_row told.front checkpointed.loaded both.0 behind in
+  put_row : (talk : Talk) (checkpointed : Checkpointed) → Bears objects talk → IsPutBehind job before talk checkpointed → HasCheckpoint objects talk checkpointed
+  put_row talk checkpointed borne ends =
+      let told = ends.told in
+      let both = told_stands objects job before talk checkpointed.version ends.put borne told in
+      let same : next_version talk ≡ next_version told.front = ap next_version told.talked ∙ file_next told.front told.name told.bytes (told_put ends.put) in
+      let row = loaded_row told.front ends.loaded both.0 ends.behind in
+      let known = known_same job.use_checkpoints ends.put told.name ends.loaded checkpointed.loaded ends.known in
       let puts = told.puts.front objects known_before both.0 in
       let newest : suc checkpointed.version ≡ next_version told.front = told.puts.newest ∙ sym (listed_next told.front told.puts.names told.puts.listed) in
       let log = front_log objects sound (suc checkpointed.version) puts.from puts.r puts.commits puts.checkpoint puts.read in
@@ -84,10 +87,10 @@ module _ (objects : Objects) (sound : IsSoundStore objects) (job : LoadJob) (bef
       record {
         newest = newest ∙ sym same;
         loaded = record {
-          next = row.next ∙ sym same;
+          next = known.1 ∙ (row.next ∙ sym same);
           log = row.log;
           stand = subst (λ (n : ℕ). (0 < n) × (commits_in 0 (versions_from n 0 objects) ≡ Ok row.log)) (sym same) row.stand;
-          snapshot = row.snapshot;
+          snapshot = subst (λ (s : Snapshot). IsSnapshotOf row.log s) (sym known.0) row.snapshot;
         };
         id = puts.is.id;
         of_table = subst (λ (l : List (List Action)). IsTableId l puts.is.id) one of_table;
@@ -131,7 +134,7 @@ module _ (objects : Objects) (sound : IsSoundStore objects) (job : LoadJob) (bef
       )
 
   pub checkpoint_tells : (talk : Talk) (result : Result Checkpointed SnapshotFault) → Bears objects talk → AllAsked (CheckpointAsks job before) [] talk → CheckpointEnds job before talk result → is_lost_checkpoint result ≡ ends_lost talk → MayTellOfCheckpoint objects talk result
-  checkpoint_tells talk (Ok checkpointed) borne asked (put, told, behind) lost = put_row talk checkpointed put borne told behind
+  checkpoint_tells talk (Ok checkpointed) borne asked ends lost = put_row talk checkpointed borne ends
   checkpoint_tells talk (Err (checkpoint_faults.BadLog version)) borne asked ends lost =
       load_lacks objects sound talk borne job before version (λ front found talked. asked_last (CheckpointAsks job before) [] front (get_object (commit_name version), told_object found) (subst (AllAsked (CheckpointAsks job before) []) talked asked)) ends
   checkpoint_tells talk (Err (checkpoint_faults.Unsupported fault)) borne asked ends lost = unsupported_row talk fault borne ends

@@ -2,5 +2,6 @@ pub mod Callers
 pub mod CheckpointTalks
 pub mod FewCalls
 pub mod FrontLemmas
+pub mod KnownLemmas
 pub mod LogLemmas
 pub mod RestoredLaws

@@ -1,7 +1,7 @@
 -- What putting a checkpoint tells and leaves (Delta PROTOCOL.md, "Checkpoints").
-use Rattle.std.specs.Prelude.{◌≡◌, ◌≤◌, ◌<◌, ◌⊎◌, ◌∷◌, ℕ, suc, Bool, List, Option, Some, Ok, Err, length}
+use Rattle.std.specs.Prelude.{◌≡◌, ◌≤◌, ◌<◌, ◌⊎◌, ◌∷◌, ℕ, suc, Bool, true, List, Option, Some, None, Ok, Err, length}
 use Rattle.lake_bytes.specs.Outcome.{IsSaid}
-use Rattle.store_core.specs.Objects.{Objects, with_object}
+use Rattle.store_core.specs.Objects.{Objects, object_at, with_object}
 use Rattle.store_core.specs.Calls.{Flight, IsUntouched, MayHaveLanded}
 use Rattle.delta_actions.specs.Action.{Action, MetaDataAction, checkpoint_metadata}
 use Rattle.delta_actions.specs.Printing.{IsPrintedCommit}
@@ -12,8 +12,8 @@ use Rattle.delta_replay.specs.declared.kept.Snapshot.{Snapshot}
 use Rattle.delta_checkpoint.specs.Checkpoints.{IsCheckpoint}
 use Rattle.delta_checkpoint.specs.Names.{IsCheckpointName, checkpoint_name}
 use Rattle.table_log.specs.Counts.{commit_count}
-use Rattle.table_log.specs.Loads.{IsFrom, IsFrontFrom, replayed_below}
-use Rattle.table_log.specs.Restoring.{Restored, replayed}
+use Rattle.table_log.specs.Loads.{IsFrom, IsFrontFrom, checkpoint_of, replayed_below}
+use Rattle.table_log.specs.Restoring.{Restored, replayed, restored_if}
 use Rattle.table_log.specs.declared.loading.Loaded.{Loaded}
 use Rattle.snapshot_core.specs.Faults.{checked, says}
 use Rattle.snapshot_core.specs.declared.fault.SnapshotFault.{SnapshotFault}
@@ -63,6 +63,12 @@ pub record IsCheckpointFor (commits : List (List Action)) (version : ℕ) (name 
   -- by its name it is found
   pub found : IsCheckpointName version name
 
+-- Under this name these bytes are the checkpoint of the last version of what was loaded, over whatever objects that
+-- was.
+pub record IsMadeOf (loaded : Loaded) (version : ℕ) (name bytes : List ℕ) : Type 0 where
+  pub last : suc version ≡ loaded.next
+  pub made : (r : Option Restored) (objects : Objects) (front : IsFrontFrom r objects loaded) → IsCheckpointFor front.commits version name bytes
+
 -- What is put over objects in which these versions stand, and maybe later ones: the checkpoint of the last of them.
 pub record PutsFront (objects : Objects) (version : ℕ) (name bytes : List ℕ) : Type 0 where
   pub r : Option Restored
@@ -79,6 +85,29 @@ pub record HasPut (use_checkpoints : Bool) (version : ℕ) (old new : Objects) :
   pub bytes : List ℕ
   pub puts : PutsCheckpoint use_checkpoints old version name bytes
   pub put : new ≡ with_object old name bytes
+
+-- The log is known from the checkpoint that was put, where checkpoints are used and none of its name stood.
+pub record IsKnownFromPut (use_checkpoints : Bool) (old new : Objects) (known : Loaded) : Type 0 where
+  pub used : use_checkpoints ≡ true
+  pub version : ℕ
+  pub put : HasPut use_checkpoints version old new
+  pub created : object_at old put.name ≡ None
+  pub from : checkpoint_of known ≡ Some put.name
+
+-- What is known of a log from the put of its newest checkpoint on: the snapshot of the commits that it was seen as
+-- before the put, and the version behind its newest. It is known from the checkpoint that it was read from, or from all
+-- commits, as they stood before the put; or from the checkpoint that was put.
+pub record KnowsLog (use_checkpoints : Bool) (old new : Objects) (known : Loaded) : Type 0 where
+  pub commits : List (List Action)
+  pub read : replayed use_checkpoints old ≡ Ok commits
+  pub snapshot : IsSnapshotOf commits known.snapshot
+  pub next : known.next ≡ commit_count old
+  pub from : IsFrom old known.next (checkpoint_of known) (restored_if use_checkpoints old) ⊎ IsKnownFromPut use_checkpoints old new known
+
+-- The checkpoint that was put is the one that the log is known from, if none of its name stood.
+pub record IsKnownIfNew (use_checkpoints : Bool) (version : ℕ) (old new : Objects) (known : Loaded) : Type 0 where
+  pub put : HasPut use_checkpoints version old new
+  pub from : object_at old put.name ≡ None → checkpoint_of known ≡ Some put.name
 
 -- The put of the newest version's checkpoint was lost: it may have taken effect, or may do so later, or never.
 pub record LosesPut (use_checkpoints : Bool) (old new : Objects × Flight) : Type 0 where

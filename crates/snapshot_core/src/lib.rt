@@ -9,7 +9,7 @@ mod lines;
 mod making;
 mod telling;
 
-pub use checkpoint_laws::a_checkpoint_asks_for_little;
+pub use checkpoint_laws::{a_checkpoint_asks_for_little, what_is_known_stands};
 pub use checkpoint_session::{CheckpointSession, CheckpointStage, Checkpointed};
 pub use checkpointing::checkpoint;
 pub use fault::SnapshotFault;

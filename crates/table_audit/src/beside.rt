@@ -67,7 +67,7 @@ fn add_files_under<R: ObjectReader>(
     ensures reliable { R.is_reliable reader.old → R.is_reliable reader.new }
     ensures never_lost { R.is_reliable reader.old → IsErrOf result AuditError.Lost → ⊥ }
 {
-    if commit_version(alloc, name)?.is_none() {
+    if commit_version(name).is_none() {
         return Ok(());
     }
     let Some(bytes) = reader.read(name)? else {

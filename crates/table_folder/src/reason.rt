@@ -28,26 +28,6 @@ pub enum Reason {
     Other,
 }
 
-impl Reason {
-    /// What to do about it, in one plain sentence, where there is something to say.
-    pub fn hint(self) -> Option<&'static str> {
-        let hint = match self {
-            Reason::Missing => "there is no such folder or file; make the folder first, with mkdir",
-            Reason::NotAFolder => "it is no folder",
-            Reason::Denied => "whoever runs this may not read or write it",
-            Reason::Full => "the disk is full: make room and run the same command again",
-            Reason::ReadOnly => "the file system can't be written to",
-            Reason::TooLarge => "a file may have 1 GiB at most",
-            Reason::NotText => "a name in the folder isn't UTF-8",
-            Reason::Taken => "another process put it meanwhile: run the same command again",
-            Reason::Gone => "it was there when the folder was listed: run the same command again",
-            Reason::NoLinks => "the file system has no hard links, which writing a table needs",
-            Reason::Other => return None,
-        };
-        Some(hint)
-    }
-}
-
 // What a disk's error tells. That a file is over 1 GiB or gone, a name isn't text, or links are lacking is told by the
 // call.
 pub(crate) fn reason_of(kind: ErrorKind) -> Reason {

@@ -6,7 +6,7 @@ use Rattle.row_core.specs.Rows.{Row}
 use Rattle.row_core.specs.Views.{value_view, row_views}
 use Rattle.row_core.proofs.Callers.{row_conforms}
 use Rattle.schema_tree.specs.Schema.{tree_of}
-use Rattle.lake_inspect.proofs.rows.rows_of.Goals as goal
+use Rattle.lake_inspect.proofs.rows.rows_from_json.Goals as goal
 
 pub loop-value-preserved : goal.loop-value-preserved
 loop-value-preserved c =
