@@ -107,14 +107,18 @@ class Module:
 
 class House:
     def __init__(self):
-        self.modules, self.kit, self.declared = {}, set(), set()
+        self.modules, self.passed, self.kit, self.declared = {}, {}, set(), set()
         for path in ROOT.glob("*/specs/**/*.antt"):
             parts = path.relative_to(ROOT).with_suffix("").parts
             name = "Rattle." + ".".join(parts)
             self.modules[name] = Module(name, path)
+            for whole, last, other in re.findall(r"(?m)^pub use (\S*?(\w+))(?: as (\w+))?$", path.read_text()):
+                self.passed[name.rpartition(".")[0] + "." + (other or last)] = whole
 
     def find(self, module, name, depth=0):
         """The definition of a name that a module of this name has or passes on."""
+        while module in self.passed:
+            module = self.passed[module]
         here = self.modules.get(module)
         if here is None or depth > 8:
             if here is None:

@@ -1,6 +1,6 @@
 -- What the rules of an append and of a close find in the commits of a log.
 use Rattle.std.proofs.Common.{◌≡◌, ◌∙◌, ◌⊎◌, ℕ, ◌+◌, ◌==◌, eqb-true, nat_lt, if◌then◌else◌, ◌&&◌, not, List, [], ◌∷◌, Bool, true, false, Option, Some, None, Result, Ok, Err, refl, sym, ap, subst, inl, inr}
-use Rattle.lake_bytes.specs.Results.{◌>>=◌, refused_as, refused_if}
+use Rattle.outcomes.specs.Results.{◌>>=◌, refused_as, refused_if}
 use Rattle.serde_json.specs.Data.{Items, no_items, item}
 use Rattle.row_core.specs.Fault as faults
 use Rattle.row_core.specs.Fault.{Fault}

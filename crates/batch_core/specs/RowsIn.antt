@@ -1,7 +1,7 @@
 -- The rows of a batch, as JSON, for a table of any schema.
 use Rattle.std.specs.Prelude.{ℕ, ◌+◌, List, [], ◌∷◌, Option, Some, None, Result, Ok, Err}
 use Rattle.serde_json.specs.Data.{Items, no_items, item}
-use Rattle.lake_bytes.specs.Results.{◌>>=◌, refused_as}
+use Rattle.outcomes.specs.Results.{◌>>=◌, refused_as}
 use Rattle.row_core.specs.Fault as faults
 use Rattle.row_core.specs.Reading.{row_of}
 use Rattle.row_core.specs.Rows.{Row}

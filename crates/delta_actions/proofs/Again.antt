@@ -4,7 +4,7 @@ use Rattle.std.specs.Prelude.{IfSome, codes, ◌||◌}
 use Rattle.std.specs.List.{list_any}
 use Rattle.serde_json.specs.Data.{Data, boolean, string, depth}
 use Rattle.serde_json.specs.Find.{as_bool, as_str}
-use Rattle.lake_bytes.specs.Results.{◌>>=◌, refused_as}
+use Rattle.outcomes.specs.Results.{◌>>=◌, refused_as}
 use Rattle.json_fields.specs.Kinds.{count, texts, text_map, no_texts, is_text_map}
 use Rattle.json_fields.specs.KindLaws.{StandsFor, text_stands, truth_stands, count_stands, texts_stand, map_stands}
 use Rattle.json_fields.specs.Printing.{Field, fields_object, one_field, count_data, IsCount, texts_data, unless_empty}

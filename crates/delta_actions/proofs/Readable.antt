@@ -5,7 +5,7 @@ use Rattle.std.specs.Prelude.{IfOk, codes}
 use Rattle.std.specs.List.{AllByRecursion, list_any}
 use Rattle.serde_json.specs.Data.{Data, null, boolean, number, string, array, object, Members, no_members, member, depth}
 use Rattle.serde_json.specs.Find.{as_bool, as_str}
-use Rattle.lake_bytes.specs.Results.{◌>>=◌, refused_as}
+use Rattle.outcomes.specs.Results.{◌>>=◌, refused_as}
 use Rattle.json_fields.specs.Kinds.{count, texts, text_map, no_texts, is_text_map}
 use Rattle.json_fields.specs.Fields.{optional, needed, defaulted, fields_of}
 use Rattle.json_fields.specs.KindLaws.{is_count, is_map}

@@ -1,8 +1,8 @@
 -- What is wrong with the lines of a checkpoint that is read.
 use Rattle.std.specs.Prelude.{◌==◌, ℕ, List, [], ◌∷◌, Bool, Result, Ok, Err, is_some, not, option_map, if◌then◌else◌}
 use Rattle.std.specs.List.{filter_map, list_any}
-use Rattle.lake_bytes.specs.Outcome.{IsSaid, Said, refuses, says_nothing, never_comes}
-use Rattle.lake_bytes.specs.Results.{◌>>=◌, refused_if}
+use Rattle.outcomes.specs.Outcome.{IsSaid, Said, refuses, says_nothing, never_comes}
+use Rattle.outcomes.specs.Results.{◌>>=◌, refused_if}
 use Rattle.delta_actions.specs.Commit.{IsCommit, IsFirstFault, Names}
 use Rattle.delta_actions.specs.Action.{Action}
 use Rattle.delta_actions.specs.In.{checkpoint_metadata_in, sidecar_in}

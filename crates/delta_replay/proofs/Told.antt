@@ -1,7 +1,7 @@
 -- What the metadata of a snapshot tells.
 use Rattle.std.proofs.Common.{◌≡◌, Bor, Global, IfOk, Option, Some, None, Result, Ok, Err, option_map, sym, ap}
-use Rattle.lake_bytes.specs.Outcome.{Gives}
-use Rattle.lake_bytes.specs.Results.{◌>>=◌}
+use Rattle.outcomes.specs.Outcome.{Gives}
+use Rattle.outcomes.specs.Results.{◌>>=◌}
 use Rattle.schema_tree.specs.Schema.{tree_of}
 use Rattle.schema_tree.specs.Tree.{Tree}
 use Rattle.schema_tree.specs.declared.schema.Schema.{Schema}

@@ -3,8 +3,8 @@
 use Rattle.std.specs.Prelude.{◌≡◌, ℕ, ◌==◌, List, [], ◌∷◌, Bool, false, not, ◌||◌, bytes_eq, codes, Option, Some, None, Result, Ok, Err, option_and_then, is_some, string_bytes, if◌then◌else◌}
 use Rattle.std.specs.List.{list_any}
 use Rattle.serde_json.specs.Find.{get}
-use Rattle.lake_bytes.specs.Outcome.{Said, refuses, says_nothing}
-use Rattle.lake_bytes.specs.Results.{◌>>=◌, or_refusal, refused_as, refused_if}
+use Rattle.outcomes.specs.Outcome.{Said, refuses, says_nothing}
+use Rattle.outcomes.specs.Results.{◌>>=◌, or_refusal, refused_as, refused_if}
 use Rattle.delta_actions.specs.Action.{Action, ProtocolAction, MetaDataAction}
 use Rattle.delta_actions.specs.In.{meta_data_in, protocol_in}
 use Rattle.schema_tree.specs.Fault as schemas

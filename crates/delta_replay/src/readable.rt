@@ -1,7 +1,7 @@
 //! Whether a table is read: what its protocol asks of a reader, and its schema.
 
 ghost use Rattle.std.specs.Prelude.{◌≡◌, List, IfErr, IfOk, Some, map, option_map, string_bytes};
-ghost use Rattle.lake_bytes.specs.Outcome.{Gives, IsSaid};
+ghost use Rattle.outcomes.specs.Outcome.{Gives, IsSaid};
 ghost use Rattle.schema_tree.specs.Schema.{tree_of};
 ghost use Rattle.delta_actions.specs.Action.{Action, meta_data_view, protocol_view};
 ghost use Rattle.delta_replay.specs.Snapshots.{IsSnapshotOf, TellsSchema};

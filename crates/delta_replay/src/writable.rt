@@ -2,7 +2,7 @@
 
 ghost use Rattle.std.specs.Prelude.{◌≡◌, List, IfOk, is_some, map, string_bytes};
 ghost use Rattle.serde_json.specs.Find.{get};
-ghost use Rattle.lake_bytes.specs.Outcome.{Gives};
+ghost use Rattle.outcomes.specs.Outcome.{Gives};
 ghost use Rattle.schema_tree.specs.Schema.{tree_of};
 ghost use Rattle.schema_tree.specs.Tree.{fields_of};
 ghost use Rattle.schema_tree.specs.View.{field_views, metadata_of};

@@ -7,8 +7,8 @@ use Rattle.std.proofs.lemmas.Bool.{both_ways, eqb-false, leb-true, not-false, no
 use Rattle.std.proofs.lemmas.Bool.Decides.{Decides-int_eq}
 use Rattle.std.proofs.lemmas.Int.{by_lt_z}
 use Rattle.std.proofs.lemmas.List.Elements.{All-cons, All-contains, All-nil}
-use Rattle.lake_bytes.specs.Results.{◌>>=◌, or_refusal, refused_if}
-use Rattle.lake_bytes.specs.Varint.{IsBytes}
+use Rattle.outcomes.specs.Results.{◌>>=◌, or_refusal, refused_if}
+use Rattle.outcomes.specs.Bytes.{IsBytes}
 use Rattle.schema_tree.specs.Tree.{Tree}
 use Rattle.shred.specs.Columns.{Column}
 use Rattle.parquet_footer.specs.Metadata.{ColumnChunk, RowGroup}

@@ -7,8 +7,8 @@ use Rattle.std.specs.List.{AllZip}
 use Rattle.std.specs.Ordering.{int_eq}
 use Rattle.std.proofs.lemmas.Bool.{and_parts, both_ways, cond-false, ltb-false, ltb-true, ne_eqb, not-true}
 use Rattle.std.proofs.lemmas.List.Elements.{All-cons, All-contains, All-nil}
-use Rattle.lake_bytes.specs.Results.{◌>>=◌, or_refusal, refused_if}
-use Rattle.lake_bytes.specs.Varint.{IsBytes}
+use Rattle.outcomes.specs.Results.{◌>>=◌, or_refusal, refused_if}
+use Rattle.outcomes.specs.Bytes.{IsBytes}
 use Rattle.thrift_core.specs.Reading.{struct_at}
 use Rattle.thrift_core.specs.declared.fault.ThriftFault.{ThriftFault}
 use Rattle.thrift_core.proofs.Callers.{struct_at_again}

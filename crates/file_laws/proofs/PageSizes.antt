@@ -2,7 +2,7 @@
 use Rattle.std.proofs.Common.{◌≡◌, ℕ, ◌<◌, ◌≤◌, ◌+◌, ◌-◌, ◌||◌, ltb, eqb, not, List, length, drop, Ok, ap, subst, arith}
 use Rattle.std.specs.List.{list_all, list_any}
 use Rattle.std.proofs.lemmas.Bool.{ltb-false, ltb-true, not-false, or_parts}
-use Rattle.lake_bytes.specs.Results.{◌>>=◌, refused_as, refused_if}
+use Rattle.outcomes.specs.Results.{◌>>=◌, refused_as, refused_if}
 use Rattle.shred.specs.Columns.{Column}
 use Rattle.parquet_footer.specs.declared.fault.FileFault.{FileFault}
 use Rattle.parquet_footer.specs.declared.fault.FileFault.TheVariants.{BadOffset, CountMismatch, NotUtf8, SchemaMismatch, TooLarge}

@@ -1,7 +1,7 @@
 -- Where a reading fails: in its first step, or in one behind it.
 use Rattle.std.proofs.Common.{◌≡◌, ℕ, zero, suc, ◌<◌, arith, Bool, true, false, cond, Option, None, Some, Result, Ok, Err, refl, ap, subst}
-use Rattle.lake_bytes.specs.Options as options
-use Rattle.lake_bytes.specs.Results.{◌>>=◌, or_refusal, refused_as, refused_if}
+use Rattle.outcomes.specs.Options as options
+use Rattle.outcomes.specs.Results.{◌>>=◌, or_refusal, refused_as, refused_if}
 
 pub err_is : {A E : Type 0} (d e : E) (r : Result A E) → r ≡ Err d → r ≡ Err e → d ≡ e
 err_is d e (Ok x) p q = absurd cc

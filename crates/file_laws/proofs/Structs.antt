@@ -1,6 +1,6 @@
 -- What is read of a struct in front of bytes stands there, and takes a byte at least.
 use Rattle.std.proofs.Common.{◌≡◌, ℕ, ◌<◌, ℤ, pos, List, length, Ok, Err, ap, ◌∙◌, arith, length-append}
-use Rattle.lake_bytes.specs.Varint.{IsBytes}
+use Rattle.outcomes.specs.Bytes.{IsBytes}
 use Rattle.thrift_core.specs.Reading.{struct_at}
 use Rattle.thrift_core.specs.Spelling.{SpellsFields, SpellsStruct}
 use Rattle.thrift_core.specs.Tree.{Tree, boolean, integer, binary, list, map, struct, skipped, Fields, no_fields, field}

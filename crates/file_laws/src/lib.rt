@@ -3,7 +3,7 @@
 #![tactic(auto)]
 
 ghost use Rattle.std.specs.Prelude.{◌≡◌, ℕ, List, None, Ok, Err};
-ghost use Rattle.lake_bytes.specs.Varint.{IsBytes};
+ghost use Rattle.outcomes.specs.Bytes.{IsBytes};
 ghost use Rattle.row_core.specs.Rows.{Row};
 ghost use Rattle.row_core.specs.Unsupported.{unsupported};
 ghost use Rattle.schema_tree.specs.Limits.{IsWithinLimits};

@@ -2,7 +2,7 @@
 use Rattle.std.specs.Prelude.{◌≡◌, ◌≢◌, ℕ, Bool, List, Option, Result, Ok, Err, OnErr, Vec}
 use Rattle.std.specs.Global.{Global}
 use Rattle.serde_json.specs.Data.{Items}
-use Rattle.lake_bytes.specs.Outcome.{IsSaid}
+use Rattle.outcomes.specs.Outcome.{IsSaid}
 use Rattle.store_core.specs.Objects.{Objects}
 use Rattle.commit_core.specs.Creating.{Creates}
 use Rattle.commit_core.specs.declared.fault.CreateFault.{CreateFault}

@@ -22,9 +22,9 @@ use Rattle.batch_core.specs.Committing.{appending}
 use Rattle.batch_core.specs.Requests.{is_repeat, is_same, unless_other}
 use Rattle.sink_core.specs.Appending.{EncodedBatch, IsWellMade, with_file}
 use Rattle.batch_core.specs.Refusals.{differs, stale}
-use Rattle.lake_bytes.specs.Varint.{IsBytes}
+use Rattle.outcomes.specs.Bytes.{IsBytes}
 use Rattle.table_store.proofs.LawfulLogLemmas.{AreMadeFor}
-use Rattle.log_laws.proofs.Callers.{IsLogOfEntries, held_first, lawful_with, log_last, log_open, one_writable, sound_count, sound_log}
+use Rattle.commit_core.proofs.Callers.{IsLogOfEntries, held_first, lawful_with, log_last, log_open, one_writable, sound_count, sound_log}
 use Rattle.job_laws.proofs.Requests.{PutsBatch, passed}
 
 -- ---- the table with one more batch

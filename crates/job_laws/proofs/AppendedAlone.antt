@@ -1,7 +1,7 @@
 -- An append whose data file alone was saved is told the same when it is handed in again.
 use Rattle.std.proofs.Common.{◌≡◌, ◌∙◌, ℕ, Bool, true, false, List, [], Option, Some, Result, Ok, refl, sym, ap, subst}
 use Rattle.std.specs.Prelude.{if◌then◌else◌, unwrap_or}
-use Rattle.lake_bytes.specs.Results.{◌>>=◌}
+use Rattle.outcomes.specs.Results.{◌>>=◌}
 use Rattle.serde_json.specs.Data.{Items}
 use Rattle.store_core.specs.Objects.{Objects, IsInOrder, object_at, with_object}
 use Rattle.store_core.specs.ObjectLaws.{IsInOrder-with_object, object_at-with_object_other, object_at-with_object_same, same_objects}

@@ -1,7 +1,7 @@
 -- Behind an append its batch's file is found to have the batch's rows; where the file alone stands, the batch still fits.
 use Rattle.std.proofs.Common.{◌≡◌, ◌∙◌, ℕ, Bool, true, false, List, Option, Some, None, Result, Ok, Err, refl, sym, ap, subst}
 use Rattle.std.specs.Prelude.{if◌then◌else◌, length, not, unwrap_or}
-use Rattle.lake_bytes.specs.Results.{◌>>=◌, refused_if}
+use Rattle.outcomes.specs.Results.{◌>>=◌, refused_if}
 use Rattle.schema_tree.specs.Tree.{Tree}
 use Rattle.store_core.specs.Objects.{Objects, object_at, with_object}
 use Rattle.store_core.specs.ObjectLaws.{object_at-with_object_kept, object_at-with_object_same}

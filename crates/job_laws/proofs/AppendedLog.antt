@@ -5,7 +5,7 @@ use Rattle.std.specs.Option.{option_or}
 use Rattle.std.proofs.lemmas.Bool.{cases_eq, ltb-false}
 use Rattle.std.proofs.lemmas.Bool.Decides.{nat_tests}
 use Rattle.std.proofs.lemmas.Slice.Eq.{bytes_eq-Decides}
-use Rattle.lake_bytes.specs.Results.{◌>>=◌, or_refusal, refused_as, refused_if}
+use Rattle.outcomes.specs.Results.{◌>>=◌, or_refusal, refused_as, refused_if}
 use Rattle.serde_json.specs.Events.{items_len}
 use Rattle.serde_json.specs.Data.{Items}
 use Rattle.schema_tree.specs.Tree.{Tree}
@@ -30,7 +30,7 @@ use Rattle.batch_core.specs.Requests.{SinkRequest, checked, is_repeat, request_b
 use Rattle.sink_core.specs.Appending.{EncodedBatch, IsWellMade, batch_of, is_past, puts, request_of, with_append, with_file}
 use Rattle.batch_core.specs.Refusals.{bad_log, read_only}
 use Rattle.batch_core.specs.RowsIn.{rows_from, takes_rows}
-use Rattle.log_laws.proofs.Callers.{newest-cons, of_commit}
+use Rattle.commit_core.proofs.Callers.{newest-cons, of_commit}
 use Rattle.job_laws.proofs.OwnSteps.{batch_own}
 use Rattle.batch_core.proofs.Callers.{behind_number, behind_rows, behind_schema}
 use Rattle.job_laws.proofs.Requests.{IsTaken, batch_asked, both_done, given, taken, told_done}

@@ -2,7 +2,7 @@
 use Rattle.std.proofs.Common.{◌≡◌, ◌∙◌, ℕ, ◌≤◌, Bool, true, false, List, [], ◌∷◌, ◌++◌, Option, None, Some, Result, Ok, Err, inl, inr, refl, sym, ap, subst, if◌then◌else◌}
 use Rattle.std.specs.Str.{IsUtf8}
 use Rattle.std.proofs.lemmas.Bool.{ltb-false}
-use Rattle.lake_bytes.specs.Results.{◌>>=◌, refused_as}
+use Rattle.outcomes.specs.Results.{◌>>=◌, refused_as}
 use Rattle.store_core.specs.Objects.{Objects, with_object}
 use Rattle.schema_tree.specs.Tree.{Tree}
 use Rattle.delta_actions.specs.Action.{Action}
@@ -28,7 +28,7 @@ use Rattle.batch_core.specs.Requests.{SinkRequest, close_behind, named}
 use Rattle.sink_core.specs.Appending.{is_past}
 use Rattle.sink_core.specs.Closes as closes
 use Rattle.sink_core.specs.Closes.{MayClose, ClosesWell, close_of, close_plan, close_text, closing_version}
-use Rattle.log_laws.proofs.Callers.{IsLogOfEntries, held_first, log_open, sound_count, sound_log}
+use Rattle.commit_core.proofs.Callers.{IsLogOfEntries, held_first, log_open, sound_count, sound_log}
 use Rattle.job_laws.proofs.Requests.{both_done, given, told_done}
 
 -- A close that is put: the commits of the log, by which the table is written and the stream open, and the version behind them.

@@ -2,7 +2,7 @@
 use Rattle.std.proofs.Common.{◌≡◌, ◌∙◌, ◌++◌, ℕ, Bool, true, false, codes, List, Option, None, Some, Result, Ok, Err, inl, inr, refl, sym, ap, subst}
 use Rattle.std.specs.Prelude.{if◌then◌else◌, nat_lt, length}
 use Rattle.uuid.specs.Text.{hyphenated_text, lower}
-use Rattle.lake_bytes.specs.Results.{◌>>=◌, refused_as, refused_if}
+use Rattle.outcomes.specs.Results.{◌>>=◌, refused_as, refused_if}
 use Rattle.store_core.specs.Objects.{Objects, IsInOrder, with_object}
 use Rattle.delta_actions.specs.Action.{MetaDataAction}
 use Rattle.delta_actions.specs.Names.{data_file_name, twenty_digits}
@@ -28,7 +28,7 @@ use Rattle.job_laws.proofs.Loaded.{commit_loaded, log_loaded}
 use Rattle.job_laws.proofs.OwnSteps.{PutsOwn, own_append_plan}
 use Rattle.job_laws.proofs.SameReads.{same_append_plan, same_close_plan}
 use Rattle.job_laws.proofs.SameReplies.{same_checkpoint, same_printed, same_reply}
-use Rattle.lake_bytes.specs.Lines.{with_newline}
+use Rattle.outcomes.specs.Lines.{with_newline}
 
 -- ---- creations
 

@@ -3,7 +3,7 @@ use Rattle.std.proofs.Common.{◌≡◌, ◌∙◌, ◌<◌, ◌≤◌, ◌+◌,
 use Rattle.std.specs.Prelude.{◌||◌}
 use Rattle.std.proofs.lemmas.Bool.{ltb-false}
 use Rattle.std.proofs.lemmas.List.Elements.{Contains-append_right}
-use Rattle.lake_bytes.specs.Results.{◌>>=◌, or_refusal}
+use Rattle.outcomes.specs.Results.{◌>>=◌, or_refusal}
 use Rattle.schema_tree.specs.Tree.{Tree}
 use Rattle.row_core.specs.Rows.{Row}
 use Rattle.parquet_file.specs.Reading.{rows_at}
@@ -17,7 +17,7 @@ use Rattle.table_log.specs.Counts.{commit_count}
 use Rattle.table_model.specs.declared.reading.Offset.{Offset}
 use Rattle.table_store.specs.Groups.{new_files}
 use Rattle.table_folder.specs.Loads.{is_loaded, loaded}
-use Rattle.source_core.specs.Tailing.{ReadRows, Item, LogFile, ReadRefusal, actions_in, offset_behind_rows, data_file, found_at, end_of, fault_of, hand, hand_on, handed_by, is_before, is_done, item_before, items_at, items_from, items_in, missing_file, numbered, or_bad_file, paths_in, rows_behind, rows_left, file_rows, schema_at, schema_for, unless_beyond, unless_gone, unless_no_file, unless_removed, version_fault, versions_at}
+use Rattle.lake_script.specs.Tailing.{ReadRows, Item, LogFile, ReadRefusal, actions_in, offset_behind_rows, data_file, found_at, end_of, fault_of, hand, hand_on, handed_by, is_before, is_done, item_before, items_at, items_from, items_in, missing_file, numbered, or_bad_file, paths_in, rows_behind, rows_left, file_rows, schema_at, schema_for, unless_beyond, unless_gone, unless_no_file, unless_removed, version_fault, versions_at}
 use Rattle.job_laws.proofs.Loaded.{loaded_at}
 use Rattle.job_laws.proofs.SameLogs.{same_versions}
 

@@ -1,7 +1,7 @@
 -- What an append puts: a file under its batch's own name.
 use Rattle.std.proofs.Common.{◌≡◌, ℕ, Bool, true, false, List, Option, Result, Ok, Err, refl, subst, if◌then◌else◌}
 use Rattle.serde_json.specs.Data.{Items}
-use Rattle.lake_bytes.specs.Results.{◌>>=◌}
+use Rattle.outcomes.specs.Results.{◌>>=◌}
 use Rattle.store_core.specs.Objects.{Objects, object_at}
 use Rattle.delta_actions.specs.Names.{data_file_name}
 use Rattle.batch_core.specs.Committing.{file_name}

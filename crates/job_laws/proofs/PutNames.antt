@@ -24,7 +24,7 @@ use Rattle.job_laws.proofs.OwnSteps.{PutsOwn, own_append_plan}
 use Rattle.job_laws.proofs.SameReads.{same_append_plan, same_close_plan}
 use Rattle.job_laws.proofs.SavedFronts.{puts_too}
 use Rattle.job_laws.proofs.SavedNames.{not_both}
-use Rattle.lake_bytes.specs.Lines.{with_newline}
+use Rattle.outcomes.specs.Lines.{with_newline}
 
 -- ---- what was put over the files that are loaded, put over all objects
 

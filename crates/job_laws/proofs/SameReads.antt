@@ -1,7 +1,7 @@
 -- What lines are told of the log over the objects that are loaded is what they are told over all objects.
 use Rattle.std.proofs.Common.{◌≡◌, ◌∙◌, ℕ, Bool, true, false, List, Option, Result, Ok, Err, cond, refl, sym, ap}
 use Rattle.std.specs.Prelude.{None, Some}
-use Rattle.lake_bytes.specs.Results.{◌>>=◌, or_refusal, refused_as}
+use Rattle.outcomes.specs.Results.{◌>>=◌, or_refusal, refused_as}
 use Rattle.serde_json.specs.Events.{items_len}
 use Rattle.serde_json.specs.Data.{Items}
 use Rattle.store_core.specs.Objects.{Objects, object_at}
@@ -24,8 +24,8 @@ use Rattle.batch_core.specs.Requests.{SinkRequest, checked, close_behind, named,
 use Rattle.sink_core.specs.Appending.{EncodedBatch, AppendPlan, appended_by, plan_answer, batch_of, put_plan, puts, request_of, append_plan, stands, plan_of}
 use Rattle.batch_core.specs.Refusals.{SinkRefusal, bad_log}
 use Rattle.log_offsets.specs.Offsets.{offset_of}
-use Rattle.source_core.specs.Tailing as tails
-use Rattle.source_core.specs.Tailing.{bad_offset, handed_by, handed_text, schema_at, tailed, versions_at}
+use Rattle.lake_script.specs.Tailing as tails
+use Rattle.lake_script.specs.Tailing.{bad_offset, handed_by, handed_text, schema_at, tailed, versions_at}
 use Rattle.job_laws.specs.Looking.{IsReadFrom}
 use Rattle.job_laws.proofs.Loaded.{commit_loaded, loaded_at}
 use Rattle.job_laws.proofs.LoadedItems.{AddsLoaded, handed_alike, schema_alike, versions_alike}

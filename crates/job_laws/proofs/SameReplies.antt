@@ -1,7 +1,7 @@
 -- Over the log and the files that a line may look at it is told what it is told over all objects.
 use Rattle.std.proofs.Common.{◌≡◌, ◌∙◌, ◌-◌, ℕ, false, List, Option, Result, Ok, Err, IfOk, length, refl, sym, ap, subst}
 use Rattle.std.specs.Prelude.{nat_lt}
-use Rattle.lake_bytes.specs.Results.{◌>>=◌, refused_as, refused_if}
+use Rattle.outcomes.specs.Results.{◌>>=◌, refused_as, refused_if}
 use Rattle.store_core.specs.Objects.{Objects, object_at}
 use Rattle.delta_actions.specs.Action.{Action}
 use Rattle.delta_replay.specs.Support.{meta_data_of}
@@ -19,7 +19,7 @@ use Rattle.job_laws.specs.Looking.{LooksWithin}
 use Rattle.job_laws.proofs.Loaded.{commit_loaded, loaded_at}
 use Rattle.job_laws.proofs.SameLogs.{same_count, same_replayed}
 use Rattle.job_laws.proofs.SameReads.{same_appended, same_checked, same_closed, same_created, same_history, same_readable, same_tailed}
-use Rattle.lake_bytes.specs.Lines.{with_newline}
+use Rattle.outcomes.specs.Lines.{with_newline}
 
 -- ---- what lines are told
 

@@ -23,7 +23,7 @@ use Rattle.job_laws.proofs.OwnSteps.{IsOwn, PutsOwn, own_append_plan}
 use Rattle.job_laws.proofs.SameLogs.{same_count, same_replayed}
 use Rattle.job_laws.proofs.SameReads.{same_append_plan, same_close_plan}
 use Rattle.job_laws.proofs.SavedPuts.{none_saved, one_saved, two_saved}
-use Rattle.lake_bytes.specs.Lines.{with_newline}
+use Rattle.outcomes.specs.Lines.{with_newline}
 
 -- a front of what was put over the files that are loaded was saved beside all objects
 abbrev IsSaved : (files : List (List ℕ)) → (objects after new : Objects) → Type 0

@@ -3,7 +3,7 @@ use Rattle.std.proofs.Common.{◌≡◌, inl, inr, ℕ, Bool, true, false, List,
 use Rattle.std.proofs.lemmas.Bool.{ltb-false}
 use Rattle.store_core.specs.Objects.{Objects, object_at}
 use Rattle.serde_json.specs.Data.{Items}
-use Rattle.lake_bytes.specs.Varint.{IsBytes}
+use Rattle.outcomes.specs.Bytes.{IsBytes}
 use Rattle.delta_actions.specs.Names as names
 use Rattle.delta_actions.specs.Names.{greatest_version}
 use Rattle.table_log.specs.Names.{commit_name}

@@ -8,10 +8,10 @@ use Rattle.table_model.specs.Resumed.{beginning}
 use Rattle.table_model.specs.Table.{Entry, rows}
 use Rattle.table_model.specs.declared.reading.Offset.{Offset}
 use Rattle.log_offsets.specs.Offsets.{offset_of}
-use Rattle.source_core.specs.Tailing.{read_by}
-use Rattle.source_core.specs.Tails.{tails}
-use Rattle.read_laws.specs.Kept.{IsKept}
-use Rattle.read_laws.proofs.Callers.{kept_reads, reads_log}
+use Rattle.lake_script.specs.Tailing.{read_by}
+use Rattle.lake_script.specs.Tails.{tails}
+use Rattle.lake_script.specs.Kept.{IsKept}
+use Rattle.lake_script.proofs.Callers.{kept_reads, reads_log}
 use Rattle.job_laws.specs.TextReads.{ReadsByTexts, done, goes_on, read_at}
 
 -- a read from a text is one from the offset that it spells

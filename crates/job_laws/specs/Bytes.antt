@@ -1,6 +1,6 @@
 -- Objects as a store gives them: of bytes.
 use Rattle.std.specs.Prelude.{◌≡◌, ℕ, List, Some}
-use Rattle.lake_bytes.specs.Varint.{IsBytes}
+use Rattle.outcomes.specs.Bytes.{IsBytes}
 use Rattle.store_core.specs.Objects.{Objects, object_at}
 use Rattle.script_lines.specs.Lines.{Statement}
 use Rattle.job_laws.specs.Looking.{MayLookAt}

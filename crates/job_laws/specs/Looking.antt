@@ -8,7 +8,7 @@ use Rattle.table_log.specs.Versions.{Version, version_at}
 use Rattle.table_folder.specs.Loads.{is_loaded}
 use Rattle.table_model.specs.declared.reading.Offset.{Offset}
 use Rattle.log_offsets.specs.Offsets.{offset_of}
-use Rattle.source_core.specs.Tailing.{paths_in}
+use Rattle.lake_script.specs.Tailing.{paths_in}
 use Rattle.script_lines.specs.Lines.{Statement, task, append, tail, hex}
 
 -- the keys of paths

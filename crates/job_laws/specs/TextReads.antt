@@ -1,11 +1,11 @@
 -- Reads that follow one another by texts, as a reader keeps them: each goes on from a text that spells the offset where the
 -- one before ended.
 use Rattle.std.specs.Prelude.{◌≡◌, ℕ, false, List, [], ◌∷◌, ◌++◌, Some, Result, Ok}
-use Rattle.lake_bytes.specs.Results.{◌>>=◌, or_refusal}
+use Rattle.outcomes.specs.Results.{◌>>=◌, or_refusal}
 use Rattle.store_core.specs.Objects.{Objects}
 use Rattle.row_core.specs.Rows.{Row}
 use Rattle.log_offsets.specs.Offsets.{offset_of}
-use Rattle.source_core.specs.Tailing.{ReadRefusal, ReadRows, bad_offset, read_by}
+use Rattle.lake_script.specs.Tailing.{ReadRefusal, ReadRows, bad_offset, read_by}
 
 -- a read from the offset that a text spells
 abbrev pub read_at : Objects → (max : ℕ) → (text : List ℕ) → Result ReadRows ReadRefusal

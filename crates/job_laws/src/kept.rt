@@ -12,8 +12,8 @@ ghost use Rattle.table_model.specs.declared.reading.Offset.{Offset};
 ghost use Rattle.table_store.specs.Schema.{Schema};
 ghost use Rattle.table_store.specs.Sound.{IsSound};
 ghost use Rattle.log_offsets.specs.Offsets.{offset_of};
-ghost use Rattle.source_core.specs.Tails.{tails};
-ghost use Rattle.read_laws.specs.Kept.{IsKept};
+ghost use Rattle.lake_script.specs.Tails.{tails};
+ghost use Rattle.lake_script.specs.Kept.{IsKept};
 ghost use Rattle.lake_script.specs.Keeps.{HasNoOther, Keeps, KeepsBeside};
 ghost use Rattle.script_lines.specs.Lines.{Statement, asks};
 ghost use Rattle.lake_script.specs.Scripts.{reply_over};
@@ -21,7 +21,7 @@ ghost use Rattle.lake_script.specs.Sound.{IsSoundStatement};
 ghost use Rattle.lake_script.specs.Tables as tables;
 ghost use Rattle.lake_script.specs.Tables.{State, entries_of, table};
 ghost use Rattle.lake_script.specs.Told.{IsPutHere, left_by_statement, reply_to_statement};
-ghost use Rattle.read_laws.specs.Readable.{HasReadableFiles};
+ghost use Rattle.lake_script.specs.Readable.{HasReadableFiles};
 ghost use Rattle.job_laws.specs.TextReads.{ReadsByTexts};
 
 /// Over a store that keeps a table, where a commit can have the version behind it, or nothing, a creation, an append, a

@@ -11,7 +11,7 @@ ghost use Rattle.store_core.specs.Objects.{Objects, IsInOrder, names_of};
 ghost use Rattle.table_log.specs.Restoring.{RestoresWell};
 ghost use Rattle.table_folder.specs.Copies.{HasSavedFront, to_save};
 ghost use Rattle.table_folder.specs.Loads.{loaded};
-ghost use Rattle.log_laws.specs.Sound.{IsSoundStore};
+ghost use Rattle.commit_core.specs.SoundStores.{IsSoundStore};
 ghost use Rattle.sink_core.specs.Appending.{PutsWell, appended_by, append_plan, stands, with_append, with_file_alone};
 ghost use Rattle.sink_core.specs.declared.sink_state.SinkOutcome.TheVariants.{Already, Committed};
 ghost use Rattle.lake_script.specs.Growth.{MayPut};

@@ -2,7 +2,7 @@
 use Rattle.std.proofs.Common.{◌≡◌, ℕ, List, Option, Some, None, option_map, Result, Ok, Err, refl, ap, subst, ◌∙◌}
 use Rattle.std.specs.Prelude.{IfSome, unwrap_or}
 use Rattle.serde_json.specs.Data.{Data}
-use Rattle.lake_bytes.specs.Results.{◌>>=◌, or_refusal}
+use Rattle.outcomes.specs.Results.{◌>>=◌, or_refusal}
 use Rattle.json_fields.specs.Kinds.{of_kind, field}
 use Rattle.json_fields.specs.Fields.{optional, needed, defaulted}
 

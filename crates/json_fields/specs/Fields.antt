@@ -1,7 +1,7 @@
 -- How a field is read from an object: needed, optional, or with a default. A refusal is the name of the field.
 use Rattle.std.specs.Prelude.{ℕ, List, Option, Result, Ok, Err, unwrap_or}
 use Rattle.serde_json.specs.Data.{Data, null, boolean, number, string, array, object}
-use Rattle.lake_bytes.specs.Results.{◌>>=◌, or_refusal}
+use Rattle.outcomes.specs.Results.{◌>>=◌, or_refusal}
 use Rattle.json_fields.specs.Kinds.{field, of_kind}
 
 -- the fields of the value under a key, which is an object

@@ -4,15 +4,15 @@ use Rattle.std.proofs.lemmas.List.{length-append}
 use Rattle.std.proofs.Math.Seq.{take-length}
 use Rattle.lake_bytes.specs.Hybrid.{AreRuns, HoldsValues, IsRun, hybrid_at, no_run, run, run_at, runs_at}
 use Rattle.lake_bytes.specs.Reading.{ReadsFront}
-use Rattle.lake_bytes.specs.Results.{◌>>=◌}
-use Rattle.lake_bytes.specs.Varint.{IsBytes}
+use Rattle.outcomes.specs.Results.{◌>>=◌}
+use Rattle.outcomes.specs.Bytes.{IsBytes}
 use Rattle.lake_bytes.specs.Internal.{says}
-use Rattle.lake_bytes.specs.Outcome.{IsSaid}
+use Rattle.outcomes.specs.Outcome.{IsSaid}
 use Rattle.lake_bytes.specs.declared.fault.ByteFault.{ByteFault}
 use Rattle.lake_bytes.specs.declared.fault.ByteFault.TheVariants.{BadRun}
 use Rattle.lake_bytes.specs.declared.run.HybridError.{HybridError}
 use Rattle.lake_bytes.specs.declared.run.HybridError.TheVariants.{Memory, Fault}
-use Rattle.lake_bytes.proofs.Loops.{regroup_beside, with_front_beside}
+use Rattle.outcomes.proofs.Loops.{regroup_beside, with_front_beside}
 use Rattle.lake_bytes.proofs.RunLemmas.{Read, done, failed, done_parts, IsBytes-behind, run_found, run_stands, some_values}
 
 take-both : (n : ℕ) (xs ys : List ℕ) → take n (xs ++ ys) ≡ take n xs ++ take (n - length xs) ys

@@ -4,8 +4,9 @@ use Rattle.std.proofs.lemmas.Bool.{lt-ltb, le-ltb, cases_lt, ne_eqb}
 use Rattle.std.proofs.lemmas.List.{take_at, drop_at, length-append, length-replicate, take-append-drop, length-take-le, get_or-append-add}
 use Rattle.lake_bytes.specs.Hybrid.{IsRun, bytes_for, low_first, packed, repeated, run_at, unpacked}
 use Rattle.lake_bytes.specs.Reading.{ReadsFront, bytes_at}
-use Rattle.lake_bytes.specs.Results.{◌>>=◌}
-use Rattle.lake_bytes.specs.Varint.{IsBytes, SpellsNumber, varint_at}
+use Rattle.outcomes.specs.Results.{◌>>=◌}
+use Rattle.outcomes.specs.Bytes.{IsBytes}
+use Rattle.lake_bytes.specs.Varint.{SpellsNumber, varint_at}
 use Rattle.lake_bytes.specs.declared.fault.ByteFault.{ByteFault}
 use Rattle.lake_bytes.specs.declared.fault.ByteFault.TheVariants.{BadRun, Short}
 use Rattle.lake_bytes.proofs.Varints.{varint_found, varint_stands}

@@ -3,8 +3,9 @@ use Rattle.std.proofs.Common.{◌⊎◌, ◌≡◌, ℕ, ◌+◌, ◌*◌, ◌/�
 use Rattle.std.specs.Prelude.{IfOk, OnErr, IsErrOf, ◌↔◌}
 use Rattle.std.proofs.lemmas.Bool.{lt-ltb, le-ltb, cases_lt}
 use Rattle.lake_bytes.specs.Reading.{ReadingGives, id, ReadsFront, ReadsWhatStands}
-use Rattle.lake_bytes.specs.Results.{◌>>=◌}
-use Rattle.lake_bytes.specs.Varint.{IsBytes, IsCutShort, GoesPastTen, IsTooLarge, varint_at, varint_bytes}
+use Rattle.outcomes.specs.Results.{◌>>=◌}
+use Rattle.outcomes.specs.Bytes.{IsBytes}
+use Rattle.lake_bytes.specs.Varint.{IsCutShort, GoesPastTen, IsTooLarge, varint_at, varint_bytes}
 use Rattle.lake_bytes.specs.Zigzag.{zigzag, unzigzag, SpellsSigned, IsTooWide, signed_at}
 use Rattle.lake_bytes.proofs.Varints.{varint_found, varint_stands, varint_short, short_varint, varint_too_long, too_long_varint, varint_out_of_range, out_of_range_varint}
 use Rattle.lake_bytes.proofs.Groups.{SpellsNumber-varint_bytes, one_front}

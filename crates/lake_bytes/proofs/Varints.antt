@@ -5,8 +5,9 @@ use Rattle.std.specs.Prelude.{IfOk, IsErrOf, ◌↔◌}
 use Rattle.std.specs.List.{AllByRecursion}
 use Rattle.std.proofs.lemmas.List.Elements.{recursion_from_All, All-from_recursion}
 use Rattle.lake_bytes.specs.Reading.{ReadingGives, id, ReadsFront, ReadsWhatStands}
-use Rattle.lake_bytes.specs.Results.{◌>>=◌}
-use Rattle.lake_bytes.specs.Varint.{IsBytes, IsVarint, SpellsNumber, IsCutShort, GoesPastTen, IsTooLarge, groups_at, varint_at}
+use Rattle.outcomes.specs.Results.{◌>>=◌}
+use Rattle.outcomes.specs.Bytes.{IsBytes}
+use Rattle.lake_bytes.specs.Varint.{IsVarint, SpellsNumber, IsCutShort, GoesPastTen, IsTooLarge, groups_at, varint_at}
 use Rattle.lake_bytes.specs.declared.fault.ByteFault.{ByteFault}
 use Rattle.lake_bytes.specs.declared.fault.ByteFault.TheVariants.{Short, VarintTooLong, OutOfRange}
 

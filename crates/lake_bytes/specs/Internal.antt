@@ -1,7 +1,7 @@
 -- What the private functions of this crate promise one another.
 use Rattle.std.specs.Prelude.{ℕ, ◌+◌, ◌*◌, ◌^◌, ◌<◌}
 use Rattle.lake_bytes.specs.Hybrid.{low_first}
-use Rattle.lake_bytes.specs.Outcome.{Said, refuses, says_nothing}
+use Rattle.outcomes.specs.Outcome.{Said, refuses, says_nothing}
 use Rattle.lake_bytes.specs.declared.fault.ByteFault.{ByteFault}
 use Rattle.lake_bytes.specs.declared.hybrid.Bits.{Bits}
 use Rattle.lake_bytes.specs.declared.run.HybridError.{HybridError}

@@ -1,11 +1,7 @@
 pub mod Hybrid
 pub mod Internal
-pub mod Lines
 pub mod LittleEndian
-pub mod Options
-pub mod Outcome
 pub mod Reading
-pub mod Results
 pub mod Texts
 pub mod Varint
 pub mod Zigzag

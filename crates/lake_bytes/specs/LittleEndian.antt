@@ -1,7 +1,7 @@
 -- Numbers of four and eight bytes, the low byte first.
 use Rattle.std.specs.Prelude.{ℕ, List, length, take, drop, Result, Ok, Err, nat_lt, if◌then◌else◌, ℤ}
 use Rattle.std.specs.Int.{Width, byte_len, from_le_bytes, cast_signed}
-use Rattle.lake_bytes.specs.Results.{◌>>=◌}
+use Rattle.outcomes.specs.Results.{◌>>=◌}
 use Rattle.lake_bytes.specs.declared.fault.ByteFault.{ByteFault}
 use Rattle.lake_bytes.specs.declared.fault.ByteFault.TheVariants.{Short}
 

@@ -1,12 +1,8 @@
 -- Unsigned varints, as in the Thrift compact protocol (ULEB128): seven bits a byte, the low group first.
-use Rattle.std.specs.Prelude.{◌≡◌, ℕ, zero, suc, ◌+◌, ◌-◌, ◌*◌, ◌/◌, ◌%◌, ◌^◌, ◌<◌, ◌≤◌, List, [], ◌∷◌, ◌++◌, length, take, slice_index, All, Result, Ok, Err, nat_lt, if◌then◌else◌}
-use Rattle.lake_bytes.specs.Results.{◌>>=◌}
+use Rattle.std.specs.Prelude.{◌≡◌, ℕ, zero, suc, ◌+◌, ◌-◌, ◌*◌, ◌/◌, ◌%◌, ◌^◌, ◌<◌, ◌≤◌, List, [], ◌∷◌, ◌++◌, length, take, All, Result, Ok, Err, nat_lt, if◌then◌else◌}
+use Rattle.outcomes.specs.Results.{◌>>=◌}
 use Rattle.lake_bytes.specs.declared.fault.ByteFault.{ByteFault}
 use Rattle.lake_bytes.specs.declared.fault.ByteFault.TheVariants.{Short, VarintTooLong, OutOfRange}
-
--- each number of the list is one of eight bits
-abbrev pub IsBytes : List ℕ → Type 0
-IsBytes bytes = (i : ℕ) → slice_index bytes i < 256
 
 -- These bytes spell n. A byte below 128 is the last one, and stands for itself. A byte from 128 on has the
 -- low seven bits, and the bytes after it spell the rest.

@@ -1,6 +1,6 @@
 -- Signed numbers as varints, by zigzag: 0, -1, 1, -2 are 0, 1, 2, 3.
 use Rattle.std.specs.Prelude.{◌≡◌, ℕ, ◌+◌, ◌*◌, ◌/◌, ◌%◌, ◌^◌, ◌<◌, ◌≤◌, ◌++◌, ◌==◌, List, Result, Ok, Err, nat_lt, if◌then◌else◌, ℤ, pos, negsuc}
-use Rattle.lake_bytes.specs.Results.{◌>>=◌}
+use Rattle.outcomes.specs.Results.{◌>>=◌}
 use Rattle.lake_bytes.specs.Varint.{SpellsNumber, varint_at}
 use Rattle.lake_bytes.specs.declared.fault.ByteFault.{ByteFault}
 use Rattle.lake_bytes.specs.declared.fault.ByteFault.TheVariants.{OutOfRange}

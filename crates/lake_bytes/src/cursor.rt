@@ -3,7 +3,8 @@
 ghost use Rattle.std.specs.Prelude.{◌≡◌, ◌<◌, ◌≤◌, ◌+◌, ◌^◌, ◌↔◌, ◌⊎◌, ℕ, ℤ, List, [], length, drop, take, IfOk, OnErr, OnOk, IsErrOf, IsOkAnd};
 ghost use Rattle.std.specs.Int.{w32, w64};
 ghost use Rattle.lake_bytes.specs.Reading.{ReadingGives, id, byte_at, ReadsFront, ReadsWhatStands, bytes_at};
-ghost use Rattle.lake_bytes.specs.Varint.{IsBytes, SpellsNumber, IsCutShort, GoesPastTen, IsTooLarge, varint_at};
+ghost use Rattle.outcomes.specs.Bytes.{IsBytes};
+ghost use Rattle.lake_bytes.specs.Varint.{SpellsNumber, IsCutShort, GoesPastTen, IsTooLarge, varint_at};
 ghost use Rattle.lake_bytes.specs.Zigzag.{SpellsSigned, IsTooWide, signed_at, zigzag, unzigzag};
 ghost use Rattle.lake_bytes.specs.LittleEndian.{little_at, signed_little_at};
 

@@ -3,9 +3,9 @@
 ghost use Rattle.std.specs.Prelude.{◌≡◌, ◌≢◌, ◌⊎◌, ℕ, List, [], ◌*◌, ◌/◌, ◌%◌, ◌^◌, ◌<◌, ◌≤◌, ◌++◌, length, min, take, replicate, Ok, Err, IfOk, IsOk, OnErr, OnOk};
 ghost use Rattle.lake_bytes.specs.Hybrid.{HoldsValues, Reads, bytes_for, hybrid_at, low_first, run_at, unpacked, values_of};
 ghost use Rattle.lake_bytes.specs.Internal.{IsHeld, number_left, says};
-ghost use Rattle.lake_bytes.specs.Outcome.{Gives};
+ghost use Rattle.outcomes.specs.Outcome.{Gives};
 ghost use Rattle.lake_bytes.specs.Reading.{ReadingGives as GivesFront, bytes_at};
-ghost use Rattle.lake_bytes.specs.Varint.{IsBytes};
+ghost use Rattle.outcomes.specs.Bytes.{IsBytes};
 
 use crate::cursor::Cursor;
 use crate::fault::ByteFault;

@@ -3,7 +3,8 @@
 ghost use Rattle.std.specs.Prelude.{◌≡◌, ℕ, ℤ, ◌<◌, ◌≤◌, ◌^◌, ◌++◌, All, List, Ok, length, FitsSigned};
 ghost use Rattle.std.specs.Int.{w32, w64, to_le_bytes, cast_unsigned};
 ghost use Rattle.lake_bytes.specs.Reading.{ReadsFront};
-ghost use Rattle.lake_bytes.specs.Varint.{IsBytes, IsVarint, SpellsNumber, varint_bytes, varint_at};
+ghost use Rattle.outcomes.specs.Bytes.{IsBytes};
+ghost use Rattle.lake_bytes.specs.Varint.{IsVarint, SpellsNumber, varint_bytes, varint_at};
 ghost use Rattle.lake_bytes.specs.Hybrid.{HoldsValues, hybrid_at, hybrid_bytes};
 ghost use Rattle.lake_bytes.specs.Zigzag.{SpellsSigned, zigzag, signed_at};
 ghost use Rattle.lake_bytes.specs.LittleEndian.{little_at, signed_little_at};

@@ -2,7 +2,8 @@
 
 ghost use Rattle.std.specs.Prelude.{◌≡◌, ℕ, ◌<◌, ◌^◌, ◌++◌, List, OnOk, OnErr};
 ghost use Rattle.lake_bytes.specs.Reading.{IsReading};
-ghost use Rattle.lake_bytes.specs.Varint.{IsBytes, groups_at, groups_of, varint_at};
+ghost use Rattle.outcomes.specs.Bytes.{IsBytes};
+ghost use Rattle.lake_bytes.specs.Varint.{groups_at, groups_of, varint_at};
 
 use crate::fault::ByteFault;
 use std::alloc::AllocError;

@@ -4,7 +4,7 @@ use Rattle.std.proofs.Common.{◌≡◌, ◌≢◌, ℕ, Bool, List, Result, Ok,
 use Rattle.std.specs.Prelude.{IsOk, MatchResult}
 use Rattle.std.specs.Str.{IsUtf8}
 use Rattle.serde_json.specs.Data.{Items}
-use Rattle.lake_bytes.specs.Outcome.{IsSaid}
+use Rattle.outcomes.specs.Outcome.{IsSaid}
 use Rattle.store_core.specs.Objects.{Objects}
 use Rattle.commit_core.specs.Creating.{CreateRefusal, Creates, created_by}
 use Rattle.commit_core.specs.Creating as creating
@@ -21,7 +21,7 @@ use Rattle.sink_core.proofs.Callers.{append_plan_alike, appended_alike, close_pl
 use Rattle.snapshot_core.specs.declared.fault.SnapshotFault.{SnapshotFault}
 use Rattle.snapshot_core.proofs.Callers.{puts_alike, refusal_alike}
 use Rattle.folder_session.specs.Jobs.{IsAppended, IsCheckpointed, IsClosed, IsCreated}
-use Rattle.lake_bytes.specs.Lines.{with_newline}
+use Rattle.outcomes.specs.Lines.{with_newline}
 use Rattle.script_lines.specs.Lines.{append, checkpoint, close, create, task}
 use Rattle.lake_script.specs.Growth.{MayPut}
 use Rattle.lake_script.specs.ReplyView.{reply_text}

@@ -5,7 +5,7 @@ use Rattle.json_text.specs.Rows.{text_data}
 use Rattle.store_core.specs.Objects.{Objects, IsInOrder, names_of}
 use Rattle.table_log.specs.Restoring.{RestoresWell}
 use Rattle.table_log.proofs.Callers.{well_sound}
-use Rattle.log_laws.specs.Sound.{IsSoundStore}
+use Rattle.lake_script.specs.SoundStores.{IsSoundStore}
 use Rattle.table_folder.specs.Copies.{HasSavedFront, to_save, with_copies}
 use Rattle.table_folder.specs.Faults.{CountsSave, SaveFailsAmong}
 use Rattle.table_folder.specs.Loads.{loaded}

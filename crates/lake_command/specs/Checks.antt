@@ -2,7 +2,7 @@
 use Rattle.std.specs.Prelude.{◌≡◌, ◌⊎◌, ◌++◌, ℕ, List, [], Option, true, codes}
 use Rattle.std.specs.Fmt.{decimal}
 use Rattle.std.specs.Io.KnownBytes.{Appends}
-use Rattle.lake_bytes.specs.Lines.{with_newline}
+use Rattle.outcomes.specs.Lines.{with_newline}
 use Rattle.lake_script.specs.Streams.{held, write_failed, StandsIn}
 use Rattle.lake_script.specs.declared.outputs.Output.{Output}
 use Rattle.store_core.specs.Calls.{HasRisen}

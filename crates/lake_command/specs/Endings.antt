@@ -16,7 +16,7 @@ use Rattle.lake_command.specs.Status.{is_want_of_memory, refuses, status_of_fail
 use Rattle.lake_command.specs.declared.exit.Exit.{Exit}
 use Rattle.lake_command.specs.declared.failure.Failure.{Failure}
 use Rattle.lake_command.specs.declared.failure.Failure.TheVariants.{BadLine, Memory}
-use Rattle.lake_bytes.specs.Lines.{with_newline}
+use Rattle.outcomes.specs.Lines.{with_newline}
 
 -- What comes of a job: its reply, with what the same line of a script leaves, or why it has none, with what the folder
 -- holds then.

@@ -1,7 +1,7 @@
 -- How a code is explained.
 use Rattle.std.specs.Prelude.{◌≡◌, ◌⊎◌, ℕ, List, Option, true, false}
 use Rattle.std.specs.Io.KnownBytes.{Appends}
-use Rattle.lake_bytes.specs.Lines.{with_newline}
+use Rattle.outcomes.specs.Lines.{with_newline}
 use Rattle.lake_script.specs.Streams.{held, write_failed}
 use Rattle.lake_script.specs.declared.outputs.Output.{Output}
 use Rattle.refusal_texts.specs.Codes.{has_entry}

@@ -2,7 +2,7 @@
 ghost use Rattle.std.specs.Prelude.{◌≡◌, ◌≢◌, ◌⊎◌, ◌↔◌, ◌<◌, ◌≤◌, ◌^◌, ℕ, Bool, List, Option, true, false, Some, None, IfOk, IfErr, IfSome, IsErrAnd, IsSomeAnd, IsOk, IsOkAnd, IsTrue, Ok, length};
 ghost use Rattle.store_core.specs.Calls.{HasRisen};
 ghost use Rattle.store_core.specs.Objects.{object_at};
-ghost use Rattle.log_laws.specs.Sound.{IsSoundStore};
+ghost use Rattle.lake_script.specs.SoundStores.{IsSoundStore};
 ghost use Rattle.job_laws.specs.Bytes.{AreBytes};
 ghost use Rattle.table_log.specs.Restoring.{RestoresWell};
 ghost use Rattle.lake_words.specs.Asked.{work_view};

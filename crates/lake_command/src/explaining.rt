@@ -1,7 +1,7 @@
 //! What a refusal means, where it is asked for, and the code of a failure.
 ghost use Rattle.std.specs.Prelude.{◌≡◌, Err, OnOk, true};
 ghost use Rattle.std.specs.Io.KnownBytes.{Appends};
-ghost use Rattle.lake_bytes.specs.Lines.{with_newline};
+ghost use Rattle.outcomes.specs.Lines.{with_newline};
 ghost use Rattle.lake_script.specs.Streams.{held, write_failed};
 ghost use Rattle.lake_command.specs.Explaining.{IsExplained};
 ghost use Rattle.refusal_texts.specs.Texts.{refusal_text};

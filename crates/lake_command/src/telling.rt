@@ -1,9 +1,9 @@
 //! The reply to a job on the table in a folder, told, and the exit status.
-ghost use Rattle.lake_bytes.specs.Lines.{with_newline};
+ghost use Rattle.outcomes.specs.Lines.{with_newline};
 ghost use Rattle.std.specs.Prelude.{◌≡◌, ◌≢◌, ◌⊎◌, ◌||◌, ◌<◌, ℕ, List, true, false, Some, Result, Ok, Err, OnOk, OnErr};
 ghost use Rattle.std.specs.Io.KnownBytes.{Appends};
 ghost use Rattle.store_core.specs.Objects.{object_at};
-ghost use Rattle.log_laws.specs.Sound.{IsSoundStore};
+ghost use Rattle.lake_script.specs.SoundStores.{IsSoundStore};
 ghost use Rattle.job_laws.specs.Bytes.{AreBytes};
 ghost use Rattle.table_log.specs.Restoring.{RestoresWell};
 ghost use Rattle.lake_words.specs.Asked.{Work, work_view};

@@ -2,8 +2,8 @@
 use Rattle.std.proofs.Common.{◌≡◌, ◌≢◌, ◌⊎◌, ℕ, List, Bool, true, false, Option, None, Some, Result, Ok, Err, inl, inr, refl, sym, ap}
 use Rattle.std.specs.Prelude.{◌++◌, codes, option_map}
 use Rattle.hex.specs.Hex.{encode_lower}
-use Rattle.lake_bytes.specs.Outcome.{IsSaid}
-use Rattle.lake_bytes.specs.Lines.{with_newline}
+use Rattle.outcomes.specs.Outcome.{IsSaid}
+use Rattle.outcomes.specs.Lines.{with_newline}
 use Rattle.store_core.specs.Calls.{CountsFault, HasRisen, IsUntouched, MayHaveLanded}
 use Rattle.store_core.specs.declared.fault.StoreFault.{StoreFault}
 use Rattle.store_core.specs.declared.fault.StoreFault.TheVariants as stores

@@ -1,3 +1,4 @@
 -- The lemmas that proofs of other crates may cite.
 pub use Rattle.lake_script.proofs.RestoredLemmas.{well_of_empty}
 pub use Rattle.lake_script.proofs.ScriptLemmas.{few_lines}
+pub use Rattle.read_laws.proofs.Callers.{kept_reads, reads_log, sound_kept}

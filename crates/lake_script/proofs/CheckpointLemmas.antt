@@ -2,7 +2,7 @@
 use Rattle.std.proofs.Common.{◌≡◌, ◌≢◌, ℕ, ◌++◌, false, true, List, [], Ok, length, inl, inr, refl, sym, ap, ◌∙◌, arith}
 use Rattle.std.specs.Prelude.{codes, nat_lt}
 use Rattle.std.proofs.lemmas.Bool.{le-ltb, lt-ltb}
-use Rattle.lake_bytes.specs.Outcome.{IsSaid}
+use Rattle.outcomes.specs.Outcome.{IsSaid}
 use Rattle.store_core.specs.Objects.{Objects, with_object}
 use Rattle.delta_checkpoint.specs.Names.{checkpoint_name}
 use Rattle.delta_replay.specs.Support.{fault_of}
@@ -22,7 +22,7 @@ use Rattle.script_lines.specs.Lines.{Statement, checkpoint, snapshot, task}
 use Rattle.lake_script.specs.ReplyView.{reply_text, is_short}
 use Rattle.lake_script.specs.Runs.{Executes, Has, IsShort, no_room_to_tell}
 use Rattle.lake_script.specs.Sound.{IsExecuted}
-use Rattle.lake_bytes.specs.Lines.{with_newline}
+use Rattle.outcomes.specs.Lines.{with_newline}
 
 -- the two texts of what a table lacks are the same
 pub support_is : (why : SupportFault) → supports.fault_text why ≡ support_text (fault_of why)

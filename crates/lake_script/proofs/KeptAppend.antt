@@ -8,8 +8,8 @@ use Rattle.serde_json.specs.Data.{Items}
 use Rattle.schema_tree.specs.Tree.{Tree}
 use Rattle.store_core.specs.Objects.{Objects, object_at}
 use Rattle.parquet_footer.specs.declared.fault.FileFault.{FileFault}
-use Rattle.parquet_file.specs.Reading.{rows_at}
-use Rattle.parquet_file.specs.Writing.{written_file}
+use Rattle.source_core.specs.ParquetReading.{rows_at}
+use Rattle.source_core.specs.ParquetWriting.{written_file}
 use Rattle.table_model.specs.Appends.{appended, with_batch}
 use Rattle.table_model.specs.declared.table.AppendAnswer.TheVariants.{Committed, Already, Differs, StreamClosed}
 use Rattle.table_model.specs.Lawful.{IsLawful}
@@ -18,7 +18,7 @@ use Rattle.row_core.specs.Rows.{Row, same_rows}
 use Rattle.delta_replay.specs.Support.{has_key_inside}
 use Rattle.table_model.specs.Table as model
 use Rattle.table_model.specs.Table.{Entry, creation, group, last_batch, is_closed}
-use Rattle.table_store.specs.Commits.{IsCommitOf}
+use Rattle.commit_core.specs.TableCommits.{IsCommitOf}
 use Rattle.table_model.proofs.Callers.{append_keeps}
 use Rattle.batch_core.specs.Committing.{batch_actions, file_name, greatest_number}
 use Rattle.batch_core.specs.Requests.{SinkRequest, checked, is_repeat, file_or_refusal}
@@ -26,7 +26,7 @@ use Rattle.sink_core.specs.Appending.{EncodedBatch, AppendPlan, puts, stands, re
 use Rattle.commit_core.specs.Commits.{commit_text}
 use Rattle.script_lines.specs.Lines.{append, task}
 use Rattle.batch_core.specs.Refusals.{SinkRefusal, bad_app, too_large, file_too_large, stale, differs, bad_log}
-use Rattle.lake_bytes.specs.Results.{◌>>=◌, refused_if}
+use Rattle.outcomes.specs.Results.{◌>>=◌, refused_if}
 use Rattle.batch_core.specs.RowsIn.{rows_from, takes_rows}
 use Rattle.lake_script.specs.Sound.{IsSoundStatement}
 use Rattle.lake_script.specs.Tables as tables
@@ -40,8 +40,8 @@ use Rattle.lake_script.proofs.KeptHolds.{append_stands}
 use Rattle.lake_script.proofs.KeptNames.{same_name, same_file_name, batch_stands, no_file}
 use Rattle.lake_script.proofs.KeptPuts.{kept_more, no_other_more}
 use Rattle.lake_script.proofs.KeptRequest.{asked, goes_on, unless_invariant, request_is}
-use Rattle.log_laws.proofs.Callers.{log_of_nothing}
-use Rattle.lake_bytes.specs.Lines.{with_newline}
+use Rattle.commit_core.proofs.Callers.{log_of_nothing}
+use Rattle.outcomes.specs.Lines.{with_newline}
 
 -- what an append does agrees with the batch that is handed in at the plain table
 abbrev Agrees : (objects : Objects) (schema : Tree) (entries : List Entry) (number : ℕ) → Result AppendPlan SinkRefusal → Result model.Batch SinkRefusal → Type 0

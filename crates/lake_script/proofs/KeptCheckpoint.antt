@@ -6,7 +6,7 @@ use Rattle.store_core.specs.Objects.{Objects, with_object}
 use Rattle.delta_actions.specs.Action as actions
 use Rattle.delta_checkpoint.specs.Names.{IsCheckpointName, checkpoint_name}
 use Rattle.delta_replay.specs.Support.{feature, has_key_inside, meta_data_of}
-use Rattle.lake_bytes.specs.Results.{◌>>=◌, refused_as, refused_if}
+use Rattle.outcomes.specs.Results.{◌>>=◌, refused_as, refused_if}
 use Rattle.table_model.specs.Table.{Entry, creation}
 use Rattle.commit_core.specs.Texts.{refused}
 use Rattle.snapshot_core.specs.Faults.{bad_log, unsupported}
@@ -18,11 +18,11 @@ use Rattle.lake_script.specs.Tables as tables
 use Rattle.lake_script.specs.Tables.{State, nothing, table}
 use Rattle.lake_script.specs.Told as told
 use Rattle.lake_script.specs.Keeps.{HasNoOther, Keeps}
-use Rattle.table_store.proofs.LawfulLogLemmas.{AreMadeFor}
+use Rattle.commit_core.proofs.Callers.{AreMadeFor}
 use Rattle.read_laws.proofs.Callers.{made_of, are_made, count_kept, log_kept}
-use Rattle.log_laws.proofs.Callers.{log_checkpointable, log_meta_data, log_of_nothing}
+use Rattle.commit_core.proofs.Callers.{log_checkpointable, log_meta_data, log_of_nothing}
 use Rattle.lake_script.proofs.KeptPuts.{kept_checkpoint, same_files}
-use Rattle.lake_bytes.specs.Lines.{with_newline}
+use Rattle.outcomes.specs.Lines.{with_newline}
 
 -- a store of nothing has no checkpoint
 over_nothing : (bytes : List ℕ) → checkpoint_by [] bytes ≡ Err (by_log (bad_log 0))

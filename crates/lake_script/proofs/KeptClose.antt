@@ -10,14 +10,14 @@ use Rattle.delta_actions.specs.Names as names
 use Rattle.delta_replay.specs.Support.{has_key_inside}
 use Rattle.table_model.specs.Table.{Entry, close, is_closed}
 use Rattle.table_model.specs.declared.table.Closing.TheVariants.{Closed, AlreadyClosed}
-use Rattle.table_store.specs.Commits.{IsCommitOf}
+use Rattle.commit_core.specs.TableCommits.{IsCommitOf}
 use Rattle.batch_core.specs.Requests.{SinkRequest, named}
 use Rattle.batch_core.specs.Refusals.{SinkRefusal, bad_log}
 use Rattle.sink_core.specs.Closes.{close_of, close_answer, close_plan, close_text, closing_version, with_close, ClosesWell}
 use Rattle.script_lines.specs.Lines.{close as closes, task}
-use Rattle.lake_bytes.specs.Lines.{with_newline}
-use Rattle.lake_bytes.specs.Results.{◌>>=◌}
-use Rattle.log_laws.proofs.Callers.{log_of_nothing}
+use Rattle.outcomes.specs.Lines.{with_newline}
+use Rattle.outcomes.specs.Results.{◌>>=◌}
+use Rattle.commit_core.proofs.Callers.{log_of_nothing}
 use Rattle.read_laws.specs.Kept.{IsKept}
 use Rattle.lake_script.specs.Keeps.{AreFiles, Keeps}
 use Rattle.lake_script.specs.Sound.{IsSoundStatement}

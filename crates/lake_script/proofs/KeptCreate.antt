@@ -10,12 +10,12 @@ use Rattle.store_core.specs.ObjectLaws.{with_object_stands, with_object_absent}
 use Rattle.delta_actions.specs.Names as names
 use Rattle.table_model.specs.Table.{Entry, creation}
 use Rattle.table_model.proofs.Callers.{new_is_lawful}
-use Rattle.table_store.proofs.Callers.{commit_name-data_file_name, commit_name-once}
+use Rattle.commit_core.proofs.Callers.{commit_name-data_file_name, commit_name-once}
 use Rattle.commit_core.specs.Commits.{commit_text, creation as created}
 use Rattle.table_log.specs.Names.{commit_name}
 use Rattle.commit_core.specs.Creating.{CreateRefusal, bad_schema, bad_id, too_large, id_of, described, within, most_bytes, commit_from, unless_there, with_creation}
 use Rattle.script_lines.specs.Lines.{create}
-use Rattle.lake_bytes.specs.Results.{◌>>=◌, or_refusal, refused_as}
+use Rattle.outcomes.specs.Results.{◌>>=◌, or_refusal, refused_as}
 use Rattle.commit_core.specs.Creating.{IsWellCreated, CreatesWell}
 use Rattle.lake_script.specs.Sound.{IsSoundStatement}
 use Rattle.lake_script.specs.Tables as tables

@@ -8,9 +8,9 @@ use Rattle.delta_actions.specs.Commit.{lines_of}
 use Rattle.delta_actions.specs.Action.{Action}
 use Rattle.store_core.specs.Objects.{Objects, with_object}
 use Rattle.store_core.specs.ObjectLaws.{with_object_absent}
-use Rattle.table_store.specs.Sound.{IsSound}
+use Rattle.commit_core.specs.SoundTables.{IsSound}
 use Rattle.table_model.specs.Table.{creation}
-use Rattle.table_store.proofs.Callers.{lawful_log}
+use Rattle.commit_core.proofs.Callers.{lawful_log}
 use Rattle.batch_core.specs.Requests.{checked, named}
 use Rattle.sink_core.specs.Appending.{append_plan, with_append, with_file_alone}
 use Rattle.sink_core.specs.Closes.{close_plan, with_close, MayClose}
@@ -26,7 +26,7 @@ use Rattle.batch_core.specs.Refusals.{SinkRefusal}
 use Rattle.lake_script.specs.Runs.{Replies, RunsInPart, waits, begins, follows}
 use Rattle.lake_script.specs.Told.{IsPutHere, ArePutHere}
 use Rattle.commit_core.specs.Creating.{CreatesWell}
-use Rattle.log_laws.proofs.Callers.{log_of_nothing, nothing_sound}
+use Rattle.commit_core.proofs.Callers.{log_of_nothing, nothing_sound}
 use Rattle.lake_script.proofs.KeptAppend.{step_of_nothing, nothing_is}
 use Rattle.lake_script.proofs.KeptClose.{close_goes_on, close_nothing_is, close_over_nothing}
 use Rattle.lake_script.proofs.KeptCreate.{kept_creation, no_data_file, first_commit, left_table}

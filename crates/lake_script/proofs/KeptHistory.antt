@@ -12,10 +12,10 @@ use Rattle.serde_json.specs.Data.{Data}
 use Rattle.delta_actions.specs.Action.{add, commit_info, domain_metadata, txn}
 use Rattle.delta_actions.specs.In.{commit_info_in}
 use Rattle.delta_replay.specs.Closes.{Closes}
-use Rattle.table_store.specs.Commits.{StandFor, without_commit_info, closed_domain}
-use Rattle.table_store.specs.Groups.{AreTxnsAndAdds, numbers}
-use Rattle.table_store.proofs.HoldingOne.{named}
-use Rattle.table_store.proofs.LawfulLogLemmas.{AreMadeFor}
+use Rattle.commit_core.specs.TableCommits.{StandFor, without_commit_info, closed_domain}
+use Rattle.commit_core.specs.Groups.{AreTxnsAndAdds, numbers}
+use Rattle.commit_core.proofs.Callers.{named}
+use Rattle.commit_core.proofs.Callers.{AreMadeFor}
 use Rattle.commit_core.proofs.CloseLemmas.{closes_found}
 use Rattle.table_log.specs.Versions.{commit}
 use Rattle.commit_core.specs.Histories.{action_told, close_told, number_told, history_from, history_in, history_of, bad_log}
@@ -23,8 +23,8 @@ use Rattle.lake_script.specs.Tables as tables
 use Rattle.lake_script.specs.Tables.{entry_told}
 use Rattle.read_laws.specs.Kept.{IsKept}
 use Rattle.read_laws.proofs.Callers.{made_of, are_made, versions_kept, has_commits}
-use Rattle.log_laws.proofs.Callers.{says_so, versions_of_nothing}
-use Rattle.lake_bytes.specs.Lines.{with_newline}
+use Rattle.commit_core.proofs.Callers.{says_so, versions_of_nothing}
+use Rattle.outcomes.specs.Lines.{with_newline}
 
 -- what tells only of the commit isn't told
 silent : (action : actions.Action) (info : Data) → commit_info_in action ≡ Some info → action_told action ≡ []

@@ -5,9 +5,9 @@ use Rattle.schema_tree.specs.Reading.{schema_of}
 use Rattle.schema_tree.specs.Tree.{Tree}
 use Rattle.store_core.specs.Objects.{Objects}
 use Rattle.delta_actions.specs.Commit.{IsCommit}
-use Rattle.table_store.specs.Commits.{IsCommitOf}
-use Rattle.table_store.specs.Holds.{EndsAt, HoldsFrom, Holds}
-use Rattle.table_store.specs.Sound.{IsSound}
+use Rattle.commit_core.specs.TableCommits.{IsCommitOf}
+use Rattle.commit_core.specs.Holds.{EndsAt, HoldsFrom, Holds}
+use Rattle.commit_core.specs.SoundTables.{IsSound}
 use Rattle.delta_actions.specs.Names.{data_file_name}
 use Rattle.table_model.specs.Table.{Batch, Entry, creation, group, close, batches_of}
 use Rattle.batch_core.specs.Closing.{closing}

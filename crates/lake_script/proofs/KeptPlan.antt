@@ -10,8 +10,8 @@ use Rattle.schema_tree.specs.Tree.{Tree}
 use Rattle.store_core.specs.Objects.{Objects, object_at, with_object}
 use Rattle.store_core.specs.ObjectLaws.{object_at-with_object_same, object_at-with_object_other}
 use Rattle.parquet_footer.specs.declared.fault.FileFault.{FileFault}
-use Rattle.parquet_file.specs.Reading.{rows_at}
-use Rattle.parquet_file.specs.Writing.{written_file}
+use Rattle.source_core.specs.ParquetReading.{rows_at}
+use Rattle.source_core.specs.ParquetWriting.{written_file}
 use Rattle.table_model.specs.Appends.{appended}
 use Rattle.table_model.specs.declared.table.AppendAnswer.TheVariants.{Committed, StreamClosed}
 use Rattle.table_model.specs.Lawful.{IsLawful}
@@ -22,12 +22,12 @@ use Rattle.row_core.specs.Rows.{Row}
 use Rattle.row_core.proofs.Callers.{same_rows-is}
 use Rattle.table_model.specs.Table as model
 use Rattle.table_model.specs.Table.{Entry, group, is_closed, last_batch}
-use Rattle.table_store.proofs.Callers.{commit_name-data_file_name}
+use Rattle.commit_core.proofs.Callers.{commit_name-data_file_name}
 use Rattle.batch_core.specs.Committing.{file_name, greatest_number}
 use Rattle.batch_core.specs.Requests.{checked, is_repeat, is_same, unless_other, where_same, file_or_refusal}
 use Rattle.sink_core.specs.Appending.{EncodedBatch, AppendPlan, puts, stands, size_behind, batch_of, put_plan, new_plan, plan_of, append_plan, with_append, with_file_alone, IsWellMade, PutsWell}
 use Rattle.batch_core.specs.Refusals.{SinkRefusal, stale, differs}
-use Rattle.lake_bytes.specs.Results.{◌>>=◌, refused_if}
+use Rattle.outcomes.specs.Results.{◌>>=◌, refused_if}
 use Rattle.batch_core.specs.RowsIn.{rows_from, takes_rows}
 use Rattle.read_laws.specs.Kept.{IsReadableFile, FileKept, IsKept}
 use Rattle.lake_script.specs.Keeps.{AreFiles, HasNoOther, Keeps, KeepsBeside}

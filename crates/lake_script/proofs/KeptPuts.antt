@@ -10,15 +10,15 @@ use Rattle.store_core.specs.Objects.{Objects, object_at, with_object}
 use Rattle.store_core.specs.ObjectLaws.{object_at-with_object_same, object_at-with_object_other, object_at-with_object_kept}
 use Rattle.delta_actions.specs.Names.{commit_name, data_file_name, greatest_version}
 use Rattle.delta_checkpoint.specs.Names.{IsCheckpointName}
-use Rattle.table_store.specs.Commits.{IsCommitOf}
-use Rattle.table_store.specs.Holds.{Stands}
+use Rattle.commit_core.specs.TableCommits.{IsCommitOf}
+use Rattle.commit_core.specs.Holds.{Stands}
 use Rattle.table_model.specs.Lawful.{IsLawful}
 use Rattle.table_model.specs.Appends.{with_close}
 use Rattle.table_model.specs.Table.{Batch, Entry, creation, group, close, batches_of, batches, is_closed}
 use Rattle.table_model.proofs.Callers.{batches-append}
 use Rattle.table_model.proofs.Kept.{close_keeps}
-use Rattle.table_store.proofs.Callers.{commit_name-data_file_name, commit_name-once, data_file_name-once}
-use Rattle.log_laws.proofs.Callers.{no_checkpoint}
+use Rattle.commit_core.proofs.Callers.{commit_name-data_file_name, commit_name-once, data_file_name-once}
+use Rattle.commit_core.proofs.Callers.{no_checkpoint}
 use Rattle.read_laws.specs.Kept.{IsReadableFile, FileKept, FilesKept, KeptFrom, IsKept}
 use Rattle.lake_script.specs.Keeps.{IsOwn, HasNoOther}
 use Rattle.lake_script.proofs.KeptNames.{first_in}

@@ -12,9 +12,9 @@ use Rattle.table_model.specs.Table.{Batch, Entry, creation, is_closed, last_batc
 use Rattle.batch_core.specs.Requests.{SinkRequest, close_behind, is_repeat, request_behind}
 use Rattle.batch_core.specs.Refusals.{SinkRefusal, read_only, stream_closed}
 use Rattle.batch_core.specs.RowsIn.{rows_from, takes_rows}
-use Rattle.lake_bytes.specs.Results.{◌>>=◌, refused_if, refused_as}
-use Rattle.table_store.proofs.LawfulLogLemmas.{AreMadeFor}
-use Rattle.log_laws.proofs.Callers.{log_closed, log_last, log_writable}
+use Rattle.outcomes.specs.Results.{◌>>=◌, refused_if, refused_as}
+use Rattle.commit_core.proofs.Callers.{AreMadeFor}
+use Rattle.commit_core.proofs.Callers.{log_closed, log_last, log_writable}
 
 -- what is asked of a table
 abbrev pub asked : (version : ℕ) (schema : Tree) (rows : List Row) (repeats : Bool) → SinkRequest

@@ -8,13 +8,13 @@ use Rattle.table_model.specs.Table.{Entry}
 use Rattle.table_model.specs.Reads.{Answer, handed, beyond, bad_place, read}
 use Rattle.table_model.specs.declared.reading.Offset.{Offset}
 use Rattle.log_offsets.specs.Offsets.{offset_of}
-use Rattle.lake_bytes.specs.Results.{◌>>=◌}
+use Rattle.outcomes.specs.Results.{◌>>=◌}
 use Rattle.lake_script.specs.Tables as tables
 use Rattle.source_core.specs.Tailing.{ReadRefusal, ReadRows, handed_by, handed_text, schema_for, tailed}
 use Rattle.lake_script.specs.Told.{tailed_reply}
 use Rattle.read_laws.specs.Kept.{IsKept}
 use Rattle.read_laws.proofs.Callers.{made_of, are_made, versions_kept, IsPlain, IsTold, handed_told, kept_plain}
-use Rattle.log_laws.proofs.Callers.{versions_of_nothing}
+use Rattle.commit_core.proofs.Callers.{versions_of_nothing}
 use Rattle.table_log.specs.Versions.{commit, versions_of}
 
 -- what is told of an answer

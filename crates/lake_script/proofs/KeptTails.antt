@@ -9,7 +9,7 @@ use Rattle.table_model.specs.Resumed.{beginning}
 use Rattle.table_model.specs.declared.reading.Offset.{Offset}
 use Rattle.table_log.specs.Versions.{versions_of}
 use Rattle.log_reading.specs.FromCheckpoints.{no_start}
-use Rattle.log_laws.proofs.Callers.{versions_of_nothing}
+use Rattle.commit_core.proofs.Callers.{versions_of_nothing}
 use Rattle.source_core.specs.Tailing.{bad_log, read_by, schema_for}
 use Rattle.source_core.specs.Tails.{tails, HandOutTheLog, HandOutAll, AreAnswered}
 use Rattle.lake_script.specs.Tables.{State, nothing, table, entries_of}

@@ -2,8 +2,8 @@
 use Rattle.std.proofs.Common.{◌≡◌, ◌≢◌, ℕ, Bool, false, List, [], Option, Result, Ok, Err, inl, inr, refl, sym, ap, subst, ◌∙◌}
 use Rattle.std.specs.Str.{IsUtf8}
 use Rattle.serde_json.specs.Data.{Items}
-use Rattle.lake_bytes.specs.Outcome.{IsSaid}
-use Rattle.lake_bytes.specs.Results.{◌>>=◌}
+use Rattle.outcomes.specs.Outcome.{IsSaid}
+use Rattle.outcomes.specs.Results.{◌>>=◌}
 use Rattle.store_core.specs.Objects.{Objects}
 use Rattle.table_log.specs.Restoring.{HasOnlySoundCheckpoints, AreCheckpointsSound, HasSoundCheckpoints, RestoresWell}
 use Rattle.commit_core.specs.Texts.{refused}
@@ -21,7 +21,7 @@ use Rattle.lake_script.specs.Runs.{Executes}
 use Rattle.lake_script.specs.Sound.{IsExecuted}
 use Rattle.lake_script.specs.Told.{sink_reply}
 use Rattle.table_log.proofs.Callers.{sound_empty}
-use Rattle.lake_bytes.specs.Lines.{with_newline}
+use Rattle.outcomes.specs.Lines.{with_newline}
 
 -- in an empty store no checkpoint stands
 pub well_of_empty : (use_checkpoints : Bool) (objects : Objects) → objects ≡ [] → RestoresWell use_checkpoints objects

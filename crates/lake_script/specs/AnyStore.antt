@@ -35,7 +35,7 @@ use Rattle.lake_script.specs.Checkpoints.{checkpointed_at, reason_text}
 use Rattle.lake_script.specs.Replies.{created, noted, outcome_text, put_word}
 use Rattle.lake_script.specs.Runs.{no_room_to_read, no_room_to_show, no_room_to_tell}
 use Rattle.lake_script.specs.Told.{in_hex, not_yet, shown, tailed_reply}
-use Rattle.lake_bytes.specs.Lines.{with_newline}
+use Rattle.outcomes.specs.Lines.{with_newline}
 
 -- ---- that a call was lost
 

@@ -3,7 +3,7 @@
 -- doesn't show.
 use Rattle.std.specs.Prelude.{ℕ, ◌-◌, List, ◌++◌, length, false, nat_lt, Option, None, Some, Result, Ok, Err, IfOk, codes}
 use Rattle.std.specs.Fmt.{decimal}
-use Rattle.lake_bytes.specs.Results.{◌>>=◌, refused_as, refused_if}
+use Rattle.outcomes.specs.Results.{◌>>=◌, refused_as, refused_if}
 use Rattle.store_core.specs.Objects.{Objects, with_object}
 use Rattle.delta_actions.specs.Action.{Action, MetaDataAction}
 use Rattle.delta_checkpoint.specs.Names.{IsCheckpointName, checkpoint_name}
@@ -14,7 +14,7 @@ use Rattle.snapshot_core.specs.Faults.{Reason, bad_log, unsupported, checked, re
 use Rattle.snapshot_core.specs.Taking.{most_bytes, IsNewestCheckpoint}
 use Rattle.snapshot_core.specs.Telling.{TellsSnapshot}
 use Rattle.source_core.specs.TailFaults.{support_text}
-use Rattle.lake_bytes.specs.Lines.{with_newline}
+use Rattle.outcomes.specs.Lines.{with_newline}
 
 -- the newest version of a log
 abbrev pub newest_version : Objects → ℕ

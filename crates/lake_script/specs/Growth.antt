@@ -8,7 +8,7 @@ use Rattle.commit_core.specs.Creating.{MayCreate}
 use Rattle.table_log.specs.Names.{commit_name}
 use Rattle.snapshot_core.specs.Taking.{HasPut}
 use Rattle.script_lines.specs.Lines.{Statement, append, close, checkpoint, tail, create, task, snapshot, history, show, hex, tries, fault, start, until, step, finish, die, land, foreign}
-use Rattle.lake_bytes.specs.Lines.{with_newline}
+use Rattle.outcomes.specs.Lines.{with_newline}
 
 -- the checkpoint of the newest version was put, or nothing
 abbrev pub MayPutCheckpoint : Objects → Objects → Type 0

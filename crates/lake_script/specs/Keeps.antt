@@ -7,7 +7,7 @@ use Rattle.store_core.specs.Objects.{Objects, object_at}
 use Rattle.delta_actions.specs.Names.{data_file_name}
 use Rattle.table_model.specs.Table.{Batch, Entry, batches}
 use Rattle.batch_core.specs.Committing.{greatest_number}
-use Rattle.table_store.specs.Schema.{Schema}
+use Rattle.commit_core.specs.TableSchema.{Schema}
 use Rattle.read_laws.specs.Kept.{IsKept, IsReadableFile}
 use Rattle.lake_script.specs.Tables.{State, nothing, table}
 

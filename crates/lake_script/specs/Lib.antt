@@ -11,3 +11,8 @@ pub mod Streams
 pub mod Tables
 pub mod Told
 pub mod Tries
+pub use Rattle.read_laws.specs.Kept
+pub use Rattle.read_laws.specs.Readable
+pub use Rattle.source_core.specs.Tails
+pub use Rattle.source_core.specs.Tailing
+pub use Rattle.commit_core.specs.SoundStores

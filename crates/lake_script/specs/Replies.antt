@@ -5,7 +5,7 @@ use Rattle.lake_script.specs.declared.faults.Fault.{Fault}
 use Rattle.lake_script.specs.declared.faults.Fault.TheVariants.{NotYet, NoSuchName, NoActor, NotRead, NotWritten}
 use Rattle.sink_core.specs.declared.sink_state.SinkOutcome.{SinkOutcome}
 use Rattle.sink_core.specs.declared.sink_state.SinkOutcome.TheVariants.{Committed, Already, Closed, AlreadyClosed}
-use Rattle.lake_bytes.specs.Lines.{with_newline}
+use Rattle.outcomes.specs.Lines.{with_newline}
 
 -- a fault: its code and its name
 abbrev pub fault_text : Fault → List ℕ

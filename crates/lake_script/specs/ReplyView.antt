@@ -16,7 +16,7 @@ use Rattle.batch_core.specs.Refusals.{refusal_text, refusal_view}
 use Rattle.lake_script.specs.Replies.{fault_text, created, noted, outcome_text, put_word}
 use Rattle.commit_core.specs.Texts.{create_fault_text, refused}
 use Rattle.source_core.specs.TailFaults as tail_texts
-use Rattle.lake_bytes.specs.Lines.{with_newline}
+use Rattle.outcomes.specs.Lines.{with_newline}
 
 -- the bytes of a reply
 abbrev pub reply_text : LineReply → List ℕ

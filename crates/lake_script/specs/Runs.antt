@@ -20,7 +20,7 @@ use Rattle.source_core.specs.TailFaults as tail_texts
 use Rattle.source_core.specs.Tailing as tails
 use Rattle.delta_actions.specs.Commit.{lines_of}
 use Rattle.lake_script.specs.Told.{is_bad, IsPrintedStatement, reply_to_statement, left_by_statement}
-use Rattle.lake_bytes.specs.Lines.{with_newline}
+use Rattle.outcomes.specs.Lines.{with_newline}
 
 -- the replies to lines that create a table, append a batch or close a stream, show or put an object, read rows, and put a
 -- checkpoint or tell the snapshot or the history, where a growth was refused

@@ -2,12 +2,12 @@
 use Rattle.std.specs.Prelude.{◌≡◌, ◌≤◌, ◌+◌, ◌++◌, ℕ, List, [], ◌∷◌, length, Option, if◌then◌else◌}
 use Rattle.std.specs.Io.KnownBytes.{Appends}
 use Rattle.store_core.specs.Objects.{Objects}
-use Rattle.table_store.specs.Holds.{Holds}
+use Rattle.commit_core.specs.Holds.{Holds}
 use Rattle.table_model.specs.Lawful.{IsLawful}
 use Rattle.source_core.specs.Tails.{HandOutTheLog, HandOutAll, AreAnswered}
 use Rattle.delta_actions.specs.Commit.{lines_of}
-use Rattle.table_store.specs.LawfulLogs.{HasLawfulLog}
-use Rattle.log_laws.specs.Sound.{IsSoundStore}
+use Rattle.commit_core.specs.LawfulLogs.{HasLawfulLog}
+use Rattle.commit_core.specs.SoundStores.{IsSoundStore}
 use Rattle.lake_script.specs.Keeps.{Keeps, KeepsBeside}
 use Rattle.script_lines.specs.Lines.{Statement, append, close, checkpoint, tail, create, task, snapshot, history, show, hex, tries, fault, start, until, step, finish, die, land, foreign, Reading, skipped, bad, asks, reading_of}
 use Rattle.lake_script.specs.Replies.{bad_line}

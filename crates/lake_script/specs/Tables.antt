@@ -30,14 +30,14 @@ use Rattle.batch_core.specs.Refusals as appends
 use Rattle.commit_core.specs.Texts as texts
 use Rattle.commit_core.specs.Texts.{refused}
 use Rattle.lake_script.specs.Replies.{created, committed_at, already, already_closed, closed_at, noted, bad_line}
-use Rattle.lake_bytes.specs.Results.{◌>>=◌, refused_if}
+use Rattle.outcomes.specs.Results.{◌>>=◌, refused_if}
 use Rattle.delta_replay.specs.Support.{feature, has_key_inside}
 use Rattle.batch_core.specs.RowsIn.{rows_from, takes_rows}
 use Rattle.source_core.specs.Tailing as tails
 use Rattle.source_core.specs.TailFaults as tail_texts
 use Rattle.delta_actions.specs.Commit.{lines_of}
 use Rattle.lake_script.specs.Told.{is_bad, not_yet}
-use Rattle.lake_bytes.specs.Lines.{with_newline}
+use Rattle.outcomes.specs.Lines.{with_newline}
 
 -- what there is: no table, or one of a schema and its entries
 pub data State : Type 0 where

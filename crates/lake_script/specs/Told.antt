@@ -26,7 +26,7 @@ use Rattle.commit_core.specs.Texts.{refused}
 use Rattle.source_core.specs.TailFaults as tail_texts
 use Rattle.source_core.specs.Tailing as tails
 use Rattle.source_core.specs.Tailing.{tailed}
-use Rattle.lake_bytes.specs.Lines.{with_newline}
+use Rattle.outcomes.specs.Lines.{with_newline}
 
 -- the reply to a line that creates a table
 abbrev pub created_reply : Result (List ℕ) creations.CreateRefusal → List ℕ

@@ -1,5 +1,5 @@
 // Commits that another tool puts.
-ghost use Rattle.lake_bytes.specs.Lines.{with_newline};
+ghost use Rattle.outcomes.specs.Lines.{with_newline};
 ghost use Rattle.std.specs.Prelude.{◌≡◌, IfOk, OnOk, IsErrOf};
 ghost use Rattle.store_core.specs.Calls.{CountsFault, MayHaveLanded, put_told};
 ghost use Rattle.session_core.specs.Stores.{MayAnswerPut};

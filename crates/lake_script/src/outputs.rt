@@ -1,5 +1,5 @@
 // The output of a run, which gathers many replies into one write.
-ghost use Rattle.lake_bytes.specs.Lines.{with_newline};
+ghost use Rattle.outcomes.specs.Lines.{with_newline};
 ghost use Rattle.std.specs.Prelude.{◌≡◌, ◌⊎◌, [], OnOk, OnErr, IfErr, IfSome, true, false};
 ghost use Rattle.std.specs.Io.KnownBytes.{Appends};
 ghost use Rattle.lake_script.specs.Streams.{held, waiting, write_failed, StandsIn};

@@ -4,7 +4,7 @@ use Rattle.store_core.specs.Objects.{Objects, with_object}
 use Rattle.store_core.specs.ObjectLaws.{object_at-with_object_other}
 use Rattle.delta_actions.specs.Names as names
 use Rattle.delta_actions.specs.Names.{greatest_version}
-use Rattle.delta_checkpoint.specs.Names.{IsCheckpointName}
+use Rattle.table_log.specs.CheckpointNames.{IsCheckpointName}
 use Rattle.table_log.specs.Names.{commit_name}
 use Rattle.table_log.specs.Restoring.{checkpoint_version}
 use Rattle.table_log.proofs.Callers.{commit_is_none, own_checkpoint}

@@ -3,7 +3,7 @@ use Rattle.std.proofs.Common.{◌≡◌, ◌∙◌, ℕ, suc, ◌+◌, List, [],
 use Rattle.store_core.specs.Objects.{Objects}
 use Rattle.delta_actions.specs.Action.{Action}
 use Rattle.delta_actions.specs.Commit.{IsCommit}
-use Rattle.delta_checkpoint.proofs.Restored.{checkpoint_leaves, one_commit}
+use Rattle.table_log.proofs.Callers.{checkpoint_leaves, one_commit}
 use Rattle.delta_replay.specs.Keys.{Key, at}
 use Rattle.table_log.specs.Restoring.{IsSoundCheckpoint}
 use Rattle.table_log.specs.Versions.{commits_in, versions_from}

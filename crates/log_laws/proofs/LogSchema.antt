@@ -9,7 +9,7 @@ use Rattle.delta_actions.specs.Action as actions
 use Rattle.delta_actions.specs.Action.{add, meta_data, protocol, txn, MetaDataAction}
 use Rattle.delta_replay.specs.Keys.{the_protocol, the_meta_data, newest}
 use Rattle.delta_replay.specs.Support.{checkpointable, feature, has_key_inside, meta_data_of, readable, writable}
-use Rattle.lake_bytes.specs.Results.{◌>>=◌, refused_if}
+use Rattle.outcomes.specs.Results.{◌>>=◌, refused_if}
 use Rattle.table_model.specs.Table.{Entry, creation, group, close}
 use Rattle.table_store.specs.Commits.{StandFor, without_commit_info, table_protocol}
 use Rattle.table_store.specs.Schema.{Schema}

@@ -7,7 +7,7 @@ use Rattle.std.proofs.lemmas.List.{take-append-drop}
 use Rattle.std.proofs.lemmas.List.Folds.{list_all-append}
 use Rattle.lake_bytes.specs.LittleEndian.{little_at, signed_little_at}
 use Rattle.lake_bytes.specs.Reading.{bytes_at}
-use Rattle.lake_bytes.specs.Results.{◌>>=◌}
+use Rattle.outcomes.specs.Results.{◌>>=◌}
 use Rattle.lake_bytes.specs.declared.fault.ByteFault.{ByteFault}
 use Rattle.row_core.specs.Conforms.{is_byte, is_within}
 use Rattle.row_core.specs.Rows.{Value, truth, whole, text, bytes}

@@ -1,6 +1,6 @@
 -- Steps of which each went well.
 use Rattle.std.proofs.Common.{◌≡◌, Bool, true, false, Result, Ok, Err, refl}
-use Rattle.lake_bytes.specs.Results.{◌>>=◌, refused_as, refused_if}
+use Rattle.outcomes.specs.Results.{◌>>=◌, refused_as, refused_if}
 
 pub ok_step : {A B E : Type 0} (read : Result A E) (f : A → Result B E) (b : B) → (read >>= f) ≡ Ok b
     → (a : A) × (read ≡ Ok a) × (f a ≡ Ok b)

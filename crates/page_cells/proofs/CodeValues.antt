@@ -2,9 +2,9 @@
 use Rattle.std.proofs.Common.{◌≡◌, ℕ, ℤ, w32, suc, ◌-◌, ◌+◌, ◌≤◌, ◌<◌, Bool, true, false, ◌||◌, ◌&&◌, List, [], ◌∷◌, ◌++◌, Result, Ok, Err, refl, sym, ap, ◌∙◌, arith}
 use Rattle.std.proofs.lemmas.List.{append-nil}
 use Rattle.std.specs.List.{list_all, list_any}
-use Rattle.lake_bytes.specs.Results.{◌>>=◌}
+use Rattle.outcomes.specs.Results.{◌>>=◌}
 use Rattle.lake_bytes.specs.declared.fault.ByteFault.{ByteFault}
-use Rattle.lake_bytes.proofs.Callers.{with_front_beside, regroup_beside}
+use Rattle.outcomes.proofs.Callers.{with_front_beside, regroup_beside}
 use Rattle.lake_bytes.specs.LittleEndian.{signed_little_at}
 use Rattle.row_core.specs.Rows.{Value, whole, text, bytes}
 use Rattle.page_cells.specs.Plain.{binary_at, content_at, int32_at, text_at, value_at, values_at}

@@ -3,8 +3,8 @@ use Rattle.std.proofs.Common.{◌≡◌, ◌<◌, Bool, true, false, cond, ltb, 
 use Rattle.std.proofs.lemmas.Bool.{ltb-false, le-ltb}
 use Rattle.std.proofs.lemmas.List.{take_at, drop_at}
 use Rattle.lake_bytes.specs.Reading.{bytes_at}
-use Rattle.lake_bytes.specs.Results.{◌>>=◌, refused_as, refused_if}
-use Rattle.lake_bytes.specs.Varint.{IsBytes}
+use Rattle.outcomes.specs.Results.{◌>>=◌, refused_as, refused_if}
+use Rattle.outcomes.specs.Bytes.{IsBytes}
 use Rattle.lake_bytes.specs.declared.fault.ByteFault.{ByteFault}
 use Rattle.lake_bytes.specs.declared.fault.ByteFault.TheVariants.{Short}
 

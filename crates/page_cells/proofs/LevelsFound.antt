@@ -7,8 +7,8 @@ use Rattle.std.proofs.lemmas.List.{length-replicate}
 use Rattle.std.proofs.lemmas.List.Elements.{All-weaker}
 use Rattle.lake_bytes.specs.LittleEndian.{little_at}
 use Rattle.lake_bytes.specs.Reading.{bytes_at}
-use Rattle.lake_bytes.specs.Results.{◌>>=◌}
-use Rattle.lake_bytes.specs.Varint.{IsBytes}
+use Rattle.outcomes.specs.Results.{◌>>=◌}
+use Rattle.outcomes.specs.Bytes.{IsBytes}
 use Rattle.lake_bytes.specs.declared.fault.ByteFault.{ByteFault}
 use Rattle.lake_bytes.specs.declared.fault.ByteFault.TheVariants.{OutOfRange}
 use Rattle.lake_bytes.specs.Hybrid.{HoldsValues, hybrid_at}

@@ -8,8 +8,8 @@ use Rattle.std.proofs.lemmas.List.{length-map, length-take-le, take-append-drop}
 use Rattle.std.proofs.lemmas.Nat.{le_bytes_4, le_bytes_8}
 use Rattle.lake_bytes.specs.LittleEndian.{little_at, signed_little_at}
 use Rattle.lake_bytes.specs.Reading.{bytes_at}
-use Rattle.lake_bytes.specs.Results.{◌>>=◌}
-use Rattle.lake_bytes.specs.Varint.{IsBytes}
+use Rattle.outcomes.specs.Results.{◌>>=◌}
+use Rattle.outcomes.specs.Bytes.{IsBytes}
 use Rattle.lake_bytes.specs.declared.fault.ByteFault.{ByteFault}
 use Rattle.lake_bytes.specs.declared.fault.ByteFault.TheVariants.{Short}
 use Rattle.lake_bytes.specs.Hybrid.{low_first, unpacked}

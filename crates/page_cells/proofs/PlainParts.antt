@@ -6,7 +6,7 @@ use Rattle.std.proofs.lemmas.List.Elements.{All-nil, All-cons, All-drop, All-tak
 use Rattle.lake_bytes.specs.Hybrid.{low_first, unpacked}
 use Rattle.lake_bytes.specs.LittleEndian.{signed_little_at}
 use Rattle.lake_bytes.specs.Reading.{bytes_at}
-use Rattle.lake_bytes.specs.Results.{◌>>=◌}
+use Rattle.outcomes.specs.Results.{◌>>=◌}
 use Rattle.lake_bytes.proofs.Callers.{length-unpacked}
 use Rattle.row_core.specs.Rows.{Value, whole, text, bytes}
 use Rattle.shred.specs.Fits.{is_plain}

@@ -2,7 +2,7 @@
 use Rattle.std.proofs.lemmas.Bool.{eqb-true, ne_eqb}
 use Rattle.std.proofs.Common.{◌≡◌, ℕ, zero, suc, ◌-◌, ◌<◌, ◌≤◌, eqb, Bool, true, false, List, [], ◌++◌, length, Result, Ok, Err, refl, sym, ap, ◌∙◌, arith, append_assoc, append-nil}
 use Rattle.std.proofs.lemmas.List.{length-drop}
-use Rattle.lake_bytes.specs.Results.{◌>>=◌}
+use Rattle.outcomes.specs.Results.{◌>>=◌}
 use Rattle.shred.specs.Columns.{Column}
 use Rattle.page_writing.specs.Outcome.{Writes}
 use Rattle.page_writing.specs.Writing.{first_page, other_pages, page_written, pages_written, chunk_written}

@@ -1,6 +1,6 @@
 -- What a writer answered, next to what is written: the same, unless memory ran out.
 use Rattle.std.specs.Prelude.{◌≡◌, ℕ, List, ◌++◌, Result, Ok, Err}
-use Rattle.lake_bytes.specs.Outcome.{IsSaid}
+use Rattle.outcomes.specs.Outcome.{IsSaid}
 use Rattle.parquet_footer.specs.Outcome.{says}
 use Rattle.parquet_footer.specs.declared.fault.FileFault.{FileFault}
 use Rattle.parquet_footer.specs.declared.fault.FileError.{FileError}

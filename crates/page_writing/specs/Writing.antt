@@ -1,7 +1,7 @@
 -- The bytes that are written for a column.
 use Rattle.std.specs.Prelude.{◌≡◌, ◌≤◌, ℕ, zero, suc, ◌+◌, ◌*◌, ◌^◌, ◌==◌, ℤ, pos, All, List, [], ◌∷◌, ◌++◌, length, take, drop, flat_map, true, nat_lt, Result, Ok, Err, if◌then◌else◌}
 use Rattle.std.specs.Int.{w32, w64, to_le_bytes, cast_unsigned}
-use Rattle.lake_bytes.specs.Results.{◌>>=◌}
+use Rattle.outcomes.specs.Results.{◌>>=◌}
 use Rattle.lake_bytes.specs.Hybrid.{hybrid_bytes, low_bytes}
 use Rattle.thrift_core.specs.Form.{Form, int32_form, struct_form, forms}
 use Rattle.thrift_core.specs.Tree.{Tree, integer, struct, fields_of}

@@ -2,7 +2,7 @@
 use Rattle.std.proofs.Common.{◌≡◌, ℕ, pos, not, Result, Ok, Err, Bool, true, false, ◌&&◌, cond, List, [], ◌∷◌, length, map, Some, option_map, string_bytes, String, Vec, Global, bytes_eq, refl, ap, arith}
 use Rattle.std.specs.List.{list_all, find, zip}
 use Rattle.std.specs.Ordering.{int_eq}
-use Rattle.lake_bytes.specs.Results.{◌>>=◌, or_refusal, refused_if}
+use Rattle.outcomes.specs.Results.{◌>>=◌, or_refusal, refused_if}
 use Rattle.thrift_core.specs.View.{texts_view}
 use Rattle.parquet_footer.specs.Metadata.{ColumnChunk}
 use Rattle.parquet_footer.specs.declared.fault.FileFault.{FileFault}

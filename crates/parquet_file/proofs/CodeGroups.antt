@@ -3,10 +3,10 @@ use Rattle.std.proofs.Common.{◌≡◌, ℕ, zero, suc, pos, ◌+◌, ◌<◌, 
 use Rattle.std.specs.List.{list_all}
 use Rattle.std.specs.Ordering.{int_eq}
 use Rattle.std.proofs.lemmas.Bool.{eqb-true, and_parts}
-use Rattle.lake_bytes.specs.Outcome.{Said, IsSaid}
-use Rattle.lake_bytes.specs.Results.{◌>>=◌, or_refusal, refused_as, refused_if}
-use Rattle.lake_bytes.specs.Varint.{IsBytes}
-use Rattle.lake_bytes.proofs.Callers.{said_too, with_front}
+use Rattle.outcomes.specs.Outcome.{Said, IsSaid}
+use Rattle.outcomes.specs.Results.{◌>>=◌, or_refusal, refused_as, refused_if}
+use Rattle.outcomes.specs.Bytes.{IsBytes}
+use Rattle.outcomes.proofs.Callers.{said_too, with_front}
 use Rattle.row_core.specs.Rows.{Row}
 use Rattle.schema_tree.specs.Tree.{Tree}
 use Rattle.shred.specs.Assembly.{assembled, cells_of_columns, heads, row_count, row_made, rows_made}

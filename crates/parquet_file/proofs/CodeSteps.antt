@@ -1,9 +1,9 @@
 -- One step after another, as a loop does: what is still read tells what is read from the start.
 use Rattle.std.proofs.Common.{◌≡◌, ℕ, ◌+◌, ◌<◌, length, drop, take, get_or, map, List, [], ◌∷◌, ◌++◌, Option, Some, None, option_map, Result, Ok, Err, refl, sym, ap, ◌∙◌}
 use Rattle.std.proofs.lemmas.List.{at_drop_more, map_more}
-use Rattle.lake_bytes.specs.Outcome.{Said, IsSaid}
-use Rattle.lake_bytes.specs.Results.{◌>>=◌}
-use Rattle.lake_bytes.proofs.Callers.{with_front, said_too}
+use Rattle.outcomes.specs.Outcome.{Said, IsSaid}
+use Rattle.outcomes.specs.Results.{◌>>=◌}
+use Rattle.outcomes.proofs.Callers.{with_front, said_too}
 use Rattle.thrift_core.specs.Fields.{each}
 
 -- ---- nothing of it is kept

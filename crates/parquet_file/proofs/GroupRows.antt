@@ -8,8 +8,8 @@ use Rattle.std.proofs.lemmas.Bool.{and_from, and_parts, both_ways, eqb-true, fal
 use Rattle.std.proofs.lemmas.Bool.Decides.{Decides-int_eq}
 use Rattle.std.proofs.lemmas.List.Elements.{All-append, All-head, All-nil, All-tail}
 use Rattle.std.proofs.lemmas.Slice.Eq.{bytes_eq-Decides}
-use Rattle.lake_bytes.specs.Results.{◌>>=◌, or_refusal, refused_as, refused_if}
-use Rattle.lake_bytes.specs.Varint.{IsBytes}
+use Rattle.outcomes.specs.Results.{◌>>=◌, or_refusal, refused_as, refused_if}
+use Rattle.outcomes.specs.Bytes.{IsBytes}
 use Rattle.row_core.specs.Conforms.{Conforms}
 use Rattle.row_core.specs.Rows.{Row}
 use Rattle.schema_tree.specs.Limits.{is_sound}

@@ -1,7 +1,7 @@
 -- How many values are in what is said of a row group.
 use Rattle.std.proofs.Common.{◌≡◌, ℕ, ◌+◌, ◌*◌, ◌≤◌, List, [], ◌∷◌, ◌++◌, length, map, true, nat_lt, Ok, refl, ap, subst, arith}
 use Rattle.std.specs.List.{AllByRecursion}
-use Rattle.lake_bytes.specs.Results.{or_refusal}
+use Rattle.outcomes.specs.Results.{or_refusal}
 use Rattle.thrift_core.specs.Tree as thrift
 use Rattle.thrift_core.specs.Tree.{trees_of, nodes_of_trees, binary}
 use Rattle.row_core.specs.Rows.{Row}

@@ -1,9 +1,9 @@
 -- A part of what one reading after another gives: what was kept of the readings that are done, and what is left.
 use Rattle.std.proofs.Common.{◌≡◌, ℕ, ◌-◌, ◌≤◌, List, [], ◌++◌, length, Result, Ok, Err, refl, sym, ap, ◌∙◌, arith, append_assoc, length-append}
 use Rattle.std.proofs.lemmas.List.{append-nil}
-use Rattle.lake_bytes.specs.Outcome.{Said, IsSaid}
-use Rattle.lake_bytes.specs.Results.{refused_as}
-use Rattle.lake_bytes.proofs.Callers.{with_front, regroup, said_too}
+use Rattle.outcomes.specs.Outcome.{Said, IsSaid}
+use Rattle.outcomes.specs.Results.{refused_as}
+use Rattle.outcomes.proofs.Callers.{with_front, regroup, said_too}
 use Rattle.row_core.specs.Rows.{Row}
 use Rattle.shred.specs.Faults.{Fault}
 use Rattle.shred.specs.Parts.{part_of, rows_part}

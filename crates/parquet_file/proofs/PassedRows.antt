@@ -3,7 +3,7 @@ use Rattle.std.proofs.Common.{◌≡◌, ℕ, ◌-◌, ◌<◌, ◌≤◌, Bool,
 use Rattle.std.specs.List.{AllZip}
 use Rattle.std.proofs.Math.Seq.{take-nil}
 use Rattle.std.proofs.lemmas.List.{drop_all}
-use Rattle.lake_bytes.proofs.Callers.{said_too, with_front}
+use Rattle.outcomes.proofs.Callers.{said_too, with_front}
 use Rattle.row_core.specs.Rows.{Row}
 use Rattle.shred.specs.Assembly.{assembled, row_count, AreEven, IsWhole}
 use Rattle.shred.specs.Columns.{Column}

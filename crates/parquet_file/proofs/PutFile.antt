@@ -3,8 +3,8 @@ use Rattle.std.proofs.Common.{◌≡◌, ℕ, ◌+◌, ◌<◌, ◌≤◌, List,
 use Rattle.std.specs.Int.{w32, to_le_bytes}
 use Rattle.std.proofs.lemmas.Bool.{le-ltb, lt-ltb}
 use Rattle.std.proofs.lemmas.List.{length-append}
-use Rattle.lake_bytes.specs.Outcome.{IsSaid}
-use Rattle.lake_bytes.proofs.Callers.{said_too}
+use Rattle.outcomes.specs.Outcome.{IsSaid}
+use Rattle.outcomes.proofs.Callers.{said_too}
 use Rattle.thrift_core.specs.Tree as thrift
 use Rattle.thrift_core.specs.Writing.{written}
 use Rattle.row_core.specs.Rows.{Row}

@@ -2,8 +2,8 @@
 use Rattle.std.proofs.Common.{◌≡◌, ℕ, ◌+◌, ◌-◌, List, [], ◌∷◌, ◌++◌, length, map, All, get_or, true, is_some, Some, None, option_map, Ok, Err, refl, sym, ap, ◌∙◌, subst, arith}
 use Rattle.std.specs.List.{AllByRecursion}
 use Rattle.std.proofs.lemmas.List.{length-append}
-use Rattle.lake_bytes.specs.Outcome.{IsSaid}
-use Rattle.lake_bytes.proofs.Callers.{said_too}
+use Rattle.outcomes.specs.Outcome.{IsSaid}
+use Rattle.outcomes.proofs.Callers.{said_too}
 use Rattle.thrift_core.specs.Tree as thrift
 use Rattle.row_core.specs.Conforms.{Conforms}
 use Rattle.row_core.specs.Rows.{Row}

@@ -4,9 +4,9 @@ use Rattle.std.specs.List.{AllZip, list_all}
 use Rattle.std.proofs.lemmas.Bool.{eq-eqb}
 use Rattle.std.proofs.lemmas.List.{length-map}
 use Rattle.std.proofs.lemmas.List.Elements.{All-cons, All-nil}
-use Rattle.lake_bytes.specs.Outcome.{Said, IsSaid}
-use Rattle.lake_bytes.specs.Results.{refused_as}
-use Rattle.lake_bytes.proofs.Callers.{with_front}
+use Rattle.outcomes.specs.Outcome.{Said, IsSaid}
+use Rattle.outcomes.specs.Results.{refused_as}
+use Rattle.outcomes.proofs.Callers.{with_front}
 use Rattle.row_core.specs.Rows.{Row}
 use Rattle.row_core.specs.declared.value.Value.{Value}
 use Rattle.shred.specs.Assembly.{assembled, cells_in, cells_of_columns, row_count, AreEven, IsWhole}

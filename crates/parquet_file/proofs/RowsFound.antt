@@ -1,8 +1,8 @@
 -- Bytes are a file of the rows that are read, within the limits.
 use Rattle.std.proofs.Common.{◌≡◌, ℕ, ◌==◌, cond, length, List, true, Some, Ok, Err, sym, ap, subst, ◌∙◌, arith}
 use Rattle.std.proofs.lemmas.Bool.{eqb-true}
-use Rattle.lake_bytes.specs.Results.{◌>>=◌, or_refusal}
-use Rattle.lake_bytes.specs.Varint.{IsBytes}
+use Rattle.outcomes.specs.Results.{◌>>=◌, or_refusal}
+use Rattle.outcomes.specs.Bytes.{IsBytes}
 use Rattle.row_core.specs.Rows.{Row}
 use Rattle.schema_tree.specs.Limits.{IsWithinLimits, is_sound}
 use Rattle.schema_tree.specs.Tree.{Tree}

@@ -1,7 +1,7 @@
 -- What a reading of rows tells: the bytes are a file of what was read, and the rows that they are a file of were read.
 use Rattle.std.proofs.Common.{◌≡◌, ℕ, List, Result, Ok, Err, IfOk, Vec, refl, sym, ◌∙◌}
 use Rattle.std.specs.declared.alloc.Global.{Global}
-use Rattle.lake_bytes.specs.Varint.{IsBytes}
+use Rattle.outcomes.specs.Bytes.{IsBytes}
 use Rattle.row_core.specs.Rows.{Row}
 use Rattle.row_core.specs.Views.{row_views}
 use Rattle.row_core.specs.declared.value.Value.{Value}

@@ -5,10 +5,10 @@ use Rattle.std.specs.Ordering.{int_eq}
 use Rattle.std.proofs.lemmas.Bool.{and_parts, eq-eqb, eqb-true}
 use Rattle.std.proofs.lemmas.List.{append-nil, drop_all, length-append, length-drop, take_all}
 use Rattle.std.proofs.lemmas.List.Elements.{All-drop, All-take}
-use Rattle.lake_bytes.specs.Outcome.{Said, IsSaid}
-use Rattle.lake_bytes.specs.Results.{◌>>=◌, or_refusal, refused_if}
-use Rattle.lake_bytes.specs.Varint.{IsBytes}
-use Rattle.lake_bytes.proofs.Callers.{regroup, said_too, with_front}
+use Rattle.outcomes.specs.Outcome.{Said, IsSaid}
+use Rattle.outcomes.specs.Results.{◌>>=◌, or_refusal, refused_if}
+use Rattle.outcomes.specs.Bytes.{IsBytes}
+use Rattle.outcomes.proofs.Callers.{regroup, said_too, with_front}
 use Rattle.thrift_core.specs.Fields.{each}
 use Rattle.shred.specs.Assembly.{IsWhole}
 use Rattle.shred.specs.Columns.{Column}

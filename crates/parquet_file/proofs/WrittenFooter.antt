@@ -2,7 +2,7 @@
 use Rattle.std.proofs.Common.{◌≡◌, ℕ, ◌≤◌, List, [], ◌∷◌, length, true, Option, None, Some, option_map, pos, Ok, refl, sym, ap, ◌∙◌, arith, codes}
 use Rattle.std.specs.Option.{option_or}
 use Rattle.std.proofs.lemmas.List.{append-nil}
-use Rattle.lake_bytes.specs.Options.{◌>>=◌}
+use Rattle.outcomes.specs.Options.{◌>>=◌}
 use Rattle.thrift_core.specs.Fields.{all_as, as_struct, each}
 use Rattle.thrift_core.specs.Form.{list_form}
 use Rattle.thrift_core.specs.Spelling.{SpellsStruct}

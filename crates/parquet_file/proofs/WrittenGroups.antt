@@ -2,7 +2,7 @@
 use Rattle.std.proofs.Common.{◌≡◌, ℕ, ◌<◌, ◌≤◌, ◌^◌, length, All, List, [], ◌∷◌, ◌++◌, true, None, Some, Ok, refl, ap, subst, arith, append-nil}
 use Rattle.std.specs.List.{AllByRecursion, AllZip}
 use Rattle.std.proofs.lemmas.List.Elements.{recursion_from_All}
-use Rattle.lake_bytes.specs.Results.{◌>>=◌, or_refusal}
+use Rattle.outcomes.specs.Results.{◌>>=◌, or_refusal}
 use Rattle.thrift_core.specs.Fields.{all_as, as_struct, each}
 use Rattle.thrift_core.specs.Form.{list_form}
 use Rattle.thrift_core.specs.Tree as thrift

@@ -1,7 +1,7 @@
 -- What reading a data file answers, next to what reading gives: the same, unless memory runs out, or the room that the
 -- footer has: then it is the refusal of the memory that the footer is read in.
 use Rattle.std.specs.Prelude.{◌≡◌, ◌⊎◌, Result, Ok, Err}
-use Rattle.lake_bytes.specs.Outcome.{IsSaid}
+use Rattle.outcomes.specs.Outcome.{IsSaid}
 use Rattle.parquet_footer.specs.Outcome.{says}
 use Rattle.parquet_footer.specs.declared.fault.FileError.{FileError}
 use Rattle.parquet_footer.specs.declared.fault.FileError.TheVariants as files

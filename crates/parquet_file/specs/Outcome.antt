@@ -1,7 +1,7 @@
 -- What a function answered, next to what reading gives: the same, unless memory ran out.
 use Rattle.std.specs.Prelude.{◌≡◌, ℕ, List, ◌++◌, Result, Ok, Err}
-use Rattle.lake_bytes.specs.Outcome as outcomes
-use Rattle.lake_bytes.specs.Outcome.{IsSaid, Said, refuses, says_nothing}
+use Rattle.outcomes.specs.Outcome as outcomes
+use Rattle.outcomes.specs.Outcome.{IsSaid, Said, refuses, says_nothing}
 use Rattle.row_core.specs.Rows.{Row}
 use Rattle.shred.specs.Parts.{part_of}
 use Rattle.parquet_footer.specs.Outcome.{says}

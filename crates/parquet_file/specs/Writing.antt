@@ -1,6 +1,6 @@
 -- The bytes of the file that is written for a table's rows (Apache Parquet, File Format and parquet.thrift).
 use Rattle.std.specs.Prelude.{ℕ, ◌+◌, ℤ, pos, List, [], ◌∷◌, ◌++◌, length, map, Bool, not, ◌&&◌, true, nat_lt, Option, Some, None, Result, Ok, Err, codes, if◌then◌else◌}
-use Rattle.lake_bytes.specs.Results.{◌>>=◌, or_refusal, refused_if}
+use Rattle.outcomes.specs.Results.{◌>>=◌, or_refusal, refused_if}
 use Rattle.thrift_core.specs.Tree as thrift
 use Rattle.thrift_core.specs.Tree.{integer, binary, list, struct, trees_of, fields_of}
 use Rattle.thrift_core.specs.Form.{Form, int32_form, int64_form, binary_form, list_form, struct_form, forms}

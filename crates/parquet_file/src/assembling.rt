@@ -3,7 +3,7 @@
 ghost use Rattle.std.specs.Prelude.{◌≡◌, ◌≢◌, ◌≤◌, ◌<◌, ◌^◌, ℕ, List, All, map, length, true, OnOk, IfOk};
 ghost use Rattle.std.specs.List.{list_all};
 ghost use Rattle.row_core.specs.Views.{row_views};
-ghost use Rattle.lake_bytes.specs.Results.{refused_as};
+ghost use Rattle.outcomes.specs.Results.{refused_as};
 ghost use Rattle.shred.specs.Assembly.{assembled, row_count, AreEven};
 ghost use Rattle.shred.specs.Columns as columns;
 ghost use Rattle.shred.specs.Parts.{fronts, parts_of, rests, rows_part, ArePlain};

@@ -1,8 +1,8 @@
 -- What is read of a footer's bytes is what they say, within the limits, and what they say is read.
 use Rattle.std.proofs.Common.{◌≡◌, ℕ, cond, ltb, true, List, [], ◌∷◌, Ok, Err, refl, ap, subst, ◌∙◌}
 use Rattle.std.proofs.lemmas.Bool.{ltb-false, le-ltb, and_parts, not-true}
-use Rattle.lake_bytes.specs.Results.{◌>>=◌}
-use Rattle.lake_bytes.specs.Varint.{IsBytes}
+use Rattle.outcomes.specs.Results.{◌>>=◌}
+use Rattle.outcomes.specs.Bytes.{IsBytes}
 use Rattle.thrift_core.specs.Reading.{struct_at}
 use Rattle.thrift_core.proofs.Callers.{struct_at_found, struct_at_again}
 use Rattle.parquet_footer.specs.Metadata.{RowGroup, FileMetaData, metadata_of}

@@ -1,6 +1,6 @@
 -- What is read of a footer stands in the bytes, and what stands is read.
 use Rattle.std.proofs.Common.{◌≡◌, ℕ, ◌≤◌, List, length, Result, Ok, Err, IfOk, sym, ◌∙◌}
-use Rattle.lake_bytes.specs.Varint.{IsBytes}
+use Rattle.outcomes.specs.Bytes.{IsBytes}
 use Rattle.parquet_footer.specs.Metadata.{FileMetaData}
 use Rattle.parquet_footer.specs.Footer.{HasFooter, ClaimsWithinLimit}
 use Rattle.parquet_footer.specs.Frame.{frame_of}

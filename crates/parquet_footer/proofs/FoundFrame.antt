@@ -6,7 +6,7 @@ use Rattle.std.proofs.lemmas.Bool.{ltb-false, and_parts, not-false, not-true}
 use Rattle.std.proofs.lemmas.List.{take-append-drop, take-take, drop-drop}
 use Rattle.std.proofs.lemmas.Nat.{le_bytes_4}
 use Rattle.std.proofs.lemmas.Slice.Eq.{bytes_eq-Decides}
-use Rattle.lake_bytes.specs.Varint.{IsBytes}
+use Rattle.outcomes.specs.Bytes.{IsBytes}
 use Rattle.lake_bytes.specs.declared.fault.ByteFault.TheVariants.{Short}
 use Rattle.thrift_core.specs.declared.fault.ThriftFault.TheVariants.{Bytes}
 use Rattle.parquet_footer.specs.Frame.{magic, framed, is_framed, front_of, footer_length, frame_of}

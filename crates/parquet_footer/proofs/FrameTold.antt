@@ -1,7 +1,7 @@
 -- What the two parts of a file that are found tell: they frame it, and the parts of a framed file are found.
 use Rattle.std.proofs.Common.{◌≡◌, ℕ, ◌≤◌, List, length, Result, Ok, Err, IfOk, sym, ◌∙◌}
 use Rattle.lake_bytes.specs.Reading.{IsReading}
-use Rattle.lake_bytes.specs.Varint.{IsBytes}
+use Rattle.outcomes.specs.Bytes.{IsBytes}
 use Rattle.parquet_footer.specs.Frame.{FramedAs, frame_of}
 use Rattle.parquet_footer.specs.declared.fault.FileFault.{FileFault}
 use Rattle.parquet_footer.proofs.FoundFrame.{frame_found}

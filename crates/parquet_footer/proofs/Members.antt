@@ -2,9 +2,9 @@
 use Rattle.std.proofs.Common.{◌≡◌, ℕ, ◌+◌, ◌<◌, Bool, ◌&&◌, not, nat_lt, List, [], ◌∷◌, ◌++◌, length, drop, get_or, Result, Ok, Err, refl, sym, ap, ◌∙◌}
 use Rattle.std.specs.List.{list_all}
 use Rattle.std.proofs.lemmas.List.{at_drop_more}
-use Rattle.lake_bytes.specs.Outcome.{IsSaid}
-use Rattle.lake_bytes.specs.Results.{◌>>=◌}
-use Rattle.lake_bytes.proofs.Callers.{with_front, regroup}
+use Rattle.outcomes.specs.Outcome.{IsSaid}
+use Rattle.outcomes.specs.Results.{◌>>=◌}
+use Rattle.outcomes.proofs.Callers.{with_front, regroup}
 use Rattle.thrift_core.specs.Fields.{each}
 use Rattle.thrift_core.specs.Reading.{says}
 use Rattle.thrift_core.specs.Tree.{Tree}

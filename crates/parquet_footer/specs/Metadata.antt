@@ -1,7 +1,7 @@
 -- What a footer's tree says of its file (Parquet, FileMetaData and the structs inside it).
 use Rattle.std.specs.Prelude.{ℕ, ℤ, pos, List, [], ◌∷◌, Option, Some, unwrap_or, Result, Ok, if◌then◌else◌}
 use Rattle.std.specs.Ordering.{int_eq}
-use Rattle.lake_bytes.specs.Results.{◌>>=◌}
+use Rattle.outcomes.specs.Results.{◌>>=◌}
 use Rattle.thrift_core.specs.Tree.{Tree}
 use Rattle.thrift_core.specs.declared.fault.ThriftFault.{ThriftFault}
 use Rattle.thrift_core.specs.Fields.{as_integer, as_text, as_struct, as_list, optional, needed, natural, count, each}

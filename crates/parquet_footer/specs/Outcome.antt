@@ -1,7 +1,7 @@
 -- What a function returned, next to what reading gives: the same, unless memory ran out.
 use Rattle.std.specs.Prelude.{◌≡◌, Result, Ok, Err}
-use Rattle.lake_bytes.specs.Outcome as outcomes
-use Rattle.lake_bytes.specs.Outcome.{Said, refuses, says_nothing}
+use Rattle.outcomes.specs.Outcome as outcomes
+use Rattle.outcomes.specs.Outcome.{Said, refuses, says_nothing}
 use Rattle.parquet_footer.specs.declared.fault.FileFault.{FileFault}
 use Rattle.parquet_footer.specs.declared.fault.FileError.{FileError}
 use Rattle.parquet_footer.specs.declared.fault.FileError.TheVariants as errors

@@ -1,6 +1,6 @@
 -- Reading a footer: what it says, or the first fault in the order of the tests.
 use Rattle.std.specs.Prelude.{ℕ, List, [], ◌∷◌, Bool, true, not, ◌&&◌, nat_lt, Result, Ok, Err, if◌then◌else◌}
-use Rattle.lake_bytes.specs.Results.{◌>>=◌}
+use Rattle.outcomes.specs.Results.{◌>>=◌}
 use Rattle.thrift_core.specs.Tree.{Tree}
 use Rattle.thrift_core.specs.Reading.{struct_at}
 use Rattle.thrift_core.specs.declared.fault.ThriftFault.{ThriftFault}

@@ -1,7 +1,7 @@
 -- Reading one page after another, as a loop does.
 use Rattle.std.proofs.Common.{◌≡◌, ℕ, zero, suc, ◌-◌, ◌+◌, ◌≤◌, ◌<◌, not, nat_lt, List, length, drop, Result, Ok, Err, refl, sym, ap, ◌∙◌, arith}
-use Rattle.lake_bytes.specs.Outcome.{IsSaid}
-use Rattle.lake_bytes.specs.Results.{◌>>=◌}
+use Rattle.outcomes.specs.Outcome.{IsSaid}
+use Rattle.outcomes.specs.Results.{◌>>=◌}
 use Rattle.shred.specs.Columns.{Column}
 use Rattle.parquet_pages.specs.Outcome.{says}
 use Rattle.parquet_pages.specs.Pages.{Leaf, has_levels, highest, joined, no_cells}

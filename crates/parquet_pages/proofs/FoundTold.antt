@@ -1,6 +1,6 @@
 -- What a reading of a page and of a chunk tells: what was read stands, and what stands was read.
 use Rattle.std.proofs.Common.{◌≡◌, ℕ, ℤ, List, length, Result, Ok, Err, IfOk, sym, subst, ◌∙◌}
-use Rattle.lake_bytes.specs.Varint.{IsBytes}
+use Rattle.outcomes.specs.Bytes.{IsBytes}
 use Rattle.shred.specs.Columns.{Column}
 use Rattle.page_cells.specs.Outcome.{FindsWhere}
 use Rattle.parquet_pages.specs.Outcome.{GivesWhere}

@@ -3,8 +3,8 @@ use Rattle.std.proofs.Common.{◌≡◌, ℕ, ℤ, pos, Bool, true, false, not, 
 use Rattle.std.specs.Ordering.{int_eq}
 use Rattle.std.proofs.lemmas.Bool.{ltb-false, eqb-true, not-false}
 use Rattle.std.proofs.lemmas.Bool.Decides.{Decides-int_eq}
-use Rattle.lake_bytes.specs.Results.{◌>>=◌, refused_as, refused_if}
-use Rattle.lake_bytes.specs.Varint.{IsBytes}
+use Rattle.outcomes.specs.Results.{◌>>=◌, refused_as, refused_if}
+use Rattle.outcomes.specs.Bytes.{IsBytes}
 use Rattle.thrift_core.specs.Fields.{as_integer, as_struct, needed, count}
 use Rattle.thrift_core.specs.Reading.{struct_at}
 use Rattle.thrift_core.specs.Spelling.{SpellsStruct}

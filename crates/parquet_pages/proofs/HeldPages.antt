@@ -5,7 +5,7 @@ use Rattle.std.proofs.lemmas.List.{length-append, nil_from_length}
 use Rattle.std.proofs.lemmas.List.Elements.{All-nil, All-append}
 use Rattle.std.proofs.lemmas.List.Sums.{sum_by-append}
 use Rattle.lake_bytes.specs.Hybrid.{values_of}
-use Rattle.lake_bytes.specs.Results.{◌>>=◌}
+use Rattle.outcomes.specs.Results.{◌>>=◌}
 use Rattle.row_core.specs.Rows.{Value}
 use Rattle.shred.specs.Columns.{Column}
 use Rattle.shred.specs.Fits.{is_plain}

@@ -1,7 +1,7 @@
 -- The cells of a chunk that is read: no level is above the highest, and no value is null or a struct.
 use Rattle.std.proofs.Common.{◌≡◌, ℕ, ℤ, zero, suc, ◌≤◌, List, length, replicate, All, Ok, refl, sym, subst, ◌∙◌, true, arith}
 use Rattle.std.proofs.lemmas.List.Elements.{All-append, All-nil, All-replicate}
-use Rattle.lake_bytes.specs.Varint.{IsBytes}
+use Rattle.outcomes.specs.Bytes.{IsBytes}
 use Rattle.shred.specs.Columns.{Column}
 use Rattle.shred.specs.Fits.{is_plain}
 use Rattle.shred.specs.Parts.{ArePlain}

@@ -1,7 +1,7 @@
 -- What the header of a page says (Apache Parquet, parquet.thrift: PageHeader, DataPageHeader, DictionaryPageHeader).
 use Rattle.std.specs.Prelude.{ℕ, ℤ, pos, Bool, true, false, Option, Some, None, Result, Ok, if◌then◌else◌}
 use Rattle.std.specs.Ordering.{int_eq}
-use Rattle.lake_bytes.specs.Results.{◌>>=◌}
+use Rattle.outcomes.specs.Results.{◌>>=◌}
 use Rattle.thrift_core.specs.Tree.{Tree}
 use Rattle.thrift_core.specs.declared.fault.ThriftFault.{ThriftFault}
 use Rattle.thrift_core.specs.Fields.{as_integer, as_struct, needed, count}

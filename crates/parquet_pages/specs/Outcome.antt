@@ -1,6 +1,6 @@
 -- What a function answered, next to what reading gives: the same, unless memory ran out.
 use Rattle.std.specs.Prelude.{◌≡◌, Result, Ok, Err}
-use Rattle.lake_bytes.specs.Outcome.{IsSaid}
+use Rattle.outcomes.specs.Outcome.{IsSaid}
 use Rattle.parquet_footer.specs.declared.fault.FileFault.{FileFault}
 use Rattle.parquet_footer.specs.declared.fault.FileError.{FileError}
 pub use Rattle.parquet_footer.specs.Outcome.{says, FileGives}

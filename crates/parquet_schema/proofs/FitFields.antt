@@ -4,7 +4,7 @@ use Rattle.std.specs.List.{find}
 use Rattle.std.specs.Prelude.{not, ◌||◌, ◌&&◌, ◌==◌, bytes_eq}
 use Rattle.std.proofs.lemmas.Bool.{eq-eqb, eqb-true}
 use Rattle.std.proofs.lemmas.List.{drop_more, drop_all}
-use Rattle.lake_bytes.specs.Options.{◌>>=◌}
+use Rattle.outcomes.specs.Options.{◌>>=◌}
 use Rattle.schema_tree.specs.Tree as tree
 use Rattle.schema_tree.specs.Tree.{fields_of as tree_fields, Column}
 use Rattle.schema_tree.specs.View.{field_view as column_view, field_views as column_views}

@@ -1,7 +1,7 @@
 -- Fields that are read one after another.
 use Rattle.std.proofs.Common.{◌≡◌, ℕ, suc, ◌+◌, ◌-◌, ◌<◌, ◌≤◌, List, [], ◌∷◌, ◌++◌, Option, Some, None, option_map, Err, refl, sym, ap, ◌∙◌, append_assoc, arith}
 use Rattle.std.proofs.lemmas.List.{append-nil}
-use Rattle.lake_bytes.specs.Options.{◌>>=◌}
+use Rattle.outcomes.specs.Options.{◌>>=◌}
 use Rattle.parquet_footer.specs.Metadata.{SchemaElement}
 use Rattle.parquet_schema.specs.FileTree.{FileField}
 use Rattle.parquet_schema.specs.Outcome.{Takes}

@@ -5,7 +5,7 @@ use Rattle.std.proofs.Math.Dec.{eqb-suc-zero}
 use Rattle.std.proofs.lemmas.Bool.{eqb-true}
 use Rattle.std.proofs.lemmas.Bool.Decides.{Decides-int_eq}
 use Rattle.std.proofs.lemmas.List.{append-nil}
-use Rattle.lake_bytes.specs.Options.{◌>>=◌}
+use Rattle.outcomes.specs.Options.{◌>>=◌}
 use Rattle.parquet_footer.specs.Metadata.{SchemaElement}
 use Rattle.parquet_schema.specs.FileTree.{AreElements, AreInside, FileField, FileFields, FileNode, IsElementOf, IsSchemaList, count_of, depth, depth_of_fields, field, fields_of, group, leaf, no_fields, repetition}
 use Rattle.parquet_schema.specs.Reading.{all_read, field_at, fields_at, file_fields, node_at, optional_of}

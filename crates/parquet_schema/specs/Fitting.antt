@@ -2,7 +2,7 @@
 -- node may be null is the file's own.
 use Rattle.std.specs.Prelude.{ℕ, suc, ◌==◌, ◌&&◌, ◌||◌, not, ℤ, List, Bool, true, false, bytes_eq, option_map, Option, Some, None, if◌then◌else◌}
 use Rattle.std.specs.Ordering.{int_eq}
-use Rattle.lake_bytes.specs.Options.{◌>>=◌}
+use Rattle.outcomes.specs.Options.{◌>>=◌}
 use Rattle.schema_tree.specs.Tree as tree
 use Rattle.schema_tree.specs.Tree.{Tree}
 use Rattle.schema_tree.specs.declared.primitive.Primitive.{Primitive}

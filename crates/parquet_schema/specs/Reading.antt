@@ -1,7 +1,7 @@
 -- Reading a footer's list as a tree, which may nest so deep as a table's types do.
 use Rattle.std.specs.Prelude.{ℕ, zero, suc, ◌==◌, ℤ, pos, List, [], ◌∷◌, Bool, true, false, option_map, Option, Some, None, if◌then◌else◌}
 use Rattle.std.specs.Ordering.{int_eq}
-use Rattle.lake_bytes.specs.Options.{◌>>=◌}
+use Rattle.outcomes.specs.Options.{◌>>=◌}
 use Rattle.parquet_footer.specs.Metadata.{SchemaElement}
 use Rattle.parquet_schema.specs.FileTree.{FileNode, leaf, group, FileField, fields_of}
 

@@ -4,16 +4,16 @@ use Rattle.std.specs.Prelude.{slice_get}
 use Rattle.store_core.specs.Objects.{Objects, object_at}
 use Rattle.delta_actions.specs.Action.{Action}
 use Rattle.delta_actions.specs.Kinds.{Path}
-use Rattle.lake_bytes.specs.Results.{◌>>=◌, or_refusal}
+use Rattle.outcomes.specs.Results.{◌>>=◌, or_refusal}
 use Rattle.row_core.specs.Rows.{Row}
 use Rattle.schema_tree.specs.Tree.{Tree}
 use Rattle.table_log.specs.Versions.{Version, commit, versions_of}
 use Rattle.table_model.specs.Table.{Entry}
-use Rattle.table_store.specs.Groups.{new_files}
+use Rattle.source_core.specs.Groups.{new_files}
 use Rattle.source_core.specs.SourceSessions.{HasNewFiles, IsNewFile}
 use Rattle.source_core.specs.Tailing.{ReadRefusal, file_rows, missing_file, or_bad_file, LogFile}
 use Rattle.source_core.proofs.Callers.{AreEntriesFound, AreFilesFound}
-use Rattle.parquet_file.specs.Reading.{rows_at}
+use Rattle.source_core.specs.ParquetReading.{rows_at}
 use Rattle.read_laws.specs.Kept.{IsKept}
 use Rattle.read_laws.proofs.KeptLog.{are_made, made_of}
 use Rattle.read_laws.proofs.KeptTail.{entries_found}

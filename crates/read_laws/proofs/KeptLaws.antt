@@ -4,17 +4,17 @@ use Rattle.std.specs.List.{AllByRecursion}
 use Rattle.std.proofs.lemmas.List.Elements.{Contains-append_left, Contains-append_right}
 use Rattle.schema_tree.specs.Tree.{Tree}
 use Rattle.store_core.specs.Objects.{Objects, object_at}
-use Rattle.parquet_file.specs.File.{KeepsLimits}
+use Rattle.source_core.specs.ParquetFile.{KeepsLimits}
 use Rattle.delta_actions.specs.Names.{data_file_name}
 use Rattle.table_model.specs.Lawful.{BeginsWithCreation}
 use Rattle.table_model.specs.Reads.{Answer, handed, beyond, bad_place, read, IsPart, MayEnd}
 use Rattle.table_model.specs.Table.{Batch, Entry, creation, group, close, batches_of, batches}
 use Rattle.table_model.specs.declared.reading.Offset.{Offset}
 use Rattle.table_model.proofs.PartLemmas.{read_is_part, read_ends}
-use Rattle.table_store.specs.Holds.{FileStands, HoldsFrom}
-use Rattle.table_store.specs.Sound.{IsSound}
-use Rattle.table_store.proofs.HoldingEnds.{HoldsFrom-fit}
-use Rattle.table_store.proofs.ConflictLemmas.{Contains-first}
+use Rattle.source_core.specs.Holds.{FileStands, HoldsFrom}
+use Rattle.source_core.specs.SoundTables.{IsSound}
+use Rattle.source_core.proofs.Callers.{HoldsFrom-fit}
+use Rattle.source_core.proofs.Callers.{Contains-first}
 use Rattle.source_core.specs.Tailing.{ReadRows, ReadRefusal, read_by}
 use Rattle.read_laws.specs.Kept.{FileKept, IsKept, KeptFrom}
 use Rattle.read_laws.specs.Readable.{HasReadableFiles}

@@ -7,8 +7,8 @@ use Rattle.delta_actions.specs.Action as actions
 use Rattle.delta_actions.specs.Names as names
 use Rattle.delta_actions.specs.Names.{greatest_version}
 use Rattle.table_model.specs.Table.{Batch, Entry, batches_of}
-use Rattle.table_store.specs.Holds.{FileStands}
-use Rattle.table_store.proofs.LawfulLogLemmas.{AreMadeFor}
+use Rattle.source_core.specs.Holds.{FileStands}
+use Rattle.source_core.proofs.Callers.{AreMadeFor}
 use Rattle.read_laws.specs.Kept.{FileKept, KeptFrom, IsKept}
 
 -- No commit of the version that comes next stands.

@@ -9,23 +9,23 @@ use Rattle.schema_tree.specs.Tree.{Tree}
 use Rattle.store_core.specs.Objects.{Objects}
 use Rattle.delta_actions.specs.Action as actions
 use Rattle.row_core.specs.Rows.{Row}
-use Rattle.parquet_file.specs.Reading.{rows_at}
-use Rattle.parquet_file.proofs.Callers.{rows_only}
+use Rattle.source_core.specs.ParquetReading.{rows_at}
+use Rattle.source_core.proofs.Callers.{rows_only}
 use Rattle.table_model.specs.Table.{Batch, Entry, creation, group, close, files_of, last}
 use Rattle.table_model.specs.Reads.{Answer, handed, beyond, bad_place, is_beyond, is_offset, offset_behind, part, next_offset, end, read}
 use Rattle.table_model.specs.declared.reading.Offset.{Offset}
-use Rattle.lake_bytes.specs.Results.{◌>>=◌}
+use Rattle.outcomes.specs.Results.{◌>>=◌}
 use Rattle.source_core.specs.Tailing as tails
-use Rattle.table_store.specs.Commits.{StandFor, without_commit_info}
-use Rattle.table_store.specs.Groups.{AreFilesOf, AreTxnsAndAdds, added, new_files, numbers}
-use Rattle.table_store.proofs.HoldingLogs.{AreFilesOf-new, new_files-added, new_files-without_commit_info, paths_of, told-without_commit_info}
-use Rattle.table_store.proofs.HoldingOne.{named}
-use Rattle.table_store.proofs.LawfulLogLemmas.{AreMadeFor}
+use Rattle.source_core.specs.TableCommits.{StandFor, without_commit_info}
+use Rattle.source_core.specs.Groups.{AreFilesOf, AreTxnsAndAdds, added, new_files, numbers}
+use Rattle.source_core.proofs.Callers.{AreFilesOf-new, new_files-added, new_files-without_commit_info, paths_of, told-without_commit_info}
+use Rattle.source_core.proofs.Callers.{named}
+use Rattle.source_core.proofs.Callers.{AreMadeFor}
 use Rattle.log_reading.specs.FromCheckpoints.{no_start}
 use Rattle.log_reading.specs.InForce.{SchemaText, schema_text_at}
 use Rattle.log_reading.specs.Reads.{removes_rows}
 use Rattle.source_core.specs.Tailing.{ReadRefusal, ReadRows, data_file, file_rows, hand, handed_by, schema_for}
-use Rattle.log_laws.proofs.Callers.{log_readable}
+use Rattle.source_core.proofs.Callers.{log_readable}
 use Rattle.source_core.proofs.Callers.{file_of, rows_in, behind_all, behind_last, walked, row_missing}
 use Rattle.source_core.proofs.Callers.{AreFilesFound, IsEntryFound, AreEntriesFound, as_many_commits}
 use Rattle.source_core.proofs.Callers.{Ahead, Spot, stands, no_file, no_row, spotted}

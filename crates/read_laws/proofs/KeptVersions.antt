@@ -10,7 +10,7 @@ use Rattle.table_log.specs.Counts.{commit_count}
 use Rattle.table_log.specs.Names.{commit_name}
 use Rattle.table_log.specs.Versions.{commit, versions_from, versions_of, log_of}
 use Rattle.table_log.proofs.Callers.{count_is, of_commit}
-use Rattle.log_laws.proofs.Callers.{made_length, some_commits}
+use Rattle.source_core.proofs.Callers.{made_length, some_commits}
 use Rattle.read_laws.specs.Kept.{KeptFrom, IsKept}
 use Rattle.read_laws.proofs.KeptLog.{made_of, are_made}
 

@@ -2,8 +2,8 @@
 use Rattle.std.proofs.Common.{◌≡◌, ◌∙◌, ◌+◌, ℕ, List, [], ◌∷◌, ◌++◌, length, map, Bool, true, false, not, Result, Ok, Err, if◌then◌else◌, refl, sym, ap, subst, sum_by}
 use Rattle.std.proofs.lemmas.List.Sums.{sum_by-cons}
 use Rattle.store_core.specs.Objects.{Objects}
-use Rattle.lake_bytes.specs.Outcome.{IsSaid}
-use Rattle.lake_bytes.specs.Results.{◌>>=◌}
+use Rattle.outcomes.specs.Outcome.{IsSaid}
+use Rattle.outcomes.specs.Results.{◌>>=◌}
 use Rattle.row_core.specs.Rows.{Row}
 use Rattle.schema_tree.specs.Tree.{Tree}
 use Rattle.table_model.specs.Reads as answers
@@ -12,7 +12,7 @@ use Rattle.table_model.specs.Resumed.{HandOut}
 use Rattle.table_model.specs.Table.{Entry}
 use Rattle.table_model.specs.declared.reading.Offset.{Offset}
 use Rattle.table_model.proofs.Callers.{stays}
-use Rattle.table_store.specs.Schema.{Schema}
+use Rattle.source_core.specs.TableSchema.{Schema}
 use Rattle.source_core.specs.SourceSessions.{SourceJob, read_told, read_view}
 use Rattle.source_core.specs.TailFaults.{ReadGives, refusal_view, says}
 use Rattle.source_core.specs.TailViews.{handed_view}

@@ -4,13 +4,13 @@ use Rattle.std.specs.Prelude.{◌≡◌, ◌≤◌, ℕ, suc, List, [], ◌∷�
 use Rattle.std.specs.List.{AllByRecursion}
 use Rattle.store_core.specs.Objects.{Objects, object_at}
 use Rattle.delta_actions.specs.Names.{commit_name, data_file_name, greatest_version}
-use Rattle.parquet_file.specs.File.{KeepsLimits}
+use Rattle.source_core.specs.ParquetFile.{KeepsLimits}
 use Rattle.table_model.specs.Lawful.{IsLawful}
 use Rattle.table_model.specs.Table.{Batch, Entry, creation, batches_of, batches}
-use Rattle.table_store.specs.Commits.{IsCommitOf}
-use Rattle.table_store.specs.Holds.{Stands}
-use Rattle.table_store.specs.Schema.{Schema}
-use Rattle.table_store.specs.Schema as data_files
+use Rattle.source_core.specs.TableCommits.{IsCommitOf}
+use Rattle.source_core.specs.Holds.{Stands}
+use Rattle.source_core.specs.TableSchema.{Schema}
+use Rattle.source_core.specs.TableSchema as data_files
 
 -- bytes are a file of the rows of a batch, within the limits of reading
 pub record IsReadableFile (schema : Schema) (b : Batch) (bytes : List ℕ) : Type 0 where

@@ -2,7 +2,7 @@
 use Rattle.std.specs.Prelude.{◌≡◌, ℕ, List, Contains, Some}
 use Rattle.store_core.specs.Objects.{Objects, object_at}
 use Rattle.delta_actions.specs.Names.{data_file_name}
-use Rattle.parquet_file.specs.File.{KeepsLimits}
+use Rattle.source_core.specs.ParquetFile.{KeepsLimits}
 use Rattle.table_model.specs.Table.{Batch, Entry, batches}
 
 -- The file of each of a table's batches keeps the limits of what is read.

@@ -9,7 +9,7 @@ use Rattle.row_core.specs.Views.{row_views}
 use Rattle.table_log.specs.Restoring.{RestoresWell}
 use Rattle.table_model.specs.Table.{Entry}
 use Rattle.table_model.specs.declared.reading.Offset.{Offset}
-use Rattle.table_store.specs.Schema.{Schema}
+use Rattle.source_core.specs.TableSchema.{Schema}
 use Rattle.table_model.specs.Reads.{IsPart, MayEnd, is_beyond, is_offset}
 use Rattle.log_offsets.specs.Offsets.{offset_view}
 use Rattle.source_core.specs.SourceSessions.{SourceEnds, SourceJob}

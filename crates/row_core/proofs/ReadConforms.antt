@@ -10,7 +10,7 @@ use Rattle.serde_json.specs.Find.{as_bool, as_number, as_integer, as_str, as_obj
 use Rattle.hex.specs.Hex.{decode_of}
 use Rattle.hex.specs.declared.error.FromHexError.{FromHexError}
 use Rattle.hex.proofs.HexLemmas.{decode_of-ok}
-use Rattle.lake_bytes.specs.Results.{◌>>=◌, refused_as}
+use Rattle.outcomes.specs.Results.{◌>>=◌, refused_as}
 use Rattle.json_fields.proofs.Callers.{bind_ok}
 use Rattle.schema_tree.specs.Fault.{Path}
 use Rattle.schema_tree.specs.Tree as tree

@@ -1,8 +1,8 @@
 -- The values of an object's fields, read one after another.
 use Rattle.std.proofs.Common.{◌≡◌, List, [], ◌∷◌, ◌++◌, Some, None, Result, Ok, refl, ap, sym, ◌∙◌}
-use Rattle.lake_bytes.specs.Outcome.{Said, IsSaid}
-use Rattle.lake_bytes.specs.Results.{refused_as}
-use Rattle.lake_bytes.proofs.Callers.{said_too, with_front, regroup}
+use Rattle.outcomes.specs.Outcome.{Said, IsSaid}
+use Rattle.outcomes.specs.Results.{refused_as}
+use Rattle.outcomes.proofs.Callers.{said_too, with_front, regroup}
 use Rattle.serde_json.specs.Data.{Data, object, Members}
 use Rattle.serde_json.specs.Find.{as_object}
 use Rattle.schema_tree.specs.Tree.{Fields, Column, fields_of, struct}

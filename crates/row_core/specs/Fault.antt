@@ -1,6 +1,6 @@
 -- Why a JSON value is no row, and what each error of the code says.
 use Rattle.std.specs.Prelude.{ℕ, List, string_bytes}
-use Rattle.lake_bytes.specs.Outcome.{Said, refuses, says_nothing}
+use Rattle.outcomes.specs.Outcome.{Said, refuses, says_nothing}
 use Rattle.schema_tree.specs.Fault.{Path, path_of, path_inside}
 use Rattle.row_core.specs.declared.fault.RowFault.{RowFault}
 use Rattle.row_core.specs.declared.fault.RowFault.TheVariants as faults

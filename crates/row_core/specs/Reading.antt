@@ -5,7 +5,7 @@ use Rattle.serde_json.specs.Data as json
 use Rattle.serde_json.specs.Data.{Data, Members, no_members, member}
 use Rattle.serde_json.specs.Find.{get, as_bool, as_number, as_integer, as_str, as_object}
 use Rattle.hex.specs.Hex.{decode_of}
-use Rattle.lake_bytes.specs.Results.{◌>>=◌, or_refusal, refused_as}
+use Rattle.outcomes.specs.Results.{◌>>=◌, or_refusal, refused_as}
 use Rattle.schema_tree.specs.Limits.{is_named}
 use Rattle.schema_tree.specs.Fault.{Path}
 use Rattle.schema_tree.specs.Tree as tree

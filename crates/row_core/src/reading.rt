@@ -4,8 +4,8 @@ ghost use Rattle.std.specs.Prelude.{◌≡◌, ◌≤◌, ◌^◌, ◌↔◌, op
 ghost use Rattle.serde_json.specs.Data.{null, object};
 ghost use Rattle.schema_tree.specs.Limits.{is_named, is_sound, are_sound};
 ghost use Rattle.json_text.specs.View.{view as json_view, named_view, members_view};
-ghost use Rattle.lake_bytes.specs.Outcome.{Gives};
-ghost use Rattle.lake_bytes.specs.Results.{refused_as};
+ghost use Rattle.outcomes.specs.Outcome.{Gives};
+ghost use Rattle.outcomes.specs.Results.{refused_as};
 ghost use Rattle.row_core.specs.Fault.{says, tells, inside};
 ghost use Rattle.row_core.specs.InOrder.{field_names, member_names};
 ghost use Rattle.row_core.specs.Reading.{row_of, value_of, field_values, leaf_value, whole_value, text_value, bytes_value, unless_null, unknown_name};

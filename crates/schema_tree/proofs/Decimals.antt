@@ -5,7 +5,7 @@ use Rattle.std.proofs.lemmas.List.{drop_all, take_all, length-drop}
 use Rattle.std.proofs.lemmas.Option.{cond_some}
 use Rattle.std.proofs.lemmas.Bool.{ne_eqb}
 use Rattle.std.proofs.lemmas.Bool.Decides.{nat_tests}
-use Rattle.lake_bytes.specs.Options.{◌>>=◌}
+use Rattle.outcomes.specs.Options.{◌>>=◌}
 use Rattle.schema_tree.specs.declared.primitive.Primitive.{Primitive}
 use Rattle.schema_tree.specs.Primitives.{plain_number, before_bracket, decimal_type, decimal_in}
 

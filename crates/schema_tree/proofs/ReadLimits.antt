@@ -1,7 +1,7 @@
 -- What is read keeps the limits, type by type.
 use Rattle.std.proofs.Common.{◌≡◌, ℕ, ◌+◌, ◌*◌, ◌≤◌, ◌<◌, max, List, Bool, true, codes, Result, Ok, refl, subst, arith}
 use Rattle.serde_json.specs.Data.{Data, object, no_members, depth}
-use Rattle.lake_bytes.specs.Results.{◌>>=◌}
+use Rattle.outcomes.specs.Results.{◌>>=◌}
 use Rattle.json_fields.proofs.Callers.{bind_ok, ok_is}
 use Rattle.std.specs.Prelude.{is_some}
 use Rattle.serde_json.specs.Find.{as_bool, as_object}

@@ -6,8 +6,8 @@ use Rattle.serde_json.specs.Find.{as_bool, as_array}
 use Rattle.serde_json.specs.View.{items_view}
 use Rattle.serde_json.specs.View.{view as value_view}
 use Rattle.serde_json.specs.declared.value.Value.{Value}
-use Rattle.lake_bytes.specs.Outcome.{IsSaid, Gives}
-use Rattle.lake_bytes.proofs.Callers.{with_front_beside, regroup_beside}
+use Rattle.outcomes.specs.Outcome.{IsSaid, Gives}
+use Rattle.outcomes.proofs.Callers.{with_front_beside, regroup_beside}
 use Rattle.schema_tree.specs.Tree as tree
 use Rattle.schema_tree.specs.Tree.{Tree, Column, fields_of}
 use Rattle.schema_tree.specs.View.{view}

@@ -1,7 +1,7 @@
 -- A primitive type that is read by its name is one that a schema may have.
 use Rattle.std.proofs.Common.{◌≡◌, ℕ, Bool, true, false, cond, List, bytes_eq, codes, nat_eq, drop, Option, Some, None, refl, subst}
 use Rattle.std.specs.List.{starts_with, before_first, after_first}
-use Rattle.lake_bytes.specs.Options.{◌>>=◌}
+use Rattle.outcomes.specs.Options.{◌>>=◌}
 use Rattle.schema_tree.specs.declared.primitive.Primitive.{Primitive}
 use Rattle.schema_tree.specs.declared.primitive.Primitive.TheVariants.{String, Long, Integer, Short, Byte, Boolean, Binary, Date, Timestamp, Float, Double, Decimal}
 use Rattle.schema_tree.specs.Primitives.{is_primitive, is_decimal, plain_number, before_bracket, decimal_type, decimal_in, decimal_of, primitive_of}

@@ -6,7 +6,7 @@ use Rattle.serde_json.specs.Data.{Data, null, boolean, number, string, array, ob
 use Rattle.serde_json.specs.Find.{as_str}
 use Rattle.serde_json.specs.Read.{max_depth, read}
 use Rattle.serde_json.proofs.Nesting.{depth-read}
-use Rattle.lake_bytes.specs.Results.{◌>>=◌, or_refusal, refused_if}
+use Rattle.outcomes.specs.Results.{◌>>=◌, or_refusal, refused_if}
 use Rattle.json_fields.proofs.Callers.{bind_ok, ok_is}
 use Rattle.schema_tree.specs.Limits.{nodes, IsWithinLimits}
 use Rattle.schema_tree.specs.Primitives.{primitive_of}

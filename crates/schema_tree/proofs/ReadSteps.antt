@@ -3,7 +3,7 @@ use Rattle.std.proofs.Common.{◌≡◌, ℕ, suc, ◌<◌, max, List, true, Opt
 use Rattle.std.specs.Prelude.{is_some, option_and_then}
 use Rattle.serde_json.specs.Data.{Data, null, boolean, number, string, array, object, no_members, Items, depth, items_depth}
 use Rattle.serde_json.specs.Find.{get, as_array, as_object}
-use Rattle.lake_bytes.specs.Results.{or_refusal, refused_as}
+use Rattle.outcomes.specs.Results.{or_refusal, refused_as}
 use Rattle.schema_tree.specs.Fault.{Fault, bad_type}
 use Rattle.schema_tree.specs.Reading.{needed, defaulted, of_kind_or, any_value, as_map}
 use Rattle.schema_tree.proofs.Members.{member_below}

@@ -6,7 +6,7 @@ use Rattle.std.proofs.lemmas.List.Folds.{list_any-append}
 use Rattle.std.proofs.lemmas.Slice.Eq.{bytes_eq-Decides}
 use Rattle.serde_json.specs.Data.{Data, Items, no_items, item, depth, items_depth}
 use Rattle.serde_json.specs.Find.{as_str, as_array}
-use Rattle.lake_bytes.specs.Results.{◌>>=◌, refused_if, refused_as}
+use Rattle.outcomes.specs.Results.{◌>>=◌, refused_if, refused_as}
 use Rattle.json_fields.proofs.Callers.{bind_ok, ok_is}
 use Rattle.schema_tree.specs.Limits.{levels_of_fields, nodes_of_fields, leaf_count_of_fields, has_field, is_named, are_sound}
 use Rattle.schema_tree.specs.Printing.{items_of_fields}

@@ -1,6 +1,6 @@
 -- What is wrong with a schema's text, and how a call's answer compares with what the definitions say.
 use Rattle.std.specs.Prelude.{ℕ, List, ◌∷◌, ◌++◌, Option, Some, None, option_map, string_bytes}
-use Rattle.lake_bytes.specs.Outcome.{Said, refuses, says_nothing}
+use Rattle.outcomes.specs.Outcome.{Said, refuses, says_nothing}
 use Rattle.schema_tree.specs.declared.paths.ColumnPath.{ColumnPath}
 use Rattle.schema_tree.specs.declared.fault.SchemaFault.{SchemaFault}
 use Rattle.schema_tree.specs.declared.fault.SchemaFault.TheVariants as faults

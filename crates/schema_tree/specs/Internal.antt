@@ -1,6 +1,6 @@
 -- Only the contracts of private functions use these: what one step of reading, or of listing leaves, gives.
 use Rattle.std.specs.Prelude.{◌≡◌, ℕ, ◌+◌, List, ◌++◌, Result, Ok, Err}
-use Rattle.lake_bytes.specs.Outcome.{IsSaid}
+use Rattle.outcomes.specs.Outcome.{IsSaid}
 use Rattle.schema_tree.specs.Fault.{Fault, fault_of, inside, says}
 use Rattle.schema_tree.specs.Leaves.{LeafPath}
 use Rattle.schema_tree.specs.Reading.{Met}

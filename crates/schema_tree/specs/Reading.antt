@@ -5,7 +5,7 @@ use Rattle.std.specs.List.{list_any}
 use Rattle.serde_json.specs.Data.{Data, null, boolean, number, string, array, object, Items, no_items, item, no_members}
 use Rattle.serde_json.specs.Find.{get, as_str, as_bool, as_array, as_object}
 use Rattle.serde_json.specs.Read.{read}
-use Rattle.lake_bytes.specs.Results.{◌>>=◌, or_refusal, refused_if, refused_as}
+use Rattle.outcomes.specs.Results.{◌>>=◌, or_refusal, refused_if, refused_as}
 use Rattle.schema_tree.specs.Primitives.{primitive_of}
 use Rattle.schema_tree.specs.Tree as tree
 use Rattle.schema_tree.specs.Tree.{Tree, Fields, Column, fields_of}

@@ -4,7 +4,7 @@ ghost use Rattle.std.specs.Prelude.{◌≡◌, ℕ, ◌≤◌, List, [], map, by
 ghost use Rattle.std.specs.List.{list_any};
 ghost use Rattle.serde_json.specs.Data.{depth, items_depth, object, no_members};
 ghost use Rattle.serde_json.specs.Find.{as_str, as_bool, as_array};
-ghost use Rattle.lake_bytes.specs.Outcome.{Gives};
+ghost use Rattle.outcomes.specs.Outcome.{Gives};
 ghost use Rattle.schema_tree.specs.Fault.{says, tells};
 ghost use Rattle.serde_json.specs.Read.{max_depth};
 ghost use Rattle.serde_json.specs.View.{view as value_view, items_view};

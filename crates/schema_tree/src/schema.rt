@@ -8,7 +8,7 @@ ghost use Rattle.serde_json.specs.Written.{has_float, compact_text};
 ghost use Rattle.schema_tree.specs.Leaves.{leaves_of};
 ghost use Rattle.json.specs.Lex.{tokens};
 ghost use Rattle.json.specs.Print.{print};
-ghost use Rattle.lake_bytes.specs.Outcome.{Gives};
+ghost use Rattle.outcomes.specs.Outcome.{Gives};
 ghost use Rattle.schema_tree.specs.Fault.{says};
 ghost use Rattle.schema_tree.specs.Limits.{IsWithinLimits};
 ghost use Rattle.schema_tree.specs.Printing.{data_of};

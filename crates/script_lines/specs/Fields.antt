@@ -6,7 +6,7 @@ use Rattle.std.specs.Str.Parse.{digits_value, without_leading_plus}
 use Rattle.serde_json.specs.Data.{Items}
 use Rattle.serde_json.specs.Find.{as_array}
 use Rattle.serde_json.specs.Read.{read}
-use Rattle.lake_bytes.specs.Options.{◌>>=◌}
+use Rattle.outcomes.specs.Options.{◌>>=◌}
 use Rattle.script_lines.specs.declared.fields.FieldError.{FieldError}
 use Rattle.script_lines.specs.declared.fields.FieldError.TheVariants.{Malformed, Memory}
 

@@ -15,7 +15,7 @@ use Rattle.script_lines.specs.declared.line.Line.{Line}
 use Rattle.script_lines.specs.declared.reading.Reading as readings
 use Rattle.script_lines.specs.declared.reading.Reading.TheVariants as view
 use Rattle.script_lines.specs.Names.{verb_of, kind_of}
-use Rattle.lake_bytes.specs.Options.{◌>>=◌}
+use Rattle.outcomes.specs.Options.{◌>>=◌}
 use Rattle.script_lines.specs.Fields.{word_and_rest, number_of, moment_of, max_of, tries_of, array_of}
 
 -- what an actor can be started with

@@ -4,3 +4,5 @@ pub use Rattle.session_laws.proofs.Fronts.{IsFrontOf, front_of, reached_front}
 pub use Rattle.session_laws.proofs.NextVersions.{get_next, reaches_some}
 pub use Rattle.session_laws.proofs.ReadRows.{listed_count, no_versions, none_told}
 pub use Rattle.session_laws.proofs.StreamPuts.{batch_commit, close_commit}
+pub use Rattle.read_laws.proofs.Callers.{kept_files, sound_kept}
+pub use Rattle.commit_core.proofs.Callers.{bears_front}

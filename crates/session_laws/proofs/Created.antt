@@ -4,7 +4,7 @@ use Rattle.session_core.specs.Sessions.{AllAsked}
 use Rattle.session_core.specs.Talks.{Asked, Talk, Told, list_names, get_object, put_commit, put_file, told_lost, told_memory, told_put}
 use Rattle.store_core.specs.declared.store.Put.TheVariants.{Created, Exists}
 use Rattle.table_log.specs.LoadSessions.{LoadAsks}
-use Rattle.log_laws.proofs.Callers.{asked_last}
+use Rattle.commit_core.proofs.Callers.{asked_last}
 use Rattle.snapshot_core.specs.CheckpointSessions.{CheckpointAsks}
 use Rattle.commit_core.specs.CreateSessions.{CreateAsks, CreateEnds, CreateJob, PutTold}
 use Rattle.commit_core.specs.declared.fault.CreateFault.{CreateFault}

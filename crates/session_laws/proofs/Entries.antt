@@ -13,7 +13,7 @@ use Rattle.table_store.specs.Holds.{FileStands, FilesStand, Holds, HoldsFrom, Ho
 use Rattle.table_store.specs.Schema.{Schema}
 use Rattle.table_store.specs.Sound.{IsSound}
 use Rattle.table_store.proofs.HoldingOne.{one_commit, one_entry, some_is}
-use Rattle.log_laws.proofs.Callers.{count_held, sound_count}
+use Rattle.commit_core.proofs.Callers.{count_held, sound_count}
 
 -- ---- files
 

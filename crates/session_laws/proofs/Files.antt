@@ -1,13 +1,13 @@
 -- What was so of a sound store's log at one of its versions, and what a file of a job's rows is: for the one schema that the table has.
 use Rattle.std.proofs.Common.{◌≡◌, ◌∙◌, ℕ, List, length, true, Some, Result, Ok, Err, refl, sym, ap, subst}
 use Rattle.serde_json.specs.Data.{Items}
-use Rattle.lake_bytes.specs.Varint.{IsBytes}
+use Rattle.outcomes.specs.Bytes.{IsBytes}
 use Rattle.store_core.specs.Objects.{Objects, object_at}
 use Rattle.delta_actions.specs.Action.{Action}
 use Rattle.delta_replay.specs.Keys.{last_number}
 use Rattle.delta_replay.specs.Support.{writable}
-use Rattle.parquet_file.specs.Reading.{rows_at}
-use Rattle.parquet_file.proofs.RowsFound.{rows_found}
+use Rattle.source_core.specs.ParquetReading.{rows_at}
+use Rattle.source_core.proofs.Callers.{rows_found}
 use Rattle.parquet_footer.specs.declared.fault.FileFault.{FileFault}
 use Rattle.row_core.specs.Rows.{Row}
 use Rattle.row_core.proofs.Callers.{same_rows-is}
@@ -16,8 +16,8 @@ use Rattle.table_log.proofs.Callers.{same_values}
 use Rattle.table_model.specs.Table.{Entry}
 use Rattle.table_store.specs.Holds.{Holds, Stands}
 use Rattle.table_store.specs.Schema.{Schema, IsFileOf}
-use Rattle.log_laws.specs.Sound.{IsSoundStore}
-use Rattle.log_laws.proofs.Callers.{front_log}
+use Rattle.commit_core.specs.SoundStores.{IsSoundStore}
+use Rattle.commit_core.proofs.Callers.{front_log}
 use Rattle.batch_core.specs.Requests.{has_same, is_same}
 use Rattle.batch_core.specs.RowsIn.{rows_from}
 use Rattle.sink_core.specs.SinkLaws.{FileOfItems, HadSchema, WasSo}

@@ -14,8 +14,8 @@ use Rattle.table_model.specs.Table.{Entry}
 use Rattle.table_store.specs.Holds.{Holds, HoldsFirst}
 use Rattle.table_store.specs.Schema.{Schema}
 use Rattle.table_store.proofs.LawfulLogLemmas.{AreMadeFor}
-use Rattle.log_laws.specs.Sound.{IsSoundStore}
-use Rattle.log_laws.proofs.Callers.{count_held, front_log, front_made, front_stands, snapshot_same}
+use Rattle.commit_core.specs.SoundStores.{IsSoundStore}
+use Rattle.commit_core.proofs.Callers.{count_held, front_log, front_made, front_stands, snapshot_same}
 use Rattle.sink_core.specs.SinkSessions.{Point, Reaches, SinkJob}
 use Rattle.sink_core.proofs.ReachLemmas.{reaches_known}
 

@@ -8,8 +8,8 @@ use Rattle.delta_actions.specs.Names.{greatest_version}
 use Rattle.table_log.specs.Counts.{count_in}
 use Rattle.table_log.specs.LoadSessions.{HasGap, HasListed, IsBadBehind, IsListedCheckpoint, IsNextCommit, IsNoCommit, LoadAsks, LoadJob, GotNoCommit}
 use Rattle.table_log.specs.Names.{commit_name}
-use Rattle.log_laws.specs.Sound.{IsSoundStore}
-use Rattle.log_laws.proofs.Callers.{commit_stands, sought_commit}
+use Rattle.commit_core.specs.SoundStores.{IsSoundStore}
+use Rattle.commit_core.proofs.Callers.{commit_stands, sought_commit}
 use Rattle.session_laws.specs.Rows.{LacksCommit, got_none, next_version, none_listed, not_listed}
 use Rattle.session_laws.proofs.NextVersions.{listed_next}
 

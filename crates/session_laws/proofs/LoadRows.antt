@@ -23,8 +23,8 @@ use Rattle.snapshot_core.specs.Taking.{IsTableId}
 use Rattle.snapshot_core.specs.declared.checkpoint_session.Checkpointed.{Checkpointed}
 use Rattle.snapshot_core.specs.declared.fault.SnapshotFault.{SnapshotFault}
 use Rattle.snapshot_core.specs.declared.fault.SnapshotFault.TheVariants as checkpoint_faults
-use Rattle.log_laws.specs.Sound.{IsSoundStore}
-use Rattle.log_laws.proofs.Callers.{asked_last, front_log, snapshot_same}
+use Rattle.commit_core.specs.SoundStores.{IsSoundStore}
+use Rattle.commit_core.proofs.Callers.{asked_last, front_log, snapshot_same}
 use Rattle.session_laws.specs.May.{MayAsk}
 use Rattle.session_laws.specs.Rows.{HasCheckpoint, IsLoadedBehind, IsLogBehind, IsTooLargeCheckpoint, MayTellOfCheckpoint, MayTellOfLoad, next_version}
 use Rattle.session_laws.specs.Sessions.{checkpoints, ends_lost, loads}

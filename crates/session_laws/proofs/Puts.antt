@@ -11,8 +11,8 @@ use Rattle.table_log.specs.Restoring.{IsSoundCheckpoint}
 use Rattle.snapshot_core.specs.CheckpointSessions.{PutTold}
 use Rattle.snapshot_core.specs.Taking.{PutsFront}
 use Rattle.snapshot_core.proofs.Callers.{checkpoint_same}
-use Rattle.log_laws.specs.Sound.{IsSoundStore}
-use Rattle.log_laws.proofs.Callers.{front_log}
+use Rattle.commit_core.specs.SoundStores.{IsSoundStore}
+use Rattle.commit_core.proofs.Callers.{front_log}
 
 -- The checkpoint that is put over the first versions of a sound store's log is one of its commits up to the last of them.
 pub front_sound : (objects : Objects) → IsSoundStore objects → (version : ℕ) (name bytes : List ℕ) → PutsFront objects version name bytes → IsSoundCheckpoint objects version bytes

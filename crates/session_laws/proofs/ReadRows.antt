@@ -1,7 +1,7 @@
 -- What a read of rows may ask for, and what it may tell.
 use Rattle.std.proofs.Common.{◌≡◌, ◌≢◌, ◌∙◌, ℕ, zero, suc, List, [], ◌∷◌, ◌++◌, length, take, true, Result, Ok, Err, refl, sym, ap, subst}
 use Rattle.std.proofs.Math.Seq.{take-append_seam}
-use Rattle.lake_bytes.specs.Results.{◌>>=◌}
+use Rattle.outcomes.specs.Results.{◌>>=◌}
 use Rattle.store_core.specs.Objects.{Objects, names_of}
 use Rattle.session_core.specs.Sessions.{AllAsked}
 use Rattle.session_core.specs.Shown.{AllGets}
@@ -15,8 +15,8 @@ use Rattle.table_store.specs.Holds.{Holds}
 use Rattle.table_store.specs.Schema.{Schema}
 use Rattle.table_store.specs.Sound.{IsSound}
 use Rattle.table_store.proofs.HoldingGrown.{front}
-use Rattle.log_laws.specs.Sound.{IsSoundStore}
-use Rattle.log_laws.proofs.Callers.{count_held}
+use Rattle.commit_core.specs.SoundStores.{IsSoundStore}
+use Rattle.commit_core.proofs.Callers.{count_held}
 use Rattle.log_reading.specs.FromCheckpoints.{Start, first_read, from_version, looked_at, start_if}
 use Rattle.source_core.specs.SourceSessions.{SourceAsks, SourceEnds, SourceJob, is_lost_read, loses, read_told, read_view}
 use Rattle.source_core.specs.TailFaults.{ReadGives}

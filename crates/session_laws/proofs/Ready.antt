@@ -15,8 +15,8 @@ use Rattle.table_model.specs.Table.{Batch, Entry, is_closed}
 use Rattle.table_model.specs.declared.table.AppendAnswer.TheVariants.{Committed}
 use Rattle.table_store.specs.Holds.{Holds, Stands}
 use Rattle.table_store.specs.Schema.{Schema, IsFileOf}
-use Rattle.log_laws.specs.Sound.{IsSoundStore}
-use Rattle.log_laws.proofs.Callers.{log_open}
+use Rattle.commit_core.specs.SoundStores.{IsSoundStore}
+use Rattle.commit_core.proofs.Callers.{log_open}
 use Rattle.batch_core.specs.Committing.{file_name}
 use Rattle.batch_core.specs.Requests.{SinkRequest, numbered, request_behind}
 use Rattle.batch_core.specs.RowsIn.{rows_from}

@@ -14,8 +14,8 @@ use Rattle.table_model.specs.Table.{Entry}
 use Rattle.table_store.specs.Holds.{Holds}
 use Rattle.table_store.specs.Schema.{Schema}
 use Rattle.table_store.proofs.Callers.{commit_name-data_file_name}
-use Rattle.log_laws.specs.Sound.{IsSoundStore}
-use Rattle.log_laws.proofs.Callers.{asked_last}
+use Rattle.commit_core.specs.SoundStores.{IsSoundStore}
+use Rattle.commit_core.proofs.Callers.{asked_last}
 use Rattle.commit_core.specs.CommitSessions.{CommitEnds, CommitJob, ComesTo, HoldsOfCommit, got_told, put_told, taken}
 use Rattle.commit_core.specs.declared.commit_fault.CommitFault.{CommitFault}
 use Rattle.commit_core.specs.declared.commit_state.CommitOutcome.{CommitOutcome}

@@ -19,8 +19,8 @@ use Rattle.table_store.specs.Holds.{FileStands, Holds, HoldsFirst, IsLawfulStore
 use Rattle.table_store.specs.Schema.{Schema, IsFileOf}
 use Rattle.table_store.specs.Sound.{IsAdmissible}
 use Rattle.table_store.proofs.LawfulLogLemmas.{AreMadeFor}
-use Rattle.log_laws.specs.Sound.{IsSoundStore}
-use Rattle.log_laws.proofs.Callers.{batch_admissible, close_admissible}
+use Rattle.commit_core.specs.SoundStores.{IsSoundStore}
+use Rattle.commit_core.proofs.Callers.{batch_admissible, close_admissible}
 use Rattle.commit_core.specs.Commits.{commit_text}
 use Rattle.commit_core.specs.CommitSessions.{CommitAsks, CommitJob, ComesTo}
 use Rattle.commit_core.proofs.Callers.{bears_end, bears_front, own_read}

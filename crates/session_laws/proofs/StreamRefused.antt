@@ -2,14 +2,14 @@
 use Rattle.std.proofs.Common.{◌≡◌, ◌∙◌, ◌⊎◌, ◌<◌, ◌≤◌, ℕ, suc, List, [], ◌∷◌, ◌++◌, Bool, true, false, Option, Some, None, Result, Ok, Err, IsSome, append_assoc, inl, inr, refl, sym, ap, ap₂, subst, arith}
 use Rattle.std.specs.Str.{IsUtf8}
 use Rattle.serde_json.specs.Data.{Items}
-use Rattle.lake_bytes.specs.Results.{◌>>=◌, refused_as}
+use Rattle.outcomes.specs.Results.{◌>>=◌, refused_as}
 use Rattle.store_core.specs.Objects.{Objects, object_at}
 use Rattle.store_core.specs.declared.store.Put.TheVariants.{Exists}
 use Rattle.session_core.specs.Names.{commit_name}
 use Rattle.session_core.specs.Talks.{Bears, Talk, get_object, put_commit, put_file, told_lost, told_object, told_put}
 use Rattle.session_core.proofs.Callers.{bears_more}
 use Rattle.schema_tree.specs.Tree.{Tree}
-use Rattle.parquet_file.specs.File.{KeepsLimits}
+use Rattle.source_core.specs.ParquetFile.{KeepsLimits}
 use Rattle.delta_actions.specs.Action.{Action}
 use Rattle.delta_actions.specs.Names.{data_file_name, greatest_version}
 use Rattle.delta_replay.specs.Closes.{is_closed}
@@ -24,7 +24,7 @@ use Rattle.table_model.specs.declared.table.AppendAnswer.TheVariants as appended
 use Rattle.table_model.proofs.Callers.{last_stands}
 use Rattle.table_store.specs.Holds.{FileStands, Holds, Stands}
 use Rattle.table_store.specs.Schema.{Schema, IsFileOf}
-use Rattle.log_laws.specs.Sound.{IsSoundStore}
+use Rattle.commit_core.specs.SoundStores.{IsSoundStore}
 use Rattle.table_store.proofs.HoldingSchema.{only_table}
 use Rattle.sink_core.proofs.ReachLemmas.{reaches_fine}
 use Rattle.commit_core.specs.CommitSessions.{ComesTo, CommitEnds, CommitJob, HoldsOfCommit, commits_view, put_told, taken}

@@ -18,8 +18,8 @@ use Rattle.table_model.proofs.Callers.{batch_lasts, last_stands}
 use Rattle.table_store.specs.Holds.{FileStands, Holds, Stands}
 use Rattle.table_store.specs.Schema.{Schema, IsFileOf}
 use Rattle.table_store.proofs.HoldingOne.{one_file, one_object}
-use Rattle.log_laws.specs.Sound.{IsSoundStore}
-use Rattle.log_laws.proofs.Callers.{asked_last}
+use Rattle.commit_core.specs.SoundStores.{IsSoundStore}
+use Rattle.commit_core.proofs.Callers.{asked_last}
 use Rattle.commit_core.specs.Commits.{commit_text}
 use Rattle.commit_core.specs.CommitSessions.{CommitEnds, CommitJob, ComesTo, HoldsOfCommit, commits_view, put_told, taken}
 use Rattle.commit_core.specs.declared.commit_fault.CommitFault.{CommitFault}

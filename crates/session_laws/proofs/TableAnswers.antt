@@ -2,7 +2,7 @@
 use Rattle.std.proofs.Common.{◌≡◌, ◌∙◌, ◌&&◌, ℕ, Bool, true, false, not, List, length, Option, Some, None, Result, Ok, Err, eqb, eqb-true, ltb, refl, sym, ap, subst}
 use Rattle.std.specs.Prelude.{cond, option_map}
 use Rattle.std.specs.Str.{IsUtf8}
-use Rattle.lake_bytes.specs.Results.{◌>>=◌, refused_if}
+use Rattle.outcomes.specs.Results.{◌>>=◌, refused_if}
 use Rattle.store_core.specs.Objects.{Objects}
 use Rattle.delta_actions.specs.Action.{Action}
 use Rattle.delta_replay.specs.Closes as logs
@@ -15,7 +15,7 @@ use Rattle.table_model.specs.declared.table.Closing.TheVariants.{AlreadyClosed}
 use Rattle.table_model.proofs.Callers.{append_lasts, close_lasts}
 use Rattle.table_model.proofs.Facts.{append_tells, close_tells}
 use Rattle.table_store.specs.Schema.{Schema}
-use Rattle.log_laws.proofs.Callers.{log_closed, log_last, log_open, written_by}
+use Rattle.commit_core.proofs.Callers.{log_closed, log_last, log_open, written_by}
 use Rattle.batch_core.specs.Refusals.{SinkRefusal, stale, stream_closed}
 use Rattle.batch_core.specs.Requests.{is_repeat, numbered}
 use Rattle.session_laws.proofs.Fronts.{IsFrontOf}

@@ -1,7 +1,7 @@
 -- What each session may do next, in every sound store that bears its talk.
 use Rattle.std.specs.Prelude.{◌≡◌, ◌≤◌, ℕ, List, [], ◌∷◌, ◌++◌, Option, None, Some, Ok}
 use Rattle.std.specs.Str.{IsUtf8}
-use Rattle.lake_bytes.specs.Varint.{IsBytes}
+use Rattle.outcomes.specs.Bytes.{IsBytes}
 use Rattle.store_core.specs.Objects.{Objects, object_at}
 use Rattle.store_core.specs.declared.store.Put.TheVariants.{Created}
 use Rattle.session_core.specs.Talks.{Asked, Bears, Talk, Told, asked_view, list_names, get_object, put_commit, put_file, told_put}
@@ -10,7 +10,7 @@ use Rattle.session_core.specs.declared.session.Step.TheVariants.{Ask, Done}
 use Rattle.table_model.specs.Table.{Entry}
 use Rattle.table_store.specs.Holds.{Holds}
 use Rattle.table_store.specs.Schema.{Schema}
-use Rattle.log_laws.specs.Sound.{IsSoundStore}
+use Rattle.commit_core.specs.SoundStores.{IsSoundStore}
 use Rattle.commit_core.specs.CreateSessions.{IsCreationOf, MayTellOfCreation}
 use Rattle.sink_core.specs.SinkLaws.{TellsCommit}
 use Rattle.sink_core.specs.SinkSessions.{IsFine}

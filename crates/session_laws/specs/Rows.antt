@@ -7,7 +7,7 @@ use Rattle.store_core.specs.declared.store.Put.TheVariants.{Exists}
 use Rattle.session_core.specs.Names.{commit_name}
 use Rattle.session_core.specs.Shown.{Shows}
 use Rattle.session_core.specs.Talks.{Bears, Talk, list_names, get_object, put_commit, told_lost, told_names, told_object, told_put}
-use Rattle.parquet_file.specs.File.{KeepsLimits}
+use Rattle.source_core.specs.ParquetFile.{KeepsLimits}
 use Rattle.delta_actions.specs.Action.{Action}
 use Rattle.delta_actions.specs.Commit.{IsCommit}
 use Rattle.delta_actions.specs.Names.{data_file_name, greatest_version}
@@ -30,7 +30,7 @@ use Rattle.table_model.specs.declared.table.Closing.TheVariants as closed
 use Rattle.table_store.specs.Holds.{Holds, Stands}
 use Rattle.table_store.specs.Schema.{Schema, IsFileOf}
 use Rattle.table_store.specs.Sound.{IsAdmissible}
-use Rattle.log_laws.specs.Sound.{IsSoundStore}
+use Rattle.commit_core.specs.SoundStores.{IsSoundStore}
 use Rattle.snapshot_core.specs.Taking.{IsLargeFor, IsTableId}
 use Rattle.snapshot_core.specs.declared.checkpoint_session.Checkpointed.{Checkpointed}
 use Rattle.snapshot_core.specs.declared.fault.SnapshotFault.{SnapshotFault}

@@ -2,8 +2,8 @@
 use Rattle.std.proofs.Common.{◌≡◌, ℕ, zero, suc, ◌+◌, length, List, [], ◌∷◌, ◌++◌, map, drop, Some, Result, Ok, refl, sym, ap, ◌∙◌, subst, arith}
 use Rattle.std.specs.Prelude.{All}
 use Rattle.std.proofs.lemmas.List.{append-nil, length-append, length-map, nil_from_length}
-use Rattle.lake_bytes.specs.Outcome.{Said, refuses, says_nothing, never_comes, IsSaid}
-use Rattle.lake_bytes.specs.Results.{◌>>=◌}
+use Rattle.outcomes.specs.Outcome.{Said, refuses, says_nothing, never_comes, IsSaid}
+use Rattle.outcomes.specs.Results.{◌>>=◌}
 use Rattle.row_core.specs.Rows.{Row}
 use Rattle.shred.specs.Shape.{Shape, HasFields}
 use Rattle.shred.specs.Fits.{FitsShape}

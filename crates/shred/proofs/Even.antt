@@ -5,7 +5,7 @@ use Rattle.std.proofs.lemmas.Bool.{and_parts, and_from}
 use Rattle.std.proofs.lemmas.List.{length-map, nil_from_length}
 use Rattle.std.proofs.lemmas.List.Sums.{sum_by-cons}
 use Rattle.std.proofs.lemmas.Option.{none-some}
-use Rattle.lake_bytes.specs.Results.{◌>>=◌, or_refusal}
+use Rattle.outcomes.specs.Results.{◌>>=◌, or_refusal}
 use Rattle.row_core.specs.Rows.{Value}
 use Rattle.shred.specs.Columns.{Cell, Column, column_of, absent_cell, present_cell}
 use Rattle.shred.specs.Faults.{uneven_columns}

@@ -1,7 +1,7 @@
 -- A row that is made of cells fits, and these are its cells.
 use Rattle.std.proofs.Common.{◌≡◌, ℕ, ◌+◌, List, [], ◌∷◌, ◌++◌, Bool, true, false, if◌then◌else◌, None, Ok, Err, refl, sym, ap, ◌∙◌, subst, append_assoc}
 use Rattle.std.proofs.lemmas.List.{map-append}
-use Rattle.lake_bytes.specs.Results.{◌>>=◌, or_refusal, refused_as}
+use Rattle.outcomes.specs.Results.{◌>>=◌, or_refusal, refused_as}
 use Rattle.row_core.specs.Rows.{Value, null, structure, values_of}
 use Rattle.shred.specs.Shape.{Shape, leaf, struct, Fields, no_fields, field}
 use Rattle.shred.specs.Fits.{FitsField, FitsShape, FitFields}

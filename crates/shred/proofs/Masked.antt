@@ -1,7 +1,7 @@
 -- Cells whose values are masked give rows or faults as the cells do.
 use Rattle.std.proofs.Common.{◌≡◌, ◌==◌, ◌&&◌, ℕ, zero, suc, ◌+◌, List, [], ◌∷◌, map, drop, Bool, true, false, not, is_some, if◌then◌else◌, Option, Some, None, option_map, Result, Ok, Err, refl, sym, ap, ◌∙◌}
-use Rattle.lake_bytes.specs.Options as options
-use Rattle.lake_bytes.specs.Results.{◌>>=◌, or_refusal, refused_as}
+use Rattle.outcomes.specs.Options as options
+use Rattle.outcomes.specs.Results.{◌>>=◌, or_refusal, refused_as}
 use Rattle.row_core.specs.Rows.{Value, null, truth, structure, values_of}
 use Rattle.shred.specs.Shape.{Shape, leaf, struct, Fields, no_fields, field}
 use Rattle.shred.specs.Fits.{is_plain}

@@ -3,7 +3,7 @@ use Rattle.std.proofs.Common.{◌≡◌, inl, inr, ℕ, suc, ◌+◌, ◌≤◌,
 use Rattle.std.proofs.lemmas.Bool.{false≢true}
 use Rattle.std.proofs.lemmas.List.{length-append, length-map, append-nil}
 use Rattle.std.proofs.lemmas.Option.{none-some}
-use Rattle.lake_bytes.specs.Results.{◌>>=◌, refused_as}
+use Rattle.outcomes.specs.Results.{◌>>=◌, refused_as}
 use Rattle.row_core.specs.Rows.{Value, Values, null, truth, structure, no_values, value, values_of}
 use Rattle.schema_tree.specs.Fault.{Path, path_inside}
 use Rattle.shred.specs.Shape.{Shape, leaf, struct, Fields, no_fields, field, HasFields, HaveFields}

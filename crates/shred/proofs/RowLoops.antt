@@ -2,9 +2,9 @@
 use Rattle.std.proofs.Common.{◌≡◌, ℕ, suc, ◌+◌, ◌<◌, length, get_or, take, drop, set, List, [], ◌∷◌, ◌++◌, map, Vec, Global, Option, Some, None, option_map, option_to_list, Result, Ok, Err, refl, sym, ap, ◌∙◌, arith}
 use Rattle.std.specs.List.{filter_map, cons_option}
 use Rattle.std.proofs.lemmas.List.{drop_more, append-nil, map_push, take_more, take_more_set, drop-set-lt, drop-drop}
-use Rattle.lake_bytes.specs.Outcome.{Said, refuses, says_nothing, never_comes, IsSaid}
-use Rattle.lake_bytes.specs.Results.{◌>>=◌}
-use Rattle.lake_bytes.proofs.Callers.{with_front, regroup}
+use Rattle.outcomes.specs.Outcome.{Said, refuses, says_nothing, never_comes, IsSaid}
+use Rattle.outcomes.specs.Results.{◌>>=◌}
+use Rattle.outcomes.proofs.Callers.{with_front, regroup}
 use Rattle.row_core.specs.Rows.{Row}
 use Rattle.row_core.specs.declared.value.Value.{Value}
 use Rattle.shred.specs.Shape.{Shape}

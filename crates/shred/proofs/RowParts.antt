@@ -2,8 +2,8 @@
 use Rattle.std.proofs.Common.{◌≡◌, ◌⊎◌, inl, inr, ℕ, zero, suc, ◌+◌, ◌-◌, ◌≤◌, ◌<◌, min, length, List, [], ◌∷◌, ◌++◌, map, drop, take, replicate, Result, Ok, Err, refl, sym, ap, ◌∙◌, arith}
 use Rattle.std.proofs.lemmas.Bool.{cases_lt}
 use Rattle.std.proofs.lemmas.List.{append-nil, length-append, length-map, length-drop, length-replicate, drop-drop, drop_all, drop_at, take_all, take_at, nil_from_length}
-use Rattle.lake_bytes.specs.Results.{◌>>=◌}
-use Rattle.lake_bytes.proofs.Callers.{with_front}
+use Rattle.outcomes.specs.Results.{◌>>=◌}
+use Rattle.outcomes.proofs.Callers.{with_front}
 use Rattle.row_core.specs.Rows.{Row}
 use Rattle.shred.specs.Shape.{Shape}
 use Rattle.shred.specs.Columns.{Cell}

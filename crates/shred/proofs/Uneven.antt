@@ -4,7 +4,7 @@ use Rattle.std.specs.Prelude.{◌↔◌}
 use Rattle.std.specs.List.{AllZip}
 use Rattle.std.proofs.lemmas.Bool.{and_parts, and_from}
 use Rattle.std.proofs.lemmas.Option.{none-some}
-use Rattle.lake_bytes.specs.Results.{◌>>=◌, or_refusal, refused_as}
+use Rattle.outcomes.specs.Results.{◌>>=◌, or_refusal, refused_as}
 use Rattle.row_core.specs.Rows.{null, structure, values_of}
 use Rattle.shred.specs.Shape.{Shape, leaf, struct, Fields, no_fields, field}
 use Rattle.shred.specs.Ways.{Step, ways, highest}

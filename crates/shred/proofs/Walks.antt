@@ -1,7 +1,7 @@
 -- A walk down a way, step by step.
 use Rattle.std.proofs.Common.{◌≡◌, ℕ, ◌+◌, ◌<◌, ◌≤◌, length, get_or, drop, List, Bool, true, false, Option, Some, None, if◌then◌else◌, refl, sym, ◌∙◌, ap, arith}
 use Rattle.std.proofs.lemmas.List.{at_drop_more, at_drop_all}
-use Rattle.lake_bytes.specs.Options.{◌>>=◌}
+use Rattle.outcomes.specs.Options.{◌>>=◌}
 use Rattle.row_core.specs.Rows.{Value}
 use Rattle.shred.specs.Ways.{level_inside}
 use Rattle.shred.specs.Columns.{Cell, present_cell, field_at, is_null, null_cell, cell_from}

@@ -1,6 +1,6 @@
 -- The columns of ways, one after another.
 use Rattle.std.proofs.Common.{◌≡◌, ℕ, ◌+◌, ◌<◌, ◌≤◌, length, get_or, drop, List, [], ◌∷◌, ◌++◌, map, Vec, Global, Option, Some, None, option_map, refl, sym, ap, ◌∙◌}
-use Rattle.lake_bytes.specs.Options.{◌>>=◌}
+use Rattle.outcomes.specs.Options.{◌>>=◌}
 use Rattle.row_core.specs.Rows.{Row}
 use Rattle.shred.specs.Columns.{Column, column, all_some}
 use Rattle.shred.specs.Views.{way_view, way_views}

@@ -2,8 +2,8 @@
 -- cell disagrees with those before it.
 use Rattle.std.specs.Prelude.{◌≡◌, ℕ, zero, suc, ◌+◌, ◌==◌, ◌&&◌, List, [], ◌∷◌, drop, length, map, count_by, Bool, true, false, not, if◌then◌else◌, Option, Some, None, is_some, Result, Ok, Err}
 use Rattle.std.specs.List.{AllZip, filter_map}
-use Rattle.lake_bytes.specs.Options as options
-use Rattle.lake_bytes.specs.Results.{◌>>=◌, or_refusal, refused_as}
+use Rattle.outcomes.specs.Options as options
+use Rattle.outcomes.specs.Results.{◌>>=◌, or_refusal, refused_as}
 use Rattle.row_core.specs.Rows.{Value, Row, null, structure, values_of}
 use Rattle.shred.specs.Shape.{Shape, leaf, struct, Fields, no_fields, field, Field}
 use Rattle.shred.specs.Fits.{is_plain}

@@ -1,7 +1,7 @@
 -- Rows as columns with definition levels (Apache Parquet, "Nested Encoding", without repeated fields).
 use Rattle.std.specs.Prelude.{◌≡◌, ℕ, zero, suc, List, [], ◌∷◌, map, Bool, true, false, if◌then◌else◌, Option, Some, None, option_map, All}
 use Rattle.std.specs.List.{filter_map}
-use Rattle.lake_bytes.specs.Options.{◌>>=◌}
+use Rattle.outcomes.specs.Options.{◌>>=◌}
 use Rattle.row_core.specs.Rows.{Value, Values, Row, null, structure, no_values, value}
 use Rattle.shred.specs.Shape.{Shape}
 use Rattle.shred.specs.Fits.{FitsShape}

@@ -1,6 +1,6 @@
 -- Why columns are not those of any rows.
 use Rattle.std.specs.Prelude.{◌≡◌, ℕ, List, ◌++◌, None, codes}
-use Rattle.lake_bytes.specs.Outcome.{Said, refuses, says_nothing}
+use Rattle.outcomes.specs.Outcome.{Said, refuses, says_nothing}
 use Rattle.schema_tree.specs.Fault.{Path, path_of, path_inside}
 use Rattle.schema_tree.specs.FaultTexts.{path_text}
 use Rattle.shred.specs.declared.fault.CellMismatch.{CellMismatch}

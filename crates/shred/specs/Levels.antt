@@ -1,6 +1,6 @@
 -- Rows tested by the levels of their columns, without the values.
 use Rattle.std.specs.Prelude.{◌≡◌, ℕ, List, [], ◌∷◌, ◌++◌, map, length, replicate, ◌==◌, true, if◌then◌else◌, Some, None, Result, Ok}
-use Rattle.lake_bytes.specs.Results.{◌>>=◌}
+use Rattle.outcomes.specs.Results.{◌>>=◌}
 use Rattle.row_core.specs.Rows.{truth}
 use Rattle.shred.specs.Shape.{Shape}
 use Rattle.shred.specs.Columns.{Cell, Column}

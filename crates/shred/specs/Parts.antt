@@ -1,6 +1,6 @@
 -- Columns of which only the values of some rows that follow one another are kept.
 use Rattle.std.specs.Prelude.{◌≡◌, ℕ, List, [], ◌∷◌, take, drop, count_by, ◌==◌, All, true, Result, Ok}
-use Rattle.lake_bytes.specs.Results.{◌>>=◌}
+use Rattle.outcomes.specs.Results.{◌>>=◌}
 use Rattle.row_core.specs.Rows.{Row}
 use Rattle.shred.specs.Columns.{Column}
 use Rattle.shred.specs.Faults.{Fault}

@@ -1,7 +1,7 @@
 //! Rows made again of columns.
 
 ghost use Rattle.std.specs.Prelude.{◌≡◌, List, map, drop, IfOk, IfErr, OnOk};
-ghost use Rattle.lake_bytes.specs.Outcome.{Gives, says_nothing};
+ghost use Rattle.outcomes.specs.Outcome.{Gives, says_nothing};
 ghost use Rattle.row_core.specs.Rows.{Row};
 ghost use Rattle.row_core.specs.Views.{value_view, row_views};
 ghost use Rattle.shred.specs.Assembly.{assembled, row_made, rows_made, row_count, heads};

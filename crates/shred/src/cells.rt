@@ -1,7 +1,7 @@
 //! Columns read cell by cell.
 
 ghost use Rattle.std.specs.Prelude.{◌≡◌, drop, map, option_map, IfOk, OnOk};
-ghost use Rattle.lake_bytes.specs.Outcome.{Gives};
+ghost use Rattle.outcomes.specs.Outcome.{Gives};
 ghost use Rattle.shred.specs.Assembly.{cells_of_columns, cells_of_column, first_cell, heads, is_even};
 ghost use Rattle.shred.specs.Faults.{says};
 ghost use Rattle.shred.specs.Views.{cell_view, cells_view, column_view, column_views, reader_view, reader_views};

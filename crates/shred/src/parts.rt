@@ -1,7 +1,7 @@
 //! Rows made of columns of which only some values were kept.
 
 ghost use Rattle.std.specs.Prelude.{◌≡◌, ◌≤◌, ◌<◌, ◌^◌, ℕ, List, [], All, map, drop, min, option_map, IfOk, OnOk};
-ghost use Rattle.lake_bytes.specs.Outcome.{Gives};
+ghost use Rattle.outcomes.specs.Outcome.{Gives};
 ghost use Rattle.lake_bytes.specs.Hybrid.{values_of};
 ghost use Rattle.row_core.specs.Views.{row_views};
 ghost use Rattle.shred.specs.Assembly.{assembled, first_cell, heads, row_count, AreEven};

@@ -1,7 +1,7 @@
 //! One row made of its cells.
 
 ghost use Rattle.std.specs.Prelude.{◌≡◌, option_map, map};
-ghost use Rattle.lake_bytes.specs.Outcome.{Gives};
+ghost use Rattle.outcomes.specs.Outcome.{Gives};
 ghost use Rattle.row_core.specs.Views.{value_view, row_views};
 ghost use Rattle.shred.specs.Assembly.{begins_absent, is_absent, value_in, passed, passed_fields, passed_field, made, made_fields, made_field, made_inside};
 ghost use Rattle.shred.specs.Faults.{says, says_mismatch};

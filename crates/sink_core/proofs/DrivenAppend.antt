@@ -1,8 +1,8 @@
 -- What an append that was driven over a store at rest, which loses no call, answers and leaves.
 use Rattle.std.proofs.Common.{◌≡◌, ◌≢◌, ◌≤◌, ◌<◌, ◌^◌, ◌∙◌, ℕ, List, [], ◌∷◌, ◌++◌, length, Bool, true, false, is_some, Option, Some, None, Result, Ok, Err, Vec, Global, string_bytes, if◌then◌else◌, refl, sym, ap, subst, inl, inr, arith}
 use Rattle.std.specs.Str.{IsUtf8}
-use Rattle.lake_bytes.specs.Outcome.{refuses}
-use Rattle.lake_bytes.specs.Results.{◌>>=◌}
+use Rattle.outcomes.specs.Outcome.{refuses}
+use Rattle.outcomes.specs.Results.{◌>>=◌}
 use Rattle.serde_json.specs.Events.{items_len}
 use Rattle.serde_json.specs.Data.{Items}
 use Rattle.store_core.specs.Objects.{Objects, object_at, with_object}
@@ -13,7 +13,7 @@ use Rattle.session_core.specs.Shown.{AllReads}
 use Rattle.session_core.specs.Stores.{State, Answers, MayAnswer, Talked}
 use Rattle.session_core.specs.Talks.{get_object, put_file, Told, told_names, told_object, told_put, told_lost, told_memory, Talk, Bears}
 use Rattle.session_core.proofs.Callers.{talked_last}
-use Rattle.parquet_file.specs.Writing.{written_file}
+use Rattle.batch_core.specs.ParquetWriting.{written_file}
 use Rattle.delta_actions.specs.Action.{Action}
 use Rattle.delta_actions.specs.declared.action.Action as actions
 use Rattle.delta_actions.specs.Names.{greatest_version}

@@ -1,8 +1,8 @@
 -- What a close that was driven over a store at rest, which loses no call, answers and leaves.
 use Rattle.std.proofs.Common.{◌≡◌, ◌≢◌, ◌≤◌, ◌<◌, ◌∙◌, ℕ, List, [], Bool, true, false, Option, Some, None, Result, Ok, Err, Vec, Global, string_bytes, if◌then◌else◌, refl, sym, ap, subst, inl, inr, arith}
 use Rattle.std.proofs.lemmas.Bool.Decides.{nat_tests}
-use Rattle.lake_bytes.specs.Outcome.{refuses}
-use Rattle.lake_bytes.specs.Results.{◌>>=◌, refused_as}
+use Rattle.outcomes.specs.Outcome.{refuses}
+use Rattle.outcomes.specs.Results.{◌>>=◌, refused_as}
 use Rattle.store_core.specs.Objects.{Objects, with_object}
 use Rattle.session_core.specs.Sessions.{AllAsked}
 use Rattle.session_core.specs.Stores.{State, Answers, MayAnswer, Talked}

@@ -2,8 +2,8 @@
 use Rattle.std.proofs.Common.{◌≡◌, ◌≢◌, ◌≤◌, ◌<◌, ◌&&◌, ℕ, List, not, Bool, true, false, is_some, Option, Some, None, Result, Ok, Err, refl, sym, ap, subst, inl, inr, arith}
 use Rattle.std.proofs.lemmas.Bool.Decides.{nat_tests}
 use Rattle.std.specs.Prelude.{◌||◌, nat_lt}
-use Rattle.lake_bytes.specs.Outcome.{refuses}
-use Rattle.lake_bytes.specs.Results.{◌>>=◌, refused_as, refused_if}
+use Rattle.outcomes.specs.Outcome.{refuses}
+use Rattle.outcomes.specs.Results.{◌>>=◌, refused_as, refused_if}
 use Rattle.serde_json.specs.Data.{Items}
 use Rattle.store_core.specs.Calls.{put_told}
 use Rattle.store_core.specs.Objects.{Objects, with_object}

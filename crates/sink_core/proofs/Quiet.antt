@@ -3,7 +3,7 @@
 use Rattle.std.proofs.Common.{◌≡◌, ◌≢◌, ◌⊎◌, ◌≤◌, ◌<◌, ◌∙◌, ℕ, suc, List, [], ◌∷◌, ◌++◌, length, not, Bool, false, Option, Some, None, Result, Ok, Err, Vec, Global, IsSome, refl, sym, ap, subst, inl, inr, arith}
 use Rattle.std.proofs.lemmas.Bool.{cases_lt}
 use Rattle.std.proofs.lemmas.List.{length-map}
-use Rattle.lake_bytes.specs.Results.{refused_if}
+use Rattle.outcomes.specs.Results.{refused_if}
 use Rattle.session_core.specs.Names.{commit_name}
 use Rattle.session_core.specs.Sessions.{AllAsked}
 use Rattle.session_core.specs.Shown.{AllReads, IsRead}
@@ -22,7 +22,7 @@ use Rattle.table_log.specs.Counts.{commit_count}
 use Rattle.table_log.specs.Loads.{IsLoaded}
 use Rattle.table_log.specs.LoadSessions.{HasListed}
 use Rattle.table_log.specs.declared.loading.Loaded.{Loaded}
-use Rattle.table_store.proofs.Callers.{commit_name-data_file_name}
+use Rattle.commit_core.proofs.Callers.{commit_name-data_file_name}
 use Rattle.commit_core.specs.Commits.{commit_text}
 use Rattle.commit_core.specs.CommitSessions.{CommitEnds, CommitJob, ComesTo, IsUnfinished, Winner, got_told, put_told, taken}
 use Rattle.commit_core.specs.declared.commit_fault.CommitFault.{CommitFault}

@@ -1,6 +1,6 @@
 -- Where a log is read from a checkpoint, what an append or a close does and answers is what it does and answers over the whole log.
 use Rattle.std.proofs.Common.{◌≡◌, ℕ, List, Bool, Option, false, Result, Ok, Err, refl, ap}
-use Rattle.lake_bytes.specs.Results.{◌>>=◌, refused_as}
+use Rattle.outcomes.specs.Results.{◌>>=◌, refused_as}
 use Rattle.serde_json.specs.Events.{items_len}
 use Rattle.serde_json.specs.Data.{Items}
 use Rattle.store_core.specs.Objects.{Objects}

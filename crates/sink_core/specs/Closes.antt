@@ -6,7 +6,7 @@ use Rattle.commit_core.specs.Commits.{commit_text}
 use Rattle.batch_core.specs.Closing.{closing}
 use Rattle.batch_core.specs.Refusals.{SinkRefusal, bad_log, too_large}
 use Rattle.batch_core.specs.Requests.{SinkRequest, close_behind, named}
-use Rattle.lake_bytes.specs.Results.{◌>>=◌, refused_if, refused_as}
+use Rattle.outcomes.specs.Results.{◌>>=◌, refused_if, refused_as}
 use Rattle.table_log.specs.Counts.{commit_count}
 use Rattle.table_log.specs.Names.{commit_name}
 use Rattle.table_log.specs.Restoring.{replayed}

@@ -1,8 +1,8 @@
 -- What is put and told of a log that is read from sound checkpoints is what is put and told of it as a whole.
 use Rattle.std.proofs.Common.{◌≡◌, ◌∙◌, ℕ, Bool, false, List, Result, Ok, Err, refl, sym, ap, subst}
 use Rattle.std.specs.Prelude.{option_to_list}
-use Rattle.lake_bytes.specs.Outcome.{IsSaid}
-use Rattle.lake_bytes.specs.Results.{◌>>=◌, refused_as}
+use Rattle.outcomes.specs.Outcome.{IsSaid}
+use Rattle.outcomes.specs.Results.{◌>>=◌, refused_as}
 use Rattle.store_core.specs.Objects.{Objects, with_object}
 use Rattle.delta_actions.specs.Action.{Action}
 use Rattle.delta_checkpoint.specs.Checkpoints.{IsCheckpoint}

@@ -1,7 +1,7 @@
 -- Why no checkpoint is put and no snapshot is told, as far as the log says it.
 use Rattle.std.specs.Prelude.{◌≡◌, ℕ, Bool, List, Result, Ok}
-use Rattle.lake_bytes.specs.Outcome.{Said, refuses, says_nothing, never_comes}
-use Rattle.lake_bytes.specs.Results.{◌>>=◌, refused_as}
+use Rattle.outcomes.specs.Outcome.{Said, refuses, says_nothing, never_comes}
+use Rattle.outcomes.specs.Results.{◌>>=◌, refused_as}
 use Rattle.store_core.specs.Objects.{Objects}
 use Rattle.store_core.specs.declared.fault.StoreFault.{StoreFault}
 use Rattle.store_core.specs.declared.fault.StoreFault.TheVariants as stores

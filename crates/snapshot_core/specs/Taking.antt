@@ -1,6 +1,6 @@
 -- What putting a checkpoint tells and leaves (Delta PROTOCOL.md, "Checkpoints").
 use Rattle.std.specs.Prelude.{◌≡◌, ◌≤◌, ◌<◌, ◌⊎◌, ◌∷◌, ℕ, suc, Bool, true, List, Option, Some, None, Ok, Err, length}
-use Rattle.lake_bytes.specs.Outcome.{IsSaid}
+use Rattle.outcomes.specs.Outcome.{IsSaid}
 use Rattle.store_core.specs.Objects.{Objects, object_at, with_object}
 use Rattle.store_core.specs.Calls.{Flight, IsUntouched, MayHaveLanded}
 use Rattle.delta_actions.specs.Action.{Action, MetaDataAction, checkpoint_metadata}

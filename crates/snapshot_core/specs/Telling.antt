@@ -13,7 +13,7 @@ use Rattle.delta_replay.specs.Support.{protocol_of, readable}
 use Rattle.table_log.specs.Counts.{commit_count}
 use Rattle.table_log.specs.Restoring.{replayed}
 use Rattle.table_log.specs.SchemaTexts.{IsPrinted}
-use Rattle.lake_bytes.specs.Lines.{with_newline}
+use Rattle.outcomes.specs.Lines.{with_newline}
 
 -- an application's id, as JSON
 abbrev pub id_text : List ℕ → List ℕ

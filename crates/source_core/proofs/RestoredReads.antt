@@ -8,7 +8,7 @@ use Rattle.delta_actions.specs.Action.{Action}
 use Rattle.delta_checkpoint.proofs.Restored.{checkpoint_leaves, one_commit}
 use Rattle.delta_replay.specs.Keys.{Key, at}
 use Rattle.delta_replay.specs.Support.{readable}
-use Rattle.lake_bytes.specs.Results.{◌>>=◌, or_refusal}
+use Rattle.outcomes.specs.Results.{◌>>=◌, or_refusal}
 use Rattle.store_core.specs.Objects.{Objects, names_of}
 use Rattle.table_log.specs.Counts.{commit_count}
 use Rattle.log_reading.specs.FromCheckpoints.{CheckpointSchema, Start, first_behind, first_read, first_schema, from_version, front_behind, in_force_at, later_schema, looked_at, newest_schema, no_start, schema_below, schema_by, schema_upto, start_at}

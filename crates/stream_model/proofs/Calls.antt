@@ -1,7 +1,7 @@
 -- What sessions ask for is good in a sound store that bears their talk, and what is answered is borne.
 use Rattle.std.proofs.Common.{◌≡◌, ◌∙◌, ◌<◌, ℕ, zero, suc, List, [], ◌∷◌, ◌++◌, length, Option, Some, None, Contains, refl, sym, ap, subst, arith}
 use Rattle.std.specs.Prelude.{slice_get, unwrap_or}
-use Rattle.lake_bytes.specs.Varint.{IsBytes}
+use Rattle.outcomes.specs.Bytes.{IsBytes}
 use Rattle.serde_json.specs.Data.{Items}
 use Rattle.store_core.specs.Calls.{StandsAfter, put_told}
 use Rattle.store_core.specs.Objects.{Objects, object_at, with_object}
@@ -21,7 +21,7 @@ use Rattle.session_laws.specs.Rows.{IsBatchOf, IsJobCommit}
 use Rattle.session_laws.specs.Sessions.{Asks, Does, HasAsked, Job, asks, checkpoints, creates, loads, reads, streams}
 use Rattle.session_core.proofs.Callers.{asked_more}
 use Rattle.session_laws.proofs.Callers.{batch_commit, close_commit, reached_front, reaches_some}
-use Rattle.commit_core.proofs.Callers.{bears_front}
+use Rattle.session_laws.proofs.Callers.{bears_front}
 use Rattle.stream_model.specs.Events.{Event, IsOfBytes}
 use Rattle.stream_model.specs.Puts.{HasTable, IsGoodPut, IsMade, Submitted, WasBegun, a_checkpoint, a_commit, a_file}
 use Rattle.stream_model.specs.Puts as made

@@ -1,7 +1,7 @@
 -- What is so of each world, and stays so by more events and by more objects.
 use Rattle.std.proofs.Common.{◌≡◌, ℕ, List, [], ◌∷◌, ◌++◌, Option, Some, Contains, sym, subst}
 use Rattle.std.specs.Prelude.{Result, Ok, Err}
-use Rattle.lake_bytes.specs.Varint.{IsBytes}
+use Rattle.outcomes.specs.Bytes.{IsBytes}
 use Rattle.store_core.specs.Calls.{Flight}
 use Rattle.store_core.specs.Objects.{HasObjectsOf, Objects}
 use Rattle.session_core.specs.Talks.{Asked, Bears, IsBorne, Talk, get_object, list_names, put_commit, put_file}

@@ -19,7 +19,7 @@ use Rattle.source_core.specs.TailFaults.{ReadGives}
 use Rattle.source_core.specs.declared.read_state.ReadRows.{ReadRows}
 use Rattle.source_core.specs.declared.source_session.ReadEnd.{ReadEnd}
 use Rattle.source_core.specs.declared.tail_fault.TailFault.{TailFault}
-use Rattle.read_laws.specs.Readers.{next_told, rows_told}
+use Rattle.session_laws.specs.Readers.{next_told, rows_told}
 use Rattle.session_laws.specs.Rows.{Lists, MayTellOfRead, TellsOfListed, WasListed, next_version}
 use Rattle.session_laws.specs.Sessions.{HasAsked, Job, Outcome, read, reads}
 use Rattle.session_laws.proofs.Callers.{none_told}

@@ -14,10 +14,10 @@ use Rattle.table_store.specs.Sound.{IsSound}
 use Rattle.table_store.proofs.HoldingOne.{one_file}
 use Rattle.table_store.proofs.HoldingSchema.{one_schema}
 use Rattle.log_laws.proofs.Callers.{count_held, held_first}
-use Rattle.parquet_file.specs.File.{KeepsLimits}
+use Rattle.session_laws.specs.ParquetFile.{KeepsLimits}
 use Rattle.row_core.specs.Rows.{Row}
 use Rattle.source_core.specs.SourceSessions.{HasNewFiles, IsNewFile, SourceAsks, SourceJob}
-use Rattle.read_laws.proofs.Callers.{kept_files, sound_kept}
+use Rattle.session_laws.proofs.Callers.{kept_files, sound_kept}
 use Rattle.session_laws.specs.Rows.{IsReadable, Lists}
 use Rattle.session_laws.specs.Sessions.{Asks, Job, reads}
 use Rattle.session_laws.proofs.Callers.{batch_file, no_versions}

@@ -3,7 +3,7 @@ use Rattle.std.proofs.Common.{◌∷◌, ◌≡◌, ◌⊎◌, ℕ, ◌==◌, Li
 use Rattle.std.specs.Prelude.{Result, Ok, Err}
 use Rattle.std.proofs.lemmas.Bool.{cases_Bool}
 use Rattle.std.proofs.lemmas.List.Elements.{Contains-append_cases, Contains-push_cases}
-use Rattle.lake_bytes.specs.Varint.{IsBytes}
+use Rattle.outcomes.specs.Bytes.{IsBytes}
 use Rattle.store_core.specs.Objects.{HasObjectsOf, Objects, with_object}
 use Rattle.session_core.specs.Talks.{Asked, Bears, IsBorne, Talk, Told, get_object, list_names, put_commit, put_file, told_lost, told_memory}
 use Rattle.delta_actions.specs.Names.{commit_name}

@@ -1,6 +1,6 @@
 -- What may happen in a world: one event after the other, from a world in which nothing stands.
 use Rattle.std.specs.Prelude.{◌≡◌, ◌⊎◌, ℕ, List, [], ◌∷◌, ◌++◌, length, Option, None, Some, slice_get}
-use Rattle.lake_bytes.specs.Varint.{IsBytes}
+use Rattle.outcomes.specs.Bytes.{IsBytes}
 use Rattle.store_core.specs.Objects.{with_object}
 use Rattle.session_core.specs.Talks.{Asked, Talk, Told, put_commit, put_file, told_lost}
 use Rattle.session_laws.specs.May.{IsValidJob}

@@ -28,7 +28,7 @@ use Rattle.source_core.specs.declared.read_state.ReadRows.{ReadRows}
 use Rattle.source_core.specs.declared.source_session.ReadEnd.{ReadEnd}
 use Rattle.source_core.specs.declared.tail_fault.TailFault.{TailFault}
 use Rattle.source_core.specs.declared.tail_fault.TailFault.TheVariants as read_faults
-use Rattle.read_laws.specs.Readers.{next_told, rows_told}
+use Rattle.session_laws.specs.Readers.{next_told, rows_told}
 use Rattle.session_laws.specs.Rows.{IsBatchOf, Lists, TellsOfBatch, TellsOfListed}
 use Rattle.session_laws.specs.Sessions.{Job, Outcome, checkpoint, ends_lost, load, read, reads, stream, streams}
 use Rattle.stream_model.specs.Events.{Event}

@@ -13,7 +13,7 @@ use Rattle.sink_core.specs.SinkSessions.{SinkJob}
 use Rattle.session_laws.specs.Rows.{IsBatchOf, IsJobFile}
 use Rattle.session_laws.specs.Sessions.{Job, streams}
 use Rattle.session_laws.specs.Sessions as jobs
-use Rattle.commit_core.specs.CreateSessions.{CreateJob, IsCreationOf}
+use Rattle.session_laws.specs.CreateSessions.{CreateJob, IsCreationOf}
 use Rattle.stream_model.specs.Events.{CanBegin, Event, begin}
 
 -- some actor began this job, which can begin

@@ -7,7 +7,7 @@ use Rattle.session_core.specs.Talks as talks
 use Rattle.session_core.specs.Talks.{Asked, Talk, Told, asked_view, heard, told_lost, told_view}
 use Rattle.session_core.specs.declared.asking.Reply.{Reply}
 use Rattle.session_core.specs.declared.asking.Reply.TheVariants as replies
-use Rattle.session_laws.specs.Sessions.{Asks, Does, Ends, Job, Outcome, asks, ends_lost, is_lost, tells}
+use Rattle.stream_model.specs.JobSessions.{Asks, Does, Ends, Job, Outcome, asks, ends_lost, is_lost, tells}
 use Rattle.stream_model.specs.Events.{Event, Fits, HasActor, Takes, act, answer, begin, begins_now, die, ends, goes_on, land, lose_answer, loses, nothing_happens, takes}
 use Rattle.stream_model.specs.Worlds.{Actor, Hand, How, World, asking, ended, fresh, waiting, with_actor}
 use Rattle.stream_model.specs.Worlds as worlds

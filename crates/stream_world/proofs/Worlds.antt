@@ -12,7 +12,7 @@ use Rattle.store_core.specs.declared.fault.StoreFault.{StoreFault}
 use Rattle.store_core.specs.declared.fault.StoreFault.TheVariants.{Lost, Memory}
 use Rattle.store_core.specs.declared.store.Put.{Put}
 use Rattle.store_core.specs.declared.store.Put.TheVariants.{Created, Exists}
-use Rattle.session_laws.specs.Sessions.{Job}
+use Rattle.stream_model.specs.JobSessions.{Job}
 use Rattle.stream_model.specs.Events.{CanBegin, Event, Fits, begin, begins, die, dies, land, lands, nothing_happens}
 use Rattle.stream_model.specs.Worlds.{Actor, World, fresh, with_actor}
 use Rattle.stream_world.specs.Sessions.{SessionFits, job_of}

@@ -4,7 +4,7 @@ use Rattle.session_core.specs.Sessions.{hears_lost}
 use Rattle.session_core.specs.Talks.{Asked, Talk, asked_view, heard, told_view}
 use Rattle.session_core.specs.declared.asking.Reply as code_reply
 use Rattle.session_core.specs.declared.asking.Reply.TheVariants as replies
-use Rattle.session_laws.specs.Sessions.{Asks, Ends, is_lost}
+use Rattle.stream_model.specs.JobSessions.{Asks, Ends, is_lost}
 use Rattle.stream_model.specs.Events.{IsOfBytes}
 use Rattle.stream_world.specs.Sessions.{SessionFits, job_of, outcome_view}
 use Rattle.stream_world.specs.declared.actor.Actor.{Actor}

@@ -4,7 +4,7 @@ use Rattle.table_log.specs.LoadSessions.{LoadJob}
 use Rattle.sink_core.specs.SinkSessions as sinks
 use Rattle.sink_core.specs.SinkSessions.{SinkJob}
 use Rattle.log_offsets.specs.Offsets.{offset_view}
-use Rattle.session_laws.specs.Sessions.{Job, checkpoints, creates, loads, reads, streams}
+use Rattle.stream_model.specs.JobSessions.{Job, checkpoints, creates, loads, reads, streams}
 use Rattle.stream_model.specs.Events.{Event, act, answer, begin, die, land, lose_answer}
 use Rattle.stream_model.specs.Worlds.{How, late, lost, once, short, twice}
 use Rattle.stream_world.specs.declared.event.Event as code_event

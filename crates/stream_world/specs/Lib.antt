@@ -6,3 +6,8 @@ pub mod Left
 pub mod Sessions
 pub mod Standing
 pub mod Running
+pub use Rattle.stream_model.specs.JobSessions
+pub use Rattle.stream_model.specs.SoundStores
+pub use Rattle.stream_model.specs.Worlds
+pub use Rattle.stream_model.specs.Events
+pub use Rattle.stream_model.specs.Headline

@@ -1,11 +1,11 @@
 -- What a list of events came to, and what is so of what was told.
 use Rattle.std.specs.Prelude.{List, [], ◌∷◌, ◌++◌, Option}
 use Rattle.store_core.specs.Objects.{Objects}
-use Rattle.log_laws.specs.Sound.{IsSoundStore}
+use Rattle.stream_model.specs.SoundStores.{IsSoundStore}
 use Rattle.table_model.specs.Table.{Entry}
-use Rattle.table_store.specs.Holds.{Holds}
-use Rattle.table_store.specs.Schema.{Schema}
-use Rattle.session_laws.specs.Sessions.{Job, Outcome}
+use Rattle.stream_model.specs.Holds.{Holds}
+use Rattle.stream_model.specs.TableSchema.{Schema}
+use Rattle.stream_model.specs.JobSessions.{Job, Outcome}
 use Rattle.stream_model.specs.Events.{Event, Happens, with_told}
 use Rattle.stream_model.specs.Headline.{IsHeadline}
 use Rattle.stream_model.specs.Worlds.{World}

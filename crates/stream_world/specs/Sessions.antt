@@ -7,7 +7,7 @@ use Rattle.commit_core.specs.CreateSessions as creating
 use Rattle.sink_core.specs.SinkFits as sinks
 use Rattle.sink_core.specs.SinkSessions as streaming
 use Rattle.source_core.specs.SourceSessions as reading
-use Rattle.session_laws.specs.Sessions.{Job, Outcome, checkpoint, checkpoints, creates, creation, load, loads, read, reads, stream, streams}
+use Rattle.stream_model.specs.JobSessions.{Job, Outcome, checkpoint, checkpoints, creates, creation, load, loads, read, reads, stream, streams}
 use Rattle.stream_world.specs.declared.table_session.Outcome as code
 use Rattle.stream_world.specs.declared.table_session.Outcome.TheVariants as outcomes
 use Rattle.stream_world.specs.declared.table_session.TableSession.{TableSession}

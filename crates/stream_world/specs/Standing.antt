@@ -10,7 +10,7 @@ use Rattle.store_core.specs.declared.fault.StoreFault.{StoreFault}
 use Rattle.store_core.specs.declared.fault.StoreFault.TheVariants.{Lost, Memory}
 use Rattle.store_core.specs.declared.store.Put.{Put}
 use Rattle.session_core.specs.Talks.{Asked, Talk, Told, asked_view, told_view}
-use Rattle.session_laws.specs.Sessions.{Job, Outcome}
+use Rattle.stream_model.specs.JobSessions.{Job, Outcome}
 use Rattle.stream_model.specs.Events.{Event, Happens, answer, begin, land, lose_answer}
 use Rattle.stream_model.specs.Worlds.{Actor, Hand, How, World, asking, ended, flight_how, fresh, left_how, told_how, waiting}
 use Rattle.stream_world.specs.Jobs.{IsMetAs, IsMetIn}

@@ -5,8 +5,8 @@ ghost use Rattle.table_log.specs.declared.load_session.LoadStage.TheVariants as 
 ghost use Rattle.sink_core.specs.SinkFits.{SinkFits};
 ghost use Rattle.sink_core.specs.SinkSessions as sinks;
 ghost use Rattle.sink_core.specs.declared.sink_state.SinkStage.TheVariants as sink_stages;
-ghost use Rattle.session_laws.specs.May.{IsValidJob};
-ghost use Rattle.session_laws.specs.Sessions.{streams};
+ghost use Rattle.stream_model.specs.May.{IsValidJob};
+ghost use Rattle.stream_model.specs.JobSessions.{streams};
 ghost use Rattle.stream_model.specs.Events.{CanBegin};
 ghost use Rattle.stream_world.specs.Jobs.{job_view, stream_view};
 ghost use Rattle.stream_world.specs.Sessions.{SessionFits, awaited, is_ended, job_of};

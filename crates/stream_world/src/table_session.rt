@@ -47,7 +47,7 @@ impl Drop for TableSession {
 }
 
 impl Session for TableSession {
-    ghost use Rattle.session_laws.specs.Sessions.{Asks, Ends, Job, is_lost};
+    ghost use Rattle.stream_model.specs.JobSessions.{Asks, Ends, Job, is_lost};
     ghost use Rattle.stream_world.specs.Sessions.{SessionFits, awaited, is_ended, job_of, left, outcome_view};
 
     type Outcome = Outcome;

@@ -1,7 +1,7 @@
 -- A file of a table is read, or is too large.
 use Rattle.std.proofs.Common.{◌≡◌, ℕ, ◌≤◌, ltb, true, List, length, ◌++◌, Result, Ok, Err, refl, sym, ap, ◌∙◌, arith, inl, inr, ◌⊎◌}
 use Rattle.std.proofs.lemmas.Bool.{cases_Bool, ltb-false}
-use Rattle.lake_bytes.specs.Outcome.{IsSaid}
+use Rattle.outcomes.specs.Outcome.{IsSaid}
 use Rattle.row_core.specs.Rows.{Row}
 use Rattle.schema_tree.specs.Limits.{IsWithinLimits}
 use Rattle.schema_tree.specs.Tree.{Tree}

@@ -1,6 +1,6 @@
 -- What an audit tells of objects.
 use Rattle.std.specs.Prelude.{◌≡◌}
-use Rattle.log_laws.specs.Sound.{IsSoundStore}
+use Rattle.table_check.specs.SoundStores.{IsSoundStore}
 use Rattle.store_core.specs.Objects.{Objects}
 use Rattle.table_check.specs.Below.{IsFirstUnsound}
 use Rattle.table_log.specs.Counts.{commit_count}

@@ -1,7 +1,7 @@
 //! Whether the objects of a store, or of whatever else is read as one, are sound.
 
 ghost use Rattle.std.specs.Prelude.{◌≡◌, ℕ, suc, List, Some, map, IfOk, IfSome, IfNone, IsErrOf, string_bytes};
-ghost use Rattle.log_laws.specs.Sound.{IsSoundStore};
+ghost use Rattle.table_check.specs.SoundStores.{IsSoundStore};
 ghost use Rattle.store_core.specs.Objects.{object_at};
 ghost use Rattle.table_check.specs.Below.{IsFirstUnsound, IsSoundBelow};
 ghost use Rattle.table_log.specs.Restoring.{IsSoundCheckpoint, checkpoint_version};

@@ -1,12 +1,1 @@
-pub mod CheckpointLines
-pub mod CheckpointSame
-pub mod Counts
-pub mod FirstUnsound
-pub mod LawfulNext
-pub mod NameLists
-pub mod NoFloats
-pub mod WalkCounts
-pub mod WalkEnds
-pub mod WalkGaps
-pub mod WalkLemmas
-pub mod WalkStops
+pub mod Callers

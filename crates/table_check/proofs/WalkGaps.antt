@@ -3,7 +3,7 @@
 use Rattle.std.proofs.Common.{◌≡◌, ℕ, zero, suc, ◌+◌, ◌<◌, ◌≤◌, false, true, List, [], ◌∷◌, ◌++◌, length, Option, None, Some, IsSome, Result, Err, Ok, refl, sym, ap, subst, ◌∙◌, arith, inl, inr, leb, length-append, add-one}
 use Rattle.std.specs.List.{Contains}
 use Rattle.std.proofs.lemmas.Bool.{cases_Bool, cases_eq, cases_lt}
-use Rattle.lake_bytes.specs.Results.{◌>>=◌}
+use Rattle.outcomes.specs.Results.{◌>>=◌}
 use Rattle.delta_actions.specs.Action.{Action}
 use Rattle.delta_actions.specs.Names as names
 use Rattle.delta_checkpoint.specs.Checkpoints.{IsCheckpoint}

@@ -1,7 +1,7 @@
 -- What spells a tree is read again, whatever follows it.
 use Rattle.std.proofs.Common.{◌≡◌, ◌≢◌, ℕ, zero, suc, ◌+◌, ◌-◌, ◌<◌, ◌≤◌, ℤ, pos, Bool, true, false, cond, eqb, List, [], ◌∷◌, ◌++◌, length, Result, Ok, refl, sym, ap, subst, ◌∙◌, append_assoc, arith, zero-add, length-append}
 use Rattle.std.proofs.lemmas.Bool.{ne_eqb}
-use Rattle.lake_bytes.specs.Results.{◌>>=◌}
+use Rattle.outcomes.specs.Results.{◌>>=◌}
 use Rattle.thrift_core.specs.Tree.{Tree, boolean, integer, binary, list, map, struct, skipped, Trees, no_trees, tree, Entries, no_entries, entry, Fields, no_fields, field, trees_of, entries_of, fields_of, count_of_trees, count_of_entries, depth, depth_of_trees, depth_of_entries, depth_of_fields, nodes, nodes_of_trees, nodes_of_entries, nodes_of_fields}
 use Rattle.thrift_core.specs.Wire.{announced}
 use Rattle.thrift_core.specs.Spelling.{InTurn, one, two, none, ListHeader, small_size, size_behind, MapHeader, empty_map, filled_map, FieldHeader, id_rises, id_behind, FieldValue, is_true, is_false, apart, SpellsInteger, Spells, SpellsMembers, SpellsEntries, SpellsFields, SpellsStruct}

@@ -1,8 +1,8 @@
 -- A tree that is read is spelled by the bytes that were taken.
 use Rattle.std.proofs.Common.{◌≡◌, ◌≢◌, ℕ, zero, suc, ◌+◌, ◌-◌, ◌/◌, ◌%◌, ◌<◌, ◌≤◌, ℤ, pos, Bool, true, false, cond, eqb, List, [], ◌∷◌, ◌++◌, length, Result, Ok, refl, sym, ap, subst, ◌∙◌, arith, inl, inr}
 use Rattle.std.proofs.lemmas.Bool.{eqb-true, eqb-false}
-use Rattle.lake_bytes.specs.Results.{◌>>=◌}
-use Rattle.lake_bytes.specs.Varint.{IsBytes}
+use Rattle.outcomes.specs.Results.{◌>>=◌}
+use Rattle.outcomes.specs.Bytes.{IsBytes}
 use Rattle.thrift_core.specs.Tree.{Tree, boolean, list, map, struct, trees_of, entries_of, fields_of, count_of_trees, count_of_entries, depth, depth_of_trees, depth_of_entries, depth_of_fields, nodes, nodes_of_trees, nodes_of_entries, nodes_of_fields}
 use Rattle.thrift_core.specs.Wire.{announced}
 use Rattle.thrift_core.specs.Spelling.{InTurn, ListHeader, MapHeader, FieldHeader, FieldValue, is_true, is_false, apart, Spells, SpellsMembers, SpellsEntries, SpellsFields, SpellsStruct}

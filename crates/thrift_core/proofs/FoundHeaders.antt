@@ -4,8 +4,9 @@ use Rattle.std.specs.Int.{w8, cast_signed}
 use Rattle.std.specs.Int.Signed.{le_z, le_z_yes}
 use Rattle.std.proofs.lemmas.Float.{T_from_true}
 use Rattle.std.proofs.lemmas.Bool.{ltb-true, eqb-true, eqb-false}
-use Rattle.lake_bytes.specs.Results.{◌>>=◌}
-use Rattle.lake_bytes.specs.Varint.{IsBytes, SpellsNumber}
+use Rattle.outcomes.specs.Results.{◌>>=◌}
+use Rattle.outcomes.specs.Bytes.{IsBytes}
+use Rattle.lake_bytes.specs.Varint.{SpellsNumber}
 use Rattle.lake_bytes.specs.Zigzag.{SpellsSigned}
 use Rattle.lake_bytes.specs.declared.fault.ByteFault.TheVariants as faults
 use Rattle.thrift_core.specs.Tree.{Tree, boolean, integer, binary, skipped, depth, nodes}

@@ -2,7 +2,7 @@
 use Rattle.std.proofs.Common.{◌≡◌, ℕ, ◌+◌, max, List, ◌++◌, Result, Ok, Err, IfOk, sym, ap, subst, ◌∙◌, arith}
 use Rattle.std.proofs.lemmas.List.{append_cancel_right}
 use Rattle.lake_bytes.specs.Reading.{ReadsFront}
-use Rattle.lake_bytes.specs.Varint.{IsBytes}
+use Rattle.outcomes.specs.Bytes.{IsBytes}
 use Rattle.thrift_core.specs.Tree.{Tree, depth, nodes}
 use Rattle.thrift_core.specs.Spelling.{Spells, SpellsStruct}
 use Rattle.thrift_core.specs.Reading.{ThriftGives, value_ahead, struct_at}

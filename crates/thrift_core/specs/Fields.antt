@@ -1,7 +1,7 @@
 -- How a field is read from a struct: which values are of each kind, and which fault a missing one is.
 use Rattle.std.specs.Prelude.{ℕ, ℤ, pos, negsuc, List, [], ◌∷◌, Option, Some, None, option_map, option_and_then, Result, Ok, Err}
-use Rattle.lake_bytes.specs.Outcome as outcomes
-use Rattle.lake_bytes.specs.Results.{◌>>=◌}
+use Rattle.outcomes.specs.Outcome as outcomes
+use Rattle.outcomes.specs.Results.{◌>>=◌}
 use Rattle.lake_bytes.specs.declared.fault.ByteFault.TheVariants.{OutOfRange}
 use Rattle.thrift_core.specs.Tree.{Tree, boolean, integer, binary, list, map, struct, skipped, Trees, no_trees, tree, value_of_field}
 use Rattle.thrift_core.specs.declared.fault.ThriftFault.{ThriftFault}

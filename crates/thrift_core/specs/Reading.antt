@@ -3,8 +3,8 @@ use Rattle.std.specs.Prelude.{◌≡◌, ℕ, zero, suc, ◌-◌, ◌/◌, ◌%�
 use Rattle.std.specs.Int.{w8, cast_signed}
 use Rattle.std.specs.Int.Signed.{le_z}
 use Rattle.lake_bytes.specs.Reading.{byte_at, bytes_at}
-use Rattle.lake_bytes.specs.Outcome.{Said, refuses, says_nothing, IsSaid}
-use Rattle.lake_bytes.specs.Results.{◌>>=◌}
+use Rattle.outcomes.specs.Outcome.{Said, refuses, says_nothing, IsSaid}
+use Rattle.outcomes.specs.Results.{◌>>=◌}
 use Rattle.lake_bytes.specs.Varint.{varint_at}
 use Rattle.lake_bytes.specs.Zigzag.{signed_at}
 use Rattle.lake_bytes.specs.declared.fault.ByteFault.{ByteFault}

@@ -2,7 +2,7 @@
 
 ghost use Rattle.std.specs.Prelude.{◌≡◌, ℕ, ◌+◌, List, ◌++◌, length, pos, Ok, IfOk, IfErr, OnErr};
 ghost use Rattle.lake_bytes.specs.Reading.{ReadsFront};
-ghost use Rattle.lake_bytes.specs.Varint.{IsBytes};
+ghost use Rattle.outcomes.specs.Bytes.{IsBytes};
 ghost use Rattle.thrift_core.specs.Tree.{Tree};
 ghost use Rattle.thrift_core.specs.Spelling.{SpellsStruct};
 ghost use Rattle.thrift_core.specs.Reading.{Reads, ReadsExactly, ThriftGives, struct_at, boolean_ahead, byte_number_ahead, integer_ahead, double_ahead, binary_ahead, flag_ahead, value_ahead, repeated, entry_ahead, field_ahead, fields_ahead, list_ahead, map_ahead, struct_ahead};

@@ -6,9 +6,9 @@ use Rattle.lake_script.specs.Runs.{Tells}
 use Rattle.lake_script.specs.Told.{is_bad}
 use Rattle.lake_script.proofs.StreamLemmas.{Appends-both}
 use Rattle.script_lines.specs.Lines.{Reading, asks, bad, reading_of, skipped}
-use Rattle.session_laws.specs.Sessions.{Job, Outcome}
+use Rattle.stream_world.specs.JobSessions.{Job, Outcome}
 use Rattle.store_core.specs.Objects.{Objects}
-use Rattle.stream_model.specs.Events.{Event}
+use Rattle.stream_world.specs.Events.{Event}
 use Rattle.world_script.specs.Doing.{Answers, IsCutOff}
 use Rattle.world_script.specs.Playing as playing
 use Rattle.world_script.specs.Playing.{HasPlayed, HasPlayedText, Plays, PlaysInPart, PlaysText}

@@ -4,10 +4,10 @@ use Rattle.std.specs.BTreeMap.{get_by_text}
 use Rattle.script_lines.specs.Lines as lines
 use Rattle.script_lines.specs.Lines.{Statement, Task}
 use Rattle.script_lines.specs.declared.kind.Kind.{Kind}
-use Rattle.session_laws.specs.Sessions.{Job, Outcome}
+use Rattle.stream_world.specs.JobSessions.{Job, Outcome}
 use Rattle.store_core.specs.Objects.{Objects}
-use Rattle.stream_model.specs.Events.{Event, Happens, die}
-use Rattle.stream_model.specs.Worlds.{World}
+use Rattle.stream_world.specs.Events.{Event, Happens, die}
+use Rattle.stream_world.specs.Worlds.{World}
 use Rattle.stream_world.specs.Standing.{HasHappened, TellsAs, WorldStands}
 use Rattle.stream_world.specs.declared.world.World as code_world
 use Rattle.world_script.specs.Acting.{CameBy}

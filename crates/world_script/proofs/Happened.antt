@@ -3,17 +3,17 @@ use Rattle.std.proofs.Common.{◌≡◌, ℕ, List, [], ◌∷◌, ◌++◌, Boo
 use Rattle.delta_actions.specs.Commit.{lines_of}
 use Rattle.lake_script.specs.Told.{ArePutHere, IsPutHere}
 use Rattle.lake_script.specs.Tries.{IsLook}
-use Rattle.log_laws.specs.Sound.{IsSoundStore}
+use Rattle.stream_world.specs.SoundStores.{IsSoundStore}
 use Rattle.script_lines.specs.Lines as lines
 use Rattle.script_lines.specs.Lines.{Reading, Statement, Task, asks, reading_of, skipped}
 use Rattle.script_lines.specs.declared.kind.Kind.{Kind}
 use Rattle.script_lines.specs.declared.kind.Kind.TheVariants.{Pass}
-use Rattle.session_laws.specs.Sessions.{Job, Outcome}
+use Rattle.stream_world.specs.JobSessions.{Job, Outcome}
 use Rattle.store_core.specs.Objects.{Objects}
-use Rattle.stream_model.specs.Events.{Event, Happens, IsWorldOf, Ran, act, answer, begin, die, land, with_told}
-use Rattle.stream_model.specs.Events as events
-use Rattle.stream_model.specs.Headline.{IsHeadline}
-use Rattle.stream_model.specs.Worlds.{World}
+use Rattle.stream_world.specs.Events.{Event, Happens, IsWorldOf, Ran, act, answer, begin, die, land, with_told}
+use Rattle.stream_world.specs.Events as events
+use Rattle.stream_world.specs.Headline.{IsHeadline}
+use Rattle.stream_world.specs.Worlds.{World}
 use Rattle.stream_world.specs.Standing.{taking}
 use Rattle.table_model.specs.Table.{Entry}
 use Rattle.table_store.specs.Holds.{Holds}

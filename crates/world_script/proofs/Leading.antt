@@ -3,9 +3,9 @@ use Rattle.std.proofs.Common.{◌≡◌, ℕ, List, [], ◌++◌, Bool, true, fa
 use Rattle.script_lines.specs.declared.kind.Kind.{Kind}
 use Rattle.script_lines.specs.declared.kind.Kind.TheVariants.{Pass}
 use Rattle.store_core.specs.Objects.{Objects}
-use Rattle.session_laws.specs.Sessions.{Job, Outcome}
-use Rattle.stream_model.specs.Events.{Event}
-use Rattle.stream_model.specs.Worlds.{World}
+use Rattle.stream_world.specs.JobSessions.{Job, Outcome}
+use Rattle.stream_world.specs.Events.{Event}
+use Rattle.stream_world.specs.Worlds.{World}
 use Rattle.stream_world.specs.Standing.{TellsAs, WorldStands}
 use Rattle.stream_world.specs.declared.table_session.Outcome as code_outcome
 use Rattle.stream_world.specs.declared.world.World as code_world

@@ -9,8 +9,8 @@ use Rattle.store_core.specs.Turns.{puts_sent}
 use Rattle.stream_world.specs.declared.actor.Actor as actor
 use Rattle.table_log.specs.Restoring.{RestoresWell}
 use Rattle.store_core.specs.Objects.{Objects}
-use Rattle.session_laws.specs.Sessions.{Job, Outcome}
-use Rattle.stream_model.specs.Events.{CanBegin, Event, Happens, begin, die, land, with_told}
+use Rattle.stream_world.specs.JobSessions.{Job, Outcome}
+use Rattle.stream_world.specs.Events.{CanBegin, Event, Happens, begin, die, land, with_told}
 use Rattle.store_core.specs.declared.store.Put.{Put}
 use Rattle.store_core.specs.declared.store.Put.TheVariants as puts
 use Rattle.store_core.specs.declared.fault.StoreFault.{StoreFault}
@@ -18,7 +18,7 @@ use Rattle.store_core.specs.declared.fault.StoreFault.TheVariants as store_fault
 use Rattle.lake_script.specs.ReplyView.{reply_text}
 use Rattle.lake_script.specs.declared.reply.LineReply.TheVariants as replies
 use Rattle.script_lines.specs.Lines as lines
-use Rattle.stream_model.specs.Worlds.{World}
+use Rattle.stream_world.specs.Worlds.{World}
 use Rattle.stream_world.specs.Sessions.{outcome_view}
 use Rattle.stream_world.specs.Standing.{HasHappened, LandsAs, SlotStands, TellsAs, WorldStands, landing_told}
 use Rattle.stream_world.specs.declared.table_session.Outcome as code_outcome

@@ -6,7 +6,7 @@ use Rattle.session_core.specs.declared.asking.Reply.TheVariants as replies
 use Rattle.session_core.specs.declared.asking.Request.{Request}
 use Rattle.session_core.specs.declared.asking.Request.TheVariants as requests
 use Rattle.store_core.specs.Objects.{Objects}
-use Rattle.stream_model.specs.Worlds.{Actor, Hand, World, asking, ended, fresh, waiting}
+use Rattle.stream_world.specs.Worlds.{Actor, Hand, World, asking, ended, fresh, waiting}
 use Rattle.stream_world.specs.Left.{asks_call, asks_hand, takes_hand, takes_step}
 use Rattle.stream_world.specs.Standing.{HandStands, HasEnded, SlotStands, WorldStands, slot_at}
 use Rattle.stream_world.specs.declared.actor.Actor as code

@@ -5,9 +5,9 @@ use Rattle.script_lines.specs.declared.kind.Kind.{Kind}
 use Rattle.script_lines.specs.declared.kind.Kind.TheVariants as kinds
 use Rattle.store_core.specs.Objects.{Objects}
 use Rattle.session_core.specs.Talks.{Asked, Talk, Told, get_object, list_names, put_commit, put_file}
-use Rattle.session_laws.specs.Sessions.{Job, Outcome}
-use Rattle.stream_model.specs.Events.{CanBegin, Event, Fits, HasActor, Happens, Takes, act, acts, answer, begin, begins, begins_now, dies, ends, goes_on, lands, lose_answer, loses, nothing_happens, takes}
-use Rattle.stream_model.specs.Worlds.{Actor, Hand, How, World, acted, asking, ended, fresh, late, lost, once, short, told_by, told_how, twice, waiting, with_actor}
+use Rattle.stream_world.specs.JobSessions.{Job, Outcome}
+use Rattle.stream_world.specs.Events.{CanBegin, Event, Fits, HasActor, Happens, Takes, act, acts, answer, begin, begins, begins_now, dies, ends, goes_on, lands, lose_answer, loses, nothing_happens, takes}
+use Rattle.stream_world.specs.Worlds.{Actor, Hand, How, World, acted, asking, ended, fresh, late, lost, once, short, told_by, told_how, twice, waiting, with_actor}
 use Rattle.stream_world.specs.Jobs.{IsMetAs, IsMetIn}
 use Rattle.stream_world.specs.Standing.{HasHappened, TellsAs, WorldStands, taking}
 use Rattle.stream_world.specs.declared.table_session.Outcome as code_outcome

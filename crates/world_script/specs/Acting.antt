@@ -3,10 +3,10 @@ use Rattle.std.specs.Prelude.{◌≡◌, ℕ, List, [], ◌∷◌, ◌++◌, Boo
 use Rattle.script_lines.specs.declared.kind.Kind.{Kind}
 use Rattle.script_lines.specs.declared.kind.Kind.TheVariants.{Pass, Lost, Mute, Late, Twice}
 use Rattle.session_core.specs.Talks.{Asked, Told, put_commit, told_memory}
-use Rattle.session_laws.specs.Sessions.{Job, Outcome}
-use Rattle.stream_model.specs.Events.{Event, Happens, act, answer}
-use Rattle.stream_model.specs.Worlds as worlds
-use Rattle.stream_model.specs.Worlds.{Hand, How, World, asking, ended, fresh, waiting}
+use Rattle.stream_world.specs.JobSessions.{Job, Outcome}
+use Rattle.stream_world.specs.Events.{Event, Happens, act, answer}
+use Rattle.stream_world.specs.Worlds as worlds
+use Rattle.stream_world.specs.Worlds.{Hand, How, World, asking, ended, fresh, waiting}
 use Rattle.stream_world.specs.Jobs.{IsMetIn}
 use Rattle.stream_world.specs.Standing.{WorldStands, TellsAs, taking}
 use Rattle.stream_world.specs.declared.table_session.Outcome as code_outcome

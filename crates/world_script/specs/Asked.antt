@@ -4,7 +4,7 @@ use Rattle.script_lines.specs.Lines as lines
 use Rattle.script_lines.specs.Lines.{Task}
 use Rattle.sink_core.specs.SinkSessions.{appends, closes}
 use Rattle.log_offsets.specs.Offsets.{offset_of}
-use Rattle.session_laws.specs.Sessions.{Job, checkpoints, creates, reads, streams}
+use Rattle.stream_world.specs.JobSessions.{Job, checkpoints, creates, reads, streams}
 use Rattle.stream_world.specs.Jobs.{new_load}
 
 -- the job of a task, of which so many versions are tried; none, where the offset of a read can't be read

@@ -6,10 +6,10 @@ use Rattle.lake_script.specs.Replies.{bad_line}
 use Rattle.lake_script.specs.declared.reply.LineReply.{LineReply}
 use Rattle.script_lines.specs.Lines.{Reading, Statement, Task, asks, bad, skipped}
 use Rattle.script_lines.specs.declared.kind.Kind.{Kind}
-use Rattle.session_laws.specs.Sessions.{Job, Outcome}
+use Rattle.stream_world.specs.JobSessions.{Job, Outcome}
 use Rattle.store_core.specs.Objects.{Objects}
-use Rattle.stream_model.specs.Events.{Event, Happens, begin}
-use Rattle.stream_model.specs.Worlds.{World}
+use Rattle.stream_world.specs.Events.{Event, Happens, begin}
+use Rattle.stream_world.specs.Worlds.{World}
 use Rattle.stream_world.specs.Sessions.{outcome_view}
 use Rattle.stream_world.specs.Standing.{TellsAs, WorldStands}
 use Rattle.stream_world.specs.declared.table_session.Outcome as code_outcome

@@ -2,13 +2,13 @@
 use Rattle.std.specs.Prelude.{◌≡◌, ◌⊎◌, ℕ, List, Result, Ok, Err}
 use Rattle.batch_core.specs.Refusals.{refusal_text, refusal_view}
 use Rattle.commit_core.specs.Texts.{create_fault_text, refused}
-use Rattle.lake_bytes.specs.Lines.{with_newline}
+use Rattle.outcomes.specs.Lines.{with_newline}
 use Rattle.lake_script.specs.Checkpoints.{checkpointed_at}
 use Rattle.lake_script.specs.Replies.{created, outcome_text}
 use Rattle.lake_script.specs.Runs.{no_room_to_read}
 use Rattle.lake_script.specs.Told.{not_yet}
 use Rattle.schema_tree.specs.Schema.{tree_of}
-use Rattle.session_laws.specs.Sessions.{Outcome, checkpoint, creation, load, read, stream}
+use Rattle.stream_world.specs.JobSessions.{Outcome, checkpoint, creation, load, read, stream}
 use Rattle.snapshot_core.specs.FaultTexts as snapshots
 use Rattle.source_core.specs.TailFaults as tails
 use Rattle.source_core.specs.TailViews.{handed_view}

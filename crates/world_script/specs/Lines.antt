@@ -1,6 +1,6 @@
 -- What each line of a script does to a scene: the events that it is, what sessions told by them, and its reply.
 use Rattle.std.specs.Prelude.{◌≡◌, ℕ, List, [], ◌∷◌, true, false, ◌≤◌, Option, None, Some, codes}
-use Rattle.lake_bytes.specs.Lines.{with_newline}
+use Rattle.outcomes.specs.Lines.{with_newline}
 use Rattle.commit_core.specs.Texts.{refused}
 use Rattle.lake_script.specs.Replies.{fault_text, noted}
 use Rattle.lake_script.specs.Runs.{Executes, IsWantOfMemory}
@@ -12,14 +12,14 @@ use Rattle.lake_script.specs.declared.faults.Fault.TheVariants.{NoActor, NoSuchN
 use Rattle.script_lines.specs.Lines as lines
 use Rattle.script_lines.specs.Lines.{Statement, Task}
 use Rattle.script_lines.specs.declared.kind.Kind.{Kind}
-use Rattle.session_laws.specs.Sessions.{Job, Outcome}
+use Rattle.stream_world.specs.JobSessions.{Job, Outcome}
 use Rattle.source_core.specs.TailFaults as tails
 use Rattle.source_core.specs.Tailing.{bad_offset}
 use Rattle.store_core.specs.Objects.{Objects}
 use Rattle.store_core.specs.declared.store.Put.{Put}
 use Rattle.store_core.specs.declared.store.Put.TheVariants as puts
-use Rattle.stream_model.specs.Events.{Event, Happens, begin, die, land, with_told}
-use Rattle.stream_model.specs.Worlds.{World}
+use Rattle.stream_world.specs.Events.{Event, Happens, begin, die, land, with_told}
+use Rattle.stream_world.specs.Worlds.{World}
 use Rattle.stream_world.specs.Standing.{landing_told}
 use Rattle.world_script.specs.Acting.{Leads, LeadsThrough, Meets, hand_at, next_at}
 use Rattle.world_script.specs.declared.acting.Next.TheVariants as nexts

@@ -2,13 +2,13 @@
 use Rattle.std.specs.Prelude.{◌≡◌, ◌+◌, ℕ, List, [], ◌∷◌, ◌++◌, length}
 use Rattle.delta_actions.specs.Commit.{lines_of}
 use Rattle.lake_script.specs.Replies.{bad_line}
-use Rattle.log_laws.specs.Sound.{IsSoundStore}
+use Rattle.stream_world.specs.SoundStores.{IsSoundStore}
 use Rattle.script_lines.specs.Lines.{Statement, asks, bad, reading_of, skipped}
-use Rattle.session_laws.specs.Sessions.{Job, Outcome}
+use Rattle.stream_world.specs.JobSessions.{Job, Outcome}
 use Rattle.store_core.specs.Objects.{Objects}
-use Rattle.stream_model.specs.Events.{Event, IsWorldOf}
-use Rattle.stream_model.specs.Worlds.{World}
-use Rattle.stream_model.specs.Headline.{IsHeadline}
+use Rattle.stream_world.specs.Events.{Event, IsWorldOf}
+use Rattle.stream_world.specs.Worlds.{World}
+use Rattle.stream_world.specs.Headline.{IsHeadline}
 use Rattle.table_model.specs.Table.{Entry}
 use Rattle.table_store.specs.Holds.{Holds}
 use Rattle.table_store.specs.Schema.{Schema}

@@ -3,7 +3,7 @@ use Rattle.std.specs.Prelude.{◌≡◌, ◌+◌, ℕ, List, Bool, false, Option
 use Rattle.std.specs.BTreeMap.{get_by_text}
 use Rattle.store_core.specs.Objects.{Objects}
 use Rattle.script_lines.specs.declared.kind.Kind.{Kind}
-use Rattle.stream_model.specs.Worlds.{World}
+use Rattle.stream_world.specs.Worlds.{World}
 use Rattle.stream_world.specs.Standing.{WorldStands, quiet_world}
 use Rattle.world_script.specs.declared.part.Part.{Part}
 use Rattle.world_script.specs.declared.scene.Scene as code

@@ -1,6 +1,6 @@
 // How an actor's session is led on.
 ghost use Rattle.std.specs.Prelude.{◌≡◌, ◌<◌, ◌≢◌, ◌&&◌, not, None, Some, true, false};
-ghost use Rattle.stream_model.specs.Worlds as worlds;
+ghost use Rattle.stream_world.specs.Worlds as worlds;
 ghost use Rattle.stream_world.specs.Jobs.{how_view};
 ghost use Rattle.stream_world.specs.Left.{calls_left};
 ghost use Rattle.stream_world.specs.Standing.{WorldStands, slot_at};

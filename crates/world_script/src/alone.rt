@@ -3,7 +3,7 @@ ghost use Rattle.std.specs.Prelude.{◌≡◌, ◌≢◌, ◌<◌, ◌^◌, Some
 ghost use Rattle.lake_script.specs.ReplyView.{reply_text};
 ghost use Rattle.lake_script.specs.Runs.{IsWantOfMemory};
 ghost use Rattle.script_lines.specs.Lines.{IsTimelyTask, create, task, task_view};
-ghost use Rattle.stream_model.specs.Worlds as worlds;
+ghost use Rattle.stream_world.specs.Worlds as worlds;
 ghost use Rattle.stream_world.specs.Jobs.{job_view};
 ghost use Rattle.stream_world.specs.Standing.{WorldStands};
 ghost use Rattle.world_script.specs.Acting.{hand_at, next_at};

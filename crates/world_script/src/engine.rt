@@ -28,7 +28,7 @@ use script_lines::{Reading, first_line, reading_of};
 use std::alloc::Global;
 use std::io::{Read, Write};
 use store_core::Store;
-use stream_model::every_world;
+use stream_world::every_world;
 
 /// How a run ended, and the store that it left.
 #[derive(Drop)]

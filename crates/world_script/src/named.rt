@@ -1,7 +1,7 @@
 // The lines that name an actor which was started.
 ghost use Rattle.std.specs.Prelude.{◌≡◌, ◌≢◌, Some};
 ghost use Rattle.lake_script.specs.ReplyView.{reply_text};
-ghost use Rattle.stream_model.specs.Worlds as worlds;
+ghost use Rattle.stream_world.specs.Worlds as worlds;
 ghost use Rattle.stream_world.specs.Standing.{WorldStands};
 ghost use Rattle.world_script.specs.Acting.{CameBy, hand_at, next_at};
 ghost use Rattle.world_script.specs.Doing.{ComesToNamed};

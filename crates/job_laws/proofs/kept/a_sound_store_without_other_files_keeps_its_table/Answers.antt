@@ -1,5 +1,5 @@
 use Rattle.lake_script.proofs.KeptPlan.{beside}
-use Rattle.read_laws.proofs.Callers.{sound_kept}
+use Rattle.lake_script.proofs.Callers.{sound_kept}
 use Rattle.job_laws.proofs.kept.a_sound_store_without_other_files_keeps_its_table.Goals as goal
 
 pub returns-clause-keeps : goal.returns-clause-keeps

@@ -1,6 +1,6 @@
 use Rattle.std.proofs.Common.{◌≡◌, Err, ◌∙◌, sym, ap, subst, refl, rules}
 use Rattle.lake_bytes.specs.Hybrid.{hybrid_at, values_of}
-use Rattle.lake_bytes.specs.Varint.{IsBytes}
+use Rattle.outcomes.specs.Bytes.{IsBytes}
 use Rattle.lake_bytes.specs.declared.run.HybridError.{HybridError}
 use Rattle.lake_bytes.proofs.HybridLemmas.{hybrid_found, hybrid_stands, only_memory}
 use Rattle.lake_bytes.proofs.RunLemmas.{done_parts}

@@ -1,7 +1,7 @@
 use Rattle.std.proofs.Common.{Err, ◌∙◌, sym, ap, arith, rules}
 use Rattle.lake_bytes.specs.Hybrid.{hybrid_at, values_of}
 use Rattle.lake_bytes.specs.Internal.{says}
-use Rattle.lake_bytes.specs.Outcome.{IsSaid}
+use Rattle.outcomes.specs.Outcome.{IsSaid}
 use Rattle.lake_bytes.specs.declared.run.HybridError.{HybridError}
 use Rattle.lake_bytes.proofs.HybridLemmas.{all_read, nothing_read, run_read, run_said}
 use Rattle.lake_bytes.proofs.RunLemmas.{done}

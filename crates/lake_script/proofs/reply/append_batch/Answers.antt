@@ -1,6 +1,6 @@
 use Rattle.std.proofs.Common.{rules, Ok, Err, ap, refl, subst, ◌∙◌, sym}
 use Rattle.std.specs.Str.{IsUtf8}
-use Rattle.lake_bytes.specs.Outcome.{IsSaid}
+use Rattle.outcomes.specs.Outcome.{IsSaid}
 use Rattle.json_text.specs.Rows.{rows_data}
 use Rattle.sink_core.specs.Appending.{with_append, MayAppend, MayHoldFile, PutsWell}
 use Rattle.batch_core.specs.Refusals.{refusal_view, says}

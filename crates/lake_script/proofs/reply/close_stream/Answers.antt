@@ -1,6 +1,6 @@
 use Rattle.std.proofs.Common.{rules, Ok, Err, ap, refl, subst, ◌∙◌, sym}
 use Rattle.std.specs.Str.{IsUtf8}
-use Rattle.lake_bytes.specs.Outcome.{IsSaid}
+use Rattle.outcomes.specs.Outcome.{IsSaid}
 use Rattle.sink_core.specs.Closes.{with_close, ClosesWell, MayClose}
 use Rattle.batch_core.specs.Refusals.{refusal_view, says}
 use Rattle.sink_core.proofs.Callers.{closed_alike, close_plan_alike}

@@ -1,5 +1,5 @@
 use Rattle.std.proofs.Common.{◌≡◌, ◌≢◌, false, true, List, Result, Err, ℕ, inl, ap, refl, sym, ◌∙◌}
-use Rattle.lake_bytes.specs.Outcome.{IsSaid}
+use Rattle.outcomes.specs.Outcome.{IsSaid}
 use Rattle.source_core.specs.TailFaults.{refusal_view, says}
 use Rattle.source_core.specs.Tailing.{ReadRefusal, tailed}
 use Rattle.source_core.specs.declared.tail_fault.TailFault.{TailFault}

@@ -1,5 +1,5 @@
 use Rattle.std.proofs.Common.{◌≡◌, ◌-◌}
-use Rattle.lake_bytes.proofs.Callers.{with_front_beside}
+use Rattle.outcomes.proofs.Callers.{with_front_beside}
 use Rattle.row_core.specs.Views.{row_views}
 use Rattle.page_cells.specs.Texts.{is_proper}
 use Rattle.page_cells.specs.Plain.{values_at}

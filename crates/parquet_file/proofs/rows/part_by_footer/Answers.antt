@@ -1,8 +1,8 @@
 use Rattle.std.proofs.Common.{rules, ◌≡◌, eqb, true, false, length, ◌++◌, Some, Ok, Err, refl, ap, ◌∙◌}
 use Rattle.std.proofs.lemmas.Bool.{eqb-true}
 use Rattle.std.proofs.lemmas.Result.{err_from_is_err_and}
-use Rattle.lake_bytes.specs.Outcome.{IsSaid}
-use Rattle.lake_bytes.proofs.Callers.{said_too}
+use Rattle.outcomes.specs.Outcome.{IsSaid}
+use Rattle.outcomes.proofs.Callers.{said_too}
 use Rattle.row_core.specs.Views.{row_views}
 use Rattle.schema_tree.specs.Schema.{tree_of}
 use Rattle.shred.specs.Parts.{part_of}

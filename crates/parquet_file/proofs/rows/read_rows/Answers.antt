@@ -1,6 +1,6 @@
 use Rattle.std.proofs.Common.{ℕ, ◌≤◌, Ok, arith}
 use Rattle.std.proofs.lemmas.Result.{err_from_is_err_and}
-use Rattle.lake_bytes.proofs.Callers.{said_too}
+use Rattle.outcomes.proofs.Callers.{said_too}
 use Rattle.schema_tree.specs.Schema.{tree_of}
 use Rattle.parquet_file.specs.Outcome.{says_of_rows}
 use Rattle.parquet_file.specs.Reading.{part_at, rows_at}

@@ -3,7 +3,7 @@ use Rattle.thrift_core.specs.View.{views}
 use Rattle.thrift_core.specs.Fields.{each}
 use Rattle.parquet_footer.specs.Metadata.{chunk_of}
 use Rattle.parquet_footer.specs.Views.{chunk_views}
-use Rattle.lake_bytes.proofs.Callers.{with_front}
+use Rattle.outcomes.proofs.Callers.{with_front}
 use Rattle.parquet_footer.proofs.metadata.chunks.Given as goal
 
 abbrev pub invariant-loop-member : goal.invariant-loop-member

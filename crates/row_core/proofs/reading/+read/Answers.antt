@@ -5,7 +5,7 @@ use Rattle.std.proofs.lemmas.Result.{err_from_is_err_and}
 use Rattle.serde_json.specs.Data.{null, object}
 use Rattle.serde_json.specs.Find.{get}
 use Rattle.json_text.specs.View.{view as json_view, named_view, members_view}
-use Rattle.lake_bytes.specs.Outcome.{Gives, IsSaid}
+use Rattle.outcomes.specs.Outcome.{Gives, IsSaid}
 use Rattle.schema_tree.specs.Limits.{is_sound}
 use Rattle.schema_tree.specs.Tree.{fields_of}
 use Rattle.schema_tree.specs.View.{field_view, field_views}

@@ -1,7 +1,7 @@
 use Rattle.std.proofs.Common.{◌≡◌, drop}
 use Rattle.serde_json.specs.Data.{object}
 use Rattle.json_text.specs.View.{named_view, members_view}
-use Rattle.lake_bytes.proofs.Callers.{with_front}
+use Rattle.outcomes.proofs.Callers.{with_front}
 use Rattle.schema_tree.specs.Tree.{fields_of}
 use Rattle.schema_tree.specs.View.{field_views}
 use Rattle.row_core.specs.Reading.{field_values}

@@ -1,6 +1,6 @@
 use Rattle.std.proofs.Common.{◌≡◌, List, Vec, Global, Result, Ok, Err, sym, ◌∙◌}
 use Rattle.std.specs.Prelude.{IfOk, IfErr}
-use Rattle.lake_bytes.specs.Outcome.{Gives, says_nothing}
+use Rattle.outcomes.specs.Outcome.{Gives, says_nothing}
 use Rattle.row_core.specs.Rows.{Row}
 use Rattle.row_core.specs.Views.{row_views}
 use Rattle.row_core.specs.declared.value.Value.{Value}

@@ -1,5 +1,5 @@
 use Rattle.std.proofs.Common.{◌≡◌, ◌-◌}
-use Rattle.lake_bytes.proofs.Callers.{with_front}
+use Rattle.outcomes.proofs.Callers.{with_front}
 use Rattle.row_core.specs.Views.{row_views}
 use Rattle.shred.specs.Assembly.{rows_made}
 use Rattle.shred.specs.Views.{shape_view, reader_views}

@@ -1,5 +1,5 @@
 use Rattle.std.proofs.Common.{◌≡◌, drop}
-use Rattle.lake_bytes.proofs.Callers.{with_front}
+use Rattle.outcomes.proofs.Callers.{with_front}
 use Rattle.shred.specs.Assembly.{cells_of_columns}
 use Rattle.shred.specs.Views.{column_views, reader_views}
 use Rattle.shred.proofs.cells.readers_of.Given as goal

@@ -1,7 +1,7 @@
 use Rattle.std.proofs.Common.{◌≡◌, ◌-◌, ◌≤◌, ◌^◌, min, Result, Ok, Err, sym, ap, ◌∙◌, subst, arith}
 use Rattle.std.proofs.lemmas.Result.{err_from_is_err_and}
-use Rattle.lake_bytes.specs.Outcome.{IsSaid}
-use Rattle.lake_bytes.proofs.Callers.{said_too}
+use Rattle.outcomes.specs.Outcome.{IsSaid}
+use Rattle.outcomes.proofs.Callers.{said_too}
 use Rattle.row_core.specs.Views.{row_views}
 use Rattle.shred.specs.Faults.{Fault, says}
 use Rattle.shred.specs.Assembly.{assembled, cells_of_columns, row_count, rows_made}

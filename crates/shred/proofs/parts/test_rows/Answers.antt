@@ -2,7 +2,7 @@ use Rattle.std.proofs.Common.{◌≡◌, ◌==◌, ℕ, false, ◌+◌, ◌-◌,
 use Rattle.std.proofs.lemmas.Bool.Decides.{nat_tests}
 use Rattle.std.proofs.lemmas.List.{length-map}
 use Rattle.std.proofs.lemmas.Result.{err_from_is_err_and}
-use Rattle.lake_bytes.proofs.Callers.{said_too}
+use Rattle.outcomes.proofs.Callers.{said_too}
 use Rattle.shred.specs.Assembly.{heads}
 use Rattle.shred.specs.Faults.{says}
 use Rattle.shred.specs.Levels.{row_tested, tested, rows_left, AreLong}

@@ -1,5 +1,5 @@
 use Rattle.std.proofs.Common.{◌≡◌, drop}
-use Rattle.lake_bytes.proofs.Callers.{with_front_beside}
+use Rattle.outcomes.proofs.Callers.{with_front_beside}
 use Rattle.row_core.specs.Views.{row_views}
 use Rattle.shred.specs.Assembly.{made_fields}
 use Rattle.shred.specs.Shape.{fields_of}

@@ -1,5 +1,5 @@
 use Rattle.std.proofs.Common.{◌≡◌}
-use Rattle.stream_model.specs.Worlds.{World}
+use Rattle.stream_world.specs.Worlds.{World}
 use Rattle.stream_world.specs.Left.{calls_left}
 use Rattle.stream_world.specs.Standing.{WorldStands, slot_at}
 use Rattle.world_script.specs.Acting.{hand_at, next_at}

@@ -1,6 +1,6 @@
 use Rattle.std.proofs.Common.{◌∙◌, sym, subst}
-use Rattle.stream_model.specs.Events.{act}
-use Rattle.stream_model.specs.Worlds.{How}
+use Rattle.stream_world.specs.Events.{act}
+use Rattle.stream_world.specs.Worlds.{How}
 use Rattle.stream_world.specs.Standing.{HasHappened, slot_at}
 use Rattle.std.proofs.Common.{None}
 use Rattle.world_script.specs.Slots.{short_in}

@@ -1,5 +1,5 @@
 use Rattle.std.proofs.Common.{Some, refl, subst}
-use Rattle.session_laws.specs.Sessions.{Job}
+use Rattle.stream_world.specs.JobSessions.{Job}
 use Rattle.script_lines.specs.Lines.{create}
 use Rattle.stream_world.specs.Jobs.{job_view}
 use Rattle.lake_script.specs.ReplyView.{reply_text}

@@ -1,5 +1,5 @@
 use Rattle.std.proofs.Common.{◌∙◌, Option, option_map, sym, ap, subst}
-use Rattle.session_laws.specs.Sessions.{Job}
+use Rattle.stream_world.specs.JobSessions.{Job}
 use Rattle.script_lines.specs.Lines.{task, task_view}
 use Rattle.stream_world.specs.Jobs.{job_view}
 use Rattle.lake_script.specs.ReplyView.{reply_text}

@@ -2,7 +2,7 @@ use Rattle.std.proofs.Common.{rules, ◌≡◌, suc, ◌≤◌, [], map, drop, g
 use Rattle.std.proofs.lemmas.List.{drop_more, drop_all, map_push}
 use Rattle.std.proofs.lemmas.Bool.Decides.{nat_tests}
 use Rattle.std.proofs.lemmas.Result.{err_from_is_err_and}
-use Rattle.lake_bytes.specs.Outcome.{IsSaid}
+use Rattle.outcomes.specs.Outcome.{IsSaid}
 use Rattle.serde_json.specs.Data.{depth, items_depth, string, object}
 use Rattle.serde_json.specs.View.{view as value_view, items_view, members_view}
 use Rattle.serde_json.specs.declared.value.Value.{the_lemmas}

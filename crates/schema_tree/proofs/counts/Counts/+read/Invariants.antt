@@ -1,6 +1,6 @@
 use Rattle.std.proofs.Common.{◌≡◌, ◌+◌, ◌*◌, [], map, drop}
 use Rattle.serde_json.specs.View.{items_view}
-use Rattle.lake_bytes.proofs.Callers.{with_front_beside}
+use Rattle.outcomes.proofs.Callers.{with_front_beside}
 use Rattle.schema_tree.specs.Internal.{met_of}
 use Rattle.schema_tree.specs.Reading.{node_of, fields_behind}
 use Rattle.schema_tree.specs.View.{field_views}

@@ -1,6 +1,6 @@
 -- Reading one value after another, as a loop does: what was read counts among the values in front.
 use Rattle.std.proofs.Common.{◌≡◌, List, ◌++◌, Result, Ok, Err, refl, ap, append_assoc}
-use Rattle.lake_bytes.specs.Results.{◌>>=◌}
+use Rattle.outcomes.specs.Results.{◌>>=◌}
 
 -- values in front, with those that are read behind them
 abbrev pub with_front : {A E : Type 0} → List A → Result (List A) E → Result (List A) E

@@ -1,0 +1,5 @@
+pub mod Bytes
+pub mod Lines
+pub mod Options
+pub mod Outcome
+pub mod Results
