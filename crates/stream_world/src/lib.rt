@@ -18,5 +18,6 @@ pub use actor::{Actor, Hand};
 pub use event::{Event, How};
 pub use job::{Creation, Job, StreamJob};
 pub use running::{Ran, run};
+pub use stream_model::every_world;
 pub use table_session::{Outcome, TableSession};
 pub use world::World;

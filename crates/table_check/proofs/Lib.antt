@@ -1,1 +1,13 @@
 pub mod Callers
+pub mod CheckpointLines
+pub mod CheckpointSame
+pub mod Counts
+pub mod FirstUnsound
+pub mod LawfulNext
+pub mod NameLists
+pub mod NoFloats
+pub mod WalkCounts
+pub mod WalkEnds
+pub mod WalkGaps
+pub mod WalkLemmas
+pub mod WalkStops
