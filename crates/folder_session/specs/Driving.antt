@@ -1,9 +1,15 @@
 -- How a session was driven that only reads.
-use Rattle.std.specs.Prelude.{◌≡◌, ◌≤◌, ℕ, ◌+◌, [], length, false, Option}
-use Rattle.store_core.specs.Objects.{Objects}
+use Rattle.std.specs.Prelude.{◌≡◌, ◌≤◌, ℕ, ◌+◌, [], length, map, false, Option, Some, None, String, Vec, string_bytes}
+use Rattle.std.specs.declared.alloc.Global.{Global}
+use Rattle.store_core.specs.Objects.{Objects, names_of}
 use Rattle.session_core.specs.Sessions.{AllAsked}
 use Rattle.session_core.specs.Shown.{Shows}
 use Rattle.session_core.specs.Talks.{Asked, Talk, Told, has_lost, heard}
+
+-- the names of these objects, if any are given
+abbrev pub AreNames : Option (Vec (String Global) Global) → Objects → Type 0
+AreNames None objects = Unit {0}
+AreNames (Some names) objects = map string_bytes names.items ≡ names_of objects
 
 -- By a talk of its own that shows these objects, in which it made just calls that its job asks for and none was lost, and behind which
 -- the outcome is one that its job tells. What was known before it was told in the talk that goes before.

@@ -1,11 +1,15 @@
-// One call of a folder, as a session that only reads asks for it.
-ghost use Rattle.std.specs.Prelude.{◌≡◌, IfOk, MatchOption, false};
+// One call of a folder, as a session that only reads asks for it: of the whole folder, or of what is seen in front of a version.
+ghost use Rattle.std.specs.Prelude.{◌≡◌, IfOk, MatchOption, false, map, string_bytes};
 ghost use Rattle.session_core.specs.Shown.{IsExact};
 ghost use Rattle.session_core.specs.Talks.{IsAnswerOf, asked_view, is_lost, kind_of, told_view};
+ghost use Rattle.store_core.specs.Objects.{Objects, names_of};
 ghost use Rattle.table_folder.specs.Faults.{CountsLoad, IsNotLoaded};
+ghost use Rattle.front_reads.specs.Fronts.{seen};
+ghost use Rattle.folder_session.specs.Driving.{AreNames};
 
+use front_reads::{is_seen, seen_names};
 use session_core::{Reply, Request};
-use std::alloc::Global;
+use std::alloc::{AllocError, Global};
 use store_core::Names;
 use table_folder::{Folder, LoadFault};
 
@@ -19,15 +23,28 @@ pub(crate) fn listed_as(names: Option<Names>) -> Reply
     }
 }
 
-/// Makes the call over a folder, whose answer is handed on as it is. A put isn't asked for; of one it would be told that there is no
-/// memory for it.
+// Those of the names that are seen.
+fn seen_of(alloc: Global, front: Option<u64>, names: Vec<String>) -> Result<Vec<String>, AllocError>
+    ensures { IfOk result (λ kept. (objects : Objects) → map string_bytes names.items ≡ names_of objects → map string_bytes kept.items ≡ names_of (seen front objects)) }
+{
+    match front {
+        Some(front) => seen_names(alloc, front, &names),
+        None => Ok(names),
+    }
+}
+
+/// Makes the call over what is seen of a folder, whose answer is handed on as it is; the names are those that were listed before, if
+/// they are given. A put isn't asked for; of one it would be told that there is no memory for it.
 pub(crate) fn ask<F: Folder>(
     alloc: Global,
     folder: &mut F,
+    names: &mut Option<Vec<String>>,
+    front: Option<u64>,
     request: Request,
 ) -> Result<Reply, LoadFault>
     ensures kind { IfOk result (λ reply. IsAnswerOf (kind_of (asked_view request)) (told_view reply)) }
-    ensures exact { F.is_steady folder.old → IfOk result (λ reply. IsExact (F.objects folder.old) (asked_view request) (told_view reply)) }
+    ensures exact { F.is_steady folder.old → AreNames names.old (F.objects folder.old) → IfOk result (λ reply. IsExact (seen front (F.objects folder.old)) (asked_view request) (told_view reply)) }
+    ensures names { (objects : Objects) → AreNames names.old objects → AreNames names.new objects }
     ensures never_lost { IfOk result (λ reply. is_lost (told_view reply) ≡ false) }
     ensures untouched { F.is_steady folder.old → F.objects folder.new ≡ F.objects folder.old }
     ensures steady { F.is_steady folder.old → F.is_steady folder.new }
@@ -37,8 +54,20 @@ pub(crate) fn ask<F: Folder>(
     ensures stays_reliable { F.is_reliable folder.old → F.is_reliable folder.new }
 {
     match request {
-        Request::List => Ok(listed_as(Names::rising(alloc, folder.names()?)?)),
-        Request::Get(name) => Ok(Reply::Object(folder.read(name.as_str())?)),
+        Request::List => {
+            let listed = match names.take() {
+                Some(names) => names,
+                None => folder.names()?,
+            };
+            let seen = seen_of(alloc, front, listed)?;
+            Ok(listed_as(Names::rising(alloc, seen)?))
+        }
+        Request::Get(name) => {
+            if !is_seen(alloc, front, name.as_str())? {
+                return Ok(Reply::Object(None));
+            }
+            Ok(Reply::Object(folder.read(name.as_str())?))
+        }
         Request::PutFile(_, _) | Request::PutCommit(_, _) => Ok(Reply::Memory),
     }
 }

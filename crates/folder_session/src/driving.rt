@@ -3,12 +3,48 @@ ghost use Rattle.std.specs.Prelude.{◌≡◌, [], false, true, None, IfOk};
 ghost use Rattle.session_core.specs.Shown.{IsRead};
 ghost use Rattle.session_core.specs.Talks.{Asked, Talk};
 ghost use Rattle.table_folder.specs.Faults.{CountsLoad, IsNotLoaded};
-ghost use Rattle.folder_session.specs.Driving.{ReadsBy};
+ghost use Rattle.front_reads.specs.Fronts.{seen};
+ghost use Rattle.folder_session.specs.Driving.{AreNames, ReadsBy};
 
 use crate::asking::ask;
 use session_core::{Session, Step};
 use std::alloc::Global;
 use table_folder::{Folder, LoadFault};
+
+/// Drives a session that only reads over what is seen of a folder's files in front of a version, or over all of them: by names that
+/// were listed before, if they are given.
+pub(crate) fn drive_seen<F: Folder, N: Session>(
+    alloc: Global,
+    folder: &mut F,
+    names: Option<Vec<String>>,
+    front: Option<u64>,
+    session: &mut N,
+) -> Result<N::Outcome, LoadFault>
+    requires new { N.awaits session.old ≡ None }
+    requires unended { N.done session.old ≡ false }
+    requires reads { (before talk : Talk) (asked : Asked) → N.asks (N.job session.old) before talk asked → IsRead asked }
+    // Over a steady folder it was driven by a talk that shows the folder's objects, as far as they are seen.
+    ensures driven { F.is_steady folder.old → AreNames names (F.objects folder.old) → (before : Talk) → N.fits before session.old [] None
+        → IfOk result (λ outcome. ReadsBy N.asks N.ends (N.job session.old) (N.left session.old) before outcome (seen front (F.objects folder.old))) }
+    ensures ended { IfOk result (λ outcome. N.done session.new ≡ true) }
+    ensures same { N.job session.new ≡ N.job session.old }
+    ensures never_lost { IfOk result (λ outcome. N.lost outcome ≡ false) }
+    ensures untouched { F.is_steady folder.old → F.objects folder.new ≡ F.objects folder.old }
+    ensures steady { F.is_steady folder.old → F.is_steady folder.new }
+
+    ensures faults { CountsLoad result (F.fault_count folder.old) (F.fault_count folder.new) }
+    ensures never_fails { F.is_reliable folder.old → IsNotLoaded result → ⊥ }
+    ensures stays_reliable { F.is_reliable folder.old → F.is_reliable folder.new }
+{
+    let mut names = names;
+    let mut reply = None;
+    'calls: loop {
+        match session.next(reply) {
+            Step::Done(outcome) => return Ok(outcome),
+            Step::Ask(request) => reply = Some(ask(alloc, folder, &mut names, front, request)?),
+        }
+    }
+}
 
 /// Drives a session that only reads over a folder's files to its end: makes each call that it asks for, and tells it the answer.
 /// Where a call fails the fault is that call's, and the session is left where it waits for its answer.
@@ -36,11 +72,5 @@ pub fn drive_reads<F: Folder, N: Session>(
     ensures never_fails { F.is_reliable folder.old → IsNotLoaded result → ⊥ }
     ensures stays_reliable { F.is_reliable folder.old → F.is_reliable folder.new }
 {
-    let mut reply = None;
-    'calls: loop {
-        match session.next(reply) {
-            Step::Done(outcome) => return Ok(outcome),
-            Step::Ask(request) => reply = Some(ask(alloc, folder, request)?),
-        }
-    }
+    drive_seen(alloc, folder, None, None, session)
 }

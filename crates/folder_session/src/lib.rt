@@ -8,6 +8,7 @@
 mod asking;
 mod beside;
 mod driving;
+mod fronts;
 mod putting;
 mod tailing;
 mod telling;

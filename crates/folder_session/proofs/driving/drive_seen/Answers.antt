@@ -1,10 +1,12 @@
-use Rattle.std.proofs.Common.{[], ◌∷◌, ◌++◌, Some, None, option_map, refl, ap, subst, ◌∙◌, arith, length-append}
+use Rattle.std.proofs.Common.{[], ◌∷◌, ◌++◌, Some, None, option_map, refl, sym, ap, subst, ◌∙◌, arith, length-append}
 use Rattle.store_core.specs.Objects.{Objects}
 use Rattle.session_core.specs.Talks.{Asked, Talk, Told, asked_view, told_view, heard}
 use Rattle.session_core.specs.Shown.{IsExact}
 use Rattle.session_core.proofs.Callers.{asked_more}
+use Rattle.front_reads.specs.Fronts.{seen}
+use Rattle.folder_session.specs.Driving.{AreNames}
 use Rattle.folder_session.proofs.Showing.{shows_also, unlost_also}
-use Rattle.folder_session.proofs.driving.drive_reads.Goals as goal
+use Rattle.folder_session.proofs.driving.drive_seen.Goals as goal
 
 pub calls-init : goal.calls-init
 calls-init g c = record {
@@ -16,7 +18,8 @@ calls-init g c = record {
   untouched = λ steady. refl;
   faults = refl;
   reliable = λ reliable. reliable;
-  driven = λ steady before fits. record {
+  names = λ objects are. are;
+  driven = λ steady are before fits. record {
     talk = [];
     taken = [];
     asked = None;
@@ -45,8 +48,9 @@ calls-preserved g c =
       untouched = λ steady. told.untouched (i.steady steady) ∙ i.untouched steady;
       faults = told.faults ∙ i.faults;
       reliable = λ reliable. told.stays_reliable (i.reliable reliable);
-      driven = λ steady before fits.
-          let d = i.driven steady before fits in
+      names = λ objects are. told.names objects (i.names objects are);
+      driven = λ steady are before fits.
+          let d = i.driven steady are before fits in
           let step = c.in-Ask.ensures.goes before d.taken d.asked d.fit in
           record {
             talk = d.talk ++ (asked, reply) ∷ [];
@@ -54,7 +58,7 @@ calls-preserved g c =
             asked = Some asked;
             fit = step.0;
             all = ap (λ (t : Talk). t ++ (asked, reply) ∷ []) d.all;
-            shown = shows_also _ d.talk asked reply d.shown (subst (λ (o : Objects). IsExact o asked reply) (i.untouched steady) (told.exact (i.steady steady)));
+            shown = shows_also _ d.talk asked reply d.shown (subst (λ (o : Objects). IsExact (seen c.args.front o) asked reply) (i.untouched steady) (told.exact (i.steady steady) (subst (λ (o : Objects). AreNames c.calls.names o) (sym (i.untouched steady)) (i.names _ are))));
             asked_for = asked_more (g.N.Session.asks (g.N.Session.job c.args.session.now) before) [] d.talk asked reply d.asked_for (rw i.job at (rw d.all at step.1));
             unlost = unlost_also d.talk asked reply d.unlost told.never_lost;
             few = let longer = length-append d.talk ((asked, reply) ∷ []) in omega (arith, d.few, steps.1, longer);

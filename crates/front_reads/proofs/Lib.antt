@@ -1,0 +1,8 @@
+pub mod FrontForce
+pub mod FrontHanding
+pub mod FrontNames
+pub mod FrontOrder
+pub mod FrontReads
+pub mod FrontStarts
+pub mod SeenNames
+pub mod StandingVersions

@@ -1,0 +1,50 @@
+//! What is seen of a store where its log is looked at in front of a version: not the commits and checkpoints from there on.
+ghost use Rattle.std.specs.Prelude.{◌≡◌, IfOk, filter, map, string_bytes};
+ghost use Rattle.front_reads.specs.Fronts.{is_in_front, is_kept, is_seen};
+
+use std::alloc::{AllocError, Global};
+use table_log::{commit_version, version_below};
+
+// Of a version in front of another, or of none.
+fn is_in_front(version: Option<u64>, front: u64) -> bool
+    ensures { result ≡ is_in_front front version }
+{
+    match version {
+        Some(version) => version < front,
+        None => true,
+    }
+}
+
+// Whether a name isn't that of a commit or a checkpoint of a version or a later one.
+fn is_kept(alloc: Global, front: u64, name: &str) -> Result<bool, AllocError>
+    ensures { IfOk result (λ kept. kept ≡ is_kept front name.now) }
+{
+    if !is_in_front(commit_version(name), front) {
+        return Ok(false);
+    }
+    let checkpoint = version_below(alloc, u64::MAX, name)?;
+    Ok(is_in_front(checkpoint, front))
+}
+
+/// Whether a name is seen in front of a version, or in the whole store where none is given. Fails where memory runs out.
+pub fn is_seen(alloc: Global, front: Option<u64>, name: &str) -> Result<bool, AllocError>
+    ensures { IfOk result (λ seen. seen ≡ is_seen front name.now) }
+{
+    match front {
+        Some(front) => is_kept(alloc, front, name),
+        None => Ok(true),
+    }
+}
+
+/// Those of these names that are seen in front of a version, in their order. Fails where memory runs out. Time is linear in the names.
+pub fn seen_names(alloc: Global, front: u64, names: &[String]) -> Result<Vec<String>, AllocError>
+    ensures { IfOk result (λ seen. map string_bytes seen.items ≡ filter (is_kept front) (map string_bytes names.now)) }
+{
+    let mut seen = Vec::new(alloc);
+    for name in names {
+        if is_kept(alloc, front, name.as_str())? {
+            seen.push(name.clone()?)?;
+        }
+    }
+    Ok(seen)
+}
