@@ -11,8 +11,13 @@ use session_core::{Session, Step};
 use std::alloc::Global;
 use table_folder::{Folder, LoadFault};
 
-/// Drives a session that only reads over what is seen of a folder's files in front of a version, or over all of them: by names that
-/// were listed before, if they are given.
+/// Drives a session that only reads over a folder's files to its end, or over what is seen of them in front of a version: makes each
+/// call that it asks for, and tells it the answer. Where a call fails the fault is that call's, and the session is left where it waits
+/// for its answer.
+///
+/// Where the session asks for the names it is told those that were listed before, if they are given, and else the folder is listed. A
+/// file is opened where it asks for that one and it is seen. Beside that and the session, the time is linear in the names, and else
+/// constant for each call.
 pub(crate) fn drive_seen<F: Folder, N: Session>(
     alloc: Global,
     folder: &mut F,
@@ -44,33 +49,4 @@ pub(crate) fn drive_seen<F: Folder, N: Session>(
             Step::Ask(request) => reply = Some(ask(alloc, folder, &mut names, front, request)?),
         }
     }
-}
-
-/// Drives a session that only reads over a folder's files to its end: makes each call that it asks for, and tells it the answer.
-/// Where a call fails the fault is that call's, and the session is left where it waits for its answer.
-///
-/// The folder is listed where the session asks for the names, and a file is opened where it asks for that one. Beside that and the
-/// session, the time is constant for each call.
-pub fn drive_reads<F: Folder, N: Session>(
-    alloc: Global,
-    folder: &mut F,
-    session: &mut N,
-) -> Result<N::Outcome, LoadFault>
-    requires new { N.awaits session.old ≡ None }
-    requires unended { N.done session.old ≡ false }
-    requires reads { (before talk : Talk) (asked : Asked) → N.asks (N.job session.old) before talk asked → IsRead asked }
-    // Over a steady folder it was driven by a talk that shows the folder's objects.
-    ensures driven { F.is_steady folder.old → (before : Talk) → N.fits before session.old [] None
-        → IfOk result (λ outcome. ReadsBy N.asks N.ends (N.job session.old) (N.left session.old) before outcome (F.objects folder.old)) }
-    ensures ended { IfOk result (λ outcome. N.done session.new ≡ true) }
-    ensures same { N.job session.new ≡ N.job session.old }
-    ensures never_lost { IfOk result (λ outcome. N.lost outcome ≡ false) }
-    ensures untouched { F.is_steady folder.old → F.objects folder.new ≡ F.objects folder.old }
-    ensures steady { F.is_steady folder.old → F.is_steady folder.new }
-
-    ensures faults { CountsLoad result (F.fault_count folder.old) (F.fault_count folder.new) }
-    ensures never_fails { F.is_reliable folder.old → IsNotLoaded result → ⊥ }
-    ensures stays_reliable { F.is_reliable folder.old → F.is_reliable folder.new }
-{
-    drive_seen(alloc, folder, None, None, session)
 }

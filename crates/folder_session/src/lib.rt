@@ -1,8 +1,7 @@
 //! Jobs on the table in a folder as sessions: each call that one asks for is a call of the folder, so that of its files just
 //! those are opened that the job looks at.
 //!
-//! [`drive_reads`] runs a session that only reads, and [`tail`] reads rows so; [`drive_beside`] runs one that puts something, which
-//! is to be saved behind it, and [`create`], [`append`], [`close`] and [`checkpoint`] do; [`snapshot`] tells what a log leaves.
+//! [`tail`] reads rows by a session that only reads; [`drive_beside`] runs one that puts something, which is to be saved behind it, and [`create`], [`append`], [`close`] and [`checkpoint`] do; [`snapshot`] tells what a log leaves.
 #![tactic(auto)]
 
 mod asking;
@@ -14,7 +13,6 @@ mod tailing;
 mod telling;
 
 pub use beside::{Beside, drive_beside};
-pub use driving::drive_reads;
 pub use putting::{append, checkpoint, close, create};
 pub use tailing::tail;
 pub use telling::snapshot;

@@ -6,13 +6,13 @@ use Rattle.std.proofs.lemmas.List.Elements.{filter-append}
 use Rattle.outcomes.specs.Results.{◌>>=◌, or_refusal}
 use Rattle.store_core.specs.Objects.{Objects, object_at}
 use Rattle.schema_tree.specs.Tree.{Tree}
-use Rattle.parquet_file.specs.Reading.{rows_at}
+use Rattle.source_core.specs.ParquetReading.{rows_at}
 use Rattle.row_core.specs.Rows.{Row}
 use Rattle.table_model.specs.declared.reading.Offset.{Offset}
 use Rattle.table_log.specs.Versions.{Version, missing, unreadable, commit}
 use Rattle.log_reading.specs.InForce.{SchemaText}
 use Rattle.log_reading.specs.Reads.{first_from, first_standing}
-use Rattle.commit_core.specs.Groups.{new_files}
+use Rattle.source_core.specs.Groups.{new_files}
 use Rattle.source_core.specs.Tailing.{Item, LogFile, ReadRefusal, ReadRows, actions_in, data_file, end_of, ended, fault_of, file_rows, found_at, hand, hand_on, handed_by, is_done, is_start, item_before, items_at, items_from, items_in, missing_file, offset_behind_rows, or_bad_file, paths_in, rows_behind, rows_left, unless_beyond, unless_gone, unless_no_file, unless_removed, version_fault}
 
 -- ---- steps of which one may be refused
