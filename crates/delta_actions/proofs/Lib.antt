@@ -6,4 +6,3 @@ pub mod Again
 pub mod PrintedLines
 pub mod Readable
 pub mod TextBytes
-pub mod Written

@@ -5,6 +5,4 @@ mod Steps
 mod Depths
 mod OneLine
 mod ReadBack
-mod Written
-mod WrittenKinds
 pub mod Callers
