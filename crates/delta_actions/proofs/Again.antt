@@ -147,19 +147,19 @@ protocol_depth : (p : ProtocolAction) → AreShallow 2 (protocol_fields p)
 protocol_depth p = (omega arith, (omega arith, (unless_empty_depth p.reader_features 2 (omega arith), (unless_empty_depth p.writer_features 2 (omega arith), tt))))
 
 format_depth : (f : Format) → is_text_map f.options ≡ true → AreShallow 1 (format_fields f)
-format_depth f h = (omega arith, (text_map_depth f.options 1 (omega arith) h, tt))
+format_depth f h = (text_map_depth f.options 1 (omega arith) h, (omega arith, tt))
 
 meta_data_depth : (m : MetaDataAction) → IsMetaData m → AreShallow 2 (meta_data_fields m)
-meta_data_depth m h = (omega arith, (omega arith, (leaf string (λ t. refl) m.name 2, (leaf string (λ t. refl) m.description 2, (fields_depth (format_fields m.format) 1 (format_depth m.format h.options), (texts_depth m.partition_columns 2 (omega arith), (leaf count_data (λ n. refl) m.created_time 2, (text_map_depth m.configuration 2 (omega arith) h.configuration, tt))))))))
+meta_data_depth m h = (text_map_depth m.configuration 2 (omega arith) h.configuration, (leaf count_data (λ n. refl) m.created_time 2, (leaf string (λ t. refl) m.description 2, (fields_depth (format_fields m.format) 1 (format_depth m.format h.options), (omega arith, (leaf string (λ t. refl) m.name 2, (texts_depth m.partition_columns 2 (omega arith), (omega arith, tt))))))))
 
 add_depth : (a : AddAction) → IsAdd a → AreShallow 2 (add_fields a)
-add_depth a h = (omega arith, (omega arith, (omega arith, (text_map_depth a.partition_values 2 (omega arith) h.partition_values, (omega arith, (leaf string (λ t. refl) a.stats 2, (map_if a.tags 2 (omega arith) h.tags, tt)))))))
+add_depth a h = (omega arith, (omega arith, (text_map_depth a.partition_values 2 (omega arith) h.partition_values, (omega arith, (omega arith, (leaf string (λ t. refl) a.stats 2, (map_if a.tags 2 (omega arith) h.tags, tt)))))))
 
 txn_depth : (t : TxnAction) → AreShallow 2 (txn_fields t)
-txn_depth t = (omega arith, (omega arith, (leaf count_data (λ n. refl) t.last_updated 2, tt)))
+txn_depth t = (omega arith, (leaf count_data (λ n. refl) t.last_updated 2, (omega arith, tt)))
 
 remove_depth : (r : RemoveAction) → AreShallow 2 (remove_fields r)
-remove_depth r = (omega arith, (omega arith, (leaf count_data (λ n. refl) r.deletion_timestamp 2, tt)))
+remove_depth r = (omega arith, (leaf count_data (λ n. refl) r.deletion_timestamp 2, (omega arith, tt)))
 
 domain_metadata_depth : (m : DomainMetadataAction) → AreShallow 2 (domain_metadata_fields m)
 domain_metadata_depth m = (omega arith, (omega arith, (omega arith, tt)))

@@ -6,3 +6,4 @@ pub mod Again
 pub mod PrintedLines
 pub mod Readable
 pub mod TextBytes
+pub mod Written

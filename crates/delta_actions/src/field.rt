@@ -9,7 +9,8 @@ ghost use Rattle.delta_actions.specs.KindLaws.{path_stands, is_path, format_stan
 
 use crate::file_path::FilePath;
 use crate::table_format::TableFormat;
-use json_fields::{FieldKind, Object, TextMap, find};
+use json::Writer;
+use json_fields::{FieldKind, TextMap, find, write_field};
 use serde_json::Value;
 use std::alloc::{AllocError, Global};
 
@@ -31,8 +32,8 @@ impl FieldKind for FilePath {
         }
     }
 
-    fn to_value(&self, alloc: Global) -> Result<Value, AllocError> {
-        Value::try_from_str(alloc, self.text())
+    fn write(&self, out: &mut Writer) -> Result<(), AllocError> {
+        out.string(self.text())
     }
 
     ghost reads_back = { path_stands };
@@ -72,11 +73,11 @@ impl FieldKind for TableFormat {
         Ok(Some(TableFormat { provider, options }))
     }
 
-    fn to_value(&self, alloc: Global) -> Result<Value, AllocError> {
-        let mut object = Object::new(alloc);
-        object.put("provider", &self.provider)?;
-        object.put("options", &self.options)?;
-        Ok(object.into_value())
+    fn write(&self, out: &mut Writer) -> Result<(), AllocError> {
+        out.begin_object()?;
+        write_field(out, "options", &self.options)?;
+        write_field(out, "provider", &self.provider)?;
+        out.end_object()
     }
 
     ghost reads_back = { format_stands };

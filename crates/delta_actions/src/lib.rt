@@ -11,6 +11,7 @@ mod names;
 mod printing;
 mod reading;
 mod table_format;
+mod writing;
 
 pub use action::{
     Action, Add, CheckpointMetadata, DomainMetadata, MetaData, Protocol, Remove, Txn,

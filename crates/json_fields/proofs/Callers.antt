@@ -5,3 +5,5 @@ pub use Rattle.json_fields.proofs.Lookup.{over_none, needed_again, optional_agai
 pub use Rattle.json_fields.proofs.Depths.{IfShallow, AreShallow, fields_depth, texts_depth, text_map_depth, unless_empty_depth, leaf, map_if}
 pub use Rattle.json_fields.proofs.OneLine.{compact_is_one_line, compact_object_opens}
 pub use Rattle.json_fields.proofs.ReadBack.{text_tokens, text_compact, text_read}
+pub use Rattle.json_fields.proofs.Written.{one_written, also, object_written, written_text, is_text}
+pub use Rattle.json_fields.proofs.WrittenKinds.{text_reads}

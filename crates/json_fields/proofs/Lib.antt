@@ -5,4 +5,6 @@ mod Steps
 mod Depths
 mod OneLine
 mod ReadBack
+mod Written
+mod WrittenKinds
 pub mod Callers

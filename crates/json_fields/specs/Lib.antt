@@ -4,5 +4,6 @@ pub mod Gives
 pub mod Views
 pub mod Printing
 pub mod Lines
+pub mod Writing
 pub mod FaultTexts
 pub mod KindLaws

@@ -1,6 +1,6 @@
 //! The kinds of a field: which JSON values are of each, what they stand for, and how they are printed.
 
-ghost use Rattle.std.specs.Prelude.{◌≡◌, ℕ, Option, Some, IfOk, option_map, string_bytes, List, Bool, true};
+ghost use Rattle.std.specs.Prelude.{◌≡◌, ℕ, Option, Some, IfOk, OnOk, option_map, string_bytes, List, Bool, true};
 ghost use Rattle.serde_json.specs.Data.{Data, string, boolean};
 ghost use Rattle.serde_json.specs.Find.{as_str, as_bool};
 ghost use Rattle.serde_json.specs.View.{view};
@@ -8,8 +8,10 @@ ghost use Rattle.json_fields.specs.Kinds.{count, texts, is_text_map, text_map};
 ghost use Rattle.json_fields.specs.KindLaws.{StandsFor, text_stands, truth_stands, count_stands, is_count, texts_stand, map_stands, is_map};
 ghost use Rattle.json_fields.specs.Printing.{count_data, IsCount, texts_data};
 ghost use Rattle.json_fields.specs.Views.{text_views, map_view};
+ghost use Rattle.json_fields.specs.Writing.{IsWritten};
 
 use crate::text_map::TextMap;
+use json::Writer;
 use serde_json::Value;
 use std::alloc::{AllocError, Global};
 
@@ -33,9 +35,10 @@ pub trait FieldKind: Sized {
     fn read(alloc: Global, value: &Value) -> Result<Option<Self>, AllocError>
         ensures { IfOk result (λ found. option_map plain found ≡ kind (view value.now)) };
 
-    /// The JSON value that it is printed as.
-    fn to_value(&self, alloc: Global) -> Result<Value, AllocError>
-        ensures { IfOk result (λ v. view v ≡ printed (plain self.now)) };
+    /// Writes the JSON value that it is printed as.
+    fn write(&self, out: &mut Writer) -> Result<(), AllocError>
+        ensures ok { OnOk result (IsWritten (printed (plain self.now)) out.old.tokens out.new.tokens) }
+        ensures before { out.new.before ≡ out.old.before };
 
     // what is printed stands for the value
     ghost reads_back: { (x : Plain) → is_printable x → StandsFor kind (printed x) x };
@@ -62,8 +65,8 @@ impl FieldKind for String {
         }
     }
 
-    fn to_value(&self, alloc: Global) -> Result<Value, AllocError> {
-        Value::try_from_str(alloc, self.as_str())
+    fn write(&self, out: &mut Writer) -> Result<(), AllocError> {
+        out.string(self.as_str())
     }
 
     ghost reads_back = { λ t h. text_stands t };
@@ -86,8 +89,8 @@ impl FieldKind for bool {
         Ok(value.as_bool())
     }
 
-    fn to_value(&self, _alloc: Global) -> Result<Value, AllocError> {
-        Ok(Value::Bool(*self))
+    fn write(&self, out: &mut Writer) -> Result<(), AllocError> {
+        out.boolean(*self)
     }
 
     ghost reads_back = { λ b h. truth_stands b };
@@ -111,8 +114,8 @@ impl FieldKind for u64 {
         Ok(value.as_u64().filter(|n| *n < 1 << 63))
     }
 
-    fn to_value(&self, _alloc: Global) -> Result<Value, AllocError> {
-        Ok(Value::from(*self))
+    fn write(&self, out: &mut Writer) -> Result<(), AllocError> {
+        out.u64(*self)
     }
 
     ghost reads_back = { count_stands };
@@ -145,12 +148,12 @@ impl FieldKind for Vec<String> {
         Ok(Some(texts))
     }
 
-    fn to_value(&self, alloc: Global) -> Result<Value, AllocError> {
-        let mut items = Vec::with_capacity(alloc, self.len())?;
+    fn write(&self, out: &mut Writer) -> Result<(), AllocError> {
+        out.begin_array()?;
         for text in self {
-            items.push(Value::try_from_str(alloc, text.as_str())?)?;
+            out.string(text.as_str())?;
         }
-        Ok(Value::Array(items))
+        out.end_array()
     }
 
     ghost reads_back = { λ ts h. texts_stand ts };
@@ -173,8 +176,8 @@ impl FieldKind for TextMap {
         TextMap::of_value(value)
     }
 
-    fn to_value(&self, _alloc: Global) -> Result<Value, AllocError> {
-        self.as_value().clone()
+    fn write(&self, out: &mut Writer) -> Result<(), AllocError> {
+        self.write_object(out)
     }
 
     ghost reads_back = { map_stands };

@@ -8,6 +8,7 @@ mod kind;
 mod laws;
 mod object;
 mod text_map;
+mod writing;
 
 pub use fault::FieldFault;
 pub use fields::{Fields, find};
@@ -17,3 +18,4 @@ pub use laws::{
 };
 pub use object::Object;
 pub use text_map::TextMap;
+pub use writing::{write_field, write_optional, write_unless_empty};

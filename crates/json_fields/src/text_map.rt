@@ -1,10 +1,14 @@
 //! A map from texts to texts or null, as `configuration` and `partitionValues` are.
 
-ghost use Rattle.std.specs.Prelude.{◌≡◌, IfOk, option_map};
+ghost use Rattle.std.specs.Prelude.{◌≡◌, ◌++◌, true, IfOk, OnOk, option_map};
+ghost use Rattle.json.specs.Tree.{json_tokens};
+ghost use Rattle.serde_json.specs.Data.{object};
 ghost use Rattle.serde_json.specs.View.{view, members_view};
+ghost use Rattle.serde_json.specs.Written.{outline};
 ghost use Rattle.json_fields.specs.Kinds.{are_texts, is_text_or_null, is_text_map, text_map, no_texts};
-ghost use Rattle.json_fields.specs.Views.{map_view};
+ghost use Rattle.json_fields.specs.Writing.{IsWritten};
 
+use json::Writer;
 use serde_json::{Map, Value};
 use std::alloc::{AllocError, Global};
 
@@ -12,9 +16,12 @@ use std::alloc::{AllocError, Global};
 #[derive(Drop)]
 pub struct TextMap {
     object: Value,
+    ghost is_map: { is_text_map (view object) ≡ true },
 }
 
 impl TextMap {
+    ghost use Rattle.json_fields.specs.Views.{map_view};
+
     /// The map without members.
     pub fn new(alloc: Global) -> TextMap
         ensures { map_view result ≡ no_texts }
@@ -35,11 +42,41 @@ impl TextMap {
         Ok(Some(TextMap { object }))
     }
 
-    /// The map as a JSON object.
-    pub(crate) fn as_value(&self) -> &Value
-        ensures { view result.now ≡ map_view self.now }
+    /// Writes the map as a JSON object.
+    pub(crate) fn write_object(&self, out: &mut Writer) -> Result<(), AllocError>
+        ensures ok { OnOk result (IsWritten (map_view self.now) out.old.tokens out.new.tokens) }
+        ensures before { out.new.before ≡ out.old.before }
     {
-        &self.object
+        match self.object.as_object() {
+            Some(members) => write_texts(members, out),
+            None => unreachable!(),
+        }
+    }
+}
+
+/// The object of these members.
+fn write_texts(members: &Map<String, Value>, out: &mut Writer) -> Result<(), AllocError>
+    requires { are_texts (members_view members.now.entries) ≡ true }
+    ensures ok { OnOk result (IsWritten (object (members_view members.now.entries)) out.old.tokens out.new.tokens) }
+    ensures before { out.new.before ≡ out.old.before }
+{
+    out.begin_object()?;
+    for (name, member) in members.iter() {
+        out.key(name.as_str())?;
+        write_text(member, out)?;
+    }
+    out.end_object()
+}
+
+/// A member, which is a text or null.
+fn write_text(member: &Value, out: &mut Writer) -> Result<(), AllocError>
+    requires { is_text_or_null (view member.now) ≡ true }
+    ensures ok { OnOk result (out.new.tokens ≡ out.old.tokens ++ json_tokens (outline (view member.now))) }
+    ensures before { out.new.before ≡ out.old.before }
+{
+    match member.as_str() {
+        Some(text) => out.string(text),
+        None => out.null(),
     }
 }
 

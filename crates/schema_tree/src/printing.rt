@@ -53,7 +53,7 @@ impl<A: Allocator> Field<A> {
         let mut object = Object::new(alloc);
         object.put_value("name", Value::try_from_str(alloc, self.name.as_str())?)?;
         object.put_value("type", self.data_type.to_value(alloc)?)?;
-        object.put("nullable", &self.nullable)?;
+        object.put_value("nullable", Value::Bool(self.nullable))?;
         object.put_value("metadata", self.metadata.value(alloc)?)?;
         Ok(object.into_value())
     }
@@ -90,7 +90,7 @@ fn array_value(alloc: Global, element: Value, contains_null: bool) -> Result<Val
     let mut object = Object::new(alloc);
     object.put_value("type", Value::try_from_str(alloc, "array")?)?;
     object.put_value("elementType", element)?;
-    object.put("containsNull", &contains_null)?;
+    object.put_value("containsNull", Value::Bool(contains_null))?;
     Ok(object.into_value())
 }
 
@@ -106,6 +106,6 @@ fn map_value(
     object.put_value("type", Value::try_from_str(alloc, "map")?)?;
     object.put_value("keyType", key)?;
     object.put_value("valueType", value)?;
-    object.put("valueContainsNull", &contains_null)?;
+    object.put_value("valueContainsNull", Value::Bool(contains_null))?;
     Ok(object.into_value())
 }

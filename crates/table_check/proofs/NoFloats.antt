@@ -110,17 +110,14 @@ protocol_plain p = one_plain (codes "protocol") (protocol_data p) (fields_plain 
 
 meta_data_plain : (m : MetaDataAction) → IsMetaData m → IsPlain (data_of (meta_data m))
 meta_data_plain m is = one_plain (codes "metaData") (meta_data_data m) (fields_plain (meta_data_fields m) (
-  refl,
+  map_plain m.configuration is.configuration,
   (
-    refl,
+    count_plain m.created_time,
     (
-      text_plain m.name,
+      text_plain m.description,
       (
-        text_plain m.description,
-        (
-          fields_plain (format_fields m.format) (refl, (map_plain m.format.options is.options, tt)),
-          (items_plain m.partition_columns, (count_plain m.created_time, (map_plain m.configuration is.configuration, tt))),
-        ),
+        fields_plain (format_fields m.format) (map_plain m.format.options is.options, (refl, tt)),
+        (refl, (text_plain m.name, (items_plain m.partition_columns, (refl, tt)))),
       ),
     ),
   ),
@@ -129,14 +126,14 @@ meta_data_plain m is = one_plain (codes "metaData") (meta_data_data m) (fields_p
 add_plain : (a : AddAction) → IsAdd a → IsPlain (data_of (add a))
 add_plain a is = one_plain (codes "add") (add_data a) (fields_plain (add_fields a) (
   refl,
-  (refl, (refl, (map_plain a.partition_values is.partition_values, (refl, (text_plain a.stats, (maps_plain a.tags is.tags, tt)))))),
+  (refl, (map_plain a.partition_values is.partition_values, (refl, (refl, (text_plain a.stats, (maps_plain a.tags is.tags, tt)))))),
 ))
 
 txn_plain : (t : TxnAction) → IsPlain (data_of (txn t))
-txn_plain t = one_plain (codes "txn") (txn_data t) (fields_plain (txn_fields t) (refl, (refl, (count_plain t.last_updated, tt))))
+txn_plain t = one_plain (codes "txn") (txn_data t) (fields_plain (txn_fields t) (refl, (count_plain t.last_updated, (refl, tt))))
 
 remove_plain : (r : RemoveAction) → IsPlain (data_of (remove r))
-remove_plain r = one_plain (codes "remove") (remove_data r) (fields_plain (remove_fields r) (refl, (refl, (count_plain r.deletion_timestamp, tt))))
+remove_plain r = one_plain (codes "remove") (remove_data r) (fields_plain (remove_fields r) (refl, (count_plain r.deletion_timestamp, (refl, tt))))
 
 domain_metadata_plain : (m : DomainMetadataAction) → IsPlain (data_of (domain_metadata m))
 domain_metadata_plain m = one_plain (codes "domainMetadata") (domain_metadata_data m) (fields_plain (domain_metadata_fields m) (refl, (refl, (refl, tt))))
