@@ -3,7 +3,7 @@ use Rattle.std.specs.Prelude.{◌==◌, ℕ, List, [], ◌∷◌, Bool, Result, 
 use Rattle.std.specs.List.{filter_map, list_any}
 use Rattle.outcomes.specs.Outcome.{IsSaid, Said, refuses, says_nothing, never_comes}
 use Rattle.outcomes.specs.Results.{◌>>=◌, refused_if}
-use Rattle.delta_actions.specs.Commit.{IsCommit, IsFirstFault, Names}
+use Rattle.delta_actions.specs.Commit.{IsCommit, IsFirstFault, TellsFault}
 use Rattle.delta_actions.specs.Action.{Action}
 use Rattle.delta_actions.specs.In.{checkpoint_metadata_in, sidecar_in}
 use Rattle.delta_actions.specs.Wrong as lines
@@ -54,7 +54,7 @@ says (errors.Fault fault) = fault_says fault
 
 -- the fault is that of the first line that can't be read
 abbrev pub IsFirstBad : List ℕ → ActionFault → Type 0
-IsFirstBad bytes fault = (line : ℕ) × (wrong : lines.Wrong) × IsFirstFault bytes line wrong × Names fault line wrong
+IsFirstBad bytes fault = (line : ℕ) × (wrong : lines.Wrong) × IsFirstFault bytes line wrong × TellsFault fault line wrong
 
 -- an error is that of a line, or memory ran out
 abbrev pub IsBadLine : List ℕ → CheckpointError → Type 0

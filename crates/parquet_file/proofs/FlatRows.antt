@@ -11,7 +11,7 @@ use Rattle.shred.specs.Fits.{is_plain}
 use Rattle.shred.specs.Mismatch.{cells_of_ways}
 use Rattle.shred.specs.Shape.{Shape, leaf, struct, Fields, no_fields, field}
 use Rattle.shred.specs.Ways.{Step, highest, level_inside, ways, ways_from}
-use Rattle.parquet_file.specs.Internal.{are_leaves, is_flat, AreSound}
+use Rattle.parquet_file.specs.Internal.{are_leaves, is_flat, AreSoundColumns}
 
 -- ---- cells that give a value
 
@@ -112,7 +112,7 @@ rows_given fs (suc n) css flat give =
 -- ---- columns
 
 columns_given : (fs : Fields) (place n : ℕ) (cs : List Column) → are_leaves fs ≡ true
-    → AllZip (IsWhole n) (ways_from place fs) cs → AreSound (map highest (ways_from place fs)) cs
+    → AllZip (IsWhole n) (ways_from place fs) cs → AreSoundColumns (map highest (ways_from place fs)) cs
     → GiveColumns fs n (cells_of_ways (ways_from place fs) cs)
 columns_given no_fields place n [] flat whole sound = tt
 columns_given no_fields place n (c ∷ cs) flat whole sound = absurd whole
@@ -137,7 +137,7 @@ cells_found rows (w ∷ ws) (c ∷ cs) whole =
 
 -- Rows are made of sound columns of as many rows each that stand side by side.
 pub flat_rows : (shape : Shape) (cs : List Column) → is_flat shape ≡ true → AreEven shape cs
-    → AreSound (map highest (ways shape)) cs → (rows : List Row) × (assembled shape cs ≡ Ok rows)
+    → AreSoundColumns (map highest (ways shape)) cs → (rows : List Row) × (assembled shape cs ≡ Ok rows)
 unfolding assembled
 flat_rows leaf cs flat even sound = absurd cc
 flat_rows (struct fs) cs flat even sound =

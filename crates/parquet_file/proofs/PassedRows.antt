@@ -15,7 +15,7 @@ use Rattle.parquet_footer.specs.Outcome.{says}
 use Rattle.parquet_footer.specs.declared.fault.FileError.{FileError}
 use Rattle.parquet_footer.specs.declared.fault.FileFault.{FileFault}
 use Rattle.parquet_schema.specs.Leaves.{LeafIn}
-use Rattle.parquet_file.specs.Internal.{is_flat, levels_of, AreSound}
+use Rattle.parquet_file.specs.Internal.{is_flat, levels_of, AreSoundColumns}
 use Rattle.parquet_file.specs.Outcome.{AddsPart}
 use Rattle.parquet_file.proofs.CodeGroups.{assembled_many}
 use Rattle.parquet_file.proofs.FlatRows.{flat_rows}
@@ -61,8 +61,8 @@ front_made shape n rows ls cs same some less none read = by_case (is_flat shape)
     by_case : (b : Bool) → is_flat shape ≡ b
         → (one : List Row) × (assembled shape (fronts n (map highest (ways shape)) cs) ≡ Ok one)
     by_case true flat =
-        let sound : AreSound (map highest (ways shape)) cs =
-        subst (λ (ts : List ℕ). AreSound ts cs) same read.sound in
+        let sound : AreSoundColumns (map highest (ways shape)) cs =
+        subst (λ (ts : List ℕ). AreSoundColumns ts cs) same read.sound in
         flat_rows shape (fronts n (map highest (ways shape)) cs) flat
         (whole_even n (ways shape) (fronts n (map highest (ways shape)) cs) front)
         (fronts_sound n (map highest (ways shape)) cs sound)

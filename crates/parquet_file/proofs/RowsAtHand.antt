@@ -22,7 +22,7 @@ use Rattle.parquet_footer.specs.declared.fault.FileFault.{FileFault}
 use Rattle.parquet_footer.specs.declared.fault.FileFault.TheVariants.{SchemaMismatch}
 use Rattle.parquet_pages.specs.declared.reader.ColumnReader.{ColumnReader}
 use Rattle.parquet_schema.specs.Leaves.{LeafIn}
-use Rattle.parquet_file.specs.Internal.{is_flat, levels_of, AreAllLeft, ArePartsOf, AreSound, HasLevels}
+use Rattle.parquet_file.specs.Internal.{is_flat, levels_of, AreAllLeft, ArePartsOf, AreSoundColumns, HasLevels}
 use Rattle.parquet_file.specs.Reading.{has_rows}
 use Rattle.parquet_file.proofs.CodeGroups.{assembled_many}
 use Rattle.parquet_file.proofs.ColumnParts.{left_even, parts_are, parts_plain}
@@ -114,12 +114,12 @@ pub record RowsLeft (shape : Shape) (ls : List LeafIn) (given : List Column) (rs
   pub columns : List Column
   pub held : AreAllLeft ls rs columns
   pub whole : AllZip (IsWhole left) (ways shape) columns
-  pub sound : AreSound (levels_of ls) columns
+  pub sound : AreSoundColumns (levels_of ls) columns
   pub kept : KeptSoFar first most old now (rows_in shape columns) (rows_in shape given) skip wanted
 
 pub rows_begun : (shape : Shape) (ls : List LeafIn) (given : List Column) (rs : List ColumnReader) (first most : ℕ)
     (old : List Row) (count : ℕ) → levels_of ls ≡ map highest (ways shape) → AreAllLeft ls rs given
-    → list_all (has_rows count) given ≡ true → AreSound (levels_of ls) given
+    → list_all (has_rows count) given ≡ true → AreSoundColumns (levels_of ls) given
     → RowsLeft shape ls given rs first most old old count first most
 rows_begun shape ls given rs first most old count same held all sound = record {
   columns = given;
@@ -174,8 +174,8 @@ module _ {shape : Shape} {ls : List LeafIn} {given : List Column} {rs : List Col
   pub rows_stop : is_flat shape ≡ true → wanted ≡ 0
       → (all : List Row) × (rows_in shape given ≡ Ok all) × (now ≡ old ++ part_of first most all)
   rows_stop flat none =
-      let sound : AreSound (map highest (ways shape)) k.columns =
-      subst (λ (tops : List ℕ). AreSound tops k.columns) same k.sound in
+      let sound : AreSoundColumns (map highest (ways shape)) k.columns =
+      subst (λ (tops : List ℕ). AreSoundColumns tops k.columns) same k.sound in
       let rest = flat_rows shape k.columns flat left_are_even sound in
       part_stops first most old now rest.0 (rows_in shape k.columns) (rows_in shape given) skip wanted k.kept
       (rw rest.1 refl) none

@@ -26,7 +26,7 @@ use Rattle.parquet_pages.specs.declared.reader.ColumnReader.{ColumnReader}
 use Rattle.parquet_pages.proofs.Callers.{chunk_sound}
 use Rattle.parquet_schema.specs.Leaves.{LeafIn}
 use Rattle.parquet_file.specs.File.{leaf_of}
-use Rattle.parquet_file.specs.Internal.{levels_of, AreAllLeft, AreSound, IsSound}
+use Rattle.parquet_file.specs.Internal.{levels_of, AreAllLeft, AreSoundColumns, IsSoundColumn}
 use Rattle.parquet_file.specs.Reading.{chunk_named, column_at, columns_at, has_rows}
 use Rattle.parquet_file.proofs.GroupSteps.{each_found}
 
@@ -120,7 +120,7 @@ column_read given chunks l c fits e =
 -- What is known of columns of which each has so many levels, one for each way.
 pub record AreRead (n : ℕ) (ls : List LeafIn) (ws : List (List Step)) (cs : List Column) : Type 0 where
   pub whole : AllZip (IsWhole n) ws cs
-  pub sound : AreSound (levels_of ls) cs
+  pub sound : AreSoundColumns (levels_of ls) cs
 
 all_read : (n : ℕ) (ls : List LeafIn) (ws : List (List Step)) (cs : List Column) → levels_of ls ≡ map highest ws
     → list_all (has_rows n) cs ≡ true → AllZip IsRead ls cs → AreRead n ls ws cs
@@ -149,32 +149,32 @@ columns_read given chunks n ls ws cs fits same e all =
 
 -- ---- and so are parts of them
 
-off_sound : (n top : ℕ) (c : Column) → IsSound top c → IsSound top (cut_off n top c)
+off_sound : (n top : ℕ) (c : Column) → IsSoundColumn top c → IsSoundColumn top (cut_off n top c)
 off_sound n top c sound = record {
   below = All-drop (λ (level : ℕ). level ≤ top) n c.levels sound.below;
   plain = All-drop (λ v. is_plain v ≡ true) (highest_in top (take n c.levels)) c.values sound.plain;
 }
 
-front_sound : (n top : ℕ) (c : Column) → IsSound top c → IsSound top (cut_out 0 n top c)
+front_sound : (n top : ℕ) (c : Column) → IsSoundColumn top c → IsSoundColumn top (cut_out 0 n top c)
 front_sound n top c sound = record {
   below = All-take (λ (level : ℕ). level ≤ top) n c.levels sound.below;
   plain = All-take (λ v. is_plain v ≡ true) (highest_in top (part_of 0 n c.levels)) c.values sound.plain;
 }
 
-pub rests_sound : (n : ℕ) (tops : List ℕ) (cs : List Column) → AreSound tops cs → AreSound tops (rests n tops cs)
+pub rests_sound : (n : ℕ) (tops : List ℕ) (cs : List Column) → AreSoundColumns tops cs → AreSoundColumns tops (rests n tops cs)
 rests_sound n [] [] sound = tt
 rests_sound n [] (c ∷ cs) sound = absurd sound
 rests_sound n (top ∷ tops) [] sound = absurd sound
 rests_sound n (top ∷ tops) (c ∷ cs) sound = (off_sound n top c sound.0, rests_sound n tops cs sound.1)
 
-pub fronts_sound : (n : ℕ) (tops : List ℕ) (cs : List Column) → AreSound tops cs → AreSound tops (fronts n tops cs)
+pub fronts_sound : (n : ℕ) (tops : List ℕ) (cs : List Column) → AreSoundColumns tops cs → AreSoundColumns tops (fronts n tops cs)
 fronts_sound n [] [] sound = tt
 fronts_sound n [] (c ∷ cs) sound = absurd sound
 fronts_sound n (top ∷ tops) [] sound = absurd sound
 fronts_sound n (top ∷ tops) (c ∷ cs) sound = (front_sound n top c sound.0, fronts_sound n tops cs sound.1)
 
 -- the columns behind so many cells have so many levels less
-pub rests_have : (rows n : ℕ) (tops : List ℕ) (cs : List Column) → AreSound tops cs → list_all (has_rows rows) cs ≡ true
+pub rests_have : (rows n : ℕ) (tops : List ℕ) (cs : List Column) → AreSoundColumns tops cs → list_all (has_rows rows) cs ≡ true
     → list_all (has_rows (rows - n)) (rests n tops cs) ≡ true
 rests_have rows n [] [] sound all = refl
 rests_have rows n [] (c ∷ cs) sound all = absurd sound

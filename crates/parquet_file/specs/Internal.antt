@@ -94,12 +94,12 @@ is_flat leaf = false
 is_flat (struct fs) = are_leaves fs
 
 -- No level is above the highest, and no value is null or a struct.
-pub record IsSound (top : ℕ) (c : Column) : Type 0 where
+pub record IsSoundColumn (top : ℕ) (c : Column) : Type 0 where
   pub below : All (λ level. level ≤ top) c.levels
   pub plain : ArePlain c
 
 -- each column is sound, one for each highest level
-abbrev pub AreSound : List ℕ → List Column → Type 0
-AreSound [] [] = Unit {0}
-AreSound (top ∷ tops) (c ∷ cs) = IsSound top c × AreSound tops cs
-AreSound _ _ = ⊥
+abbrev pub AreSoundColumns : List ℕ → List Column → Type 0
+AreSoundColumns [] [] = Unit {0}
+AreSoundColumns (top ∷ tops) (c ∷ cs) = IsSoundColumn top c × AreSoundColumns tops cs
+AreSoundColumns _ _ = ⊥

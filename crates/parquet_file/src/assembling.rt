@@ -13,7 +13,7 @@ ghost use Rattle.parquet_footer.specs.Outcome.{FileGives};
 ghost use Rattle.parquet_footer.specs.declared.fault.FileFault.TheVariants.{SchemaMismatch};
 ghost use Rattle.page_cells.specs.Outcome.{FindsWhere};
 ghost use Rattle.parquet_schema.specs.Leaves.{LeafIn};
-ghost use Rattle.parquet_file.specs.Internal.{levels_of, AreAllLeft, AreAtHand, ArePartsOf, AreSound, HasLevels};
+ghost use Rattle.parquet_file.specs.Internal.{levels_of, AreAllLeft, AreAtHand, ArePartsOf, AreSoundColumns, HasLevels};
 ghost use Rattle.parquet_file.specs.Outcome.{AddsPart};
 ghost use Rattle.parquet_file.specs.Reading.{has_rows};
 
@@ -41,7 +41,7 @@ pub(crate) fn add_rows(
 ) -> Result<(), FileError>
     ensures { (leaves : List LeafIn) (given : List columns.Column) → AreAllLeft leaves readers.old given
         → levels_of leaves ≡ map highest (ways (shape_view shape.now)) → 0 < length leaves
-        → list_all (has_rows count) given ≡ true → AreSound (levels_of leaves) given
+        → list_all (has_rows count) given ≡ true → AreSoundColumns (levels_of leaves) given
         → AddsPart first most (refused_as (λ fault. SchemaMismatch) (assembled (shape_view shape.now) given))
         (row_views rows.old.items) result (row_views rows.new.items) }
 {

@@ -2,7 +2,7 @@
 use Rattle.std.proofs.Common.{◌≡◌, ◌≤◌, ◌<◌, ◌+◌, ◌++◌, ◌∷◌, [], ℕ, zero, suc, List, String, Global, false, refl, sym, ◌∙◌, ap, subst, map, take, drop, length, slice_index_or, arith}
 use Rattle.std.specs.declared.cmp.Ordering.{Ordering}
 use Rattle.std.specs.declared.cmp.Ordering.TheVariants.{Less, Equal, Greater}
-use Rattle.std.specs.Ordering.{is_lt, match_ordering, ordering_reverse, ordering_index}
+use Rattle.std.specs.Ordering.{is_ge, is_lt, match_ordering, ordering_reverse, ordering_index}
 use Rattle.std.specs.BTreeSet.{insert_key}
 use Rattle.std.specs.List.{AllByRecursion, AllZip}
 use Rattle.std.specs.List.Sorted.{IsNonDecreasingBy, IsPartitionPoint, IsStrictlySortedBy}
@@ -60,6 +60,15 @@ placed (x ∷ xs) name (suc i) within p =
 below_rest : (name first : List ℕ) (names : List (List ℕ)) → name_order name first ≡ Less → AllByRecursion (λ other. name_order first other ≡ Less) names → AllByRecursion (λ other. name_order name other ≡ Less) names
 below_rest name first [] h rest = tt
 below_rest name first (x ∷ xs) h rest = (nat_list_cmp_total.trans name first x h rest.0, below_rest name first xs h rest.1)
+
+-- of names that rise each is below the next
+pub rises_next : (names : List (String Global)) → IsStrictlySortedBy name_order (map string_bytes names) → (k : ℕ) (d e : String Global) → suc k < length names
+    → is_ge (string_cmp (slice_index_or names k d) (slice_index_or names (suc k) e)) ≡ false
+unfolding IsStrictlySortedBy
+rises_next [] h k d e within = absurd (omega (arith, within))
+rises_next (x ∷ []) h k d e within = absurd (omega (arith, within))
+rises_next (x ∷ y ∷ rest) h zero d e within = ap is_ge h.0.0
+rises_next (x ∷ y ∷ rest) h (suc k) d e within = rises_next (y ∷ rest) h.1 k d e (omega (arith, within))
 
 -- names each of which is below the next rise
 pub rises_from : (names : List (String Global)) → ((k : ℕ) (d : String Global) → suc k < length names → name_order (string_bytes (slice_index_or names k d)) (string_bytes (slice_index_or names (suc k) d)) ≡ Less) → IsStrictlySortedBy name_order (map string_bytes names)

@@ -1,5 +1,5 @@
 //! The names that a store lists: how they are made, and read.
-ghost use Rattle.std.specs.Prelude.{◌≡◌, IfOk, IfSome, map, true};
+ghost use Rattle.std.specs.Prelude.{◌≡◌, IfOk, MatchBool, MatchOption, map};
 ghost use Rattle.std.specs.List.Sorted.{IsStrictlySortedBy};
 ghost use Rattle.std.specs.String.{string_bytes};
 ghost use Rattle.store_core.specs.Listed.{listed};
@@ -34,7 +34,7 @@ impl Names {
 
     /// These names, where they rise, and else `None`. Takes time linear in their bytes, and fails where memory runs out.
     pub fn rising(alloc: Global, names: Vec<String>) -> Result<Option<Names>, AllocError>
-        ensures { IfOk result (λ found. IfSome found (λ shared. listed shared ≡ map string_bytes names.items)) }
+        ensures { IfOk result (λ found. MatchOption found (¬ IsStrictlySortedBy name_order (map string_bytes names.items)) (λ shared. listed shared ≡ map string_bytes names.items)) }
     {
         if rise(names.as_slice()) {
             Ok(Some(Names::new(alloc, names)?))
@@ -60,7 +60,7 @@ impl Names {
 
 // Whether the names rise, each below the next.
 fn rise(names: &[String]) -> bool
-    ensures { result ≡ true → IsStrictlySortedBy name_order (map string_bytes names.now) }
+    ensures { MatchBool result (IsStrictlySortedBy name_order (map string_bytes names.now)) (¬ IsStrictlySortedBy name_order (map string_bytes names.now)) }
 {
     let mut place = 1;
     while place < names.len() {
