@@ -13,7 +13,7 @@ mod rows_in;
 
 pub use batch::Batch;
 pub use closing::close_commit;
-pub use committing::{EncodedCommit, append_commit, file_name};
+pub use committing::{EncodedCommit, append_commit, data_file_name};
 pub use comparing::has_same;
 pub use encoding::file_of;
 pub use fault::SinkFault;

@@ -3,7 +3,7 @@
 ghost use Rattle.std.specs.Prelude.{◌≤◌};
 
 use crate::fault::LineFault;
-use crate::told::Told;
+use crate::transcript::Transcript;
 use crate::words::Words;
 use lake_bytes::{
     Cursor, hybrid_read, hybrid_write, write_i32_le, write_i64_le, write_u32_le, write_varint,
@@ -79,7 +79,7 @@ impl Words<'_> {
 
 /// Tells the values in front of a hybrid, for `WIDTH COUNT BYTES`: each with how often it stands there, and how many bytes
 /// are left; or why it is refused.
-pub fn tell_hybrid(words: &mut Words<'_>, told: &mut Told) -> Result<(), LineFault> {
+pub fn tell_hybrid(words: &mut Words<'_>, told: &mut Transcript) -> Result<(), LineFault> {
     let word = words.word();
     let width = words.width(word);
     let word = words.last_word();

@@ -10,12 +10,12 @@ mod levels;
 mod question;
 mod spelling;
 mod spoiling;
-mod told;
+mod transcript;
 mod words;
 
 pub use fault::LineFault;
 pub use levels::tell_hybrid;
 pub use question::{HeapKind, Kind, Question, TableKind, question_named};
 pub use spoiling::spoiled;
-pub use told::Told;
+pub use transcript::Transcript;
 pub use words::{Bindings, Words};

@@ -1,7 +1,7 @@
 //! Calls, and what they answer.
 
 use crate::turns::{CaseStore, add_turns, land, put_text, turn_of};
-use case_words::Told;
+use case_words::Transcript;
 use session_core::{Reply, Request, ask};
 use store_core::Store;
 
@@ -14,7 +14,7 @@ use store_core::Store;
 /// - `faults`: how many calls were lost;
 /// - `object NAME`: what stands under a name in the store below, without a call of the store above;
 /// - `list`, `get NAME`, `put NAME TEXT` and `commit V TEXT`: one call by `ask`, the bytes being the text as it stands.
-pub fn tell_call(store: &mut CaseStore, word: &str, rest: &str, told: &mut Told) {
+pub fn tell_call(store: &mut CaseStore, word: &str, rest: &str, told: &mut Transcript) {
     match word {
         "turns" => add_turns(store, rest, told),
         "arm" => {
@@ -36,7 +36,7 @@ pub fn tell_call(store: &mut CaseStore, word: &str, rest: &str, told: &mut Told)
 }
 
 // Adds what stands under a name in the store below, which loses no call.
-fn tell_standing(store: &mut CaseStore, name: &str, told: &mut Told) {
+fn tell_standing(store: &mut CaseStore, name: &str, told: &mut Transcript) {
     match store.store.get(name) {
         Ok(Some(bytes)) => tell_object("stands", &bytes, told),
         Ok(None) => told.say("absent"),
@@ -45,7 +45,7 @@ fn tell_standing(store: &mut CaseStore, name: &str, told: &mut Told) {
 }
 
 // The call that a line asks for.
-fn request_of(word: &str, rest: &str, told: &mut Told) -> Request {
+fn request_of(word: &str, rest: &str, told: &mut Transcript) -> Request {
     match word {
         "list" if rest.is_empty() => Request::List,
         "get" => Request::Get(told.copy_of(rest)),
@@ -65,7 +65,7 @@ fn request_of(word: &str, rest: &str, told: &mut Told) -> Request {
 }
 
 // Adds the answer of a call.
-fn tell_reply(reply: &Reply, told: &mut Told) {
+fn tell_reply(reply: &Reply, told: &mut Transcript) {
     match reply {
         Reply::Names(names) => tell_names(names.as_slice(), told),
         Reply::Object(Some(bytes)) => tell_object("object", bytes, told),
@@ -77,7 +77,7 @@ fn tell_reply(reply: &Reply, told: &mut Told) {
 }
 
 // Adds names in a line.
-fn tell_names(names: &[String], told: &mut Told) {
+fn tell_names(names: &[String], told: &mut Transcript) {
     told.text("names");
     for name in names {
         told.text(" ");
@@ -87,7 +87,7 @@ fn tell_names(names: &[String], told: &mut Told) {
 }
 
 // Adds the bytes of an object, behind a word.
-fn tell_object(word: &str, bytes: &[u8], told: &mut Told) {
+fn tell_object(word: &str, bytes: &[u8], told: &mut Transcript) {
     told.text(word);
     told.text(" ");
     told.add(bytes);
@@ -95,7 +95,7 @@ fn tell_object(word: &str, bytes: &[u8], told: &mut Told) {
 }
 
 /// Adds a call that is asked for; of a file with the count of its bytes, of a commit with its bytes.
-pub fn tell_request(request: &Request, told: &mut Told) {
+pub fn tell_request(request: &Request, told: &mut Transcript) {
     match request {
         Request::List => told.say("asks for the names"),
         Request::Get(name) => told.tell("asks for", name),

@@ -1,11 +1,11 @@
 //! The rows of a batch, as they stand in a line.
 
-use case_words::Told;
+use case_words::Transcript;
 use json_text::{ArrayText, JsonRows, TextError};
 
 /// The rows of these words: a JSON array, or `fill N`, which is so many rows with a text of 1 MiB under `s`. `None` where they are
 /// misspelled or memory runs out.
-pub fn spelled_rows(text: &str, told: &mut Told) -> Option<JsonRows<'static>> {
+pub fn spelled_rows(text: &str, told: &mut Transcript) -> Option<JsonRows<'static>> {
     match text.strip_prefix("fill ") {
         Some(count) => {
             let rows = filled(count, told);
@@ -16,7 +16,7 @@ pub fn spelled_rows(text: &str, told: &mut Told) -> Option<JsonRows<'static>> {
 }
 
 // The rows of a JSON array.
-fn rows_in(text: &str, told: &mut Told) -> Option<JsonRows<'static>> {
+fn rows_in(text: &str, told: &mut Transcript) -> Option<JsonRows<'static>> {
     match ArrayText::from_text(told.alloc, text) {
         Ok(array) => Some(JsonRows::Array(array)),
         Err(TextError::Malformed) => {
@@ -31,8 +31,8 @@ fn rows_in(text: &str, told: &mut Told) -> Option<JsonRows<'static>> {
 }
 
 // So many rows as a JSON array.
-fn filled(count: &str, told: &mut Told) -> Told {
-    let mut rows = Told::new(told.alloc);
+fn filled(count: &str, told: &mut Transcript) -> Transcript {
+    let mut rows = Transcript::new(told.alloc);
     rows.text("[");
     let mut front = "{\"s\":\"";
     for _ in 0..told.number(count) {

@@ -2,7 +2,7 @@
 
 use crate::shared::Rival;
 use crate::turns::{CaseStore, add_turns};
-use case_words::{Bindings, Manner, Sink, Source, Told, head};
+use case_words::{Bindings, Manner, Sink, Source, Transcript, head};
 use std::alloc::Global;
 use std::mem;
 use store_core::{MemoryStore, Store};
@@ -106,7 +106,7 @@ impl<'a> Script<'a> {
     ///   behind N bytes; `output ends N`: behind N bytes it takes no more; `output sticks`: a flush fails;
     /// - `last N` tells just the last N lines, and of the others the count and the SHA-256;
     /// - `objects` and `entries` tell the names and sizes of the objects, and the table's entries, that are left.
-    pub fn direct(&mut self, names: &Bindings<'_>, directive: &'a str, told: &mut Told) {
+    pub fn direct(&mut self, names: &Bindings<'_>, directive: &'a str, told: &mut Transcript) {
         let (word, rest) = head(directive);
         match word {
             "text" => names.spell(rest, &mut self.text, told),
@@ -123,7 +123,7 @@ impl<'a> Script<'a> {
     }
 
     // Sets what a directive says of how it is run or told.
-    fn set(&mut self, directive: &'a str, told: &mut Told) {
+    fn set(&mut self, directive: &'a str, told: &mut Transcript) {
         let (key, number) = directive.rsplit_once(' ').unwrap_or((directive, ""));
         if FLAGS.contains(&directive) {
             told.note(self.flags.push(directive));
@@ -136,7 +136,7 @@ impl<'a> Script<'a> {
     }
 
     /// Logs are read from version 0, as by the directive.
-    pub fn replay(&mut self, told: &mut Told) {
+    pub fn replay(&mut self, told: &mut Transcript) {
         told.note(self.flags.push("replays"));
     }
 
@@ -187,7 +187,7 @@ impl<'a> Script<'a> {
     }
 
     // Begins a command line; the script so far is the input of the one before it.
-    fn begin(&mut self, words: &'a str, told: &mut Told) {
+    fn begin(&mut self, words: &'a str, told: &mut Transcript) {
         self.end_run(told.alloc);
         let run = Run {
             words,
@@ -206,7 +206,7 @@ impl<'a> Script<'a> {
     }
 
     // Says which file's making fails in the last command line.
-    fn stop(&mut self, text: &str, told: &mut Told) {
+    fn stop(&mut self, text: &str, told: &mut Transcript) {
         let (when, count) = told.halves(text);
         let count = told.number(count);
         let stop = match when {
@@ -221,7 +221,7 @@ impl<'a> Script<'a> {
     }
 
     // Adds a file that another process makes during the last command line.
-    fn add_rival(&mut self, names: &Bindings<'_>, text: &'a str, told: &mut Told) {
+    fn add_rival(&mut self, names: &Bindings<'_>, text: &'a str, told: &mut Transcript) {
         let (behind, text) = told.halves(text);
         let (name, text) = head(text);
         let behind = told.number(behind);
@@ -239,10 +239,10 @@ impl<'a> Script<'a> {
     }
 
     // Adds a text so many times, `#` in it being the count.
-    fn repeat(&mut self, names: &Bindings<'_>, text: &str, told: &mut Told) {
+    fn repeat(&mut self, names: &Bindings<'_>, text: &str, told: &mut Transcript) {
         let (times, text) = told.halves(text);
         for count in 0..told.number(times) {
-            let mut line = Told::new(told.alloc);
+            let mut line = Transcript::new(told.alloc);
             let mut parts = text.split('#');
             line.text(parts.next().unwrap_or(""));
             for part in parts {
@@ -255,7 +255,7 @@ impl<'a> Script<'a> {
     }
 
     // Puts an object, unless its name stands.
-    fn put(&mut self, names: &Bindings<'_>, text: &str, told: &mut Told) {
+    fn put(&mut self, names: &Bindings<'_>, text: &str, told: &mut Transcript) {
         let (name, text) = head(text);
         let mut bytes = Vec::new(told.alloc);
         names.spell(text, &mut bytes, told);
@@ -266,7 +266,7 @@ impl<'a> Script<'a> {
     }
 
     // Puts the commit of a version, unless it stands.
-    fn put_commit(&mut self, names: &Bindings<'_>, text: &str, told: &mut Told) {
+    fn put_commit(&mut self, names: &Bindings<'_>, text: &str, told: &mut Transcript) {
         let (version, text) = head(text);
         let version = told.number(version);
         match format!(in told.alloc; "_delta_log/{version:020}.json {text}") {

@@ -1,13 +1,13 @@
 //! What becomes of calls.
 
-use case_words::Told;
+use case_words::Transcript;
 use store_core::{Flaky, MemoryStore, Put, StoreFault, Turn};
 
 /// The store of a case, which loses calls as it is told to.
 pub type CaseStore = Flaky<MemoryStore>;
 
 /// The turn of this name.
-pub fn turn_of(word: &str, told: &mut Told) -> Turn {
+pub fn turn_of(word: &str, told: &mut Transcript) -> Turn {
     match word {
         "pass" => Turn::Pass,
         "lost" | "request" => Turn::LoseRequest,
@@ -23,7 +23,7 @@ pub fn turn_of(word: &str, told: &mut Told) -> Turn {
 
 /// Adds turns of these names, with a space between each two, behind those that the store was given. Where one of them is
 /// misspelled, none is added.
-pub fn add_turns(store: &mut CaseStore, words: &str, told: &mut Told) {
+pub fn add_turns(store: &mut CaseStore, words: &str, told: &mut Transcript) {
     for word in words.split(' ') {
         turn_of(word, told);
     }
@@ -44,7 +44,7 @@ pub fn put_text(put: Put) -> &'static str {
 }
 
 /// Lets the put in flight of this number take effect, and adds what that tells.
-pub fn land(store: &mut CaseStore, number: &str, told: &mut Told) {
+pub fn land(store: &mut CaseStore, number: &str, told: &mut Transcript) {
     let number = told.number(number);
     if told.is_bad() {
         return;

@@ -5,7 +5,7 @@ ghost use Rattle.session_core.specs.Talks.{IsReplyTo, asked_view, kind_of, told_
 
 use crate::calls::tell_request;
 use crate::turns::CaseStore;
-use case_words::Told;
+use case_words::Transcript;
 use session_core::{Reply, Request, Session, Step, ask};
 use std::collections::BTreeMap;
 
@@ -41,7 +41,7 @@ impl<N: Session + Drop> Waiting<N> {
 pub fn begin<N: Session + Drop>(
     waiting: &mut Option<Waiting<N>>,
     session: N,
-    told: &mut Told,
+    told: &mut Transcript,
 ) -> Option<N::Outcome>
 where
     N::Outcome: Drop,
@@ -58,7 +58,7 @@ pub fn step<N: Session + Drop>(
     store: &mut CaseStore,
     waiting: &mut Option<Waiting<N>>,
     is_short: bool,
-    told: &mut Told,
+    told: &mut Transcript,
 ) -> Option<N::Outcome>
 where
     N::Outcome: Drop,
@@ -81,7 +81,7 @@ fn go_on<N: Session + Drop>(
     waiting: &mut Option<Waiting<N>>,
     session: N,
     reply: Option<Reply>,
-    told: &mut Told,
+    told: &mut Transcript,
 ) -> Option<N::Outcome>
 where
     N::Outcome: Drop,
@@ -103,7 +103,7 @@ where
 pub fn place_of<'m, V: Drop>(
     places: &'m mut BTreeMap<String, Option<V>>,
     name: &str,
-    told: &mut Told,
+    told: &mut Transcript,
 ) -> Option<&'m mut Option<V>> {
     match places.entry(told.copy_of(name)) {
         Ok(entry) => Some(entry.or_insert(None)),

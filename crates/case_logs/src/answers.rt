@@ -1,7 +1,7 @@
 //! What the snapshot of a log answers.
 
 use crate::snapshots::{tell_domains, tell_files, tell_numbers, tell_protocol, tell_sizes};
-use case_words::Told;
+use case_words::Transcript;
 use delta_actions::GREATEST_VERSION;
 use delta_checkpoint::{checkpoint_name, checkpoint_version, print_checkpoint};
 use delta_replay::{FileAction, Snapshot, SupportError};
@@ -9,7 +9,7 @@ use schema_tree::Schema;
 use std::alloc::Global;
 
 /// Adds the versions of the protocol, the table's id, all of a list, or how long the lists are.
-pub fn tell_list(snapshot: &Snapshot, word: &str, told: &mut Told) {
+pub fn tell_list(snapshot: &Snapshot, word: &str, told: &mut Transcript) {
     match word {
         "protocol" => tell_protocol(snapshot, told),
         "metadata" => match snapshot.meta_data() {
@@ -26,7 +26,7 @@ pub fn tell_list(snapshot: &Snapshot, word: &str, told: &mut Told) {
 }
 
 // Adds the applications whose streams are closed.
-fn tell_closed(snapshot: &Snapshot, told: &mut Told) {
+fn tell_closed(snapshot: &Snapshot, told: &mut Transcript) {
     match snapshot.closed(told.alloc) {
         Ok(applications) => {
             for application in &applications {
@@ -38,7 +38,7 @@ fn tell_closed(snapshot: &Snapshot, told: &mut Told) {
 }
 
 /// Adds the newest of what has this key: an application's number or whether its stream is closed, a domain, or a file.
-pub fn tell_newest(snapshot: &Snapshot, word: &str, key: &str, told: &mut Told) {
+pub fn tell_newest(snapshot: &Snapshot, word: &str, key: &str, told: &mut Transcript) {
     match word {
         "number" => match snapshot.last_number(key) {
             Some(number) => told.tell("number", &number),
@@ -60,7 +60,11 @@ pub fn tell_newest(snapshot: &Snapshot, word: &str, key: &str, told: &mut Told) 
 }
 
 /// Adds the text of a schema behind a word, or why there is none.
-pub fn tell_schema(word: &str, answer: Result<Schema<Global>, SupportError>, told: &mut Told) {
+pub fn tell_schema(
+    word: &str,
+    answer: Result<Schema<Global>, SupportError>,
+    told: &mut Transcript,
+) {
     match answer {
         Ok(schema) => match schema.to_text(told.alloc) {
             Ok(text) => told.tell(word, &text),
@@ -71,7 +75,7 @@ pub fn tell_schema(word: &str, answer: Result<Schema<Global>, SupportError>, tol
 }
 
 /// Adds whether a checkpoint is put, or why it isn't.
-pub fn tell_put(answer: Result<(), SupportError>, told: &mut Told) {
+pub fn tell_put(answer: Result<(), SupportError>, told: &mut Transcript) {
     match answer {
         Ok(()) => told.say("put"),
         Err(error) => tell_refused(&error, told),
@@ -79,7 +83,7 @@ pub fn tell_put(answer: Result<(), SupportError>, told: &mut Told) {
 }
 
 /// Adds why a table isn't read or written.
-pub fn tell_refused(error: &SupportError, told: &mut Told) {
+pub fn tell_refused(error: &SupportError, told: &mut Transcript) {
     match error {
         SupportError::Memory => told.lacks_memory(),
         SupportError::Fault(fault) => told.refuse(fault),
@@ -87,7 +91,7 @@ pub fn tell_refused(error: &SupportError, told: &mut Told) {
 }
 
 /// Adds the name and the lines of a version's checkpoint.
-pub fn tell_checkpoint(snapshot: &Snapshot, version: &str, told: &mut Told) {
+pub fn tell_checkpoint(snapshot: &Snapshot, version: &str, told: &mut Transcript) {
     let id = match snapshot.meta_data() {
         Some(meta_data) => meta_data.id.as_str(),
         None => "",
@@ -101,7 +105,7 @@ pub fn tell_checkpoint(snapshot: &Snapshot, version: &str, told: &mut Told) {
 }
 
 /// The bytes of a version's checkpoint.
-pub fn printed(snapshot: &Snapshot, version: &str, told: &mut Told) -> Vec<u8> {
+pub fn printed(snapshot: &Snapshot, version: &str, told: &mut Transcript) -> Vec<u8> {
     let version = told.number(version);
     if version > GREATEST_VERSION {
         told.misspelled();
@@ -117,7 +121,7 @@ pub fn printed(snapshot: &Snapshot, version: &str, told: &mut Told) -> Vec<u8> {
 }
 
 /// Adds the version whose checkpoint has a name.
-pub fn tell_version(name: &str, told: &mut Told) {
+pub fn tell_version(name: &str, told: &mut Transcript) {
     match checkpoint_version(told.alloc, name) {
         Ok(Some(version)) => told.tell("version", &version),
         Ok(None) => told.say("no checkpoint"),

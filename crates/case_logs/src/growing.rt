@@ -2,7 +2,7 @@
 
 use crate::answers::printed;
 use crate::snapshots::tell_numbers;
-use case_words::{Told, add_many, add_one, changed};
+use case_words::{Transcript, add_many, add_one, changed};
 use delta_actions::{Action, ActionFault, read_commit};
 use delta_checkpoint::{CheckpointError, CheckpointFault, read_checkpoint};
 use delta_replay::{Snapshot, closes};
@@ -44,13 +44,13 @@ impl Growing {
     }
 
     // The lines that are begun; none are behind them.
-    fn take(&mut self, told: &Told) -> Vec<u8> {
+    fn take(&mut self, told: &Transcript) -> Vec<u8> {
         mem::replace(&mut self.lines, Vec::new(told.alloc))
     }
 
     /// Ends the commit that is begun, if one is: it is kept as the next version, and the snapshot takes its actions in. A
     /// commit that can't be read is told, and changes no snapshot.
-    pub fn end_commit(&mut self, told: &mut Told) {
+    pub fn end_commit(&mut self, told: &mut Transcript) {
         if self.lines.is_empty() {
             return;
         }
@@ -64,7 +64,7 @@ impl Growing {
     }
 
     // Keeps a commit as the next version.
-    fn keep(&mut self, bytes: &[u8], told: &mut Told) {
+    fn keep(&mut self, bytes: &[u8], told: &mut Transcript) {
         let version = self.kept.next;
         match version_of(told.alloc, bytes) {
             Ok(found) => told.note(self.kept.standing.push(Standing { version, found })),
@@ -79,7 +79,7 @@ impl Growing {
     }
 
     // The snapshot takes the actions of a commit in. Adds the applications whose streams they close.
-    fn take_in(&mut self, actions: Vec<Action>, told: &mut Told) {
+    fn take_in(&mut self, actions: Vec<Action>, told: &mut Transcript) {
         for action in &actions {
             tell_close(action, told);
         }
@@ -88,7 +88,7 @@ impl Growing {
 
     /// Adds lines to those that are begun: `FILES APPLICATIONS`, so many files, and so many applications' numbers, named by
     /// their places.
-    pub fn grow(&mut self, sizes: &str, told: &mut Told) {
+    pub fn grow(&mut self, sizes: &str, told: &mut Transcript) {
         let (files, applications) = told.halves(sizes);
         let files = told.number(files);
         let before = "{\"add\":{\"path\":\"";
@@ -107,7 +107,7 @@ impl Growing {
 
     /// Reads the lines that are begun as a version's checkpoint in place of a commit: its snapshot takes the place of
     /// the log's. A refusal is told, and changes nothing.
-    pub fn restore(&mut self, version: &str, told: &mut Told) {
+    pub fn restore(&mut self, version: &str, told: &mut Transcript) {
         let version = told.number(version);
         let bytes = self.take(told);
         match read_checkpoint(told.alloc, &bytes, version) {
@@ -118,13 +118,13 @@ impl Growing {
     }
 
     /// Prints the checkpoint of a version, and goes on with the snapshot that is read from it.
-    pub fn print_and_restore(&mut self, version: &str, told: &mut Told) {
+    pub fn print_and_restore(&mut self, version: &str, told: &mut Transcript) {
         self.lines = printed(&self.snapshot, version, told);
         self.restore(version, told);
     }
 
     /// Puts the lines that are begun under a name into the store, unless the name stands. The log stays.
-    pub fn put(&mut self, name: &str, told: &mut Told) {
+    pub fn put(&mut self, name: &str, told: &mut Transcript) {
         let bytes = self.take(told);
         match self.store.put_absent(name, bytes) {
             Ok(_put) => {}
@@ -134,7 +134,7 @@ impl Growing {
 
     /// Adds what the log of the store is loaded as: the version that comes next, and all applications with their numbers, a
     /// line each; or the first version of those that are read that is missing or can't be read.
-    pub fn tell_loaded(&mut self, restores: bool, told: &mut Told) {
+    pub fn tell_loaded(&mut self, restores: bool, told: &mut Transcript) {
         match load(told.alloc, &mut self.store, restores) {
             Ok(loaded) => {
                 told.tell("next", &loaded.next);
@@ -147,7 +147,7 @@ impl Growing {
 
     /// Adds how many of the texts are read as a version's checkpoint, and how many are refused by each code, that are the lines
     /// that are begun, cut before each byte, and with each byte changed to 00 and to FF.
-    pub fn tell_spoiled(&mut self, version: &str, told: &mut Told) {
+    pub fn tell_spoiled(&mut self, version: &str, told: &mut Transcript) {
         let version = told.number(version);
         let bytes = self.take(told);
         let mut counts = [("read", 0), ("K1", 0), ("K2", 0), ("K3", 0), ("K4", 0)];
@@ -163,7 +163,7 @@ impl Growing {
 }
 
 // Adds the application whose stream an action closes.
-fn tell_close(action: &Action, told: &mut Told) {
+fn tell_close(action: &Action, told: &mut Transcript) {
     match closes(told.alloc, action) {
         Ok(Some(application)) => told.tell("closes", &application),
         Ok(None) => {}
@@ -172,7 +172,7 @@ fn tell_close(action: &Action, told: &mut Told) {
 }
 
 // That bytes are read as a version's checkpoint, or the code by which they are refused.
-fn code_of(bytes: &[u8], version: u64, told: &mut Told) -> &'static str {
+fn code_of(bytes: &[u8], version: u64, told: &mut Transcript) -> &'static str {
     match read_checkpoint(told.alloc, bytes, version) {
         Ok(_snapshot) => "read",
         Err(CheckpointError::Memory) => {

@@ -35,10 +35,10 @@ use crate::answers::{
 };
 use crate::growing::Growing;
 use crate::tails::tell_tail;
-use case_words::{Told, add_line, head};
+use case_words::{Transcript, add_line, head};
 
 /// Answers the questions of an input, and adds the answers.
-pub fn tell_logs(text: &str, told: &mut Told) {
+pub fn tell_logs(text: &str, told: &mut Transcript) {
     let mut log = Growing::new(told.alloc);
     for (place, line) in text.split('\n').enumerate() {
         if let Some(question) = line.strip_prefix(">> ") {
@@ -54,7 +54,7 @@ pub fn tell_logs(text: &str, told: &mut Told) {
 }
 
 // Does what a question says.
-fn take(log: &mut Growing, question: &str, told: &mut Told) {
+fn take(log: &mut Growing, question: &str, told: &mut Transcript) {
     let (word, rest) = head(question);
     match word {
         "grow" => log.grow(rest, told),
@@ -70,7 +70,7 @@ fn take(log: &mut Growing, question: &str, told: &mut Told) {
 }
 
 // Adds the answer to a question, in front of which the commit that is begun was ended.
-fn answer(log: &mut Growing, word: &str, rest: &str, told: &mut Told) {
+fn answer(log: &mut Growing, word: &str, rest: &str, told: &mut Transcript) {
     let snapshot = &log.snapshot;
     match word {
         "commit" => {}

@@ -1,10 +1,10 @@
 //! What stands in a snapshot, a line each.
 
-use case_words::Told;
+use case_words::Transcript;
 use delta_replay::Snapshot;
 
 /// Adds the versions of a reader and a writer, with their features.
-pub fn tell_protocol(snapshot: &Snapshot, told: &mut Told) {
+pub fn tell_protocol(snapshot: &Snapshot, told: &mut Transcript) {
     let Some(protocol) = snapshot.protocol() else {
         return told.say("no protocol");
     };
@@ -20,7 +20,7 @@ pub fn tell_protocol(snapshot: &Snapshot, told: &mut Told) {
 }
 
 /// Adds all applications with their numbers.
-pub fn tell_numbers(snapshot: &Snapshot, told: &mut Told) {
+pub fn tell_numbers(snapshot: &Snapshot, told: &mut Transcript) {
     match snapshot.numbers(told.alloc) {
         Ok(numbers) => {
             for number in &numbers {
@@ -32,7 +32,7 @@ pub fn tell_numbers(snapshot: &Snapshot, told: &mut Told) {
 }
 
 /// Adds all domains with what they keep.
-pub fn tell_domains(snapshot: &Snapshot, told: &mut Told) {
+pub fn tell_domains(snapshot: &Snapshot, told: &mut Transcript) {
     match snapshot.domains(told.alloc) {
         Ok(domains) => {
             for metadata in &domains {
@@ -44,7 +44,7 @@ pub fn tell_domains(snapshot: &Snapshot, told: &mut Told) {
 }
 
 /// Adds all files with their sizes, and those that left the table.
-pub fn tell_files(snapshot: &Snapshot, told: &mut Told) {
+pub fn tell_files(snapshot: &Snapshot, told: &mut Transcript) {
     match snapshot.files(told.alloc) {
         Ok(files) => {
             for add in &files {
@@ -64,7 +64,7 @@ pub fn tell_files(snapshot: &Snapshot, told: &mut Told) {
 }
 
 /// Adds how many applications, domains, files, and files that left the table there are.
-pub fn tell_sizes(snapshot: &Snapshot, told: &mut Told) {
+pub fn tell_sizes(snapshot: &Snapshot, told: &mut Transcript) {
     tell_size("numbers", snapshot.numbers(told.alloc), told);
     tell_size(" domains", snapshot.domains(told.alloc), told);
     tell_size(" files", snapshot.files(told.alloc), told);
@@ -73,7 +73,7 @@ pub fn tell_sizes(snapshot: &Snapshot, told: &mut Told) {
 }
 
 // Adds how many of a kind there are.
-fn tell_size<T, E: Drop>(kind: &str, found: Result<Vec<&T>, E>, told: &mut Told) {
+fn tell_size<T, E: Drop>(kind: &str, found: Result<Vec<&T>, E>, told: &mut Transcript) {
     told.text(kind);
     match found {
         Ok(found) => told.with(" ", &found.len()),

@@ -1,7 +1,7 @@
 //! What a read asks of the log of a case.
 
 use crate::answers::tell_schema;
-use case_words::Told;
+use case_words::Transcript;
 use log_reading::{
     Log, SchemaText, changes_schema, first_standing, in_force, removes_rows, standing_at, supported,
 };
@@ -11,7 +11,7 @@ use table_log::Version;
 /// in front of the first that is missing or can't be read, or why their table isn't read; the text of the schema in
 /// force; and a line for each version from there on that is missing, can't be read, takes rows away or changes the
 /// schema.
-pub fn tell_tail(log: &Log, version: &str, told: &mut Told) {
+pub fn tell_tail(log: &Log, version: &str, told: &mut Transcript) {
     let version = told.number(version);
     told.tell("first", &first_standing(log));
     let schema = match supported(told.alloc, log, None) {
@@ -32,7 +32,13 @@ pub fn tell_tail(log: &Log, version: &str, told: &mut Told) {
 }
 
 // Adds a line for a version that a read stops at; a schema that changes counts behind the first one alone.
-fn tell_standing(schema: &SchemaText<'_>, log: &Log, at: u64, is_behind: bool, told: &mut Told) {
+fn tell_standing(
+    schema: &SchemaText<'_>,
+    log: &Log,
+    at: u64,
+    is_behind: bool,
+    told: &mut Transcript,
+) {
     match standing_at(log, at) {
         None | Some(Version::Missing) => told.tell("missing", &at),
         Some(Version::Unreadable) => told.tell("unreadable", &at),
@@ -48,7 +54,7 @@ fn tell_standing(schema: &SchemaText<'_>, log: &Log, at: u64, is_behind: bool, t
 }
 
 // Adds that a version changes the schema, if it does.
-fn tell_change(schema: &SchemaText<'_>, found: &Version, at: u64, told: &mut Told) {
+fn tell_change(schema: &SchemaText<'_>, found: &Version, at: u64, told: &mut Transcript) {
     match changes_schema(told.alloc, schema.text, &schema.schema, found) {
         Ok(true) => told.tell("changes", &at),
         Ok(false) => {}

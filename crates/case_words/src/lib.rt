@@ -5,11 +5,11 @@
 mod bytes;
 mod notation;
 mod streams;
-mod told;
+mod transcript;
 mod words;
 
 pub use bytes::{add_line, add_many, changed};
 pub use notation::Bindings;
 pub use streams::{Manner, SOUND, Sink, Source};
-pub use told::{Told, add_one};
+pub use transcript::{Transcript, add_one};
 pub use words::{head, reads_of};

@@ -1,6 +1,6 @@
 //! Text as directives spell it.
 
-use crate::told::Told;
+use crate::transcript::Transcript;
 use std::alloc::Global;
 
 /// The letters that stand for a byte behind a backslash.
@@ -27,7 +27,7 @@ impl<'a> Bindings<'a> {
     }
 
     /// Names the bytes that a text spells, in place of others of that name.
-    pub fn name(&mut self, name: &'a str, text: &str, told: &mut Told) {
+    pub fn name(&mut self, name: &'a str, text: &str, told: &mut Transcript) {
         let mut bytes = Vec::new(told.alloc);
         self.spell(text, &mut bytes, told);
         told.note(self.named.push((name, bytes)));
@@ -36,7 +36,7 @@ impl<'a> Bindings<'a> {
     /// Adds the bytes that a text spells: `\n`, `\r` and `\t` stand for a newline, a carriage return and a tab, `\x{..}` for
     /// bytes in hexadecimal, and `${NAME}` for the bytes that were named so. Everything else, another backslash too, stands
     /// for itself.
-    pub fn spell(&self, text: &str, bytes: &mut Vec<u8>, told: &mut Told) {
+    pub fn spell(&self, text: &str, bytes: &mut Vec<u8>, told: &mut Transcript) {
         let mut is_behind = false;
         for part in text.split('\\') {
             if is_behind {
@@ -49,7 +49,7 @@ impl<'a> Bindings<'a> {
     }
 
     // Adds what a backslash and the text behind it stand for.
-    fn add_escaped(&self, text: &str, bytes: &mut Vec<u8>, told: &mut Told) {
+    fn add_escaped(&self, text: &str, bytes: &mut Vec<u8>, told: &mut Transcript) {
         for (letter, byte) in LETTERS {
             if let Some(rest) = text.strip_prefix(letter) {
                 told.note(bytes.push(byte));
@@ -70,7 +70,7 @@ impl<'a> Bindings<'a> {
     }
 
     // Adds a text without backslashes.
-    fn add_plain(&self, text: &str, bytes: &mut Vec<u8>, told: &mut Told) {
+    fn add_plain(&self, text: &str, bytes: &mut Vec<u8>, told: &mut Transcript) {
         let mut is_behind = false;
         for part in text.split("${") {
             let rest = if is_behind {
@@ -86,7 +86,7 @@ impl<'a> Bindings<'a> {
     }
 
     // Adds the bytes that were named so last.
-    fn add_named(&self, name: &str, bytes: &mut Vec<u8>, told: &mut Told) {
+    fn add_named(&self, name: &str, bytes: &mut Vec<u8>, told: &mut Transcript) {
         for (known, found) in self.named.iter().rev() {
             if *known == name {
                 return told.note(bytes.extend_from_slice(found));
@@ -97,7 +97,7 @@ impl<'a> Bindings<'a> {
 }
 
 // Adds the bytes that digits spell.
-fn add_decoded(digits: &str, bytes: &mut Vec<u8>, told: &mut Told) {
+fn add_decoded(digits: &str, bytes: &mut Vec<u8>, told: &mut Transcript) {
     match hex::decode(told.alloc, digits) {
         Ok(decoded) => told.note(bytes.extend_from_slice(&decoded)),
         Err(hex::FromHexError::OutOfMemory) => told.lacks_memory(),

@@ -2,7 +2,7 @@
 
 ghost use Rattle.std.specs.Prelude.{◌<◌, ◌≤◌, ◌^◌};
 
-use crate::told::Told;
+use crate::transcript::Transcript;
 
 /// The first word of a line, and what stands behind the space that ends it.
 pub fn head(line: &str) -> (&str, &str) {
@@ -11,7 +11,7 @@ pub fn head(line: &str) -> (&str, &str) {
 
 /// What a commit reads besides its own, as words name it: ids of applications, each by `application=ID`, and names of domains,
 /// each by `domain=NAME`.
-pub fn reads_of(words: &str, told: &mut Told) -> (Vec<String>, Vec<String>) {
+pub fn reads_of(words: &str, told: &mut Transcript) -> (Vec<String>, Vec<String>) {
     let mut applications = Vec::new(told.alloc);
     let mut domains = Vec::new(told.alloc);
     for word in words.split(' ') {
@@ -28,7 +28,7 @@ pub fn reads_of(words: &str, told: &mut Told) -> (Vec<String>, Vec<String>) {
     (applications, domains)
 }
 
-impl Told {
+impl Transcript {
     /// The first word of a line that has a space, and what stands behind it.
     pub fn halves<'a>(&mut self, line: &'a str) -> (&'a str, &'a str) {
         match line.split_once(' ') {

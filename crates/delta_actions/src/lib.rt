@@ -22,6 +22,6 @@ pub use file_path::FilePath;
 pub use json_fields::TextMap;
 pub use lent::ActionRef;
 pub use names::{GREATEST_VERSION, commit_name, data_file_name};
-pub use printing::{print_commit, print_lent, print_lent_lines, print_line};
+pub use printing::{print_commit, print_lent_lines, print_line};
 pub use reading::{read_commit, read_line};
 pub use table_format::TableFormat;

@@ -2,4 +2,4 @@ mod BesideLemmas
 mod JobLemmas
 mod Showing
 mod Unspelled
-mod SeenObjects
+mod VisibleObjects

@@ -4,10 +4,10 @@ ghost use Rattle.session_core.specs.Shown.{IsExact};
 ghost use Rattle.session_core.specs.Talks.{IsAnswerOf, asked_view, is_lost, kind_of, told_view};
 ghost use Rattle.store_core.specs.Objects.{Objects, names_of};
 ghost use Rattle.table_folder.specs.Faults.{CountsLoad, IsNotLoaded};
-ghost use Rattle.front_reads.specs.Fronts.{seen};
+ghost use Rattle.front_reads.specs.Fronts.{visible};
 ghost use Rattle.folder_session.specs.Driving.{AreNames};
 
-use front_reads::{is_seen, seen_names};
+use front_reads::{is_visible, visible_names};
 use session_core::{Reply, Request};
 use std::alloc::{AllocError, Global};
 use store_core::Names;
@@ -24,11 +24,15 @@ pub(crate) fn listed_as(names: Option<Names>) -> Reply
 }
 
 // Those of the names that are seen.
-fn seen_of(alloc: Global, front: Option<u64>, names: Vec<String>) -> Result<Vec<String>, AllocError>
-    ensures { IfOk result (λ kept. (objects : Objects) → map string_bytes names.items ≡ names_of objects → map string_bytes kept.items ≡ names_of (seen front objects)) }
+fn visible_of(
+    alloc: Global,
+    front: Option<u64>,
+    names: Vec<String>,
+) -> Result<Vec<String>, AllocError>
+    ensures { IfOk result (λ kept. (objects : Objects) → map string_bytes names.items ≡ names_of objects → map string_bytes kept.items ≡ names_of (visible front objects)) }
 {
     match front {
-        Some(front) => seen_names(alloc, front, &names),
+        Some(front) => visible_names(alloc, front, &names),
         None => Ok(names),
     }
 }
@@ -43,7 +47,7 @@ pub(crate) fn ask<F: Folder>(
     request: Request,
 ) -> Result<Reply, LoadFault>
     ensures kind { IfOk result (λ reply. IsAnswerOf (kind_of (asked_view request)) (told_view reply)) }
-    ensures exact { F.is_steady folder.old → AreNames names.old (F.objects folder.old) → IfOk result (λ reply. IsExact (seen front (F.objects folder.old)) (asked_view request) (told_view reply)) }
+    ensures exact { F.is_steady folder.old → AreNames names.old (F.objects folder.old) → IfOk result (λ reply. IsExact (visible front (F.objects folder.old)) (asked_view request) (told_view reply)) }
     ensures names { (objects : Objects) → AreNames names.old objects → AreNames names.new objects }
     ensures never_lost { IfOk result (λ reply. is_lost (told_view reply) ≡ false) }
     ensures untouched { F.is_steady folder.old → F.objects folder.new ≡ F.objects folder.old }
@@ -59,11 +63,11 @@ pub(crate) fn ask<F: Folder>(
                 Some(names) => names,
                 None => folder.names()?,
             };
-            let seen = seen_of(alloc, front, listed)?;
-            Ok(listed_as(Names::rising(alloc, seen)?))
+            let visible = visible_of(alloc, front, listed)?;
+            Ok(listed_as(Names::rising(alloc, visible)?))
         }
         Request::Get(name) => {
-            if !is_seen(alloc, front, name.as_str())? {
+            if !is_visible(alloc, front, name.as_str())? {
                 return Ok(Reply::Object(None));
             }
             Ok(Reply::Object(folder.read(name.as_str())?))

@@ -3,7 +3,7 @@ ghost use Rattle.std.specs.Prelude.{◌≡◌, [], false, true, None, IfOk};
 ghost use Rattle.session_core.specs.Shown.{IsRead};
 ghost use Rattle.session_core.specs.Talks.{Asked, Talk};
 ghost use Rattle.table_folder.specs.Faults.{CountsLoad, IsNotLoaded};
-ghost use Rattle.front_reads.specs.Fronts.{seen};
+ghost use Rattle.front_reads.specs.Fronts.{visible};
 ghost use Rattle.folder_session.specs.Driving.{AreNames, ReadsBy};
 
 use crate::asking::ask;
@@ -18,7 +18,7 @@ use table_folder::{Folder, LoadFault};
 /// Where the session asks for the names it is told those that were listed before, if they are given, and else the folder is listed. A
 /// file is opened where it asks for that one and it is seen. Beside that and the session, the time is linear in the names, and else
 /// constant for each call.
-pub(crate) fn drive_seen<F: Folder, N: Session>(
+pub(crate) fn drive_visible<F: Folder, N: Session>(
     alloc: Global,
     folder: &mut F,
     names: Option<Vec<String>>,
@@ -30,7 +30,7 @@ pub(crate) fn drive_seen<F: Folder, N: Session>(
     requires reads { (before talk : Talk) (asked : Asked) → N.asks (N.job session.old) before talk asked → IsRead asked }
     // Over a steady folder it was driven by a talk that shows the folder's objects, as far as they are seen.
     ensures driven { F.is_steady folder.old → AreNames names (F.objects folder.old) → (before : Talk) → N.fits before session.old [] None
-        → IfOk result (λ outcome. ReadsBy N.asks N.ends (N.job session.old) (N.left session.old) before outcome (seen front (F.objects folder.old))) }
+        → IfOk result (λ outcome. ReadsBy N.asks N.ends (N.job session.old) (N.left session.old) before outcome (visible front (F.objects folder.old))) }
     ensures ended { IfOk result (λ outcome. N.done session.new ≡ true) }
     ensures same { N.job session.new ≡ N.job session.old }
     ensures never_lost { IfOk result (λ outcome. N.lost outcome ≡ false) }

@@ -4,5 +4,5 @@ pub mod FrontNames
 pub mod FrontOrder
 pub mod FrontReads
 pub mod FrontStarts
-pub mod SeenNames
+pub mod VisibleNames
 pub mod StandingVersions

@@ -4,8 +4,8 @@
 
 mod fronts;
 mod laws;
-mod seeing;
+mod visibility;
 
 pub use fronts::{Front, front_for};
 pub use laws::a_front_is_read_as_the_whole;
-pub use seeing::{is_seen, seen_names};
+pub use visibility::{is_visible, visible_names};

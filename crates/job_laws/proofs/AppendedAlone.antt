@@ -5,9 +5,9 @@ use Rattle.outcomes.specs.Results.{◌>>=◌}
 use Rattle.serde_json.specs.Data.{Items}
 use Rattle.store_core.specs.Objects.{Objects, IsInOrder, object_at, with_object}
 use Rattle.store_core.specs.ObjectLaws.{IsInOrder-with_object, object_at-with_object_other, object_at-with_object_same, same_objects}
-use Rattle.delta_actions.specs.Names.{data_file_name}
+use Rattle.delta_actions.specs.Names.{data_file_name as plain_file_name}
 use Rattle.table_folder.specs.Loads.{is_loaded, is_of_log, loaded}
-use Rattle.batch_core.specs.Committing.{file_name}
+use Rattle.batch_core.specs.Committing.{data_file_name}
 use Rattle.batch_core.specs.Requests.{SinkRequest}
 use Rattle.sink_core.specs.Appending.{EncodedBatch, IsWellMade, PutsWell, AppendPlan, plan_answer, appended_by, batch_of, put_plan, new_plan, puts, repeated_plan, request_of, append_plan, plan_of, with_file, with_file_alone}
 use Rattle.batch_core.specs.Refusals.{SinkRefusal}
@@ -20,7 +20,7 @@ use Rattle.job_laws.proofs.OwnSteps.{batch_own}
 use Rattle.job_laws.proofs.SameReads.{same_request}
 
 -- a data file is none of the log
-data_file_outside : (application : List ℕ) (number : ℕ) → is_loaded [] (data_file_name application number) ≡ false
+data_file_outside : (application : List ℕ) (number : ℕ) → is_loaded [] (plain_file_name application number) ≡ false
 unfolding is_of_log
 data_file_outside application number = refl
 
@@ -48,9 +48,9 @@ request_beside objects name bytes application number items order not =
 
 module _ (objects : Objects) (application : List ℕ) (number at version : ℕ) (items : Items) (order : IsInOrder objects) where
   -- it is made as before once its file stands
-  made_there : (batch : EncodedBatch) → (is : IsNew objects application number at items batch) → batch_of (object_at (with_file objects batch) (file_name application number)) is.request application number at ≡ Ok batch
+  made_there : (batch : EncodedBatch) → (is : IsNew objects application number at items batch) → batch_of (object_at (with_file objects batch) (data_file_name application number)) is.request application number at ≡ Ok batch
   made_there batch is =
-      let name = file_name application number in
+      let name = data_file_name application number in
       let before = object_at objects name in
       let own : batch.name ≡ name = file_named_so before is.request application number at batch is.made in
       let there : object_at (with_file objects batch) name ≡ Some (unwrap_or before batch.file) =
@@ -58,7 +58,7 @@ module _ (objects : Objects) (application : List ℕ) (number at version : ℕ) 
       ap (λ (found : Option (List ℕ)). batch_of found is.request application number at) there ∙ made_beside before is.request application number at batch is.made
 
   -- the batch is put again
-  again : (batch : EncodedBatch) → IsNew objects application number at items batch → IsWellMade application number at batch → batch.name ≡ data_file_name application number
+  again : (batch : EncodedBatch) → IsNew objects application number at items batch → IsWellMade application number at batch → batch.name ≡ plain_file_name application number
       → append_plan false (with_file objects batch) application number at items ≡ Ok (puts batch)
   again batch is well named =
       let beside = with_file objects batch in
@@ -79,5 +79,5 @@ module _ (objects : Objects) (application : List ℕ) (number at version : ℕ) 
       subst (λ (s : Result AppendPlan SinkRefusal). appended_by false (with_file_alone objects s) application number at items ≡ Ok (Committed version)) (sym a.1)
       (ap (λ (s : Result AppendPlan SinkRefusal). s >>= plan_answer number) (again batch a.2 was named) ∙ first)
     where
-      batch_named : (batch : EncodedBatch) → IsNew objects application number at items batch → batch.name ≡ data_file_name application number
-      batch_named batch is = (batch_own (object_at objects (file_name application number)) is.request application number at batch is.made).name
+      batch_named : (batch : EncodedBatch) → IsNew objects application number at items batch → batch.name ≡ plain_file_name application number
+      batch_named batch is = (batch_own (object_at objects (data_file_name application number)) is.request application number at batch is.made).name

@@ -3,20 +3,20 @@ use Rattle.std.proofs.Common.{◌≡◌, ℕ, Bool, true, false, List, Option, R
 use Rattle.serde_json.specs.Data.{Items}
 use Rattle.outcomes.specs.Results.{◌>>=◌}
 use Rattle.store_core.specs.Objects.{Objects, object_at}
-use Rattle.delta_actions.specs.Names.{data_file_name}
-use Rattle.batch_core.specs.Committing.{file_name}
+use Rattle.delta_actions.specs.Names.{data_file_name as plain_file_name}
+use Rattle.batch_core.specs.Committing.{data_file_name}
 use Rattle.batch_core.specs.Requests.{SinkRequest, unless_other, where_same}
 use Rattle.sink_core.specs.Appending.{EncodedBatch, AppendPlan, puts, stands, batch_of, put_plan, new_plan, repeated_plan, request_of, append_plan, plan_of}
 use Rattle.batch_core.specs.Refusals.{SinkRefusal}
 
 -- the name of a batch's file
-file_named : (application : List ℕ) (number : ℕ) → file_name application number ≡ data_file_name application number
-unfolding file_name
+file_named : (application : List ℕ) (number : ℕ) → data_file_name application number ≡ plain_file_name application number
+unfolding data_file_name
 file_named application number = refl
 
 -- A batch's file has the batch's own name.
 pub record IsOwn (application : List ℕ) (number : ℕ) (batch : EncodedBatch) : Type 0 where
-  pub name : batch.name ≡ data_file_name application number
+  pub name : batch.name ≡ plain_file_name application number
 
 -- what is put is the batch's own
 abbrev pub PutsOwn : (application : List ℕ) (number : ℕ) → Result AppendPlan SinkRefusal → Type 0
@@ -57,8 +57,8 @@ chosen application number false one other is was = was
 step_own : (objects : Objects) (application : List ℕ) (number at : ℕ) (request : SinkRequest) → PutsOwn application number (plan_of objects application number at request)
 step_own objects application number at request =
     chosen application number request.repeats (repeated_plan objects request application number) (new_plan objects request application number at)
-    (found_again application number (where_same request.schema request.rows (file_name application number) (object_at objects (file_name application number))))
-    (by_batch objects application number (batch_of (object_at objects (file_name application number)) request application number at) (batch_own (object_at objects (file_name application number)) request application number at))
+    (found_again application number (where_same request.schema request.rows (data_file_name application number) (object_at objects (data_file_name application number))))
+    (by_batch objects application number (batch_of (object_at objects (data_file_name application number)) request application number at) (batch_own (object_at objects (data_file_name application number)) request application number at))
 
 -- what an append puts is its own
 pub own_append_plan : (use_checkpoints : Bool) (objects : Objects) (application : List ℕ) (number at : ℕ) (items : Items) → PutsOwn application number (append_plan use_checkpoints objects application number at items)

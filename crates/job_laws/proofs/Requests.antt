@@ -7,7 +7,7 @@ use Rattle.serde_json.specs.Data.{Items}
 use Rattle.schema_tree.specs.Tree.{Tree}
 use Rattle.store_core.specs.Objects.{Objects, object_at}
 use Rattle.delta_actions.specs.Action as actions
-use Rattle.delta_actions.specs.Names.{data_file_name}
+use Rattle.delta_actions.specs.Names.{data_file_name as plain_file_name}
 use Rattle.delta_replay.specs.Closes.{is_closed}
 use Rattle.delta_replay.specs.Keys.{last_number}
 use Rattle.delta_replay.specs.Support.{writable}
@@ -17,7 +17,7 @@ use Rattle.table_log.specs.Counts.{commit_count}
 use Rattle.table_log.specs.Restoring.{replayed}
 use Rattle.table_log.specs.Versions.{log_of}
 use Rattle.commit_core.specs.Commits.{commit_text}
-use Rattle.batch_core.specs.Committing.{batch_actions, file_name}
+use Rattle.batch_core.specs.Committing.{batch_actions, data_file_name}
 use Rattle.batch_core.specs.Requests.{SinkRequest, checked, file_or_refusal, is_repeat, request_behind, unless_other, where_same}
 use Rattle.sink_core.specs.Appending.{EncodedBatch, batch_of, size_behind, put_plan, new_plan, puts, repeated_plan, request_of, append_plan, stands, plan_of}
 use Rattle.batch_core.specs.Refusals.{SinkRefusal, bad_log, read_only, stream_closed}
@@ -74,7 +74,7 @@ taken next commits application number items request is =
 pub record IsRequestOfBatch (request : SinkRequest) (application : List ℕ) (number : ℕ) (batch : EncodedBatch) : Type 0 where
   pub version : batch.version ≡ request.version
   schema : batch.schema ≡ request.schema
-  name : batch.name ≡ data_file_name application number
+  name : batch.name ≡ plain_file_name application number
 
 module _ (found : Option (List ℕ)) (request : SinkRequest) (application : List ℕ) (number at : ℕ) where
   -- the batch with this file
@@ -83,7 +83,7 @@ module _ (found : Option (List ℕ)) (request : SinkRequest) (application : List
     version = request.version;
     schema = request.schema;
     rows = request.rows;
-    name = file_name application number;
+    name = data_file_name application number;
     file = file;
     commit = commit_text (batch_actions application number at (size_behind file found) (length request.rows));
   }
@@ -93,7 +93,7 @@ module _ (found : Option (List ℕ)) (request : SinkRequest) (application : List
 
   -- the batch of a request is one that it asks for
   pub batch_asked : (batch : EncodedBatch) → batch_of found request application number at ≡ Ok batch → IsRequestOfBatch request application number batch
-  unfolding batch_of file_name
+  unfolding batch_of data_file_name
   batch_asked batch is =
       let a = both_done (file_or_refusal (written_file request.schema request.rows)) with_bytes batch is in
       let same : made a.0 ≡ batch = given {E = SinkRefusal} (made a.0) batch a.2 in
@@ -109,7 +109,7 @@ pub record PutsBatch (objects : Objects) (application : List ℕ) (number : ℕ)
   pub new : is_repeat number (last_number application commits) ≡ Ok false
   pub goes_on : is_closed application commits ≡ false
   pub version : batch.version ≡ commit_count objects
-  pub name : batch.name ≡ data_file_name application number
+  pub name : batch.name ≡ plain_file_name application number
   pub fits : (fine : Unit {0}) × (unless_other batch.schema batch.rows batch.name (object_at objects batch.name) ≡ Ok fine)
 
 -- a step puts one batch
@@ -126,11 +126,11 @@ module _ (objects : Objects) (application : List ℕ) (number at : ℕ) (batch :
   by_repeats : (request : SinkRequest) (repeats : Bool) → request.repeats ≡ repeats
       → (if repeats then repeated_plan objects request application number else new_plan objects request application number at) ≡ Ok (puts batch) → NewPlan request
   by_repeats request true again is =
-      let a = both_done (where_same request.schema request.rows (file_name application number) (object_at objects (file_name application number))) (λ same. Ok stands) (puts batch) is in
+      let a = both_done (where_same request.schema request.rows (data_file_name application number) (object_at objects (data_file_name application number))) (λ same. Ok stands) (puts batch) is in
       let no : stands ≡ puts batch = given {E = SinkRefusal} stands (puts batch) a.2 in
       absurd cc
   by_repeats request false new is =
-      let there = object_at objects (file_name application number) in
+      let there = object_at objects (data_file_name application number) in
       let a = both_done (batch_of there request application number at) (put_plan objects) (puts batch) is in
       let b = both_done (unless_other a.0.schema a.0.rows a.0.name (object_at objects a.0.name)) (λ fits. Ok (puts a.0)) (puts batch) a.2 in
       let same : a.0 ≡ batch = put_is a.0 batch (given {E = SinkRefusal} (puts a.0) (puts batch) b.2) in

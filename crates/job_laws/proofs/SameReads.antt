@@ -6,7 +6,7 @@ use Rattle.serde_json.specs.Events.{items_len}
 use Rattle.serde_json.specs.Data.{Items}
 use Rattle.store_core.specs.Objects.{Objects, object_at}
 use Rattle.delta_actions.specs.Action.{Action}
-use Rattle.delta_actions.specs.Names.{data_file_name}
+use Rattle.delta_actions.specs.Names.{data_file_name as plain_file_name}
 use Rattle.delta_replay.specs.Support.{checkpointable, readable}
 use Rattle.table_log.specs.Counts.{commit_count}
 use Rattle.table_log.specs.Names.{commit_name}
@@ -18,7 +18,7 @@ use Rattle.commit_core.specs.Creating.{commit_from, created_by, unless_there}
 use Rattle.commit_core.specs.Histories.{history_in, history_of}
 use Rattle.snapshot_core.specs.Faults as faults
 use Rattle.sink_core.specs.Appending as appends
-use Rattle.batch_core.specs.Committing.{file_name}
+use Rattle.batch_core.specs.Committing.{data_file_name}
 use Rattle.sink_core.specs.Closes.{close_answer, close_of, close_plan, closed_by, closing_version}
 use Rattle.batch_core.specs.Requests.{SinkRequest, checked, close_behind, named, request_behind, unless_other, where_same}
 use Rattle.sink_core.specs.Appending.{EncodedBatch, AppendPlan, appended_by, plan_answer, batch_of, put_plan, puts, request_of, append_plan, stands, plan_of}
@@ -48,8 +48,8 @@ same_created files objects id at schema printed =
 -- ---- appends
 
 -- the name of a batch's file
-file_named : (application : List ℕ) (number : ℕ) → file_name application number ≡ data_file_name application number
-unfolding file_name
+file_named : (application : List ℕ) (number : ℕ) → data_file_name application number ≡ plain_file_name application number
+unfolding data_file_name
 file_named application number = refl
 
 -- what is asked of a table
@@ -80,18 +80,18 @@ made_named name (Err refusal) make all batch is = cc
 made_named name (Ok bytes) make all batch is = let same : make bytes ≡ batch = cc in ap (λ b. b.name) (sym same) ∙ all bytes
 
 -- a batch is put under the name of its file
-batch_named : (found : Option (List ℕ)) (request : SinkRequest) (application : List ℕ) (number at : ℕ) (batch : EncodedBatch) → batch_of found request application number at ≡ Ok batch → batch.name ≡ file_name application number
+batch_named : (found : Option (List ℕ)) (request : SinkRequest) (application : List ℕ) (number at : ℕ) (batch : EncodedBatch) → batch_of found request application number at ≡ Ok batch → batch.name ≡ data_file_name application number
 unfolding batch_of
-batch_named found request application number at batch is = made_named (file_name application number) _ _ (λ bytes. refl) batch is
+batch_named found request application number at batch is = made_named (data_file_name application number) _ _ (λ bytes. refl) batch is
 
 -- what is done for a request, which looks at the batch's file alone
-module _ (files : List (List ℕ)) (objects : Objects) (application : List ℕ) (number at : ℕ) (own : is_loaded files (data_file_name application number) ≡ true) where
+module _ (files : List (List ℕ)) (objects : Objects) (application : List ℕ) (number at : ℕ) (own : is_loaded files (plain_file_name application number) ≡ true) where
   -- the file stands as it did
-  same_file : object_at (loaded files objects) (file_name application number) ≡ object_at objects (file_name application number)
-  same_file = loaded_at files objects (file_name application number) (ap (is_loaded files) (file_named application number) ∙ own)
+  same_file : object_at (loaded files objects) (data_file_name application number) ≡ object_at objects (data_file_name application number)
+  same_file = loaded_at files objects (data_file_name application number) (ap (is_loaded files) (file_named application number) ∙ own)
 
   -- a batch fits as it did
-  same_put_plan : (batch : EncodedBatch) → batch.name ≡ file_name application number → put_plan (loaded files objects) batch ≡ put_plan objects batch
+  same_put_plan : (batch : EncodedBatch) → batch.name ≡ data_file_name application number → put_plan (loaded files objects) batch ≡ put_plan objects batch
   same_put_plan batch is =
       ap (λ (found : Option (List ℕ)). unless_other batch.schema batch.rows batch.name found >>= λ fits. Ok (puts batch))
       (ap (object_at (loaded files objects)) is ∙ same_file ∙ ap (object_at objects) (sym is))
@@ -101,21 +101,21 @@ module _ (files : List (List ℕ)) (objects : Objects) (application : List ℕ) 
     where
       by_case : (repeats : Bool) → cond repeats (appends.repeated_plan (loaded files objects) request application number) (appends.new_plan (loaded files objects) request application number at)
           ≡ cond repeats (appends.repeated_plan objects request application number) (appends.new_plan objects request application number at)
-      by_case true = ap (λ (found : Option (List ℕ)). where_same request.schema request.rows (file_name application number) found >>= λ same. Ok stands) same_file
+      by_case true = ap (λ (found : Option (List ℕ)). where_same request.schema request.rows (data_file_name application number) found >>= λ same. Ok stands) same_file
       by_case false =
-          let there = object_at objects (file_name application number) in
+          let there = object_at objects (data_file_name application number) in
           ap (λ (found : Option (List ℕ)). batch_of found request application number at >>= put_plan (loaded files objects)) same_file
           ∙ same_after (batch_of there request application number at) (put_plan (loaded files objects)) (put_plan objects) (λ batch is. same_put_plan batch (batch_named there request application number at batch is))
 
 -- what an append does
-pub same_append_plan : (files : List (List ℕ)) (objects : Objects) (application : List ℕ) (number at : ℕ) (items : Items) → is_loaded files (data_file_name application number) ≡ true
+pub same_append_plan : (files : List (List ℕ)) (objects : Objects) (application : List ℕ) (number at : ℕ) (items : Items) → is_loaded files (plain_file_name application number) ≡ true
     → append_plan false (loaded files objects) application number at items ≡ append_plan false objects application number at items
 same_append_plan files objects application number at items own =
     ap (λ (request : Result SinkRequest SinkRefusal). request >>= plan_of (loaded files objects) application number at) (same_request files objects application number items)
     ∙ same_after (request_of false objects application number items) (plan_of (loaded files objects) application number at) (plan_of objects application number at) (λ request is. same_plan files objects application number at own request)
 
 -- what an append answers
-pub same_appended : (files : List (List ℕ)) (objects : Objects) (application : List ℕ) (number at : ℕ) (items : Items) → is_loaded files (data_file_name application number) ≡ true
+pub same_appended : (files : List (List ℕ)) (objects : Objects) (application : List ℕ) (number at : ℕ) (items : Items) → is_loaded files (plain_file_name application number) ≡ true
     → appended_by false (loaded files objects) application number at items ≡ appended_by false objects application number at items
 same_appended files objects application number at items own =
     ap (λ (step : Result AppendPlan SinkRefusal). step >>= plan_answer number) (same_append_plan files objects application number at items own)

@@ -17,7 +17,7 @@ pub record ReadsAgain (d : Data) : Type 0 where
   pub same : of_json (outline d) ≡ Some d
   pub integers : blank (outline d) ≡ outline d
 
--- the value was written behind what stood there
+-- the value was written behind what stood there, and what is printed of it reads as it
 pub record IsWritten (d : Data) (old new : List Token) : Type 0 where
   pub appends : new ≡ old ++ json_tokens (outline d)
   pub reads : ReadsAgain d
@@ -31,13 +31,13 @@ member_tokens name (Some d) = key name ∷ json_tokens (outline d)
 abbrev pub fields_tokens : List Field → List Token
 fields_tokens fs = flat_map (λ f. member_tokens f.0 f.1) fs
 
--- the fields were written behind what stood there
+-- the fields were written behind what stood there, and what is printed of each value reads as it
 pub record AreWritten (fs : List Field) (old new : List Token) : Type 0 where
   pub appends : new ≡ old ++ fields_tokens fs
   pub reads : AllByRecursion (λ f. IfSome f.1 ReadsAgain) fs
 
--- The text has the value's members in order and no space between them, and reads as the value; where no float stands in
--- it, it is the one such text.
+-- The text is UTF-8, has the value's members in order and no space between them, and reads as the value where that isn't
+-- nested deeper than JSON is read; where no float stands in it, it is the one such text.
 pub record IsTextOf (text : List ℕ) (d : Data) : Type 0 where
   pub order : IsInOrder text d
   pub compact : text ≡ print (tokens text)

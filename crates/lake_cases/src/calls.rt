@@ -27,7 +27,7 @@ use crate::contests::Contest;
 use crate::reads::{Reader, begin_read, go_on_reading};
 use crate::sinks::{Sinks, tell_sink};
 use case_calls::{CaseStore, tell_call};
-use case_words::{Told, head};
+use case_words::{Transcript, head};
 use commit_core::CreateSession;
 use session_core::drive;
 use snapshot_core::{SnapshotFault, checkpoint};
@@ -57,7 +57,7 @@ impl Drop for Case {
 }
 
 /// Runs the cases of an input, and adds what is told of them.
-pub fn tell_calls(text: &str, told: &mut Told) {
+pub fn tell_calls(text: &str, told: &mut Transcript) {
     let mut case = Case::new(told.alloc);
     for (place, line) in text.split('\n').enumerate() {
         if let Some(name) = line.strip_prefix("case ") {
@@ -82,7 +82,7 @@ impl Case {
     }
 
     // Does what a line says, and adds how it ended.
-    fn take(&mut self, line: &str, told: &mut Told) {
+    fn take(&mut self, line: &str, told: &mut Transcript) {
         let (word, rest) = head(line);
         let store = &mut self.store;
         match word {
@@ -108,7 +108,7 @@ impl Case {
 }
 
 // Drives the creation of a table, and adds how it ended: `ID AT SCHEMA`.
-fn create(store: &mut CaseStore, words: &str, told: &mut Told) {
+fn create(store: &mut CaseStore, words: &str, told: &mut Transcript) {
     let (id, words) = told.halves(words);
     let (at, schema) = told.halves(words);
     let at = told.moment(at);
@@ -125,7 +125,7 @@ fn create(store: &mut CaseStore, words: &str, told: &mut Told) {
 }
 
 // Puts the checkpoint of the newest version, and adds that version, or why none was put.
-fn tell_checkpoint(store: &mut CaseStore, told: &mut Told) {
+fn tell_checkpoint(store: &mut CaseStore, told: &mut Transcript) {
     let mut known = Loaded::new(told.alloc);
     match checkpoint(told.alloc, store, true, &mut known) {
         Ok(version) => told.tell("checkpointed", &version),

@@ -3,7 +3,7 @@
 use crate::scripts::tell_written;
 use crate::tables::tell_objects;
 use case_calls::{Run, Script, SharedFolder};
-use case_words::Told;
+use case_words::Transcript;
 use folder_check::{FolderReader, NoProgress};
 use lake_command::{check_command, command, table_command};
 use lake_script::{Input, Output};
@@ -13,7 +13,7 @@ use store_core::MemoryStore;
 use table_folder::{DirFolder, LoadFault, MemoryFolder, Stop, load};
 
 /// Runs the command lines of a case, and adds what each writes, its exit status, and what it tells on standard error.
-pub fn tell_runs(rt: &HostRuntime, script: &mut Script<'_>, told: &mut Told) {
+pub fn tell_runs(rt: &HostRuntime, script: &mut Script<'_>, told: &mut Transcript) {
     script.end_run(told.alloc);
     if let Some(path) = script.folder {
         let _removed = fs::remove_dir_all(rt, path);
@@ -31,7 +31,12 @@ pub fn tell_runs(rt: &HostRuntime, script: &mut Script<'_>, told: &mut Told) {
 }
 
 // Adds the names of the files that are left, each with its count of bytes.
-fn tell_files(rt: &HostRuntime, script: &Script<'_>, files: &mut MemoryFolder, told: &mut Told) {
+fn tell_files(
+    rt: &HostRuntime,
+    script: &Script<'_>,
+    files: &mut MemoryFolder,
+    told: &mut Transcript,
+) {
     match script.folder {
         Some(path) => match files_of(rt, path) {
             Ok(store) => {
@@ -56,7 +61,7 @@ fn tell_run(
     script: &Script<'_>,
     run: &Run<'_>,
     files: MemoryFolder,
-    told: &mut Told,
+    told: &mut Transcript,
 ) -> MemoryFolder {
     let mut written = Vec::new(told.alloc);
     let mut err = Vec::new(told.alloc);
@@ -100,7 +105,7 @@ fn run_command(
 }
 
 // The words of a command line, behind the program's name.
-fn words_of(text: &str, told: &mut Told) -> Vec<String> {
+fn words_of(text: &str, told: &mut Transcript) -> Vec<String> {
     let mut words = Vec::new(told.alloc);
     let name = told.copy_of("lake");
     told.note(words.push(name));

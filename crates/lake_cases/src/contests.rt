@@ -1,7 +1,7 @@
 //! Which commits conflict with a candidate, and the puts of its commit at version after version, past those that stand there.
 
 use case_calls::CaseStore;
-use case_words::{Told, add_line, reads_of};
+use case_words::{Transcript, add_line, reads_of};
 use commit_core::{Candidate, CommitFault, CommitOutcome, CommitSession, conflict};
 use delta_actions::{Action, ActionFault, read_commit};
 use session_core::drive;
@@ -34,17 +34,17 @@ impl Contest {
     }
 
     /// Adds a line to the commit that is begun.
-    pub fn add(&mut self, line: &str, told: &mut Told) {
+    pub fn add(&mut self, line: &str, told: &mut Transcript) {
         add_line(&mut self.lines, line, told);
     }
 
     // The bytes of the commit that is begun; no commit is begun behind them.
-    fn take(&mut self, told: &Told) -> Vec<u8> {
+    fn take(&mut self, told: &Transcript) -> Vec<u8> {
         mem::replace(&mut self.lines, Vec::new(told.alloc))
     }
 
     /// Makes the commit that is begun the candidate, which reads what the words name.
-    pub fn make_candidate(&mut self, words: &str, told: &mut Told) {
+    pub fn make_candidate(&mut self, words: &str, told: &mut Transcript) {
         let (applications, domains) = reads_of(words, told);
         if told.is_bad() {
             return;
@@ -61,7 +61,7 @@ impl Contest {
     }
 
     /// Adds what of the commit that is begun conflicts with the candidate.
-    pub fn tell_conflict(&mut self, told: &mut Told) {
+    pub fn tell_conflict(&mut self, told: &mut Transcript) {
         let bytes = self.take(told);
         let commit = actions_of(&bytes, told);
         match &self.contender {
@@ -75,7 +75,7 @@ impl Contest {
 
     /// Drives the puts of the candidate's commit, and adds how that ended: `V TRIES`, the version that is tried first and how
     /// many are tried. There is no candidate behind it.
-    pub fn race(&mut self, store: &mut CaseStore, words: &str, told: &mut Told) {
+    pub fn race(&mut self, store: &mut CaseStore, words: &str, told: &mut Transcript) {
         let (version, tries) = told.halves(words);
         let version = told.number(version);
         let tries = told.count(tries);
@@ -92,7 +92,7 @@ impl Contest {
 }
 
 // The actions of a commit's bytes.
-fn actions_of(bytes: &[u8], told: &mut Told) -> Vec<Action> {
+fn actions_of(bytes: &[u8], told: &mut Transcript) -> Vec<Action> {
     match read_commit(told.alloc, bytes) {
         Ok(actions) => return actions,
         Err(ActionFault::Memory) => told.lacks_memory(),
@@ -102,7 +102,7 @@ fn actions_of(bytes: &[u8], told: &mut Told) -> Vec<Action> {
 }
 
 // Adds how a race ended.
-fn tell_raced(ended: &Result<CommitOutcome, CommitFault>, told: &mut Told) {
+fn tell_raced(ended: &Result<CommitOutcome, CommitFault>, told: &mut Transcript) {
     let (word, version, winners) = match ended {
         Ok(CommitOutcome::Committed { version, winners }) => ("committed", *version, winners),
         Ok(CommitOutcome::Conflicted { version, winners }) => ("conflicted", *version, winners),
@@ -113,7 +113,7 @@ fn tell_raced(ended: &Result<CommitOutcome, CommitFault>, told: &mut Told) {
 }
 
 // Adds why a race ended without an outcome.
-fn tell_fault(fault: &CommitFault, told: &mut Told) {
+fn tell_fault(fault: &CommitFault, told: &mut Transcript) {
     match fault {
         CommitFault::BadLog { version } => told.tell("bad log", version),
         CommitFault::PastLimit => told.say("past limit"),

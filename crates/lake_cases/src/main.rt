@@ -22,7 +22,7 @@ mod sinks;
 mod tables;
 
 use case_logs::tell_logs;
-use case_words::Told;
+use case_words::Transcript;
 use std::io;
 use std::io::{Read, Write};
 use std::process::ExitCode;
@@ -30,7 +30,7 @@ use std::process::ExitCode;
 // Tells the cases on standard input.
 fn main(rt: HostRuntime) -> io::Result<ExitCode> {
     let text = io::read_to_string(rt.alloc(), rt.stdin())?;
-    let mut told = Told::new(rt.alloc());
+    let mut told = Transcript::new(rt.alloc());
     for section in text.split("\n>>>> ") {
         tell_section(&rt, section, &mut told);
     }
@@ -43,7 +43,7 @@ fn main(rt: HostRuntime) -> io::Result<ExitCode> {
 }
 
 // Tells the cases of one kind. A heading has none.
-fn tell_section(rt: &HostRuntime, section: &str, told: &mut Told) {
+fn tell_section(rt: &HostRuntime, section: &str, told: &mut Transcript) {
     let (kind, text) = section.split_once('\n').unwrap_or((section, ""));
     if kind.starts_with('#') {
         return;

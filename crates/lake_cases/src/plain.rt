@@ -1,14 +1,14 @@
 //! Scripts of the plain table, which the slow program of the definitions answers.
 
 use crate::tables::tell_count;
-use case_words::{Told, head};
+use case_words::{Transcript, head};
 use row_core::Value;
 use std::str;
 use table_model::{Answer, AppendAnswer, Batch, Closing, Offset, Table};
 
 /// Answers the lines of a script over a plain table that was just created: `append APP NUMBER ROW ..`, `close APP` and
 /// `read MAX VERSION FILE ROW`. Blank lines have no answer.
-pub fn tell_plain(script: &[u8], told: &mut Told) {
+pub fn tell_plain(script: &[u8], told: &mut Transcript) {
     let Ok(table) = Table::created(told.alloc) else {
         return told.lacks_memory();
     };
@@ -27,7 +27,7 @@ pub fn tell_plain(script: &[u8], told: &mut Told) {
 }
 
 // Appends the batch of an application, a number, and rows of one column.
-fn append(table: &mut Table, words: &str, told: &mut Told) {
+fn append(table: &mut Table, words: &str, told: &mut Transcript) {
     let (application, words) = head(words);
     let (number, words) = head(words);
     let mut rows = Vec::new(told.alloc);
@@ -50,7 +50,7 @@ fn append(table: &mut Table, words: &str, told: &mut Told) {
 }
 
 // Adds a row of this number.
-fn add_row(rows: &mut Vec<Value>, word: &str, told: &mut Told) {
+fn add_row(rows: &mut Vec<Value>, word: &str, told: &mut Transcript) {
     let Ok(number) = word.parse::<i64>() else {
         return told.misspelled();
     };
@@ -60,7 +60,7 @@ fn add_row(rows: &mut Vec<Value>, word: &str, told: &mut Told) {
 }
 
 // Closes the stream of an application.
-fn close(table: &mut Table, application: &str, told: &mut Told) {
+fn close(table: &mut Table, application: &str, told: &mut Transcript) {
     match table.close(told.copy_of(application)) {
         Ok(Closing::Closed(version)) => told.tell("Closed", &version),
         Ok(Closing::AlreadyClosed) => told.say("AlreadyClosed"),
@@ -69,7 +69,7 @@ fn close(table: &mut Table, application: &str, told: &mut Told) {
 }
 
 // Reads at most so many rows from an offset on, and adds what is handed out: the rows and the next offset, in one line.
-fn read(table: &Table, words: &str, told: &mut Told) {
+fn read(table: &Table, words: &str, told: &mut Transcript) {
     let (max, words) = told.halves(words);
     let (version, words) = told.halves(words);
     let (file, row) = told.halves(words);
@@ -95,7 +95,7 @@ fn read(table: &Table, words: &str, told: &mut Told) {
 }
 
 // Adds the number of a row of one column.
-fn tell_row(row: &Value, told: &mut Told) {
+fn tell_row(row: &Value, told: &mut Transcript) {
     if let Value::Struct(values) = row
         && let [Value::Int(number)] = values.as_slice()
     {

@@ -1,7 +1,7 @@
 //! Reads of rows, one call of the store after the other.
 
 use case_calls::{CaseStore, Waiting, begin, step};
-use case_words::Told;
+use case_words::Transcript;
 use log_reading::Log;
 use source_core::{Offset, ReadEnd, ReadRows, SourceSession, TailFault, handed_text, read_offset};
 use std::alloc::Global;
@@ -11,7 +11,7 @@ pub type Reader = Option<Waiting<SourceSession>>;
 
 /// Begins a read, in place of one that waits: `MAX OFFSET`, how many rows are handed out at most, and the offset that it begins
 /// at.
-pub fn begin_read(reader: &mut Reader, words: &str, told: &mut Told) {
+pub fn begin_read(reader: &mut Reader, words: &str, told: &mut Transcript) {
     let (max, offset) = told.halves(words);
     let max = told.number(max);
     match read_offset(told.alloc, offset) {
@@ -22,7 +22,7 @@ pub fn begin_read(reader: &mut Reader, words: &str, told: &mut Told) {
 }
 
 // Begins a read.
-fn begin_at(reader: &mut Reader, max: u64, place: Offset, told: &mut Told) {
+fn begin_at(reader: &mut Reader, max: u64, place: Offset, told: &mut Transcript) {
     let log = Log::new(told.alloc);
     let session = SourceSession::read(told.alloc, place, max, true, log, None, None);
     let ended = begin(reader, session, told);
@@ -30,14 +30,19 @@ fn begin_at(reader: &mut Reader, max: u64, place: Offset, told: &mut Told) {
 }
 
 /// Makes the call that a read asks for, or has memory run out in it.
-pub fn go_on_reading(store: &mut CaseStore, reader: &mut Reader, is_short: bool, told: &mut Told) {
+pub fn go_on_reading(
+    store: &mut CaseStore,
+    reader: &mut Reader,
+    is_short: bool,
+    told: &mut Transcript,
+) {
     let ended = step(store, reader, is_short, told);
     tell_end(&ended, is_short, told);
 }
 
 // Adds what a read handed out, or why it didn't, if it ended. Want of memory is told where it ran out in a call, and fails
 // elsewhere.
-fn tell_end(ended: &Option<ReadEnd>, is_short: bool, told: &mut Told) {
+fn tell_end(ended: &Option<ReadEnd>, is_short: bool, told: &mut Transcript) {
     if let Some(end) = ended {
         match &end.answer {
             Ok(handed) => tell_handed(handed, told),
@@ -48,7 +53,7 @@ fn tell_end(ended: &Option<ReadEnd>, is_short: bool, told: &mut Told) {
 }
 
 // Adds the rows and the offset that a read handed out.
-fn tell_handed(handed: &ReadRows, told: &mut Told) {
+fn tell_handed(handed: &ReadRows, told: &mut Transcript) {
     match handed_text(told.alloc, handed) {
         Ok(text) => told.add(&text),
         Err(_error) => told.lacks_memory(),

@@ -11,7 +11,7 @@
 use crate::scripts::run_script;
 use crate::tables::add_log;
 use case_calls::Script;
-use case_words::{Told, head};
+use case_words::{Transcript, head};
 use lake_script::End;
 use script_judge::Trial;
 use script_maker::Schedule;
@@ -23,7 +23,7 @@ use table_model::{Batch, Entry, is_lawful};
 const OPTIONS: [&str; 2] = ["", "no-checkpoint"];
 
 /// Answers the lines of an input, and adds what is told, and how many lines of scripts were made in all.
-pub fn tell_schedules(text: &str, told: &mut Told) {
+pub fn tell_schedules(text: &str, told: &mut Transcript) {
     let mut lines = 0u64;
     let mut trial = Trial::new(told.alloc);
     let mut is_begun = false;
@@ -52,7 +52,7 @@ pub fn tell_schedules(text: &str, told: &mut Told) {
 }
 
 // Judges the case that was read, if one was begun.
-fn end_case(is_begun: bool, trial: &Trial, told: &mut Told) {
+fn end_case(is_begun: bool, trial: &Trial, told: &mut Transcript) {
     if is_begun {
         let is_lawful = is_lawful_text(trial.log.as_text(), told);
         trial.judge(is_lawful, told);
@@ -60,7 +60,7 @@ fn end_case(is_begun: bool, trial: &Trial, told: &mut Told) {
 }
 
 // Whether a log that is written by hand is lawful, for which its rows don't count.
-fn is_lawful_text(log: &str, told: &mut Told) -> bool {
+fn is_lawful_text(log: &str, told: &mut Transcript) -> bool {
     let mut entries = Vec::new(told.alloc);
     for line in log.lines() {
         let entry = entry_of(line, told);
@@ -70,7 +70,7 @@ fn is_lawful_text(log: &str, told: &mut Told) -> bool {
 }
 
 // The entry of a line, without rows.
-fn entry_of(line: &str, told: &mut Told) -> Entry {
+fn entry_of(line: &str, told: &mut Transcript) -> Entry {
     let (word, rest) = head(line);
     match word {
         "close" => Entry::Close(told.copy_of(rest)),
@@ -91,7 +91,7 @@ fn entry_of(line: &str, told: &mut Told) -> Entry {
 }
 
 // Makes a script and runs it, and adds what is asked for. How many lines were judged.
-fn tell_made(word: &str, rest: &str, told: &mut Told) -> u64 {
+fn tell_made(word: &str, rest: &str, told: &mut Transcript) -> u64 {
     let (seed, rest) = told.halves(rest);
     let (lines, option) = head(rest);
     let seed = told.number(seed);
@@ -128,12 +128,12 @@ fn tell_made(word: &str, rest: &str, told: &mut Told) -> u64 {
 
 // Makes a script. After each round what is there so far is run, and the readers of the next one go on where their last
 // reads ended. So it takes the time of half as many runs as there are rounds.
-fn make_script(seed: u64, lines: u64, use_checkpoints: bool, told: &mut Told) -> Told {
+fn make_script(seed: u64, lines: u64, use_checkpoints: bool, told: &mut Transcript) -> Transcript {
     let mut schedule = Schedule::new(told.alloc, seed, use_checkpoints);
     let most = lines.saturating_sub(2);
     for _ in 0..lines {
         if schedule.add_round(most) {
-            let mut replies = Told::new(told.alloc);
+            let mut replies = Transcript::new(told.alloc);
             let _store = run_text(schedule.text.as_text(), use_checkpoints, &mut replies);
             schedule.learn(&replies);
             told.heed(&replies);
@@ -143,7 +143,7 @@ fn make_script(seed: u64, lines: u64, use_checkpoints: bool, told: &mut Told) ->
 }
 
 // Runs a script over a store in memory that began empty, and adds what it is told. The store that it left.
-fn run_text(text: &str, use_checkpoints: bool, replies: &mut Told) -> MemoryStore {
+fn run_text(text: &str, use_checkpoints: bool, replies: &mut Transcript) -> MemoryStore {
     let mut script = Script::new(replies.alloc, "");
     script.text = replies.bytes_of(text.as_bytes());
     if !use_checkpoints {

@@ -8,7 +8,7 @@ use crate::commands::tell_runs;
 use crate::plain::tell_plain;
 use crate::tables::{tell_objects, tell_table};
 use case_calls::{CaseStore, Script};
-use case_words::{Bindings, Told, add_line};
+use case_words::{Bindings, Transcript, add_line};
 use lake_script::{End, Input, Outcome, Output};
 use sha2::{Digest, Sha256};
 use std::alloc::Global;
@@ -17,7 +17,7 @@ use store_core::MemoryStore;
 use world_script::{Ran, run};
 
 /// Runs the cases of an input, and adds what is told of them.
-pub fn tell_scripts(rt: &HostRuntime, text: &str, told: &mut Told) {
+pub fn tell_scripts(rt: &HostRuntime, text: &str, told: &mut Transcript) {
     let mut names = Bindings::new(told.alloc);
     let mut script = Script::new(told.alloc, "");
     for (place, line) in text.split('\n').enumerate() {
@@ -39,7 +39,7 @@ fn direct<'a>(
     names: &mut Bindings<'a>,
     script: &mut Script<'a>,
     directive: &'a str,
-    told: &mut Told,
+    told: &mut Transcript,
 ) {
     match directive.strip_prefix("let ") {
         Some(rest) => {
@@ -52,7 +52,7 @@ fn direct<'a>(
 
 // Runs a case, and adds what is told of it: its name, what was written, how it ended, and which table is left. A heading is
 // none.
-fn tell_case(rt: &HostRuntime, script: &mut Script<'_>, told: &mut Told) {
+fn tell_case(rt: &HostRuntime, script: &mut Script<'_>, told: &mut Transcript) {
     if script.name.is_empty() {
         return;
     }
@@ -67,7 +67,7 @@ fn tell_case(rt: &HostRuntime, script: &mut Script<'_>, told: &mut Told) {
 }
 
 // Runs a script, and adds what came of it.
-fn tell_script(script: &mut Script<'_>, told: &mut Told) {
+fn tell_script(script: &mut Script<'_>, told: &mut Transcript) {
     let mut written = Vec::new(told.alloc);
     let outcome = run_script(script, &mut written, told);
     tell_written(&written, script.number_of("last"), told);
@@ -87,7 +87,11 @@ fn tell_script(script: &mut Script<'_>, told: &mut Told) {
 }
 
 /// Runs a script over its store, and adds what it writes.
-pub fn run_script(script: &mut Script<'_>, written: &mut Vec<u8>, told: &mut Told) -> Outcome {
+pub fn run_script(
+    script: &mut Script<'_>,
+    written: &mut Vec<u8>,
+    told: &mut Transcript,
+) -> Outcome {
     let none = CaseStore::new(
         told.alloc,
         MemoryStore::new(told.alloc),
@@ -115,11 +119,11 @@ fn run_over(
 
 /// Adds what was written. Of many lines the last alone are told, and of those before them the count and the SHA-256.
 /// A last line that isn't ended is ended by a backslash.
-pub fn tell_written(written: &[u8], last: usize, told: &mut Told) {
+pub fn tell_written(written: &[u8], last: usize, told: &mut Transcript) {
     let count = written.split_inclusive(|byte| *byte == b'\n').count();
     let hidden = count.saturating_sub(last);
     let mut hasher = Sha256::new();
-    let mut shown = Told::new(told.alloc);
+    let mut shown = Transcript::new(told.alloc);
     for (index, line) in written.split_inclusive(|byte| *byte == b'\n').enumerate() {
         if index < hidden {
             hasher.update(line);
@@ -138,7 +142,7 @@ pub fn tell_written(written: &[u8], last: usize, told: &mut Told) {
 }
 
 // Adds how many lines aren't told, and their SHA-256.
-fn tell_hidden(count: usize, hasher: Sha256, told: &mut Told) {
+fn tell_hidden(count: usize, hasher: Sha256, told: &mut Transcript) {
     match hex::encode(told.alloc, hasher.finalize()) {
         Ok(digest) => {
             told.with("", &count);

@@ -1,7 +1,7 @@
 //! The appends of batches and the closes of streams, one call of the store after the other.
 
 use case_calls::{CaseStore, Waiting, begin, place_of, spelled_rows, step};
-use case_words::Told;
+use case_words::Transcript;
 use sink_core::{SinkEnd, SinkFault, SinkOutcome, SinkSession};
 use std::collections::BTreeMap;
 use table_log::Loaded;
@@ -18,7 +18,7 @@ pub fn tell_sink(
     sinks: &mut Sinks,
     actor: &str,
     line: &str,
-    told: &mut Told,
+    told: &mut Transcript,
 ) {
     let Some(sink) = place_of(sinks, actor, told) else {
         return;
@@ -33,7 +33,7 @@ pub fn tell_sink(
 }
 
 // Begins a session, in place of one that waits: `append APP NUMBER AT TRIES ROWS` or `close APP AT TRIES`.
-fn start(sink: &mut Sink, line: &str, told: &mut Told) -> Option<SinkEnd> {
+fn start(sink: &mut Sink, line: &str, told: &mut Transcript) -> Option<SinkEnd> {
     let (word, words) = told.halves(line);
     let (application, words) = told.halves(words);
     match word {
@@ -47,7 +47,12 @@ fn start(sink: &mut Sink, line: &str, told: &mut Told) -> Option<SinkEnd> {
 }
 
 // Begins the append of a batch: `NUMBER AT TRIES ROWS`.
-fn append(sink: &mut Sink, application: &str, words: &str, told: &mut Told) -> Option<SinkEnd> {
+fn append(
+    sink: &mut Sink,
+    application: &str,
+    words: &str,
+    told: &mut Transcript,
+) -> Option<SinkEnd> {
     let (number, words) = told.halves(words);
     let (at, words) = told.halves(words);
     let (tries, rows) = told.halves(words);
@@ -74,7 +79,12 @@ fn append(sink: &mut Sink, application: &str, words: &str, told: &mut Told) -> O
 }
 
 // Begins the close of a stream: `AT TRIES`.
-fn close(sink: &mut Sink, application: &str, words: &str, told: &mut Told) -> Option<SinkEnd> {
+fn close(
+    sink: &mut Sink,
+    application: &str,
+    words: &str,
+    told: &mut Transcript,
+) -> Option<SinkEnd> {
     let (at, tries) = told.halves(words);
     let at = told.moment(at);
     let tries = told.count(tries);
@@ -88,7 +98,7 @@ fn close(sink: &mut Sink, application: &str, words: &str, told: &mut Told) -> Op
 }
 
 // Adds how a session ended, if it did. Want of memory is told where it ran out in a call, and fails elsewhere.
-fn tell_end(ended: &Option<SinkEnd>, is_short: bool, told: &mut Told) {
+fn tell_end(ended: &Option<SinkEnd>, is_short: bool, told: &mut Transcript) {
     if let Some(end) = ended {
         match &end.answer {
             Ok(SinkOutcome::Committed { version }) => told.tell("committed", version),

@@ -1,6 +1,6 @@
 //! What is told of the store that a script leaves: the slow program of the definitions looks at it.
 
-use case_words::Told;
+use case_words::Transcript;
 use row_core::{Value, row_to_json};
 use schema_tree::Schema;
 use std::alloc::Global;
@@ -9,7 +9,7 @@ use table_model::{Batch, Entry, is_lawful};
 use table_store::{Held, held_by};
 
 /// Adds which table a store holds, whether it is lawful, and, where they are told, its entries, one a line.
-pub fn tell_table(store: &mut MemoryStore, tells_entries: bool, told: &mut Told) {
+pub fn tell_table(store: &mut MemoryStore, tells_entries: bool, told: &mut Transcript) {
     match held_by(told.alloc, store) {
         Ok(Some(held)) => tell_held(&held, tells_entries, told),
         Ok(None) => told.say("no table"),
@@ -17,7 +17,7 @@ pub fn tell_table(store: &mut MemoryStore, tells_entries: bool, told: &mut Told)
     }
 }
 
-fn tell_held(held: &Held, tells_entries: bool, told: &mut Told) {
+fn tell_held(held: &Held, tells_entries: bool, told: &mut Transcript) {
     let Some(schema) = &held.schema else {
         told.text("table of any schema, ");
         return tell_count(&held.entries, told);
@@ -37,7 +37,7 @@ fn tell_held(held: &Held, tells_entries: bool, told: &mut Told) {
 }
 
 /// Adds how many entries there are, and whether they are lawful.
-pub fn tell_count(entries: &[Entry], told: &mut Told) {
+pub fn tell_count(entries: &[Entry], told: &mut Transcript) {
     told.with("", &entries.len());
     told.say(if is_lawful(entries) {
         " entries, lawful"
@@ -47,7 +47,7 @@ pub fn tell_count(entries: &[Entry], told: &mut Told) {
 }
 
 // Adds an entry: of a group that isn't one batch the count, and its batches, one a line.
-fn tell_entry(schema: &Schema<Global>, entry: &Entry, told: &mut Told) {
+fn tell_entry(schema: &Schema<Global>, entry: &Entry, told: &mut Transcript) {
     match entry {
         Entry::Creation => told.say("creation"),
         Entry::Close(application) => told.tell("close of", application),
@@ -64,7 +64,7 @@ fn tell_entry(schema: &Schema<Global>, entry: &Entry, told: &mut Told) {
 }
 
 // Adds a batch: its number, its application, and its rows as JSON.
-fn tell_batch(schema: &Schema<Global>, batch: &Batch, told: &mut Told) {
+fn tell_batch(schema: &Schema<Global>, batch: &Batch, told: &mut Transcript) {
     told.with("batch ", &batch.number);
     told.text(" of ");
     told.text(&batch.application);
@@ -74,7 +74,7 @@ fn tell_batch(schema: &Schema<Global>, batch: &Batch, told: &mut Told) {
 }
 
 // Adds rows as JSON, the first one behind the one text, and each other one behind the other.
-fn add_rows(schema: &Schema<Global>, rows: &[Value], gaps: [&str; 2], told: &mut Told) {
+fn add_rows(schema: &Schema<Global>, rows: &[Value], gaps: [&str; 2], told: &mut Transcript) {
     let [mut gap, next] = gaps;
     for row in rows {
         told.text(gap);
@@ -84,7 +84,7 @@ fn add_rows(schema: &Schema<Global>, rows: &[Value], gaps: [&str; 2], told: &mut
 }
 
 // Adds a row as JSON.
-fn add_row(schema: &Schema<Global>, row: &Value, told: &mut Told) {
+fn add_row(schema: &Schema<Global>, row: &Value, told: &mut Transcript) {
     match row_to_json(told.alloc, schema, row) {
         Ok(json) => match json.to_string(told.alloc) {
             Ok(text) => told.text(&text),
@@ -95,7 +95,7 @@ fn add_row(schema: &Schema<Global>, row: &Value, told: &mut Told) {
 }
 
 /// Adds the names of a store's objects, each with its count of bytes.
-pub fn tell_objects(store: &mut MemoryStore, told: &mut Told) {
+pub fn tell_objects(store: &mut MemoryStore, told: &mut Transcript) {
     match store.list() {
         Ok(names) => {
             for name in names.as_slice() {
@@ -107,7 +107,7 @@ pub fn tell_objects(store: &mut MemoryStore, told: &mut Told) {
 }
 
 // Adds a name, and the count of its object's bytes.
-fn tell_object(store: &mut MemoryStore, name: &str, told: &mut Told) {
+fn tell_object(store: &mut MemoryStore, name: &str, told: &mut Transcript) {
     match store.get(name) {
         Ok(Some(bytes)) => told.tell(name, &bytes.len()),
         Ok(None) => told.tell(name, &0u64),
@@ -116,7 +116,7 @@ fn tell_object(store: &mut MemoryStore, name: &str, told: &mut Told) {
 }
 
 /// Adds the log that a store holds as the judge of scripts reads it. Whether it is lawful; nothing where there is no table.
-pub fn add_log(store: &mut MemoryStore, log: &mut Told) -> Option<bool> {
+pub fn add_log(store: &mut MemoryStore, log: &mut Transcript) -> Option<bool> {
     match held_by(log.alloc, store) {
         Ok(Some(held)) => {
             add_entries(&held, log);
@@ -131,7 +131,7 @@ pub fn add_log(store: &mut MemoryStore, log: &mut Told) -> Option<bool> {
 }
 
 // Adds the entries of a log whose schema is known.
-fn add_entries(held: &Held, log: &mut Told) {
+fn add_entries(held: &Held, log: &mut Transcript) {
     if let Some(schema) = &held.schema {
         for entry in &held.entries {
             add_entry(schema, entry, log);
@@ -140,7 +140,7 @@ fn add_entries(held: &Held, log: &mut Told) {
 }
 
 // Adds an entry. Scripts make groups of one batch alone.
-fn add_entry(schema: &Schema<Global>, entry: &Entry, log: &mut Told) {
+fn add_entry(schema: &Schema<Global>, entry: &Entry, log: &mut Transcript) {
     match entry {
         Entry::Creation => log.say("creation"),
         Entry::Close(application) => log.tell("close", application),

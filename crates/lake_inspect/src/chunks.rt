@@ -1,7 +1,7 @@
 //! Pages of a column: what a chunk's pages hold, and the bytes that are written for a column.
 
 use crate::columns::column_in;
-use byte_words::{LineFault, Told, Words};
+use byte_words::{LineFault, Transcript, Words};
 use page_writing::{MAX_PAGE_ROWS, write_page};
 use parquet_footer::FileError;
 use parquet_pages::{ColumnReader, Leaf, LeafType, test_chunk};
@@ -13,7 +13,7 @@ use std::alloc::Global;
 /// Tells what the pages of a chunk hold, for `TYPE FLAGS OFFSET COUNT BYTES`: the levels and the values. FLAGS is `-`,
 /// or has for each node that may be null in the file `n` where the table lets it be null, and `r` where it doesn't. The
 /// pages are tested, and read then.
-pub fn tell_chunk(words: &mut Words<'_>, told: &mut Told) -> Result<(), LineFault> {
+pub fn tell_chunk(words: &mut Words<'_>, told: &mut Transcript) -> Result<(), LineFault> {
     let leaf = words.word();
     let nullable = words.flags();
     let offset = words.word();
@@ -59,7 +59,7 @@ fn column_of(
 
 /// The pages that are written for a column, for `TYPE HIGHEST COLUMN`, of which this is JSON: pages of
 /// [`MAX_PAGE_ROWS`] levels, the last with the rest, each with as many values as it has highest levels.
-pub fn written_chunk(words: &mut Words<'_>, told: &mut Told) -> Result<Vec<u8>, LineFault> {
+pub fn written_chunk(words: &mut Words<'_>, told: &mut Transcript) -> Result<Vec<u8>, LineFault> {
     let leaf = words.word();
     let highest = words.word();
     let highest = words.number::<u64>(highest);
@@ -102,7 +102,7 @@ fn type_named(word: &str) -> Result<LeafType, LineFault> {
 }
 
 /// Tells the levels of a column and its values.
-fn tell_column(column: &Column<Value>, told: &mut Told) {
+fn tell_column(column: &Column<Value>, told: &mut Transcript) {
     told.debug("levels ", &column.levels);
     told.put(", values");
     for value in &column.values {
@@ -111,7 +111,7 @@ fn tell_column(column: &Column<Value>, told: &mut Told) {
 }
 
 /// Tells a value behind a space: a text in quotes, bytes in hexadecimal.
-fn tell_value(value: &Value, told: &mut Told) {
+fn tell_value(value: &Value, told: &mut Transcript) {
     match value {
         Value::Null => told.put(" null"),
         Value::Bool(truth) => told.show(" ", truth),

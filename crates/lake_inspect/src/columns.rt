@@ -7,7 +7,7 @@ ghost use Rattle.schema_tree.specs.Schema.{tree_of};
 
 use crate::rows::{items_of, json_of, rows_in, tell_value};
 use crate::schema::tell_leaf;
-use byte_words::{LineFault, Told};
+use byte_words::{LineFault, Transcript};
 use json::Scratch;
 use json_text::{Named, Value as Json, member_of, named};
 use row_core::{Value, conforms, same_rows};
@@ -20,13 +20,17 @@ use std::alloc::{AllocError, Global};
 pub fn tell_columns(
     schema: &Schema<Global>,
     text: &[u8],
-    told: &mut Told,
+    told: &mut Transcript,
 ) -> Result<(), LineFault> {
     let rows = rows_in(schema, text, told)?;
     tell_shredded(schema, &rows, told)
 }
 
-fn tell_shredded(schema: &Schema<Global>, rows: &[Value], told: &mut Told) -> Result<(), LineFault>
+fn tell_shredded(
+    schema: &Schema<Global>,
+    rows: &[Value],
+    told: &mut Transcript,
+) -> Result<(), LineFault>
     requires { All (Conforms (tree_of schema.now)) (row_views rows.now) }
 {
     let shape = Shape::of_schema(told.alloc(), schema)?;
@@ -39,7 +43,7 @@ fn tell_shredded(schema: &Schema<Global>, rows: &[Value], told: &mut Told) -> Re
 fn tell_leaves(
     schema: &Schema<Global>,
     columns: &[Column<&Value>],
-    told: &mut Told,
+    told: &mut Transcript,
 ) -> Result<(), AllocError> {
     for (leaf, column) in schema.leaves(told.alloc())?.iter().zip(columns) {
         tell_leaf(leaf, told);
@@ -48,7 +52,7 @@ fn tell_leaves(
     Ok(())
 }
 
-fn tell_column(schema: &Schema<Global>, column: &Column<&Value>, told: &mut Told) {
+fn tell_column(schema: &Schema<Global>, column: &Column<&Value>, told: &mut Transcript) {
     told.debug(", levels ", &column.levels);
     told.put(", values");
     for value in &column.values {
@@ -62,7 +66,7 @@ fn tell_again(
     shape: &Shape,
     columns: &[Column<&Value>],
     rows: &[Value],
-    told: &mut Told,
+    told: &mut Transcript,
 ) -> Result<(), LineFault> {
     let copies = owned(told.alloc(), columns)?;
     let again = told.given(assemble(told.alloc(), shape, copies))?;
@@ -108,7 +112,7 @@ fn leaf_copy(alloc: Global, value: &Value) -> Result<Value, AllocError> {
 pub fn tell_assembled(
     schema: &Schema<Global>,
     text: &[u8],
-    told: &mut Told,
+    told: &mut Transcript,
 ) -> Result<(), LineFault> {
     let shape = Shape::of_schema(told.alloc(), schema)?;
     let columns = columns_in(told.alloc(), text)?;

@@ -4,19 +4,19 @@ ghost use Rattle.std.specs.List.{AllByRecursion};
 ghost use Rattle.delta_actions.specs.Action.{views};
 ghost use Rattle.delta_actions.specs.Printing.{IsPrintable};
 
-use byte_words::{LineFault, Told};
+use byte_words::{LineFault, Transcript};
 use delta_actions::{Action, FilePath, print_line, read_commit};
 use std::alloc::AllocError;
 
 /// Tells how many actions a commit has, and each of them: what it is, and the line that it is printed as.
-pub fn tell_commit(bytes: &[u8], told: &mut Told) -> Result<(), LineFault> {
+pub fn tell_commit(bytes: &[u8], told: &mut Transcript) -> Result<(), LineFault> {
     match read_commit(told.alloc(), bytes) {
         Ok(actions) => Ok(tell_actions(&actions, told)?),
         Err(fault) => Err(told.refused(&fault)),
     }
 }
 
-fn tell_actions(actions: &[Action], told: &mut Told) -> Result<(), AllocError>
+fn tell_actions(actions: &[Action], told: &mut Transcript) -> Result<(), AllocError>
     requires { AllByRecursion IsPrintable (views actions.now) }
 {
     told.show("", &actions.len());
@@ -30,7 +30,7 @@ fn tell_actions(actions: &[Action], told: &mut Told) -> Result<(), AllocError>
 }
 
 /// Tells what an action is read as. Of an added or removed file also the key that its path decodes to.
-fn tell_title(action: &Action, told: &mut Told) -> Result<(), AllocError> {
+fn tell_title(action: &Action, told: &mut Transcript) -> Result<(), AllocError> {
     let title = match action {
         Action::CommitInfo(_) => "commitInfo",
         Action::Protocol(_) => "protocol",
@@ -47,7 +47,7 @@ fn tell_title(action: &Action, told: &mut Told) -> Result<(), AllocError> {
     Ok(())
 }
 
-fn tell_path(title: &str, path: &FilePath, told: &mut Told) -> Result<(), AllocError> {
+fn tell_path(title: &str, path: &FilePath, told: &mut Transcript) -> Result<(), AllocError> {
     let key = path.key(told.alloc())?;
     told.line(title);
     told.show("", &key);

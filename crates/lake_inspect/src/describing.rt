@@ -5,17 +5,21 @@ use crate::footer::tell_footer;
 use crate::headers::tell_page_struct;
 use crate::schema::tell_schema;
 use crate::tree::tell_struct;
-use byte_words::{Kind, LineFault, Told, Words};
+use byte_words::{Kind, LineFault, Transcript, Words};
 use lake_bytes::{ByteFault, Cursor};
 
 /// Tells what the bytes of the words are.
-pub fn tell_alone(kind: Kind, words: &mut Words<'_>, told: &mut Told) -> Result<(), LineFault> {
+pub fn tell_alone(
+    kind: Kind,
+    words: &mut Words<'_>,
+    told: &mut Transcript,
+) -> Result<(), LineFault> {
     let bytes = words.rest_bytes()?;
     tell_bytes(kind, &bytes, told)
 }
 
 /// Tells what these bytes are, or why they aren't of this kind.
-pub fn tell_bytes(kind: Kind, bytes: &[u8], told: &mut Told) -> Result<(), LineFault> {
+pub fn tell_bytes(kind: Kind, bytes: &[u8], told: &mut Transcript) -> Result<(), LineFault> {
     match kind {
         Kind::Footer => tell_footer(bytes, told),
         Kind::Schema => tell_schema(bytes, told),
@@ -27,7 +31,7 @@ pub fn tell_bytes(kind: Kind, bytes: &[u8], told: &mut Told) -> Result<(), LineF
 }
 
 /// Tells the number in front, and how many bytes are left.
-fn tell_number(kind: Kind, bytes: &[u8], told: &mut Told) -> Result<(), LineFault> {
+fn tell_number(kind: Kind, bytes: &[u8], told: &mut Transcript) -> Result<(), LineFault> {
     let mut cursor = Cursor::new(bytes);
     if matches!(kind, Kind::Varint) {
         let number = told.given(cursor.varint())?;
@@ -53,7 +57,7 @@ fn signed_in_front(kind: Kind, cursor: &mut Cursor) -> Result<i64, ByteFault> {
 }
 
 /// Tells how many bytes are left.
-pub fn tell_left(cursor: &Cursor, told: &mut Told) {
+pub fn tell_left(cursor: &Cursor, told: &mut Transcript) {
     told.show(", ", &cursor.left().len());
     told.put(" left");
 }

@@ -7,14 +7,14 @@ ghost use Rattle.schema_tree.specs.Schema.{tree_of};
 
 use crate::rows::rows_in;
 use crate::schema::{schema_and_bytes, schema_of};
-use byte_words::{LineFault, Told, Words};
+use byte_words::{LineFault, Transcript, Words};
 use parquet_file::write_file;
 use row_core::{RowFault, Value, conforms, unsupported};
 use schema_tree::Schema;
 use std::alloc::{AllocError, Global};
 
 /// The file of the rows of a table, for `SCHEMA N ..`: in the row of a number each column has that number.
-pub fn numbers_file(words: &mut Words<'_>, told: &mut Told) -> Result<Vec<u8>, LineFault> {
+pub fn numbers_file(words: &mut Words<'_>, told: &mut Transcript) -> Result<Vec<u8>, LineFault> {
     let schema = words.last_word();
     let schema = words.spelled(schema);
     let numbers = words.numbers();
@@ -58,14 +58,18 @@ fn number_values(
 }
 
 /// The file of the rows of a table, for `SCHEMA ROWS`, of which these are the text of a JSON array.
-pub fn rows_file(words: &mut Words<'_>, told: &mut Told) -> Result<Vec<u8>, LineFault> {
+pub fn rows_file(words: &mut Words<'_>, told: &mut Transcript) -> Result<Vec<u8>, LineFault> {
     let (schema, text) = schema_and_bytes(words, told)?;
     let rows = rows_in(&schema, &text, told)?;
     file_of(&schema, &rows, told)
 }
 
 /// The file of rows, where each column of the table has values.
-fn file_of(schema: &Schema<Global>, rows: &[Value], told: &mut Told) -> Result<Vec<u8>, LineFault>
+fn file_of(
+    schema: &Schema<Global>,
+    rows: &[Value],
+    told: &mut Transcript,
+) -> Result<Vec<u8>, LineFault>
     requires { All (Conforms (tree_of schema.now)) (row_views rows.now) }
 {
     match unsupported(told.alloc(), schema)? {

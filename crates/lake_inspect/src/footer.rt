@@ -1,10 +1,10 @@
 //! The footers of Parquet files as text.
 
-use byte_words::{LineFault, Told};
+use byte_words::{LineFault, Transcript};
 use parquet_footer::{ColumnChunk, Footer, RowGroup, SchemaElement};
 
 /// Tells what a file's footer says: how many rows it has, the nodes of the schema, and each row group with its chunks.
-pub fn tell_footer(bytes: &[u8], told: &mut Told) -> Result<(), LineFault> {
+pub fn tell_footer(bytes: &[u8], told: &mut Transcript) -> Result<(), LineFault> {
     let footer = told.given(Footer::read(told.alloc(), bytes))?;
     told.show("", &footer.num_rows);
     told.put(" rows");
@@ -20,7 +20,7 @@ pub fn tell_footer(bytes: &[u8], told: &mut Told) -> Result<(), LineFault> {
     Ok(())
 }
 
-fn tell_node(node: &SchemaElement, told: &mut Told) {
+fn tell_node(node: &SchemaElement, told: &mut Transcript) {
     told.line("node ");
     told.quoted(&node.name);
     if let Some(number) = node.physical_type {
@@ -34,14 +34,14 @@ fn tell_node(node: &SchemaElement, told: &mut Told) {
 }
 
 /// Tells of a row group how many rows it has.
-pub fn tell_group(group: &RowGroup, told: &mut Told) {
+pub fn tell_group(group: &RowGroup, told: &mut Transcript) {
     told.line("group of ");
     told.show("", &group.num_rows);
     told.put(" rows");
 }
 
 /// Tells a column chunk: its path, its codec, how many values it has, and where its first page begins.
-pub fn tell_chunk(chunk: &ColumnChunk, told: &mut Told) {
+pub fn tell_chunk(chunk: &ColumnChunk, told: &mut Transcript) {
     told.line("chunk");
     for name in &chunk.path_in_schema {
         told.put(" ");

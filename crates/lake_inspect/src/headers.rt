@@ -2,7 +2,7 @@
 
 use crate::describing::tell_left;
 use crate::tree::tell_value;
-use byte_words::{LineFault, Told};
+use byte_words::{LineFault, Transcript};
 use lake_bytes::Cursor;
 use parquet_pages::{PageContent, PageHeader};
 use std::alloc::Global;
@@ -18,10 +18,10 @@ const PAGE_KINDS: [(i16, &str); 2] = [(5, ", data page: "), (7, ", dictionary pa
 const CONTENT_FIELDS: [(i16, &str); 2] = [(1, "values "), (2, ", encoding ")];
 
 /// Tells what the struct in front of the bytes says as a page's header, and how many bytes are left.
-pub fn tell_page_struct(bytes: &[u8], told: &mut Told) -> Result<(), LineFault> {
+pub fn tell_page_struct(bytes: &[u8], told: &mut Transcript) -> Result<(), LineFault> {
     let mut cursor = Cursor::new(bytes);
     let tree = told.given(read_struct(told.alloc(), &mut cursor))?;
-    let mut header = Told::new(told.alloc(), "");
+    let mut header = Transcript::new(told.alloc(), "");
     told.given(tell_header_struct(&tree, &mut header))?;
     told.put(header.text());
     tell_left(&cursor, told);
@@ -29,7 +29,7 @@ pub fn tell_page_struct(bytes: &[u8], told: &mut Told) -> Result<(), LineFault> 
 }
 
 /// Tells what a struct says as a page's header: each of the fields, whatever it holds.
-fn tell_header_struct(tree: &TValue<Global>, told: &mut Told) -> Result<(), ThriftFault> {
+fn tell_header_struct(tree: &TValue<Global>, told: &mut Transcript) -> Result<(), ThriftFault> {
     for (id, name) in PAGE_FIELDS {
         told.put(name);
         tell_value(tree.required(id)?, told);
@@ -47,7 +47,7 @@ fn tell_header_struct(tree: &TValue<Global>, told: &mut Told) -> Result<(), Thri
 }
 
 /// Tells what the header of the page at a place says, in the same words; of a column with levels also their encoding.
-pub fn tell_header(place: usize, header: &PageHeader, told: &mut Told) {
+pub fn tell_header(place: usize, header: &PageHeader, told: &mut Transcript) {
     told.line("page at ");
     told.show("", &place);
     told.show(": type ", &header.page_type);

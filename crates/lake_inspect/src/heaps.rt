@@ -3,7 +3,7 @@
 use crate::rows::tell_file;
 use crate::schema::{schema_and_bytes, schema_of};
 use crate::tree::tell_struct;
-use byte_words::{HeapKind, LineFault, Told, Words};
+use byte_words::{HeapKind, LineFault, Transcript, Words};
 use linked_list_allocator::LocalHeap;
 use schema_tree::Schema;
 use std::alloc::Global;
@@ -26,7 +26,11 @@ enum Order {
 /// Tells what comes of a heap of so many bytes: for `BYTES SCHEMA` of a schema that is copied into it, for `BYTES
 /// SCHEMA FILE` of a table's file whose footer is read into it, and for `BYTES STRUCT` of a struct that is read into
 /// it, and then of one of one number. At the end stands how much of the heap is in use.
-pub fn tell_heap(kind: HeapKind, words: &mut Words<'_>, told: &mut Told) -> Result<(), LineFault> {
+pub fn tell_heap(
+    kind: HeapKind,
+    words: &mut Words<'_>,
+    told: &mut Transcript,
+) -> Result<(), LineFault> {
     let size = words.word();
     let size = words.number::<usize>(size);
     words.end()?;
@@ -42,7 +46,7 @@ fn tell_in(
     heap: &LocalHeap,
     kind: HeapKind,
     words: &mut Words<'_>,
-    told: &mut Told,
+    told: &mut Transcript,
 ) -> Result<(), LineFault> {
     match kind {
         HeapKind::Schema => tell_copies(heap, &words.rest_bytes()?, told),
@@ -55,7 +59,11 @@ fn tell_in(
 }
 
 /// Tells the rows of a file of a table, whose footer is read into the heap, or why it is refused.
-fn tell_file_in(heap: &LocalHeap, words: &mut Words<'_>, told: &mut Told) -> Result<(), LineFault> {
+fn tell_file_in(
+    heap: &LocalHeap,
+    words: &mut Words<'_>,
+    told: &mut Transcript,
+) -> Result<(), LineFault> {
     let (schema, bytes) = schema_and_bytes(words, told)?;
     match tell_file(heap, &schema, &bytes, told) {
         Ok(()) | Err(LineFault::Refused) => Ok(()),
@@ -66,7 +74,7 @@ fn tell_file_in(heap: &LocalHeap, words: &mut Words<'_>, told: &mut Told) -> Res
 /// Tells of a schema, its copy in the heap and the copy of that in memory whether all three are the same, and still
 /// once one of them is dropped, for each order; or, where the heap has no room, the schema as it stands then, and
 /// whether one of a single column has room.
-fn tell_copies(heap: &LocalHeap, bytes: &[u8], told: &mut Told) -> Result<(), LineFault> {
+fn tell_copies(heap: &LocalHeap, bytes: &[u8], told: &mut Transcript) -> Result<(), LineFault> {
     let schema = schema_of(bytes, told)?;
     if schema.copy_into(heap).is_err() {
         told.line("out of memory");
@@ -83,7 +91,7 @@ fn tell_compared(
     heap: &LocalHeap,
     bytes: &[u8],
     order: Order,
-    told: &mut Told,
+    told: &mut Transcript,
 ) -> Result<(), LineFault> {
     let first = schema_of(bytes, told)?;
     let Ok(inside) = first.copy_into(heap) else {

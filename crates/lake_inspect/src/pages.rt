@@ -2,7 +2,7 @@
 
 use crate::footer::{tell_chunk, tell_group};
 use crate::headers::tell_header;
-use byte_words::{LineFault, Told};
+use byte_words::{LineFault, Transcript};
 use lake_bytes::Run;
 use parquet_file::chunk_named;
 use parquet_footer::{FileFault, Footer, RowGroup, split_file};
@@ -20,7 +20,11 @@ const UNCOMPRESSED: i64 = 0;
 ///
 /// The first fault ends it: those of [`Footer::read`] and of [`fit`]; for a group without a chunk of a leaf P8, for a
 /// chunk's codec P3, for a first page before byte 4 P6; and those of [`read_page`].
-pub fn tell_pages(schema: &Schema<Global>, bytes: &[u8], told: &mut Told) -> Result<(), LineFault> {
+pub fn tell_pages(
+    schema: &Schema<Global>,
+    bytes: &[u8],
+    told: &mut Transcript,
+) -> Result<(), LineFault> {
     let (front, footer) = match split_file(bytes) {
         Ok(parts) => parts,
         Err(fault) => return Err(told.refused(&fault)),
@@ -43,7 +47,7 @@ fn tell_pages_of(
     group: &RowGroup,
     leaf: &FileLeaf,
     bytes: &[u8],
-    told: &mut Told,
+    told: &mut Transcript,
 ) -> Result<(), LineFault> {
     let Some(chunk) = chunk_named(&group.columns, &leaf.names) else {
         return Err(told.refused(&FileFault::SchemaMismatch));
@@ -69,7 +73,7 @@ fn tell_pages_from(
     bytes: &[u8],
     place: usize,
     count: u64,
-    told: &mut Told,
+    told: &mut Transcript,
 ) -> Result<(), LineFault> {
     let mut place = place;
     let mut left = count;
@@ -88,7 +92,7 @@ fn tell_pages_from(
 }
 
 /// Tells what the header of the page at a place says, if it can be read.
-fn tell_header_at(leaf: &Leaf, bytes: &[u8], place: usize, told: &mut Told) {
+fn tell_header_at(leaf: &Leaf, bytes: &[u8], place: usize, told: &mut Transcript) {
     if place <= bytes.len() {
         let (_, page) = bytes.split_at(place);
         if let Ok((header, _)) = read_header(told.alloc(), page, leaf.highest() > 0) {
@@ -98,7 +102,7 @@ fn tell_header_at(leaf: &Leaf, bytes: &[u8], place: usize, told: &mut Told) {
 }
 
 /// Tells the levels of a page, as runs that are as long as can be, and how many of its values aren't null.
-fn tell_levels(highest: u64, page: &Page, told: &mut Told) {
+fn tell_levels(highest: u64, page: &Page, told: &mut Transcript) {
     told.line(if page.num_values() == 0 {
         "no levels"
     } else {
@@ -125,7 +129,7 @@ fn tell_levels(highest: u64, page: &Page, told: &mut Told) {
 }
 
 /// Tells a run, unless it is empty.
-fn tell_run(run: Run, told: &mut Told) {
+fn tell_run(run: Run, told: &mut Transcript) {
     if run.count > 0 {
         told.show(" ", &run.value);
         told.show("*", &run.count);

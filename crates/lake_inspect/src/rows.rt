@@ -5,7 +5,7 @@ ghost use Rattle.row_core.specs.Conforms.{Conforms};
 ghost use Rattle.row_core.specs.Views.{row_views};
 ghost use Rattle.schema_tree.specs.Schema.{tree_of};
 
-use byte_words::{LineFault, Told};
+use byte_words::{LineFault, Transcript};
 use json::Scratch;
 use json_text::{TextError, Value as Json, value_in};
 use parquet_file::read_rows;
@@ -19,7 +19,7 @@ pub fn tell_file<H: Allocator + Copy>(
     heap: H,
     schema: &Schema<Global>,
     bytes: &[u8],
-    told: &mut Told,
+    told: &mut Transcript,
 ) -> Result<(), LineFault> {
     let rows = told.given(read_rows(told.alloc(), heap, schema, bytes))?;
     told.show("", &rows.len());
@@ -32,7 +32,7 @@ pub fn tell_file<H: Allocator + Copy>(
 }
 
 /// Tells a row, or the value of a leaf, as JSON.
-pub fn tell_value(schema: &Schema<Global>, row: &Value, told: &mut Told) {
+pub fn tell_value(schema: &Schema<Global>, row: &Value, told: &mut Transcript) {
     match printed(told.alloc(), schema, row) {
         Ok(text) => told.put(&text),
         Err(_) => told.lack_memory(),
@@ -69,7 +69,11 @@ pub fn items_of<'a, 't>(value: &'a Json<'t>) -> Result<&'a Vec<Json<'t>>, LineFa
 
 /// Tells the row that a text is, as it is printed; and where it doesn't conform to the schema, or what is printed isn't
 /// read as the same row.
-pub fn tell_row(schema: &Schema<Global>, text: &[u8], told: &mut Told) -> Result<(), LineFault> {
+pub fn tell_row(
+    schema: &Schema<Global>,
+    text: &[u8],
+    told: &mut Transcript,
+) -> Result<(), LineFault> {
     let row = row_of(schema, text, told)?;
     let line = printed(told.alloc(), schema, &row)?;
     let is_same = reads_again(schema, row, line.as_bytes(), told)?;
@@ -85,7 +89,7 @@ fn reads_again(
     schema: &Schema<Global>,
     row: Value,
     text: &[u8],
-    told: &mut Told,
+    told: &mut Transcript,
 ) -> Result<bool, LineFault> {
     let does_conform = conforms(schema, &row);
     let again = row_of(schema, text, told)?;
@@ -93,7 +97,7 @@ fn reads_again(
 }
 
 /// The row that a text is.
-fn row_of(schema: &Schema<Global>, text: &[u8], told: &mut Told) -> Result<Value, LineFault> {
+fn row_of(schema: &Schema<Global>, text: &[u8], told: &mut Transcript) -> Result<Value, LineFault> {
     let mut scratch = Scratch::new(told.alloc());
     let value = json_of(told.alloc(), text, &mut scratch)?;
     told.given(row_from_json(told.alloc(), schema, &value))
@@ -103,7 +107,7 @@ fn row_of(schema: &Schema<Global>, text: &[u8], told: &mut Told) -> Result<Value
 pub fn rows_in(
     schema: &Schema<Global>,
     text: &[u8],
-    told: &mut Told,
+    told: &mut Transcript,
 ) -> Result<Vec<Value>, LineFault>
     ensures { IfOk result (λ rows. All (Conforms (tree_of schema.now)) (row_views rows.items)) }
 {

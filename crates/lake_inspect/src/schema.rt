@@ -1,13 +1,13 @@
 //! Schemas as text.
 
-use byte_words::{LineFault, Told, Words};
+use byte_words::{LineFault, Transcript, Words};
 use schema_tree::{Leaf, ReadError, Schema, SchemaFault};
 use std::alloc::Global;
 use std::str::from_utf8;
 
 /// Tells the text of a schema, as it is printed, and each of its leaves. They are told from a copy, so that cases look
 /// at copies too.
-pub fn tell_schema(bytes: &[u8], told: &mut Told) -> Result<(), LineFault> {
+pub fn tell_schema(bytes: &[u8], told: &mut Transcript) -> Result<(), LineFault> {
     let schema = schema_of(bytes, told)?.copy_into(told.alloc())?;
     told.put(&schema.to_text(told.alloc())?);
     for leaf in &schema.leaves(told.alloc())? {
@@ -19,7 +19,7 @@ pub fn tell_schema(bytes: &[u8], told: &mut Told) -> Result<(), LineFault> {
 /// The schema and the bytes of `SCHEMA BYTES`.
 pub fn schema_and_bytes(
     words: &mut Words<'_>,
-    told: &mut Told,
+    told: &mut Transcript,
 ) -> Result<(Schema<Global>, Vec<u8>), LineFault> {
     let schema = words.word_bytes();
     let bytes = words.rest_bytes()?;
@@ -27,7 +27,7 @@ pub fn schema_and_bytes(
 }
 
 /// The schema that bytes are the text of; or tells why they are of none.
-pub fn schema_of(bytes: &[u8], told: &mut Told) -> Result<Schema<Global>, LineFault> {
+pub fn schema_of(bytes: &[u8], told: &mut Transcript) -> Result<Schema<Global>, LineFault> {
     let schema = match from_utf8(bytes) {
         Ok(text) => Schema::from_text(told.alloc(), text),
         Err(_) => Err(ReadError::Fault(SchemaFault::BadJson)),
@@ -36,7 +36,7 @@ pub fn schema_of(bytes: &[u8], told: &mut Told) -> Result<Schema<Global>, LineFa
 }
 
 /// Tells a leaf: its path, and how many of the fields on it may be null.
-pub fn tell_leaf(leaf: &Leaf<'_, Global>, told: &mut Told) {
+pub fn tell_leaf(leaf: &Leaf<'_, Global>, told: &mut Transcript) {
     told.line("leaf ");
     let mut gap = "";
     for name in &leaf.names {

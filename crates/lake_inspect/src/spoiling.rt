@@ -3,7 +3,7 @@
 use crate::describing::tell_bytes;
 use crate::rows::tell_file;
 use crate::schema::schema_of;
-use byte_words::{Kind, LineFault, Question, Told, Words, question_named, spoiled};
+use byte_words::{Kind, LineFault, Question, Transcript, Words, question_named, spoiled};
 use schema_tree::Schema;
 use std::alloc::Global;
 use std::collections::BTreeMap;
@@ -21,7 +21,7 @@ enum Read<'a> {
 type Tallies = BTreeMap<String, [u32; 4]>;
 
 /// Tells what comes of spoiled bytes, for `KIND BYTES` and for `file SCHEMA FILE`.
-pub fn tell_spoiled(words: &mut Words<'_>, told: &mut Told) -> Result<(), LineFault> {
+pub fn tell_spoiled(words: &mut Words<'_>, told: &mut Transcript) -> Result<(), LineFault> {
     if words.takes("file ") {
         let schema = words.word_bytes();
         let schema = schema_of(&schema, told)?;
@@ -36,9 +36,13 @@ pub fn tell_spoiled(words: &mut Words<'_>, told: &mut Told) -> Result<(), LineFa
 /// Tells how often each outcome came where each front of the bytes is read, and for each of them the bytes without it,
 /// and with 00 and with FF in its place: a line for each outcome, in that order of the ways; `same` where the bytes are
 /// told as the unspoiled ones, `other` where they are told otherwise. Where the unspoiled ones are refused, tells why.
-fn tell_outcomes(read: Read<'_>, words: &mut Words<'_>, told: &mut Told) -> Result<(), LineFault> {
+fn tell_outcomes(
+    read: Read<'_>,
+    words: &mut Words<'_>,
+    told: &mut Transcript,
+) -> Result<(), LineFault> {
     let bytes = words.rest_bytes()?;
-    let mut whole = Told::new(told.alloc(), " | ");
+    let mut whole = Transcript::new(told.alloc(), " | ");
     if let Err(fault) = tell_read(read, &bytes, &mut whole) {
         told.put(whole.text());
         return Err(fault);
@@ -57,7 +61,7 @@ fn tell_outcomes(read: Read<'_>, words: &mut Words<'_>, told: &mut Told) -> Resu
 }
 
 /// Tells what bytes are.
-fn tell_read(read: Read<'_>, bytes: &[u8], told: &mut Told) -> Result<(), LineFault> {
+fn tell_read(read: Read<'_>, bytes: &[u8], told: &mut Transcript) -> Result<(), LineFault> {
     match read {
         Read::Alone(kind) => tell_bytes(kind, bytes, told),
         Read::File(schema) => tell_file(told.alloc(), schema, bytes, told),
@@ -80,7 +84,7 @@ fn tallied(read: Read<'_>, bytes: &[u8], whole: &str, alloc: Global) -> Result<T
 
 /// The refusal of bytes; or whether they are told as the unspoiled ones.
 fn outcome(read: Read<'_>, bytes: &[u8], whole: &str, alloc: Global) -> Result<String, LineFault> {
-    let mut told = Told::new(alloc, " | ");
+    let mut told = Transcript::new(alloc, " | ");
     match tell_read(read, bytes, &mut told) {
         Ok(()) => Ok(String::from_str(alloc, compared(told.whole()?, whole))?),
         Err(LineFault::Refused) => Ok(String::from_str(alloc, told.whole()?)?),

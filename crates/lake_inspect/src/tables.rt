@@ -4,7 +4,7 @@ use crate::columns::{tell_assembled, tell_columns};
 use crate::pages::tell_pages;
 use crate::rows::{tell_file, tell_row};
 use crate::schema::schema_and_bytes;
-use byte_words::{LineFault, TableKind, Told, Words};
+use byte_words::{LineFault, TableKind, Transcript, Words};
 use parquet_footer::Footer;
 use parquet_schema::{FileLeaf, fit};
 use schema_tree::Schema;
@@ -14,7 +14,7 @@ use std::alloc::Global;
 pub fn tell_table(
     kind: TableKind,
     words: &mut Words<'_>,
-    told: &mut Told,
+    told: &mut Transcript,
 ) -> Result<(), LineFault> {
     let (schema, bytes) = schema_and_bytes(words, told)?;
     match kind {
@@ -29,7 +29,7 @@ pub fn tell_table(
 
 /// Tells what a table's rows are in a file: for each leaf the way to it, and for each node on it that may be null in
 /// the file whether the table lets it be null.
-fn tell_fit(schema: &Schema<Global>, bytes: &[u8], told: &mut Told) -> Result<(), LineFault> {
+fn tell_fit(schema: &Schema<Global>, bytes: &[u8], told: &mut Transcript) -> Result<(), LineFault> {
     let footer = told.given(Footer::read(told.alloc(), bytes))?;
     let file = told.given(fit(told.alloc(), schema, &footer.schema))?;
     for leaf in &file.leaves {
@@ -38,7 +38,7 @@ fn tell_fit(schema: &Schema<Global>, bytes: &[u8], told: &mut Told) -> Result<()
     Ok(())
 }
 
-fn tell_fitted(leaf: &FileLeaf, told: &mut Told) {
+fn tell_fitted(leaf: &FileLeaf, told: &mut Transcript) {
     told.line("");
     let mut gap = "";
     for name in &leaf.names {

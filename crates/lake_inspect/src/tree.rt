@@ -1,7 +1,7 @@
 //! Thrift structs as text.
 
 use crate::describing::tell_left;
-use byte_words::{LineFault, Told};
+use byte_words::{LineFault, Transcript};
 use lake_bytes::Cursor;
 use std::alloc::Allocator;
 use thrift_core::{Field, MapEntry, ReadError, TValue, read_struct};
@@ -11,7 +11,7 @@ use thrift_core::{Field, MapEntry, ReadError, TValue, read_struct};
 pub fn tell_struct<H: Allocator + Copy>(
     heap: H,
     bytes: &[u8],
-    told: &mut Told,
+    told: &mut Transcript,
 ) -> Result<(), LineFault> {
     let mut cursor = Cursor::new(bytes);
     match read_struct(heap, &mut cursor) {
@@ -29,7 +29,7 @@ pub fn tell_struct<H: Allocator + Copy>(
 /// Tells a value: a struct as `{1: .., 2: ..}`, a list as `[.., ..]`, a map as `<..: ..>`, a binary as text in
 /// quotes or as `x'..'`, a double as `double`.
 #[cycle(show)]
-pub fn tell_value<A: Allocator>(value: &TValue<A>, told: &mut Told) {
+pub fn tell_value<A: Allocator>(value: &TValue<A>, told: &mut Transcript) {
     match value {
         TValue::Bool(truth) => told.show("", truth),
         TValue::Int(number) => told.show("", number),
@@ -42,7 +42,7 @@ pub fn tell_value<A: Allocator>(value: &TValue<A>, told: &mut Told) {
 }
 
 #[cycle(show)]
-fn tell_members<A: Allocator>(members: &[TValue<A>], told: &mut Told) {
+fn tell_members<A: Allocator>(members: &[TValue<A>], told: &mut Transcript) {
     let mut gap = "[";
     for member in members {
         told.put(gap);
@@ -53,7 +53,7 @@ fn tell_members<A: Allocator>(members: &[TValue<A>], told: &mut Told) {
 }
 
 #[cycle(show)]
-fn tell_entries<A: Allocator>(entries: &[MapEntry<A>], told: &mut Told) {
+fn tell_entries<A: Allocator>(entries: &[MapEntry<A>], told: &mut Transcript) {
     let mut gap = "<";
     for entry in entries {
         told.put(gap);
@@ -66,7 +66,7 @@ fn tell_entries<A: Allocator>(entries: &[MapEntry<A>], told: &mut Told) {
 }
 
 #[cycle(show)]
-fn tell_fields<A: Allocator>(fields: &[Field<A>], told: &mut Told) {
+fn tell_fields<A: Allocator>(fields: &[Field<A>], told: &mut Transcript) {
     let mut gap = "{";
     for field in fields {
         told.show(gap, &field.id);

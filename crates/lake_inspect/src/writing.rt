@@ -2,7 +2,7 @@
 
 use crate::chunks::written_chunk;
 use crate::files::{numbers_file, rows_file};
-use byte_words::{LineFault, Told, Words};
+use byte_words::{LineFault, Transcript, Words};
 use delta_actions::{print_commit, read_commit};
 use lake_bytes::Cursor;
 use thrift_core::{FieldForm, Form, is_writable, read_struct, write_struct};
@@ -12,7 +12,7 @@ use thrift_core::{FieldForm, Form, is_writable, read_struct, write_struct};
 /// for `file SCHEMA ROWS` that of rows that are a JSON array; for `hybrid WIDTH VALUE ..` runs of these values,
 /// `VALUE*N` for N of them; for `chunk TYPE HIGHEST COLUMN` the pages of a column; for `commit BYTES` the actions that
 /// the bytes are, printed again; for `thrift BYTES` the struct that they are, written again.
-pub fn written(words: &mut Words<'_>, told: &mut Told) -> Result<Vec<u8>, LineFault> {
+pub fn written(words: &mut Words<'_>, told: &mut Transcript) -> Result<Vec<u8>, LineFault> {
     match words.last_word() {
         "rows" => numbers_file(words, told),
         "file" => rows_file(words, told),
@@ -24,7 +24,7 @@ pub fn written(words: &mut Words<'_>, told: &mut Told) -> Result<Vec<u8>, LineFa
 }
 
 /// The actions that the bytes are, printed again.
-fn written_commit(words: &mut Words<'_>, told: &mut Told) -> Result<Vec<u8>, LineFault> {
+fn written_commit(words: &mut Words<'_>, told: &mut Transcript) -> Result<Vec<u8>, LineFault> {
     let bytes = words.rest_bytes()?;
     match read_commit(told.alloc(), &bytes) {
         Ok(actions) => Ok(print_commit(told.alloc(), &actions)?),
@@ -33,7 +33,7 @@ fn written_commit(words: &mut Words<'_>, told: &mut Told) -> Result<Vec<u8>, Lin
 }
 
 /// The struct that the bytes are, written again as a [`SAMPLE`]. They are misspelled where it can't be.
-fn written_struct(words: &mut Words<'_>, told: &mut Told) -> Result<Vec<u8>, LineFault> {
+fn written_struct(words: &mut Words<'_>, told: &mut Transcript) -> Result<Vec<u8>, LineFault> {
     let bytes = words.rest_bytes()?;
     let tree = told.given(read_struct(told.alloc(), &mut Cursor::new(&bytes)))?;
     let form = &SAMPLE;

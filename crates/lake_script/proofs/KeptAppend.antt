@@ -13,14 +13,14 @@ use Rattle.source_core.specs.ParquetWriting.{written_file}
 use Rattle.table_model.specs.Appends.{appended, with_batch}
 use Rattle.table_model.specs.declared.table.AppendAnswer.TheVariants.{Committed, Already, Differs, StreamClosed}
 use Rattle.table_model.specs.Lawful.{IsLawful}
-use Rattle.delta_actions.specs.Names.{data_file_name, greatest_version}
+use Rattle.delta_actions.specs.Names.{data_file_name as plain_file_name, greatest_version}
 use Rattle.row_core.specs.Rows.{Row, same_rows}
 use Rattle.delta_replay.specs.Support.{has_key_inside}
 use Rattle.table_model.specs.Table as model
 use Rattle.table_model.specs.Table.{Entry, creation, group, last_batch, is_closed}
 use Rattle.commit_core.specs.TableCommits.{IsCommitOf}
 use Rattle.table_model.proofs.Callers.{append_keeps}
-use Rattle.batch_core.specs.Committing.{batch_actions, file_name, greatest_number}
+use Rattle.batch_core.specs.Committing.{batch_actions, data_file_name, greatest_number}
 use Rattle.batch_core.specs.Requests.{SinkRequest, checked, is_repeat, file_or_refusal}
 use Rattle.sink_core.specs.Appending.{EncodedBatch, AppendPlan, puts, stands, request_of, size_behind, batch_of, put_plan, new_plan, repeated_plan, plan_of, append_plan, plan_answer, with_append, IsWellMade, PutsWell}
 use Rattle.commit_core.specs.Commits.{commit_text}
@@ -79,7 +79,7 @@ made_with version schema rows application number at size file = record {
   version = version;
   schema = schema;
   rows = rows;
-  name = file_name application number;
+  name = data_file_name application number;
   file = file;
   commit = commit_text (batch_actions application number at size (length rows));
 }
@@ -95,14 +95,14 @@ module _ (schema : Tree) (version : ℕ) (rows : List Row) (application : List �
 
   -- and its commit is one of the batch that is handed in
   pub commit_made : IsWellMade application number at (made_with version schema rows application number at size file) → IsCommitOf schema (group (handed_in application number rows ∷ [])) (made_with version schema rows application number at size file).commit
-  commit_made well = append_stands schema (handed_in application number rows) at well.size (length rows) (file_name application number) _ (same_file_name application number) well.commit
+  commit_made well = append_stands schema (handed_in application number rows) at well.size (length rows) (data_file_name application number) _ (same_file_name application number) well.commit
 
 module _ (objects : Objects) (schema : Tree) (entries : List Entry) (kept : IsKept objects schema entries) (own : HasNoOther objects entries) (few : length entries ≤ greatest_version) (application : List ℕ) (number at : ℕ) (utf8 : IsUtf8 application)
     (fits : number ≤ greatest_number) (rows : List Row) where
   -- ---- a new number
 
   -- the file and the commit that are put are one entry more
-  put_agrees : (size : ℕ) (file : List ℕ) → appended (handed_in application number rows) entries ≡ Committed (length entries) → object_at objects (data_file_name application number) ≡ None
+  put_agrees : (size : ℕ) (file : List ℕ) → appended (handed_in application number rows) entries ≡ Committed (length entries) → object_at objects (plain_file_name application number) ≡ None
       → IsWellMade application number at (made_with (length entries) schema rows application number at size file) → Agrees objects schema entries number (Ok (puts (made_with (length entries) schema rows application number at size file))) (Ok (handed_in application number rows))
   put_agrees size file new free well =
       let made = made_with (length entries) schema rows application number at size file in
@@ -116,11 +116,11 @@ module _ (objects : Objects) (schema : Tree) (entries : List Entry) (kept : IsKe
       rw (version_fits entries few, same_file_name application number, same_name (length entries), new) (refl, (rw (same_file_name application number) at more, rw (same_file_name application number) at alone))
 
   -- what is done for a new number
-  new_agrees : appended (handed_in application number rows) entries ≡ Committed (length entries) → object_at objects (data_file_name application number) ≡ None
+  new_agrees : appended (handed_in application number rows) entries ≡ Committed (length entries) → object_at objects (plain_file_name application number) ≡ None
       → IsSoundPlan application number at (new_plan objects (asked (length entries) schema rows false) application number at)
       → Agrees objects schema entries number (new_plan objects (asked (length entries) schema rows false) application number at) (Ok (handed_in application number rows))
   unfolding batch_of
-  new_agrees new free sound = by_file (object_at objects (file_name application number)) (written_file schema rows) sound
+  new_agrees new free sound = by_file (object_at objects (data_file_name application number)) (written_file schema rows) sound
     where
       by_size : (size : ℕ) (file : List ℕ) → IsSoundPlan application number at (put_plan objects (made_with (length entries) schema rows application number at size file))
           → Agrees objects schema entries number (put_plan objects (made_with (length entries) schema rows application number at size file)) (Ok (handed_in application number rows))
@@ -139,15 +139,15 @@ module _ (objects : Objects) (schema : Tree) (entries : List Entry) (kept : IsKe
 
   -- where its file stands and is read, its rows are compared
   again_agrees : (before : model.Batch) (bytes : List ℕ) → last_batch application entries ≡ Some before → ltb number before.number ≡ false → eqb number before.number ≡ true
-      → object_at objects (data_file_name application number) ≡ Some bytes → rows_at bytes schema ≡ Ok before.rows
+      → object_at objects (plain_file_name application number) ≡ Some bytes → rows_at bytes schema ≡ Ok before.rows
       → Agrees objects schema entries number (repeated_plan objects (asked (length entries) schema rows true) application number) (Ok (handed_in application number rows))
   again_agrees before bytes last over equal there reads =
       rw (same_file_name application number, there, reads, same_either_way before.rows rows, last, over, equal) (by_same (same_rows rows before.rows))
     where
       by_same : (same : Bool)
-          → (sink_reply ((refused_if (not same) (differs (data_file_name application number)) >>= λ fits. Ok stands) >>= plan_answer number)
+          → (sink_reply ((refused_if (not same) (differs (plain_file_name application number)) >>= λ fits. Ok stands) >>= plan_answer number)
           ≡ with_newline (tables.answer_text (handed_in application number rows) (cond same (Already number) Differs)))
-          × Keeps (with_append objects (refused_if (not same) (differs (data_file_name application number)) >>= λ fits. Ok stands)) (table schema (with_batch (cond same (Already number) Differs) (handed_in application number rows) entries))
+          × Keeps (with_append objects (refused_if (not same) (differs (plain_file_name application number)) >>= λ fits. Ok stands)) (table schema (with_batch (cond same (Already number) Differs) (handed_in application number rows) entries))
       by_same true = (refl, (kept, own))
       by_same false = (refl, (kept, own))
 
@@ -156,7 +156,7 @@ module _ (objects : Objects) (schema : Tree) (entries : List Entry) (kept : IsKe
   behind_last last = (is_repeat number last >>= λ repeats. goes_on (is_closed application entries) repeats >>= λ open_. Ok (asked (length entries) schema rows repeats)) >>= plan_of objects application number at
 
   -- what is done for a new number, where the stream may be closed
-  open_agrees : (closed : Bool) → appended (handed_in application number rows) entries ≡ cond closed StreamClosed (Committed (length entries)) → object_at objects (data_file_name application number) ≡ None
+  open_agrees : (closed : Bool) → appended (handed_in application number rows) entries ≡ cond closed StreamClosed (Committed (length entries)) → object_at objects (plain_file_name application number) ≡ None
       → IsSoundPlan application number at ((goes_on closed false >>= λ open_. Ok (asked (length entries) schema rows false)) >>= plan_of objects application number at)
       → Agrees objects schema entries number ((goes_on closed false >>= λ open_. Ok (asked (length entries) schema rows false)) >>= plan_of objects application number at) (Ok (handed_in application number rows))
   open_agrees true new free sound = rw new (refl, (kept, own))
@@ -167,8 +167,8 @@ module _ (objects : Objects) (schema : Tree) (entries : List Entry) (kept : IsKe
       → Agrees objects schema entries number (repeated_plan objects (asked (length entries) schema rows true) application number) (Ok (handed_in application number rows))
   last_agrees before last over equal =
       let file : FileKept objects schema before = batch_stands objects schema 0 entries before kept.kept (last_stands application entries before last) in
-      let name : data_file_name application number ≡ data_file_name before.application before.number =
-      ap (λ (a : List ℕ). data_file_name a number) (sym (last_own application entries before last)) ∙ ap (data_file_name before.application) (eqb-true number before.number equal) in
+      let name : plain_file_name application number ≡ plain_file_name before.application before.number =
+      ap (λ (a : List ℕ). plain_file_name a number) (sym (last_own application entries before last)) ∙ ap (plain_file_name before.application) (eqb-true number before.number equal) in
       again_agrees before file.0 last over equal (ap (object_at objects) name ∙ file.1) (file_read schema before file.0 file.2)
 
   -- what is done behind the last batch, if there is one

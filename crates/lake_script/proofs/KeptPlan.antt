@@ -15,15 +15,15 @@ use Rattle.source_core.specs.ParquetWriting.{written_file}
 use Rattle.table_model.specs.Appends.{appended}
 use Rattle.table_model.specs.declared.table.AppendAnswer.TheVariants.{Committed, StreamClosed}
 use Rattle.table_model.specs.Lawful.{IsLawful}
-use Rattle.delta_actions.specs.Names.{data_file_name, greatest_version}
+use Rattle.delta_actions.specs.Names.{data_file_name as plain_file_name, greatest_version}
 use Rattle.delta_actions.specs.Names as names
 use Rattle.delta_replay.specs.Support.{has_key_inside}
 use Rattle.row_core.specs.Rows.{Row}
 use Rattle.row_core.proofs.Callers.{same_rows-is}
 use Rattle.table_model.specs.Table as model
 use Rattle.table_model.specs.Table.{Entry, group, is_closed, last_batch}
-use Rattle.commit_core.proofs.Callers.{commit_name-data_file_name}
-use Rattle.batch_core.specs.Committing.{file_name, greatest_number}
+use Rattle.commit_core.proofs.Callers.{commit_name-data_file_name as plain_file_name}
+use Rattle.batch_core.specs.Committing.{data_file_name, greatest_number}
 use Rattle.batch_core.specs.Requests.{checked, is_repeat, is_same, unless_other, where_same, file_or_refusal}
 use Rattle.sink_core.specs.Appending.{EncodedBatch, AppendPlan, puts, stands, size_behind, batch_of, put_plan, new_plan, plan_of, append_plan, with_append, with_file_alone, IsWellMade, PutsWell}
 use Rattle.batch_core.specs.Refusals.{SinkRefusal, stale, differs}
@@ -49,7 +49,7 @@ files_of_kept objects schema entries kept own application number bytes utf8 smal
     let found = own application number utf8 small (ap is_some there) in
     let b = found.0 in
     let file : FileKept objects schema b = batch_stands objects schema 0 entries b kept.kept found.1 in
-    let name : data_file_name b.application b.number ≡ data_file_name application number = rw (found.2, found.3) refl in
+    let name : plain_file_name b.application b.number ≡ plain_file_name application number = rw (found.2, found.3) refl in
     let same : Some file.0 ≡ Some bytes = sym file.1 ∙ (ap (object_at objects) name ∙ there) in
     let one : file.0 ≡ bytes = cc in
     (b, subst (IsReadableFile schema b) one file.2)
@@ -88,7 +88,7 @@ stood_or_put objects name bytes other found is = by_name (bytes_eq other name) r
 -- a file of rows may be put
 files_put : (objects : Objects) (schema : Tree) (name : List ℕ) (b : model.Batch) (bytes : List ℕ) → AreFiles objects schema → IsReadableFile schema b bytes → AreFiles (with_object objects name bytes) schema
 files_put objects schema name b bytes files is application number found utf8 small there =
-    elim (stood_or_put objects name bytes (data_file_name application number) found there) [
+    elim (stood_or_put objects name bytes (plain_file_name application number) found there) [
       | inl before ↦ files application number found utf8 small before
       | inr put ↦ (b, subst (IsReadableFile schema b) put.1 is)
     ]
@@ -96,9 +96,9 @@ files_put objects schema name b bytes files is application number found utf8 sma
 -- and any commit
 pub files_commit : (objects : Objects) (schema : Tree) (version : ℕ) (bytes : List ℕ) → AreFiles objects schema → AreFiles (with_object objects (names.commit_name version) bytes) schema
 files_commit objects schema version bytes files application number found utf8 small there =
-    elim (stood_or_put objects (names.commit_name version) bytes (data_file_name application number) found there) [
+    elim (stood_or_put objects (names.commit_name version) bytes (plain_file_name application number) found there) [
       | inl before ↦ files application number found utf8 small before
-      | inr put ↦ absurd (commit_name-data_file_name version application number (sym put.0))
+      | inr put ↦ absurd (commit_name-plain_file_name version application number (sym put.0))
     ]
 
 -- ---- an append over a table that is kept
@@ -111,7 +111,7 @@ module _ (objects : Objects) (schema : Tree) (entries : List Entry) (kept : IsKe
     (application : List ℕ) (number at : ℕ) (utf8 : IsUtf8 application) (fits : number ≤ greatest_number) (rows : List Row) where
   -- the size of the file that stands under the batch's name behind the put of this one
   abbrev size : (file : List ℕ) → ℕ
-  size file = size_behind file (object_at objects (file_name application number))
+  size file = size_behind file (object_at objects (data_file_name application number))
 
   -- the batch that is put with this file
   abbrev made : (file : List ℕ) → EncodedBatch
@@ -126,7 +126,7 @@ module _ (objects : Objects) (schema : Tree) (entries : List Entry) (kept : IsKe
   unchanged = keeps schema entries kept files (omega (arith, up))
 
   -- a file that is read as these rows is one of them
-  same_file : (old : List ℕ) → object_at objects (data_file_name application number) ≡ Some old → is_same rows (rows_at old schema) ≡ true → IsReadableFile schema (handed_in application number rows) old
+  same_file : (old : List ℕ) → object_at objects (plain_file_name application number) ≡ Some old → is_same rows (rows_at old schema) ≡ true → IsReadableFile schema (handed_in application number rows) old
   same_file old there same =
       let known = files application number old utf8 fits there in
       let read : rows_at old schema ≡ Ok known.0.rows = file_read schema known.0 old known.1 in
@@ -134,24 +134,24 @@ module _ (objects : Objects) (schema : Tree) (entries : List Entry) (kept : IsKe
       record { file = rw alike at known.1.file; limits = rw alike at known.1.limits }
 
   -- behind the put of a file of rows, one stands under the name
-  file_behind : (file : List ℕ) (found : Option (List ℕ)) → object_at objects (data_file_name application number) ≡ found → unless_other schema rows (data_file_name application number) found ≡ Ok tt
-      → IsReadableFile schema (handed_in application number rows) file → FileKept (with_object objects (data_file_name application number) file) schema (handed_in application number rows)
-  file_behind file None there free is = (file, put_stands objects (data_file_name application number) file there, is)
+  file_behind : (file : List ℕ) (found : Option (List ℕ)) → object_at objects (plain_file_name application number) ≡ found → unless_other schema rows (plain_file_name application number) found ≡ Ok tt
+      → IsReadableFile schema (handed_in application number rows) file → FileKept (with_object objects (plain_file_name application number) file) schema (handed_in application number rows)
+  file_behind file None there free is = (file, put_stands objects (plain_file_name application number) file there, is)
   file_behind file (Some old) there free is =
-      Stands-put objects (data_file_name application number) file (data_file_name application number) (IsReadableFile schema (handed_in application number rows)) (old, there, same_file old there (passes (is_same rows (rows_at old schema)) free))
+      Stands-put objects (plain_file_name application number) file (plain_file_name application number) (IsReadableFile schema (handed_in application number rows)) (old, there, same_file old there (passes (is_same rows (rows_at old schema)) free))
     where
-      passes : (same : Bool) → refused_if (not same) (differs (data_file_name application number)) ≡ Ok tt → same ≡ true
+      passes : (same : Bool) → refused_if (not same) (differs (plain_file_name application number)) ≡ Ok tt → same ≡ true
       passes true free = refl
       passes false free = absurd cc
 
   -- the file is put, and then the commit is one entry more, where a commit can have its version
   put_goes_on : (file : List ℕ) → appended (handed_in application number rows) entries ≡ Committed (length entries)
-      → unless_other schema rows (file_name application number) (object_at objects (file_name application number)) ≡ Ok tt
+      → unless_other schema rows (data_file_name application number) (object_at objects (data_file_name application number)) ≡ Ok tt
       → IsWellMade application number at (made file)
       → GoesOn (suc most) objects (Ok (puts (made file)))
   put_goes_on file new free well =
       let b = handed_in application number rows in
-      let name = data_file_name application number in
+      let name = plain_file_name application number in
       let next = names.commit_name (length entries) in
       let filed : Objects = with_object objects name file in
       let is_file = file_made schema (length entries) rows application number at (size file) file well in
@@ -176,7 +176,7 @@ module _ (objects : Objects) (schema : Tree) (entries : List Entry) (kept : IsKe
   unfolding batch_of
   new_goes_on new well = by_file (written_file schema rows) well
     where
-      by_fit : (file : List ℕ) (fit : Result (Unit {0}) SinkRefusal) → unless_other schema rows (file_name application number) (object_at objects (file_name application number)) ≡ fit
+      by_fit : (file : List ℕ) (fit : Result (Unit {0}) SinkRefusal) → unless_other schema rows (data_file_name application number) (object_at objects (data_file_name application number)) ≡ fit
           → PutsWell application number at (fit >>= λ fits. Ok (puts (made file)))
           → GoesOn (suc most) objects (fit >>= λ fits. Ok (puts (made file)))
       by_fit file (Err why) is well = (unchanged, unchanged)
@@ -185,7 +185,7 @@ module _ (objects : Objects) (schema : Tree) (entries : List Entry) (kept : IsKe
       by_file : (written : Result (List ℕ) FileFault) → PutsWell application number at ((file_or_refusal written >>= λ file. Ok (made file)) >>= put_plan objects)
           → GoesOn (suc most) objects ((file_or_refusal written >>= λ file. Ok (made file)) >>= put_plan objects)
       by_file (Err fault) well = (unchanged, unchanged)
-      by_file (Ok file) well = by_fit file (unless_other schema rows (file_name application number) (object_at objects (file_name application number))) refl well
+      by_file (Ok file) well = by_fit file (unless_other schema rows (data_file_name application number) (object_at objects (data_file_name application number))) refl well
 
   -- the same where the stream may be closed
   open_goes_on : (closed : Bool) → appended (handed_in application number rows) entries ≡ cond closed StreamClosed (Committed (length entries))
@@ -210,7 +210,7 @@ module _ (objects : Objects) (schema : Tree) (entries : List Entry) (kept : IsKe
           → PutsWell application number at (behind (cond below (Err (stale before.number)) (Ok equal)))
           → GoesOn (suc most) objects (behind (cond below (Err (stale before.number)) (Ok equal)))
       by_tests true equal under same well = (unchanged, unchanged)
-      by_tests false true over same well = again_goes_on (where_same schema rows (file_name application number) (object_at objects (file_name application number)))
+      by_tests false true over same well = again_goes_on (where_same schema rows (data_file_name application number) (object_at objects (data_file_name application number)))
       by_tests false false over other well = open_goes_on (is_closed application entries) (rw (is, over, other) refl) well
 
 -- An append over a table that is kept leaves one that is kept, however far it comes.

@@ -1,12 +1,12 @@
 //! What a judge finds.
 
 use crate::log::Entry;
-use case_words::Told;
+use case_words::Transcript;
 use std::alloc::Global;
 
 /// The law that was found broken first, if one was, and at what.
 pub struct Findings {
-    pub broken: Told,
+    pub broken: Transcript,
     pub is_broken: bool,
 }
 
@@ -24,7 +24,7 @@ impl Findings {
     /// Nothing is found broken.
     pub fn new(alloc: Global) -> Findings {
         Findings {
-            broken: Told::new(alloc),
+            broken: Transcript::new(alloc),
             is_broken: false,
         }
     }

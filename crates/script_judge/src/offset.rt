@@ -1,6 +1,6 @@
 //! Offsets of readers, as they are printed.
 
-use case_words::Told;
+use case_words::Transcript;
 
 /// The offset of the beginning.
 pub const BEGINNING: &str = "{\"file\":0,\"row\":0,\"version\":0}";
@@ -33,7 +33,7 @@ impl ReaderOffset {
     }
 
     /// Adds it.
-    pub fn tell(self, told: &mut Told) {
+    pub fn tell(self, told: &mut Transcript) {
         told.with("{\"file\":", &self.file);
         told.with(",\"row\":", &self.row);
         told.with(",\"version\":", &self.version);

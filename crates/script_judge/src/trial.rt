@@ -5,16 +5,16 @@ use crate::handing::judge_reads;
 use crate::laws::judge_log;
 use crate::log::Log;
 use crate::talk::Talk;
-use case_words::Told;
+use case_words::Transcript;
 use std::alloc::Global;
 use std::mem;
 
 /// A script, what it was told, and the log that is left.
 pub struct Trial {
-    pub script: Told,
-    pub replies: Told,
+    pub script: Transcript,
+    pub replies: Transcript,
     /// The entries, a line each: `creation`, `batch APP NUMBER ROWS` or `close APP`.
-    pub log: Told,
+    pub log: Transcript,
     /// Whether a table is left.
     pub is_table: bool,
 }
@@ -35,16 +35,16 @@ impl Trial {
     /// An empty script, and an empty log.
     pub fn new(alloc: Global) -> Trial {
         Trial {
-            script: Told::new(alloc),
-            replies: Told::new(alloc),
-            log: Told::new(alloc),
+            script: Transcript::new(alloc),
+            replies: Transcript::new(alloc),
+            log: Transcript::new(alloc),
             is_table: true,
         }
     }
 
     /// Adds a line that is written by hand: of the script (`> LINE`), of what it was told (`< LINE`), or an entry of the log
     /// (`= ENTRY`); or that no table is left (`= nothing`).
-    pub fn add(&mut self, word: &str, rest: &str, told: &mut Told) {
+    pub fn add(&mut self, word: &str, rest: &str, told: &mut Transcript) {
         match word {
             ">" => self.script.say(rest),
             "<" => self.replies.say(rest),
@@ -55,7 +55,7 @@ impl Trial {
     }
 
     /// Judges it, and adds a line on it. Whether the log is lawful is given.
-    pub fn judge(&self, is_lawful: bool, told: &mut Told) {
+    pub fn judge(&self, is_lawful: bool, told: &mut Transcript) {
         let mut talk = Talk::hear(told.alloc, self.script.as_text(), self.replies.as_text());
         let mut findings = mem::replace(&mut talk.findings, Findings::new(told.alloc));
         let log = Log::of(self.log.as_text(), told.alloc, told);

@@ -3,7 +3,7 @@
 
 use crate::random::Random;
 use crate::streams::Streams;
-use case_words::Told;
+use case_words::Transcript;
 use script_judge::{BEGINNING, ReaderOffset, START, Talk};
 use std::alloc::Global;
 
@@ -137,7 +137,7 @@ pub struct Schedule {
     random: Random,
     use_checkpoints: bool,
     /// The lines so far, each with a newline.
-    pub text: Told,
+    pub text: Transcript,
     /// How many these are.
     lines: u64,
     streams: Streams,
@@ -166,7 +166,7 @@ impl Drop for Schedule {
 impl Schedule {
     /// The schedule of a seed: the table is created.
     pub fn new(alloc: Global, seed: u64, use_checkpoints: bool) -> Schedule {
-        let mut text = Told::new(alloc);
+        let mut text = Transcript::new(alloc);
         let mut random = Random::new(seed);
         let streams = Streams::new(&mut random, &mut text);
         let mut readers = Vec::new(alloc);
@@ -203,7 +203,7 @@ impl Schedule {
     }
 
     /// The whole script: behind its lines stand two by which all that stands is told.
-    pub fn into_script(self) -> Told {
+    pub fn into_script(self) -> Transcript {
         let Schedule {
             random: _,
             use_checkpoints: _,
@@ -221,7 +221,7 @@ impl Schedule {
     }
 
     /// Takes from what was told of it where the readers' last reads ended.
-    pub fn learn(&mut self, replies: &Told) {
+    pub fn learn(&mut self, replies: &Transcript) {
         let talk = Talk::hear(replies.alloc, self.text.as_text(), replies.as_text());
         for reader in &mut self.readers {
             if let Some(text) = talk.offset_of(reader.name)

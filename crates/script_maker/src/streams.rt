@@ -1,7 +1,7 @@
 //! Streams: what applications hand in, and their closes.
 
 use crate::random::Random;
-use case_words::Told;
+use case_words::Transcript;
 use std::alloc::Global;
 use std::mem;
 
@@ -88,7 +88,7 @@ impl Rows {
     }
 
     // Adds them as a JSON array.
-    fn tell(self, told: &mut Told) {
+    fn tell(self, told: &mut Transcript) {
         told.text("[");
         let mut before = "{\"s\":";
         for place in 0..self.count {
@@ -124,13 +124,13 @@ impl Stream {
     }
 
     // Adds its application.
-    fn tell(&self, told: &mut Told) {
+    fn tell(&self, told: &mut Transcript) {
         told.with("a", &self.number);
         told.text(self.ending);
     }
 
     // Adds the line of a batch of it.
-    fn tell_batch(&self, number: u64, at: u64, rows: Rows, told: &mut Told) {
+    fn tell_batch(&self, number: u64, at: u64, rows: Rows, told: &mut Transcript) {
         told.text("append ");
         self.tell(told);
         told.with(" ", &number);
@@ -153,7 +153,7 @@ impl Stream {
     }
 
     // Adds the line of a batch with a new number. Behind it, the number of the row that is made next.
-    fn add_new(&mut self, next_row: u64, random: &mut Random, told: &mut Told) -> u64 {
+    fn add_new(&mut self, next_row: u64, random: &mut Random, told: &mut Transcript) -> u64 {
         let number = self.next_number(random);
         let rows = Rows::new(next_row, random);
         self.tell_batch(number, random.below(100), rows, told);
@@ -163,7 +163,7 @@ impl Stream {
 
     // Adds the line of a batch that was handed in before, mostly the last one and seldom with other rows. Behind it, the
     // number of the row that is made next.
-    fn add_old(&self, next_row: u64, random: &mut Random, told: &mut Told) -> u64 {
+    fn add_old(&self, next_row: u64, random: &mut Random, told: &mut Transcript) -> u64 {
         let last = self.batches.len().saturating_sub(1);
         let place = if random.chance(70) {
             last
@@ -184,7 +184,7 @@ impl Stream {
     }
 
     // Adds the line of a batch. Behind it, the number of the row that is made next.
-    fn add(&mut self, next_row: u64, random: &mut Random, told: &mut Told) -> u64 {
+    fn add(&mut self, next_row: u64, random: &mut Random, told: &mut Transcript) -> u64 {
         if !self.batches.is_empty() && random.chance(35) {
             self.add_old(next_row, random, told)
         } else {
@@ -195,7 +195,7 @@ impl Stream {
 
 impl Streams {
     /// Streams under whose numbers nothing was handed in.
-    pub fn new(random: &mut Random, told: &mut Told) -> Streams {
+    pub fn new(random: &mut Random, told: &mut Transcript) -> Streams {
         let alloc = told.alloc;
         let mut live = Vec::new(alloc);
         for number in 0..LIVE {
@@ -211,7 +211,7 @@ impl Streams {
     }
 
     /// Adds the line of a batch: a new one, or one that was handed in before; seldom of a closed stream.
-    pub fn add_batch(&mut self, random: &mut Random, told: &mut Told) {
+    pub fn add_batch(&mut self, random: &mut Random, told: &mut Transcript) {
         let is_closed = !self.closed.is_empty() && random.chance(8);
         self.next_row = if is_closed {
             add_of(&mut self.closed, self.next_row, random, told)
@@ -221,7 +221,7 @@ impl Streams {
     }
 
     /// Adds the line of a close: of an open stream, in whose place another one begins, or of a closed one.
-    pub fn add_close(&mut self, random: &mut Random, told: &mut Told) {
+    pub fn add_close(&mut self, random: &mut Random, told: &mut Transcript) {
         let at = random.below(100);
         let again = self.closed.get(random.place(self.closed.len()));
         if let Some(stream) = again
@@ -241,7 +241,12 @@ impl Streams {
 }
 
 // Adds the line of a batch of one of these. Behind it, the number of the row that is made next.
-fn add_of(streams: &mut [Stream], next_row: u64, random: &mut Random, told: &mut Told) -> u64 {
+fn add_of(
+    streams: &mut [Stream],
+    next_row: u64,
+    random: &mut Random,
+    told: &mut Transcript,
+) -> u64 {
     let place = random.place(streams.len());
     match streams.get_mut(place) {
         Some(stream) => stream.add(next_row, random, told),
@@ -250,7 +255,7 @@ fn add_of(streams: &mut [Stream], next_row: u64, random: &mut Random, told: &mut
 }
 
 // Adds the line of a close.
-fn tell_close(stream: &Stream, at: u64, told: &mut Told) {
+fn tell_close(stream: &Stream, at: u64, told: &mut Transcript) {
     told.text("close ");
     stream.tell(told);
     told.with(" ", &at);

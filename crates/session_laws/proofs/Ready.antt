@@ -3,7 +3,7 @@ use Rattle.std.proofs.Common.{◌≡◌, ◌∙◌, ◌⊎◌, ℕ, List, length
 use Rattle.serde_json.specs.Data.{Items}
 use Rattle.store_core.specs.Objects.{Objects}
 use Rattle.session_core.specs.Talks.{Bears, Talk}
-use Rattle.delta_actions.specs.Names.{data_file_name}
+use Rattle.delta_actions.specs.Names.{data_file_name as plain_file_name}
 use Rattle.delta_replay.specs.Closes as logs
 use Rattle.delta_replay.specs.Support.{writable}
 use Rattle.row_core.specs.Rows.{Row}
@@ -17,10 +17,10 @@ use Rattle.table_store.specs.Holds.{Holds, Stands}
 use Rattle.table_store.specs.Schema.{Schema, IsFileOf}
 use Rattle.commit_core.specs.SoundStores.{IsSoundStore}
 use Rattle.commit_core.proofs.Callers.{log_open}
-use Rattle.batch_core.specs.Committing.{file_name}
+use Rattle.batch_core.specs.Committing.{data_file_name}
 use Rattle.batch_core.specs.Requests.{SinkRequest, numbered, request_behind}
 use Rattle.batch_core.specs.RowsIn.{rows_from}
-use Rattle.sink_core.specs.SinkSessions.{HoldsOf, Point, PutsFile, Reaches, Settled, Settles, SinkJob, SinkTask, anew, appends, asked_again, asked_of, closes, conflicts, file_of, goes_on, loaded, ready, rules, settled_by, settles, stood}
+use Rattle.sink_core.specs.SinkSessions.{HoldsOf, Point, PutsFile, Reaches, Staged, Stages, SinkJob, SinkTask, anew, appends, asked_again, asked_of, closes, conflicts, file_of, goes_on, loaded, ready, rules, staged_by, stages, stood}
 use Rattle.sink_core.proofs.SinkTalks.{file_stands}
 use Rattle.session_laws.specs.May.{AreBytes}
 use Rattle.session_laws.specs.Rows.{IsBatchOf, name_of}
@@ -30,51 +30,51 @@ use Rattle.batch_core.proofs.Callers.{asked_parts, close_parts}
 use Rattle.session_laws.proofs.TableAnswers.{new_answer, written_front}
 
 -- what the rules asked for, where they let its commit be put
-pub record IsReadyFor (job : SinkJob) (known : Loaded) (settled : Settled) : Type 0 where
+pub record IsReadyFor (job : SinkJob) (known : Loaded) (staged : Staged) : Type 0 where
   pub request : SinkRequest
   pub asked : HoldsOf known (λ log. asked_of job known.next log ≡ Ok request)
   pub new : request.repeats ≡ false
-  pub schema : request.schema ≡ settled.schema
-  pub rows : request.rows ≡ settled.rows
+  pub schema : request.schema ≡ staged.schema
+  pub rows : request.rows ≡ staged.rows
 
-pub ready_for : (job : SinkJob) (before talk : Talk) (known : Loaded) (tries : ℕ) (settled : Settled) (point : Point) → point ≡ ready settled → Reaches job before talk known tries point → IsReadyFor job known settled
-ready_for job before talk known tries settled point is (loaded _ _ fine load) = absurd cc
-ready_for job before talk known tries settled point is (settles front calls _ _ _ request size reaches asked new settled_so reads talked) =
-    let same : settled_by request size ≡ settled = cc in
-    record { request = request; asked = asked; new = new; schema = ap (λ (s : Settled). s.schema) same; rows = ap (λ (s : Settled). s.rows) same }
-ready_for job before talk known tries settled point is (goes_on _ _ _ other reaches asked) =
-    let same : other ≡ settled = cc in
-    record { request = asked_again other known.next false; asked = asked; new = refl; schema = ap (λ (s : Settled). s.schema) same; rows = ap (λ (s : Settled). s.rows) same }
-ready_for job before talk known tries settled point is (conflicts front race _ old _ some left newest other winners reaches few ends talked rest next front_known) = absurd cc
+pub ready_for : (job : SinkJob) (before talk : Talk) (known : Loaded) (tries : ℕ) (staged : Staged) (point : Point) → point ≡ ready staged → Reaches job before talk known tries point → IsReadyFor job known staged
+ready_for job before talk known tries staged point is (loaded _ _ fine load) = absurd cc
+ready_for job before talk known tries staged point is (stages front calls _ _ _ request size reaches asked new staged_so reads talked) =
+    let same : staged_by request size ≡ staged = cc in
+    record { request = request; asked = asked; new = new; schema = ap (λ (s : Staged). s.schema) same; rows = ap (λ (s : Staged). s.rows) same }
+ready_for job before talk known tries staged point is (goes_on _ _ _ other reaches asked) =
+    let same : other ≡ staged = cc in
+    record { request = asked_again other known.next false; asked = asked; new = refl; schema = ap (λ (s : Staged). s.schema) same; rows = ap (λ (s : Staged). s.rows) same }
+ready_for job before talk known tries staged point is (conflicts front race _ old _ some left newest other winners reaches few ends talked rest next front_known) = absurd cc
 
 -- a table whose batch was written has a schema that tables may have
 puts_within : (name : List ℕ) (request : SinkRequest) (calls : Talk) (size : ℕ) → PutsFile name request calls size → IsWithinLimits request.schema
 puts_within name request calls size (anew file written) = written.is_file.within
 puts_within name request calls size (stood file bytes written same) = written.is_file.within
 
-settled_within : (job : SinkJob) (before : Talk) (number : ℕ) (items : Items) → job.task ≡ appends number items → (talk : Talk) (known : Loaded) (tries : ℕ) (point : Point) (settled : Settled) → (point ≡ ready settled) ⊎ (point ≡ rules (Some settled))
-    → Reaches job before talk known tries point → IsWithinLimits settled.schema
-settled_within job before number items task talk known tries point settled (inl is) (loaded _ _ fine load) = absurd cc
-settled_within job before number items task talk known tries point settled (inr is) (loaded _ _ fine load) = absurd cc
-settled_within job before number items task talk known tries point settled (inl is) (settles front calls _ _ _ request size reaches asked new settled_so reads talked) =
-    let same : settled_by request size ≡ settled = cc in
-    subst (λ (s : Settled). IsWithinLimits s.schema) same
-    (puts_within (file_of job number) request calls size (subst (λ (t : SinkTask). Settles (record job { task = t }) request calls size) task settled_so))
-settled_within job before number items task talk known tries point settled (inr is) (settles front calls _ _ _ request size reaches asked new settled_so reads talked) = absurd cc
-settled_within job before number items task talk known tries point settled (inl is) (goes_on _ _ _ other reaches asked) =
-    let same : other ≡ settled = cc in settled_within job before number items task talk known tries (rules (Some other)) settled (inr (ap (λ (s : Settled). rules (Some s)) same)) reaches
-settled_within job before number items task talk known tries point settled (inr is) (goes_on _ _ _ other reaches asked) = absurd cc
-settled_within job before number items task talk known tries point settled (inl is) (conflicts front race _ old _ some left newest other winners reaches few ends talked rest next front_known) = absurd cc
-settled_within job before number items task talk known tries point settled (inr is) (conflicts front race _ old _ some left newest other winners reaches few ends talked rest next front_known) =
-    let same : other ≡ settled = cc in settled_within job before number items task front old some (ready other) settled (inl (ap ready same)) reaches
+staged_within : (job : SinkJob) (before : Talk) (number : ℕ) (items : Items) → job.task ≡ appends number items → (talk : Talk) (known : Loaded) (tries : ℕ) (point : Point) (staged : Staged) → (point ≡ ready staged) ⊎ (point ≡ rules (Some staged))
+    → Reaches job before talk known tries point → IsWithinLimits staged.schema
+staged_within job before number items task talk known tries point staged (inl is) (loaded _ _ fine load) = absurd cc
+staged_within job before number items task talk known tries point staged (inr is) (loaded _ _ fine load) = absurd cc
+staged_within job before number items task talk known tries point staged (inl is) (stages front calls _ _ _ request size reaches asked new staged_so reads talked) =
+    let same : staged_by request size ≡ staged = cc in
+    subst (λ (s : Staged). IsWithinLimits s.schema) same
+    (puts_within (file_of job number) request calls size (subst (λ (t : SinkTask). Stages (record job { task = t }) request calls size) task staged_so))
+staged_within job before number items task talk known tries point staged (inr is) (stages front calls _ _ _ request size reaches asked new staged_so reads talked) = absurd cc
+staged_within job before number items task talk known tries point staged (inl is) (goes_on _ _ _ other reaches asked) =
+    let same : other ≡ staged = cc in staged_within job before number items task talk known tries (rules (Some other)) staged (inr (ap (λ (s : Staged). rules (Some s)) same)) reaches
+staged_within job before number items task talk known tries point staged (inr is) (goes_on _ _ _ other reaches asked) = absurd cc
+staged_within job before number items task talk known tries point staged (inl is) (conflicts front race _ old _ some left newest other winners reaches few ends talked rest next front_known) = absurd cc
+staged_within job before number items task talk known tries point staged (inr is) (conflicts front race _ old _ some left newest other winners reaches few ends talked rest next front_known) =
+    let same : other ≡ staged = cc in staged_within job before number items task front old some (ready other) staged (inl (ap ready same)) reaches
 
 -- rows that items spell are one list
 pub one_rows : (schema : Tree) (items : Items) (rows others : List Row) → rows_from 0 schema items ≡ Ok rows → rows_from 0 schema items ≡ Ok others → rows ≡ others
 one_rows schema items rows others is was = let both = sym is ∙ was in cc
 
 -- the name of a batch's file
-pub file_named : (application : List ℕ) (number : ℕ) → file_name application number ≡ data_file_name application number
-unfolding file_name
+pub file_named : (application : List ℕ) (number : ℕ) → data_file_name application number ≡ plain_file_name application number
+unfolding data_file_name
 file_named application number = refl
 
 -- the batch of a job with these rows
@@ -113,42 +113,42 @@ module _ (objects : Objects) (schema : Schema) (entries : List Entry) (sound : I
       close_parts known.next here.log job.application request (subst (λ (t : SinkTask). asked_of (record job { task = t }) known.next here.log ≡ Ok request) task (asked here.log here.snapshot))
 
 module _ (objects : Objects) (schema : Schema) (entries : List Entry) (sound : IsSoundStore objects) (holds : Holds objects schema entries) (job : SinkJob) (before talk : Talk) (known_before : Bears objects before) (borne : Bears objects talk)
-    (known : Loaded) (tries : ℕ) (settled : Settled) (reaches : Reaches job before talk known tries (ready settled)) where
-  -- The table takes the job's batch behind its first entries, and the batch's file stands, of the size that is settled.
+    (known : Loaded) (tries : ℕ) (staged : Staged) (reaches : Reaches job before talk known tries (ready staged)) where
+  -- The table takes the job's batch behind its first entries, and the batch's file stands, of the size that is staged.
   pub record IsReadyBatch (number : ℕ) : Type 0 where
-    pub of_job : IsBatchOf schema job (batch_by job number settled.rows)
+    pub of_job : IsBatchOf schema job (batch_by job number staged.rows)
     pub front : IsKnownFront objects schema entries known
     pub written : writable front.log ≡ Ok schema
-    pub taken : appended (batch_by job number settled.rows) front.front.firsts ≡ Committed (length front.front.firsts)
-    pub file : Stands objects (name_of (batch_by job number settled.rows)) (λ file. IsFileOf schema file settled.rows × (settled.size ≡ length file))
+    pub taken : appended (batch_by job number staged.rows) front.front.firsts ≡ Committed (length front.front.firsts)
+    pub file : Stands objects (name_of (batch_by job number staged.rows)) (λ file. IsFileOf schema file staged.rows × (staged.size ≡ length file))
 
   pub ready_batch : AreBytes objects → (number : ℕ) (items : Items) → job.task ≡ appends number items → IsReadyBatch number
   ready_batch are number items task =
-      let wants = ready_for job before talk known tries settled (ready settled) refl reaches in
-      let ruled = ruled_batch objects schema entries sound holds job before talk known_before borne known tries (ready settled) reaches number items wants.request task wants.asked in
-      let of_job : IsBatchOf schema job (batch_by job number settled.rows) = subst (λ (rows : List Row). IsBatchOf schema job (batch_by job number rows)) wants.rows ruled.of_job in
+      let wants = ready_for job before talk known tries staged (ready staged) refl reaches in
+      let ruled = ruled_batch objects schema entries sound holds job before talk known_before borne known tries (ready staged) reaches number items wants.request task wants.asked in
+      let of_job : IsBatchOf schema job (batch_by job number staged.rows) = subst (λ (rows : List Row). IsBatchOf schema job (batch_by job number rows)) wants.rows ruled.of_job in
       let new : numbered ruled.front.log job.application number ≡ Ok false = ruled.numbered_so ∙ ap (λ b. Ok b) wants.new in
-      let within : IsWithinLimits schema = subst IsWithinLimits (sym wants.schema ∙ ruled.schema_is) (settled_within job before number items task talk known tries (ready settled) settled (inl refl) reaches) in
-      let file = spelled_file objects schema entries sound holds (file_of job number) items settled.size (length settled.rows) within (are (file_of job number))
-      (file_stands objects job before number items task known_before talk known tries (ready settled) settled (inl refl) borne reaches) in
+      let within : IsWithinLimits schema = subst IsWithinLimits (sym wants.schema ∙ ruled.schema_is) (staged_within job before number items task talk known tries (ready staged) staged (inl refl) reaches) in
+      let file = spelled_file objects schema entries sound holds (file_of job number) items staged.size (length staged.rows) within (are (file_of job number))
+      (file_stands objects job before number items task known_before talk known tries (ready staged) staged (inl refl) borne reaches) in
       let own_items : of_job.items ≡ items = same_items number items (sym of_job.task ∙ task) in
-      let rows_are : file.values ≡ settled.rows = one_rows schema items file.values settled.rows file.spelled (subst (λ (ds : Items). rows_from 0 schema ds ≡ Ok settled.rows) own_items of_job.spelled) in
+      let rows_are : file.values ≡ staged.rows = one_rows schema items file.values staged.rows file.spelled (subst (λ (ds : Items). rows_from 0 schema ds ≡ Ok staged.rows) own_items of_job.spelled) in
       record {
         of_job = of_job;
         front = ruled.front;
         written = ruled.written ∙ ap (λ (t : Tree). Ok t) ruled.schema_is;
-        taken = new_answer objects schema entries known.next ruled.front.log ruled.front.front (batch_by job number settled.rows) new;
-        file = subst (λ (name : List ℕ). Stands objects name (λ bytes. IsFileOf schema bytes settled.rows × (settled.size ≡ length bytes))) (file_named job.application number)
-            (subst (λ (rs : List Row). Stands objects (file_of job number) (λ bytes. IsFileOf schema bytes rs × (settled.size ≡ length bytes))) rows_are file.stands);
+        taken = new_answer objects schema entries known.next ruled.front.log ruled.front.front (batch_by job number staged.rows) new;
+        file = subst (λ (name : List ℕ). Stands objects name (λ bytes. IsFileOf schema bytes staged.rows × (staged.size ≡ length bytes))) (file_named job.application number)
+            (subst (λ (rs : List Row). Stands objects (file_of job number) (λ bytes. IsFileOf schema bytes rs × (staged.size ≡ length bytes))) rows_are file.stands);
       }
     where
       same_items : (n : ℕ) (ds : Items) {es : Items} → appends n es ≡ appends n ds → es ≡ ds
       same_items n ds is = cc
 
   -- The stream of a close's application is open behind the first entries.
-  pub ready_close : job.task ≡ closes → is_closed job.application (reached_front objects schema entries sound holds job before talk known tries (ready settled) known_before borne reaches).front.firsts ≡ false
+  pub ready_close : job.task ≡ closes → is_closed job.application (reached_front objects schema entries sound holds job before talk known tries (ready staged) known_before borne reaches).front.firsts ≡ false
   ready_close task =
-      let wants = ready_for job before talk known tries settled (ready settled) refl reaches in
-      let front = reached_front objects schema entries sound holds job before talk known tries (ready settled) known_before borne reaches in
-      let parts = ruled_close objects schema entries sound holds job before talk known_before borne known tries (ready settled) reaches wants.request task wants.asked in
+      let wants = ready_for job before talk known tries staged (ready staged) refl reaches in
+      let front = reached_front objects schema entries sound holds job before talk known tries (ready staged) known_before borne reaches in
+      let parts = ruled_close objects schema entries sound holds job before talk known_before borne known tries (ready staged) reaches wants.request task wants.asked in
       log_open objects schema job.application front.front.firsts front.log front.front.made (parts.1 ∙ wants.new)

@@ -74,7 +74,7 @@ module _ (job : SinkJob) (before : Talk) where
       let file = looks_at_file front (commit_name version) request looks in
       absurd (other_name version job.application file.0 file.1)
   load_asked front listed_names version listed (fine, inr (inr r)) =
-      let put = race_of job r.settled r.known.next r.tries in
+      let put = race_of job r.staged r.known.next r.tries in
       let comes : ComesTo put r.race r.holds.0 r.holds.1 (put_told put r.holds.0 (told_put Exists)) = r.holds.2 in
       let met = taken put.version put.bytes comes.winners in
       let call : Talk = put_told put r.holds.0 (told_put Exists) in
@@ -90,7 +90,7 @@ module _ (objects : Objects) (sound : IsSoundStore objects) (job : SinkJob) (bef
       let last = asked_last (SinkAsks job before) [] front (get_object (commit_name version), told_object found) (subst (AllAsked (SinkAsks job before) []) talked asked) in
       load_asked job before front bad.1.names version (listed_front talk front bad.1.names (commit_name version) found bad.1.listed talked) last) bad.1
   lacks_tells version (inr r) =
-      let put = race_of job r.settled r.known.next r.tries in
+      let put = race_of job r.staged r.known.next r.tries in
       let found = r.holds.1 in
       let comes : ComesTo put r.race version r.holds.0 (got_told put version (told_object found)) = r.holds.2 in
       let met = taken put.version put.bytes comes.winners in

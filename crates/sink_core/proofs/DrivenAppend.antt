@@ -28,13 +28,13 @@ use Rattle.commit_core.specs.Commits.{commit_text}
 use Rattle.commit_core.specs.CommitSessions.{CommitEnds}
 use Rattle.commit_core.specs.declared.commit_fault.CommitFault.TheVariants as commit_faults
 use Rattle.commit_core.specs.declared.commit_state.CommitOutcome.TheVariants as outcomes
-use Rattle.batch_core.specs.Committing.{batch_actions, file_name}
+use Rattle.batch_core.specs.Committing.{batch_actions, data_file_name}
 use Rattle.batch_core.specs.Refusals.{SinkRefusal, bad_log, differs, file_too_large, refusal_view, says}
 use Rattle.batch_core.specs.Requests.{SinkRequest, IsTooLarge, IsWrittenFor, checked, has_same, request_behind, unless_other, where_same}
 use Rattle.batch_core.specs.declared.fault.SinkFault.{SinkFault}
 use Rattle.batch_core.specs.declared.fault.SinkFault.TheVariants as faults
 use Rattle.sink_core.specs.Appending.{EncodedBatch, AppendPlan, puts, stands, IsWellMade, append_plan, batch_of, new_plan, plan_of, put_plan, repeated_plan, request_of, size_behind, with_file}
-use Rattle.sink_core.specs.SinkSessions.{AnswerEnds, HoldsOf, InRace, IsFine, IsNewBatch, IsOldBatch, IsUnput, LooksAt, Reaches, Settled, SinkAsks, SinkJob, actions_of, append_job, asked_of, filed, only_read, raced, ready, repeated, rules, settled_by, taken}
+use Rattle.sink_core.specs.SinkSessions.{AnswerEnds, HoldsOf, InRace, IsFine, IsNewBatch, IsOldBatch, IsUnput, LooksAt, Reaches, Staged, SinkAsks, SinkJob, actions_of, append_job, asked_of, filed, only_read, raced, ready, repeated, rules, staged_by, taken}
 use Rattle.sink_core.specs.declared.sink_state.SinkOutcome.{SinkOutcome}
 use Rattle.sink_core.specs.declared.sink_state.SinkOutcome.TheVariants.{Committed, Already, Closed, AlreadyClosed}
 use Rattle.sink_core.proofs.Driven.{asked_behind, listed_quiet, loaded_quiet, raced_quiet, reads_quiet, ruled_quiet, undecided_quiet, unfine_behind, unread_behind}
@@ -50,7 +50,7 @@ module _ (application : List ℕ) (number : ℕ) (items : Items) (at tries : ℕ
   job = append_job application number items at tries use_checkpoints first
 
   abbrev name : List ℕ
-  name = file_name application number
+  name = data_file_name application number
 
   abbrev found : Option (List ℕ)
   found = object_at old.0 name
@@ -134,26 +134,26 @@ module _ (application : List ℕ) (number : ℕ) (items : Items) (at tries : ℕ
   made_of request file written reads = record { size = size_behind file found; commit = reads; file = written.is_file; limits = written.limits }
 
   -- The batch that is put where its commit may be.
-  pub record IsPut (now : State) (known : Loaded) (settled : Settled) : Type 0 where
+  pub record IsPut (now : State) (known : Loaded) (staged : Staged) : Type 0 where
     pub batch : EncodedBatch
     pub is : plan ≡ Ok (puts batch)
     pub made : IsWellMade application number at batch
     pub version : batch.version ≡ known.next
-    pub commit : commit_text (actions_of job settled) ≡ batch.commit
+    pub commit : commit_text (actions_of job staged) ≡ batch.commit
     pub file : now.0 ≡ with_file old.0 batch
 
-  ready_put : (now : State) (known : Loaded) (count : ℕ) (settled : Settled) → IsFine job → QuietReady job old now known count settled → IsPut now known settled
-  ready_put now known count settled fine is =
+  ready_put : (now : State) (known : Loaded) (count : ℕ) (staged : Staged) → IsFine job → QuietReady job old now known count staged → IsPut now known staged
+  ready_put now known count staged fine is =
       let request = is.request in
       let file = is.needs.0 in
       let here = request_is known fine is.is (Ok request) is.asked in
-      let settled_is : settled ≡ settled_by request (size_behind file found) = is.needs.3 in
+      let staged_is : staged ≡ staged_by request (size_behind file found) = is.needs.3 in
       record {
         batch = batch_with request file;
         is = put_as request file (Ok tt) here is.new is.needs.1.written is.needs.2;
-        made = made_of request file is.needs.1 (subst (λ (s : Settled). IsCommit (commit_text (actions_of job s)) (actions_of job s)) settled_is is.reads);
+        made = made_of request file is.needs.1 (subst (λ (s : Staged). IsCommit (commit_text (actions_of job s)) (actions_of job s)) staged_is is.reads);
         version = version_is known request is.is is.asked;
-        commit = ap (λ (s : Settled). commit_text (actions_of job s)) settled_is;
+        commit = ap (λ (s : Staged). commit_text (actions_of job s)) staged_is;
         file = ap (λ (s : State). s.0) is.needs.4;
       }
 
@@ -174,8 +174,8 @@ module _ (application : List ℕ) (number : ℕ) (items : Items) (at tries : ℕ
       after_committed : (version : ℕ) → (race : InRace job before talk (λ put race. (winners : Vec (Vec actions.Action Global) Global) × CommitEnds put before race (Ok (outcomes.Committed version winners)))) → After (Ok (Committed version))
       after_committed version race =
           let raced = raced_quiet job before old bears some _ new talk race told asked (Ok (outcomes.Committed version race.holds.0)) race.holds.1 in
-          let fine = reaches_fine job before race.front race.known race.tries (ready race.settled) race.reaches in
-          let put = ready_put raced.0 race.known race.tries race.settled fine raced.1 in
+          let fine = reaches_fine job before race.front race.known race.tries (ready race.staged) race.reaches in
+          let put = ready_put raced.0 race.known race.tries race.staged fine raced.1 in
           let ends = raced.3 in
           let same : put.batch.version ≡ version = put.version ∙ sym ends.0 in
           let landed : new.0 ≡ with_object raced.0.0 (commit_name version) put.batch.commit = ap (λ (s : State). s.0) ends.2 ∙ ap (with_object raced.0.0 (commit_name version)) put.commit in
@@ -185,19 +185,19 @@ module _ (application : List ℕ) (number : ℕ) (items : Items) (at tries : ℕ
       after_past : InRace job before talk (λ put race. CommitEnds put before race (Err commit_faults.PastLimit)) → After (Err faults.TooLarge)
       after_past race =
           let raced = raced_quiet job before old bears some _ new talk race told asked (Err commit_faults.PastLimit) race.holds in
-          let fine = reaches_fine job before race.front race.known race.tries (ready race.settled) race.reaches in
-          let put = ready_put raced.0 race.known race.tries race.settled fine raced.1 in
+          let fine = reaches_fine job before race.front race.known race.tries (ready race.staged) race.reaches in
+          let put = ready_put raced.0 race.known race.tries race.staged fine raced.1 in
           let great : greatest_version < put.batch.version = rw put.version raced.3.0 in
           passed application number at old.0 new.0 put.batch put.made plan put.is great (ap (λ (s : State). s.0) raced.3.1 ∙ put.file)
 
     module _ (talk : Talk) (told : Talked Answers old talk new) (may : Talked MayAnswer old talk new) where
       -- ---- the rules
 
-      after_rules : (refusal : SinkRefusal) (fault : SinkFault) (known : Loaded) (left : ℕ) (settled : Option Settled) → Reaches job before talk known left (rules settled) → HoldsOf known (λ log. asked_of job known.next log ≡ Err refusal)
+      after_rules : (refusal : SinkRefusal) (fault : SinkFault) (known : Loaded) (left : ℕ) (staged : Option Staged) → Reaches job before talk known left (rules staged) → HoldsOf known (λ log. asked_of job known.next log ≡ Err refusal)
           → says (refusal_view fault) ≡ refuses refusal → After (Err fault)
-      after_rules refusal fault known left settled reaches asked told_as =
-          let quiet = ruled_quiet job before old bears some new talk known left settled reaches told in
-          let fine = reaches_fine job before talk known left (rules settled) reaches in
+      after_rules refusal fault known left staged reaches asked told_as =
+          let quiet = ruled_quiet job before old bears some new talk known left staged reaches told in
+          let fine = reaches_fine job before talk known left (rules staged) reaches in
           refused application number at old.0 new.0 refusal fault plan (refused_plan refusal (request_is known fine quiet.1 (Err refusal) asked)) (ap (λ (s : State). s.0) quiet.0) told_as
 
       after_bad : (version : ℕ) → IsFine job → IsBadBehind job.load before talk version → After (Err (faults.BadLog version))
@@ -218,16 +218,16 @@ module _ (application : List ℕ) (number : ℕ) (items : Items) (at tries : ℕ
       -- ---- the file
 
       -- what stands under the name of the last number's file is what was found, and nothing changed
-      old_found : (front : Talk) (other : ℕ) (request : SinkRequest) (is : IsOldBatch job before front other request) (got : Option (List ℕ)) → talk ≡ front ++ (get_object (file_name application other), told_object got) ∷ []
+      old_found : (front : Talk) (other : ℕ) (request : SinkRequest) (is : IsOldBatch job before front other request) (got : Option (List ℕ)) → talk ≡ front ++ (get_object (data_file_name application other), told_object got) ∷ []
           → (other ≡ number) × (request_here ≡ Ok request) × (got ≡ found) × (new.0 ≡ old.0)
       old_found front other request is got talked =
           let same : other ≡ number = same_number number other items is.items is.task in
-          let last = talked_last Answers old new front (get_object (file_name application other)) (told_object got) (subst (λ (t : Talk). Talked Answers old t new) talked told) in
+          let last = talked_last Answers old new front (get_object (data_file_name application other)) (told_object got) (subst (λ (t : Talk). Talked Answers old t new) talked told) in
           let quiet = ruled_quiet job before old bears some last.0 front is.known is.tries is.old is.reaches last.1 in
           let fine = reaches_fine job before front is.known is.tries (rules is.old) is.reaches in (
             same,
             request_is is.known fine quiet.1 (Ok request) is.asked,
-            last.2.0 ∙ (ap (λ (s : State). object_at s.0 (file_name application other)) quiet.0 ∙ ap (λ (n : ℕ). object_at old.0 (file_name application n)) same),
+            last.2.0 ∙ (ap (λ (s : State). object_at s.0 (data_file_name application other)) quiet.0 ∙ ap (λ (n : ℕ). object_at old.0 (data_file_name application n)) same),
             last.2.1.0 ∙ ap (λ (s : State). s.0) quiet.0,
           )
 
@@ -256,20 +256,20 @@ module _ (application : List ℕ) (number : ℕ) (items : Items) (at tries : ℕ
       after_looked front _ _ got (repeated _ other request is) talked unlike =
           let here = old_found front other request is got talked in
           let unlike_here : has_same request.schema request.rows found ≡ false = subst (λ (f : Option (List ℕ)). has_same request.schema request.rows f ≡ false) here.2 unlike in
-          let named : differs name ≡ differs (file_name application other) = ap (λ (n : ℕ). differs (file_name application n)) (sym here.0) in
+          let named : differs name ≡ differs (data_file_name application other) = ap (λ (n : ℕ). differs (data_file_name application n)) (sym here.0) in
           (repeated_as request (Err (differs name)) here.1 is.again (other_where request.schema request.rows name found unlike_here) ∙ ap (λ (r : SinkRefusal). Err r) named, here.3)
       after_looked front _ _ got (taken start _ other request file is written put) talked unlike =
-          let own = file_name application other in
+          let own = data_file_name application other in
           let last = talked_last Answers old new front (get_object own) (told_object got) (subst (λ (t : Talk). Talked Answers old t new) talked told) in
           let call = talked_last Answers old last.0 start (put_file own file) (told_put Exists) (subst (λ (t : Talk). Talked Answers old t last.0) put last.1) in
           let here = new_found start other request call.0 is call.1 in
           let some_stood : is_some (object_at call.0.0 own) ≡ true = exists_some (object_at call.0.0 own) call.2.0 in
           let kept : last.0.0 ≡ old.0 = call.2.1.0 ∙ (with_object_stands call.0.0 own file some_stood ∙ ap (λ (s : State). s.0) here.2) in
-          let own_found : object_at old.0 own ≡ found = ap (λ (n : ℕ). object_at old.0 (file_name application n)) here.0 in
+          let own_found : object_at old.0 own ≡ found = ap (λ (n : ℕ). object_at old.0 (data_file_name application n)) here.0 in
           let is_found : got ≡ found = last.2.0 ∙ (ap (λ (o : Objects). object_at o own) kept ∙ own_found) in
           let stands_here : is_some found ≡ true = ap is_some (sym (ap (λ (s : State). object_at s.0 own) here.2 ∙ own_found)) ∙ some_stood in
           let unlike_here : has_same request.schema request.rows found ≡ false = subst (λ (f : Option (List ℕ)). has_same request.schema request.rows f ≡ false) is_found unlike in
-          let named : differs name ≡ differs own = ap (λ (n : ℕ). differs (file_name application n)) (sym here.0) in (
+          let named : differs name ≡ differs own = ap (λ (n : ℕ). differs (data_file_name application n)) (sym here.0) in (
             put_as request file (Err (differs name)) here.1 is.new written.written (other_unless request.schema request.rows name found stands_here unlike_here) ∙ ap (λ (r : SinkRefusal). Err r) named,
             last.2.1.0 ∙ kept,
           )
@@ -277,27 +277,27 @@ module _ (application : List ℕ) (number : ℕ) (items : Items) (at tries : ℕ
       -- ---- where memory ran out
 
       after_filed : (front rest : Talk) (other : ℕ) (request : SinkRequest) (file : List ℕ) (answered : Told) → IsNewBatch job before front other request → IsWrittenFor request.schema request.rows file → AllReads rest
-          → talk ≡ front ++ (put_file (file_name application other) file, answered) ∷ rest → After (Err faults.Memory)
+          → talk ≡ front ++ (put_file (data_file_name application other) file, answered) ∷ rest → After (Err faults.Memory)
       after_filed front rest other request file answered is written reads talked =
-          let own = file_name application other in
+          let own = data_file_name application other in
           let parts = talked_behind Answers old new front ((put_file own file, answered) ∷ rest) (subst (λ (t : Talk). Talked Answers old t new) talked told) in
           let put = parts.2 in
           let here = new_found front other request parts.0 is parts.1 in
           let rested : new.0 ≡ put.0.0 = reads_quiet put.0 new rest reads put.2 in
           by_told answered parts.0 put.0 here rested put.1
         where
-          by_told : (answered : Told) (mid behind : State) → (other ≡ number) × (request_here ≡ Ok request) × (mid ≡ old) → new.0 ≡ behind.0 → Answers mid (put_file (file_name application other) file) answered behind → After (Err faults.Memory)
+          by_told : (answered : Told) (mid behind : State) → (other ≡ number) × (request_here ≡ Ok request) × (mid ≡ old) → new.0 ≡ behind.0 → Answers mid (put_file (data_file_name application other) file) answered behind → After (Err faults.Memory)
           by_told (told_names names) mid behind here rested is_told = absurd is_told
           by_told (told_object got) mid behind here rested is_told = absurd is_told
           by_told told_lost mid behind here rested is_told = absurd is_told
           by_told told_memory mid behind here rested is_told = nothing application number at old.0 new.0 plan (rested ∙ (is_told.0 ∙ ap (λ (s : State). s.0) here.2))
           by_told (told_put Exists) mid behind here rested is_told =
-              let own = file_name application other in
+              let own = data_file_name application other in
               let kept : behind.0 ≡ mid.0 = is_told.1.0 ∙ with_object_stands mid.0 own file (exists_some (object_at mid.0 own) is_told.0) in
               nothing application number at old.0 new.0 plan (rested ∙ (kept ∙ ap (λ (s : State). s.0) here.2))
           by_told (told_put Created) mid behind here rested is_told =
-              let own = file_name application other in
-              let same_name : own ≡ name = ap (λ (n : ℕ). file_name application n) here.0 in
+              let own = data_file_name application other in
+              let same_name : own ≡ name = ap (λ (n : ℕ). data_file_name application n) here.0 in
               let none : found ≡ None = ap (object_at old.0) (sym same_name) ∙ (ap (λ (s : State). object_at s.0 own) (sym here.2) ∙ created_none (object_at mid.0 own) is_told.0) in
               let size : size_behind file found ≡ length file = ap (size_behind file) none in
               let fine = reaches_fine job before front is.known is.tries (rules None) is.reaches in
@@ -313,8 +313,8 @@ module _ (application : List ℕ) (number : ℕ) (items : Items) (at tries : ℕ
       after_unput (raced front rest _ race reads talked) =
           let parts = talked_behind Answers old new front rest (subst (λ (t : Talk). Talked Answers old t new) talked told) in
           let quiet = undecided_quiet job before old bears some parts.0 front race parts.1 in
-          let fine = reaches_fine job before race.front race.known race.tries (ready race.settled) race.reaches in
-          let put = ready_put quiet.0 race.known race.tries race.settled fine quiet.1 in
+          let fine = reaches_fine job before race.front race.known race.tries (ready race.staged) race.reaches in
+          let put = ready_put quiet.0 race.known race.tries race.staged fine quiet.1 in
           unfinished application number at old.0 new.0 put.batch put.made plan put.is (reads_quiet parts.0 new rest reads parts.2 ∙ (ap (λ (s : State). s.0) quiet.2 ∙ put.file))
 
     -- ---- each answer

@@ -15,5 +15,5 @@ pub use sink_laws::{
     a_contended_sink_tried_all, a_created_commit_is_told, a_sink_asks_for_little,
     a_sink_hands_back_what_it_learnt, what_a_sink_may,
 };
-pub use sink_state::{Settled, SinkEnd, SinkOutcome, SinkSession, SinkStage, SinkTask};
+pub use sink_state::{SinkEnd, SinkOutcome, SinkSession, SinkStage, SinkTask, Staged};
 pub use sinking::{append, close};

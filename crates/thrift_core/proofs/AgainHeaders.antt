@@ -10,7 +10,7 @@ use Rattle.lake_bytes.proofs.Callers.{signed_stands}
 use Rattle.thrift_core.specs.Tree.{boolean, integer, binary, skipped}
 use Rattle.thrift_core.specs.Wire.{Announces}
 use Rattle.thrift_core.specs.Spelling.{InTurn, SpellsBoolean, one, two, none, SpellsByte, SpellsBinary, ListHeader, small_size, size_behind, FieldHeader, id_rises, id_behind}
-use Rattle.thrift_core.specs.Reading.{of_bytes, varint_ahead, signed_ahead, bytes_ahead, fitting, boolean_ahead, byte_number_ahead, integer_ahead, double_ahead, binary_ahead, list_header_ahead, map_header_ahead, id_ahead}
+use Rattle.thrift_core.specs.Reading.{of_bytes, varint_ahead, signed_ahead, bytes_ahead, bounded_size, boolean_ahead, byte_number_ahead, integer_ahead, double_ahead, binary_ahead, list_header_ahead, map_header_ahead, id_ahead}
 use Rattle.thrift_core.specs.declared.source.Source.{Source}
 use Rattle.thrift_core.specs.declared.wire.WireType.{WireType}
 use Rattle.thrift_core.specs.declared.wire.WireType.TheVariants as wire
@@ -32,9 +32,9 @@ bytes_again count text rest m many =
     let long : count ≤ length (text ++ rest) = omega (arith, length-append text rest) in
     rw (le-ltb (length (text ++ rest)) count long, take_at text rest count many, drop_at text rest count many) refl
 
-pub fitting_again : (size : ℕ) (rest : List ℕ) (m : ℕ) → size ≤ length rest → fitting size (at m rest) ≡ Ok (size, at m rest)
-unfolding fitting
-fitting_again size rest m long = rw (le-ltb (length rest) size long) refl
+pub bounded_size_again : (size : ℕ) (rest : List ℕ) (m : ℕ) → size ≤ length rest → bounded_size size (at m rest) ≡ Ok (size, at m rest)
+unfolding bounded_size
+bounded_size_again size rest m long = rw (le-ltb (length rest) size long) refl
 
 pub number_length : (front : List ℕ) (n : ℕ) → SpellsNumber front n → 1 ≤ length front
 number_length [] n p = absurd p.varint
@@ -75,16 +75,16 @@ list_header_again size member front rest m (small_size number names small is) lo
     let low : (16 * size + number) % 16 ≡ number = omega arith in
     let high : (16 * size + number) / 16 ≡ size = omega arith in
     let below : size ≢ 15 = omega arith in
-    rw (is, low, high, names.is, ne_eqb size 15 below, fitting_again size rest m long) refl
+    rw (is, low, high, names.is, ne_eqb size 15 below, bounded_size_again size rest m long) refl
 list_header_again size member front rest m (size_behind number behind names spelled is) long =
     let fits : number < 16 = names.fits in
     let low : (16 * 15 + number) % 16 ≡ number = omega arith in
     let high : (16 * 15 + number) / 16 ≡ 15 = omega arith in
-    rw (is, low, high, names.is, varint_again behind size rest m spelled, fitting_again size rest m long) refl
+    rw (is, low, high, names.is, varint_again behind size rest m spelled, bounded_size_again size rest m long) refl
 
 pub empty_map_again : (front rest : List ℕ) (m : ℕ) → SpellsNumber front 0 → map_header_ahead (at m (front ++ rest)) ≡ Ok ((wire.Boolean, wire.Boolean, 0), at m rest)
 unfolding map_header_ahead
-empty_map_again front rest m p = rw (varint_again front 0 rest m p, fitting_again 0 rest m (omega arith)) refl
+empty_map_again front rest m p = rw (varint_again front 0 rest m p, bounded_size_again 0 rest m (omega arith)) refl
 
 pub filled_map_again : (size of_keys of_values : ℕ) (key value : WireType) (front rest : List ℕ) (m : ℕ) → Announces of_keys key → Announces of_values value → 0 < size
     → InTurn (λ front. SpellsNumber front size) (λ back. back ≡ (16 * of_keys + of_values) ∷ []) front → size ≤ length rest → map_header_ahead (at m (front ++ rest)) ≡ Ok ((key, value, size), at m rest)
@@ -96,7 +96,7 @@ filled_map_again size of_keys of_values key value front rest m keys values some 
     let more : size ≢ 0 = omega arith in
     let start : front ++ rest ≡ p.front ++ ((16 * of_keys + of_values) ∷ rest) = rw (p.whole, p.second, append_assoc) refl in
     let longer : size ≤ length ((16 * of_keys + of_values) ∷ rest) = omega arith in
-    rw (start, varint_again p.front size ((16 * of_keys + of_values) ∷ rest) m p.first, fitting_again size ((16 * of_keys + of_values) ∷ rest) m longer, ne_eqb size 0 more, low, high, keys.is, values.is) refl
+    rw (start, varint_again p.front size ((16 * of_keys + of_values) ∷ rest) m p.first, bounded_size_again size ((16 * of_keys + of_values) ∷ rest) m longer, ne_eqb size 0 more, low, high, keys.is, values.is) refl
 
 true_from_T : (b : Bool) → T b → b ≡ true
 true_from_T true h = refl

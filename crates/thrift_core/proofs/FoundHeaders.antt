@@ -12,7 +12,7 @@ use Rattle.lake_bytes.specs.declared.fault.ByteFault.TheVariants as faults
 use Rattle.thrift_core.specs.Tree.{Tree, boolean, integer, binary, skipped, depth, nodes}
 use Rattle.thrift_core.specs.Wire.{announced, Announces}
 use Rattle.thrift_core.specs.Spelling.{InTurn, one, two, none, ListHeader, small_size, size_behind, MapHeader, empty_map, filled_map, FieldHeader, id_rises, id_behind, Spells}
-use Rattle.thrift_core.specs.Reading.{byte_ahead, varint_ahead, signed_ahead, bytes_ahead, fitting, boolean_ahead, byte_number_ahead, integer_ahead, double_ahead, binary_ahead, list_header_ahead, map_header_ahead, id_ahead}
+use Rattle.thrift_core.specs.Reading.{byte_ahead, varint_ahead, signed_ahead, bytes_ahead, bounded_size, boolean_ahead, byte_number_ahead, integer_ahead, double_ahead, binary_ahead, list_header_ahead, map_header_ahead, id_ahead}
 use Rattle.thrift_core.specs.declared.fault.ThriftFault.{ThriftFault}
 use Rattle.thrift_core.specs.declared.fault.ThriftFault.TheVariants.{Bytes, BadType}
 use Rattle.thrift_core.specs.declared.source.Source.{Source}
@@ -128,9 +128,9 @@ pub record Fitted (size : ℕ) (s : Source) (count : ℕ) (s' : Source) : Type 0
   pub same : size ≡ count
   pub stays : s ≡ s'
 
-pub fitting_ok : (size : ℕ) (s : Source) (count : ℕ) (s' : Source) → fitting size s ≡ Ok (count, s') → Fitted size s count s'
-unfolding fitting
-fitting_ok size s count s' e =
+pub bounded_size_ok : (size : ℕ) (s : Source) (count : ℕ) (s' : Source) → bounded_size size s ≡ Ok (count, s') → Fitted size s count s'
+unfolding bounded_size
+bounded_size_ok size s count s' e =
     let g = guard_ok (ltb (length s.cursor) size) (Bytes faults.Short) (size, s) (count, s') e in
     record { same = ap (λ (p : ℕ × Source). p.0) g.1; stays = ap (λ (p : ℕ × Source). p.1) g.1 }
 
@@ -167,13 +167,13 @@ list_took s member member' count count' after after' is took = subst (λ (q : (W
 pub list_header_found : (s : Source) (member : WireType) (count : ℕ) (s' : Source) → IsBytes s.cursor → list_header_ahead s ≡ Ok ((member, count), s') → Took (ListHeader count member) 0 s s'
 unfolding list_header_ahead
 list_header_found s member count s' fits e =
-    let b = bind_ok (byte_ahead s) (λ header. announced (header.0 % 16) >>= λ member. cond (eqb (header.0 / 16) 15) (varint_ahead header.1) (Ok (header.0 / 16, header.1)) >>= λ size. fitting size.0 size.1 >>= λ count. Ok ((member, count.0), count.1)) ((member, count), s') e in
+    let b = bind_ok (byte_ahead s) (λ header. announced (header.0 % 16) >>= λ member. cond (eqb (header.0 / 16) 15) (varint_ahead header.1) (Ok (header.0 / 16, header.1)) >>= λ size. bounded_size size.0 size.1 >>= λ count. Ok ((member, count.0), count.1)) ((member, count), s') e in
     let h = b.0.0 in
     let mid = b.0.1 in
-    let k = bind_ok (announced (h % 16)) (λ member. cond (eqb (h / 16) 15) (varint_ahead mid) (Ok (h / 16, mid)) >>= λ size. fitting size.0 size.1 >>= λ count. Ok ((member, count.0), count.1)) ((member, count), s') b.2 in
-    let m = bind_ok (cond (eqb (h / 16) 15) (varint_ahead mid) (Ok (h / 16, mid))) (λ size. fitting size.0 size.1 >>= λ count. Ok ((k.0, count.0), count.1)) ((member, count), s') k.2 in
-    let f = bind_ok (fitting m.0.0 m.0.1) (λ count. Ok ((k.0, count.0), count.1)) ((member, count), s') m.2 in
-    let fitted = fitting_ok m.0.0 m.0.1 f.0.0 f.0.1 f.1 in
+    let k = bind_ok (announced (h % 16)) (λ member. cond (eqb (h / 16) 15) (varint_ahead mid) (Ok (h / 16, mid)) >>= λ size. bounded_size size.0 size.1 >>= λ count. Ok ((member, count.0), count.1)) ((member, count), s') b.2 in
+    let m = bind_ok (cond (eqb (h / 16) 15) (varint_ahead mid) (Ok (h / 16, mid))) (λ size. bounded_size size.0 size.1 >>= λ count. Ok ((k.0, count.0), count.1)) ((member, count), s') k.2 in
+    let f = bind_ok (bounded_size m.0.0 m.0.1) (λ count. Ok ((k.0, count.0), count.1)) ((member, count), s') m.2 in
+    let fitted = bounded_size_ok m.0.0 m.0.1 f.0.0 f.0.1 f.1 in
     let took : Took (ListHeader m.0.0 k.0) 0 s m.0.1 = list_size h mid m.0.0 m.0.1 s k.0 (byte_takes s h mid fits b.1) k.1 m.1 in
     let kept : Took (ListHeader f.0.0 k.0) 0 s f.0.1 = fitted_took (λ n. ListHeader n k.0) m.0.0 f.0.0 s m.0.1 f.0.1 fitted took in
     let is = ok_is ((k.0, f.0.0), f.0.1) ((member, count), s') f.2 in
@@ -186,11 +186,11 @@ pub map_header_found : (s : Source) (key value : WireType) (count : ℕ) (s' : S
 unfolding map_header_ahead
 map_header_found s key value count s' fits e =
     let rest = λ (n : ℕ) (x : Source). byte_ahead x >>= λ types. announced (types.0 / 16) >>= λ key. announced (types.0 % 16) >>= λ value. map_done key value n types.1 in
-    let b = bind_ok (varint_ahead s) (λ size. fitting size.0 size.1 >>= λ count. cond (eqb count.0 0) (map_done wire.Boolean wire.Boolean 0 count.1) (rest count.0 count.1)) ((key, value, count), s') e in
-    let f = bind_ok (fitting b.0.0 b.0.1) (λ count. cond (eqb count.0 0) (map_done wire.Boolean wire.Boolean 0 count.1) (rest count.0 count.1)) ((key, value, count), s') b.2 in
+    let b = bind_ok (varint_ahead s) (λ size. bounded_size size.0 size.1 >>= λ count. cond (eqb count.0 0) (map_done wire.Boolean wire.Boolean 0 count.1) (rest count.0 count.1)) ((key, value, count), s') e in
+    let f = bind_ok (bounded_size b.0.0 b.0.1) (λ count. cond (eqb count.0 0) (map_done wire.Boolean wire.Boolean 0 count.1) (rest count.0 count.1)) ((key, value, count), s') b.2 in
     let n = f.0.0 in
     let mid = f.0.1 in
-    let fitted = fitting_ok b.0.0 b.0.1 n mid f.1 in
+    let fitted = bounded_size_ok b.0.0 b.0.1 n mid f.1 in
     let first : Took (λ front. SpellsNumber front b.0.0) 0 s b.0.1 = varint_takes s b.0.0 b.0.1 fits b.1 in
     let size : Took (λ front. SpellsNumber front n) 0 s mid = fitted_took (λ n front. SpellsNumber front n) b.0.0 n s b.0.1 mid fitted first in
     elim (chosen (eqb n 0) (map_done wire.Boolean wire.Boolean 0 mid) (rest n mid) (map_done key value count s') f.2) [

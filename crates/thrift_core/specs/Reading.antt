@@ -60,8 +60,8 @@ unfoldable pub counted : Source → Result Source ThriftFault
 counted source = if source.nodes == 0 then Err TooMany else Ok (record source { nodes = source.nodes - 1 })
 
 -- a size, which may not be above the bytes that are left
-unfoldable pub fitting : ℕ → Source → Result (ℕ × Source) ThriftFault
-fitting size source = if nat_lt (length source.cursor) size then Err (Bytes Short) else Ok (size, source)
+unfoldable pub bounded_size : ℕ → Source → Result (ℕ × Source) ThriftFault
+bounded_size size source = if nat_lt (length source.cursor) size then Err (Bytes Short) else Ok (size, source)
 
 -- a boolean in a list, a set or a map
 unfoldable pub boolean_ahead : Source → Result (Tree × Source) ThriftFault
@@ -96,14 +96,14 @@ list_header_ahead source = do
   header ← byte_ahead source
   member ← announced (header.0 % 16)
   size ← if header.0 / 16 == 15 then varint_ahead header.1 else Ok (header.0 / 16, header.1)
-  count ← fitting size.0 size.1
+  count ← bounded_size size.0 size.1
   Ok ((member, count.0), count.1)
 
 -- the types of a map's keys and values, which an empty one has not, and how many entries there are
 unfoldable pub map_header_ahead : Source → Result ((WireType × WireType × ℕ) × Source) ThriftFault
 map_header_ahead source = do
   size ← varint_ahead source
-  count ← fitting size.0 size.1
+  count ← bounded_size size.0 size.1
   if count.0 == 0 then Ok ((wire.Boolean, wire.Boolean, 0), count.1) else (do
     types ← byte_ahead count.1
     key ← announced (types.0 / 16)

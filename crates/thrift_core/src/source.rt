@@ -2,7 +2,7 @@
 
 ghost use Rattle.std.specs.Prelude.{◌≡◌, length};
 ghost use Rattle.lake_bytes.specs.Reading.{id};
-ghost use Rattle.thrift_core.specs.Reading.{ReadsExactly, Counts, byte_ahead, varint_ahead, signed_ahead, bytes_ahead, counted, fitting, list_header_ahead, map_header_ahead, id_ahead};
+ghost use Rattle.thrift_core.specs.Reading.{ReadsExactly, Counts, byte_ahead, varint_ahead, signed_ahead, bytes_ahead, counted, bounded_size, list_header_ahead, map_header_ahead, id_ahead};
 
 use crate::fault::ThriftFault;
 use crate::wire::WireType;
@@ -65,9 +65,9 @@ impl<'a> Source<'a> {
     }
 
     /// Tests a size against the bytes that are left.
-    #[tactic(auto, unfolding(crate::specs::Reading::fitting))]
-    fn fitting(&mut self, size: u64) -> Result<u64, ThriftFault>
-        ensures { ReadsExactly id (fitting size self.old) result self.new }
+    #[tactic(auto, unfolding(crate::specs::Reading::bounded_size))]
+    fn bounded_size(&mut self, size: u64) -> Result<u64, ThriftFault>
+        ensures { ReadsExactly id (bounded_size size self.old) result self.new }
     {
         if (self.cursor.left().len() as u64) < size {
             return Err(ByteFault::Short.into());
@@ -87,7 +87,7 @@ impl<'a> Source<'a> {
         } else {
             u64::from(header / 16)
         };
-        let count = self.fitting(size)?;
+        let count = self.bounded_size(size)?;
         Ok((member, count))
     }
 
@@ -97,7 +97,7 @@ impl<'a> Source<'a> {
         ensures { ReadsExactly id (map_header_ahead self.old) result self.new }
     {
         let size = self.varint()?;
-        let count = self.fitting(size)?;
+        let count = self.bounded_size(size)?;
         if count == 0 {
             return Ok((WireType::Boolean, WireType::Boolean, 0));
         }

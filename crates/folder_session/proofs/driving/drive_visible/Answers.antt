@@ -3,10 +3,10 @@ use Rattle.store_core.specs.Objects.{Objects}
 use Rattle.session_core.specs.Talks.{Asked, Talk, Told, asked_view, told_view, heard}
 use Rattle.session_core.specs.Shown.{IsExact}
 use Rattle.session_core.proofs.Callers.{asked_more}
-use Rattle.front_reads.specs.Fronts.{seen}
+use Rattle.front_reads.specs.Fronts.{visible}
 use Rattle.folder_session.specs.Driving.{AreNames}
 use Rattle.folder_session.proofs.Showing.{shows_also, unlost_also}
-use Rattle.folder_session.proofs.driving.drive_seen.Goals as goal
+use Rattle.folder_session.proofs.driving.drive_visible.Goals as goal
 
 pub calls-init : goal.calls-init
 calls-init g c = record {
@@ -58,7 +58,7 @@ calls-preserved g c =
             asked = Some asked;
             fit = step.0;
             all = ap (λ (t : Talk). t ++ (asked, reply) ∷ []) d.all;
-            shown = shows_also _ d.talk asked reply d.shown (subst (λ (o : Objects). IsExact (seen c.args.front o) asked reply) (i.untouched steady) (told.exact (i.steady steady) (subst (λ (o : Objects). AreNames c.calls.names o) (sym (i.untouched steady)) (i.names _ are))));
+            shown = shows_also _ d.talk asked reply d.shown (subst (λ (o : Objects). IsExact (visible c.args.front o) asked reply) (i.untouched steady) (told.exact (i.steady steady) (subst (λ (o : Objects). AreNames c.calls.names o) (sym (i.untouched steady)) (i.names _ are))));
             asked_for = asked_more (g.N.Session.asks (g.N.Session.job c.args.session.now) before) [] d.talk asked reply d.asked_for (rw i.job at (rw d.all at step.1));
             unlost = unlost_also d.talk asked reply d.unlost told.never_lost;
             few = let longer = length-append d.talk ((asked, reply) ∷ []) in omega (arith, d.few, steps.1, longer);

@@ -7,7 +7,7 @@ use std::str;
 
 /// What is told so far. It remembers whether memory ran out and whether a line is misspelled: so nobody has to look at each
 /// step whether it failed, and what is made of a step that did is nothing, 0 or the least number that is allowed.
-pub struct Told {
+pub struct Transcript {
     pub alloc: Global,
     bytes: Vec<u8>,
     // Whether a growth of memory was refused.
@@ -17,9 +17,9 @@ pub struct Told {
 }
 
 // One call where it is dropped.
-impl Drop for Told {
+impl Drop for Transcript {
     fn drop(self) {
-        let Told {
+        let Transcript {
             alloc: _,
             bytes: _,
             is_short: _,
@@ -28,10 +28,10 @@ impl Drop for Told {
     }
 }
 
-impl Told {
+impl Transcript {
     /// Nothing is told.
-    pub fn new(alloc: Global) -> Told {
-        Told {
+    pub fn new(alloc: Global) -> Transcript {
+        Transcript {
             alloc,
             bytes: Vec::new(alloc),
             is_short: false,
@@ -67,7 +67,7 @@ impl Told {
     }
 
     /// Notes whether memory ran out for another.
-    pub fn heed(&mut self, other: &Told) {
+    pub fn heed(&mut self, other: &Transcript) {
         if other.is_short {
             self.is_short = true;
         }

@@ -2,9 +2,9 @@ use Rattle.std.proofs.Common.{◌≡◌, [], false, None, option_map}
 use Rattle.session_core.specs.Sessions.{hears_lost}
 use Rattle.session_core.specs.Talks.{Talk, IsReplyTo, told_view}
 use Rattle.store_core.specs.Objects.{Objects}
-use Rattle.front_reads.specs.Fronts.{seen}
+use Rattle.front_reads.specs.Fronts.{visible}
 use Rattle.folder_session.specs.Driving.{AreNames, IsReading}
-use Rattle.folder_session.proofs.driving.drive_seen.Given as goal
+use Rattle.folder_session.proofs.driving.drive_visible.Given as goal
 
 abbrev pub invariant-calls : goal.invariant-calls
 invariant-calls g l = record {
@@ -18,7 +18,7 @@ invariant-calls g l = record {
   reliable : g.F.Folder.is_reliable l.fn.folder → g.F.Folder.is_reliable l.folder;
   names : (objects : Objects) → AreNames l.fn.names objects → AreNames l.names objects;
   driven : g.F.Folder.is_steady l.fn.folder → AreNames l.fn.names (g.F.Folder.objects l.fn.folder) → (before : Talk) → g.N.Session.fits before l.fn.session [] None
-      → IsReading (g.N.Session.fits before) g.N.Session.left (g.N.Session.asks (g.N.Session.job l.fn.session) before) l.fn.session l.session (option_map told_view l.reply) (seen l.fn.front (g.F.Folder.objects l.fn.folder));
+      → IsReading (g.N.Session.fits before) g.N.Session.left (g.N.Session.asks (g.N.Session.job l.fn.session) before) l.fn.session l.session (option_map told_view l.reply) (visible l.fn.front (g.F.Folder.objects l.fn.folder));
 }
 
 abbrev pub decreases-calls : goal.decreases-calls

@@ -1,6 +1,6 @@
 //! What is seen of a store where its log is looked at in front of a version: not the commits and checkpoints from there on.
 ghost use Rattle.std.specs.Prelude.{◌≡◌, IfOk, filter, map, string_bytes};
-ghost use Rattle.front_reads.specs.Fronts.{is_in_front, is_kept, is_seen};
+ghost use Rattle.front_reads.specs.Fronts.{is_in_front, is_kept, is_visible};
 
 use std::alloc::{AllocError, Global};
 use table_log::{commit_version, version_below};
@@ -27,8 +27,8 @@ fn is_kept(alloc: Global, front: u64, name: &str) -> Result<bool, AllocError>
 }
 
 /// Whether a name is seen in front of a version, or in the whole store where none is given. Fails where memory runs out.
-pub fn is_seen(alloc: Global, front: Option<u64>, name: &str) -> Result<bool, AllocError>
-    ensures { IfOk result (λ seen. seen ≡ is_seen front name.now) }
+pub fn is_visible(alloc: Global, front: Option<u64>, name: &str) -> Result<bool, AllocError>
+    ensures { IfOk result (λ visible. visible ≡ is_visible front name.now) }
 {
     match front {
         Some(front) => is_kept(alloc, front, name),
@@ -37,14 +37,14 @@ pub fn is_seen(alloc: Global, front: Option<u64>, name: &str) -> Result<bool, Al
 }
 
 /// Those of these names that are seen in front of a version, in their order. Fails where memory runs out. Time is linear in the names.
-pub fn seen_names(alloc: Global, front: u64, names: &[String]) -> Result<Vec<String>, AllocError>
-    ensures { IfOk result (λ seen. map string_bytes seen.items ≡ filter (is_kept front) (map string_bytes names.now)) }
+pub fn visible_names(alloc: Global, front: u64, names: &[String]) -> Result<Vec<String>, AllocError>
+    ensures { IfOk result (λ visible. map string_bytes visible.items ≡ filter (is_kept front) (map string_bytes names.now)) }
 {
-    let mut seen = Vec::new(alloc);
+    let mut visible = Vec::new(alloc);
     for name in names {
         if is_kept(alloc, front, name.as_str())? {
-            seen.push(name.clone()?)?;
+            visible.push(name.clone()?)?;
         }
     }
-    Ok(seen)
+    Ok(visible)
 }

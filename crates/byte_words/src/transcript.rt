@@ -16,7 +16,7 @@ const END: usize = 300;
 const NO_MEMORY: &str = "out of memory";
 
 /// What is told of a line: lines of text.
-pub struct Told {
+pub struct Transcript {
     text: String,
     /// What stands between two lines.
     gap: &'static str,
@@ -25,9 +25,9 @@ pub struct Told {
 }
 
 // One call where it is dropped: functions that hold one are shorter to prove.
-impl Drop for Told {
+impl Drop for Transcript {
     fn drop(self) {
-        let Told {
+        let Transcript {
             text: _,
             gap: _,
             lacks_memory: _,
@@ -35,10 +35,10 @@ impl Drop for Told {
     }
 }
 
-impl Told {
+impl Transcript {
     /// Nothing yet; with this text between two lines.
-    pub fn new(alloc: Global, gap: &'static str) -> Told {
-        Told {
+    pub fn new(alloc: Global, gap: &'static str) -> Transcript {
+        Transcript {
             text: String::new(alloc),
             gap,
             lacks_memory: false,
@@ -144,7 +144,7 @@ impl Told {
 
     /// Tells, in a line of its own, why something is refused; unless it is since memory was, which all errors tell alike.
     pub fn refused<E: Display>(&mut self, error: &E) -> LineFault {
-        let mut why = Told::new(self.alloc(), "");
+        let mut why = Transcript::new(self.alloc(), "");
         why.show("", error);
         let why = why.text();
         if why == NO_MEMORY || why == "Memory" {
@@ -156,7 +156,7 @@ impl Told {
     }
 
     /// What is told in the end of a line of this number.
-    pub fn ended(self, answer: Result<(), LineFault>, number: u64) -> Told {
+    pub fn ended(self, answer: Result<(), LineFault>, number: u64) -> Transcript {
         let mut told = self;
         match answer {
             Ok(()) | Err(LineFault::Refused) => {}
@@ -170,7 +170,7 @@ impl Told {
     }
 
     /// The same, of which the middle is left out where it is long.
-    pub fn shortened(self) -> Told {
+    pub fn shortened(self) -> Transcript {
         let text = self.text();
         let count = text.len();
         if count <= LONGEST {
@@ -178,7 +178,7 @@ impl Told {
         }
         let (front, behind) = text.as_bytes().split_at(END);
         let (_, back) = behind.split_at(behind.len() - END);
-        let mut short = Told::new(self.alloc(), "");
+        let mut short = Transcript::new(self.alloc(), "");
         short.bytes(front);
         short.put(" .. ");
         short.bytes(back);

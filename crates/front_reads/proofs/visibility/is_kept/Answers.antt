@@ -3,8 +3,8 @@ use Rattle.std.specs.Prelude.{◌&&◌}
 use Rattle.table_log.specs.Names.{commit_version}
 use Rattle.table_log.specs.Restoring.{checkpoint_version}
 use Rattle.front_reads.specs.Fronts.{is_in_front}
-use Rattle.front_reads.proofs.SeenNames.{below_all}
-use Rattle.front_reads.proofs.seeing.is_kept.Goals as goal
+use Rattle.front_reads.proofs.VisibleNames.{below_all}
+use Rattle.front_reads.proofs.visibility.is_kept.Goals as goal
 
 pub returns : goal.returns
 returns c =
