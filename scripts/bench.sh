@@ -41,8 +41,23 @@ string='{"name":"s","type":"string"}'
 { create "$long"; append 0 65536 0; echo "tail 65536 $beginning"; } >"$work/long-65536"
 { create "$long" "$string"; append 0 65536 1; echo "tail 65536 $beginning"; } >"$work/text-65536"
 
-# Many appends of one row, each of which looks at the log; and a batch that is handed in again and again.
-{ create "$long"; for n in $(seq 0 799); do append "$n" 1 0; done; echo "tail 65536 $beginning"; } >"$work/appends-800"
+# COUNT appends of one row, each of which looks at the log, and a checkpoint behind each EVERY of them, if that isn't 0.
+appends() {
+    create "$long"
+    awk -v count="$1" -v every="$2" 'BEGIN {
+        srand(1)
+        for (n = 0; n < count; n++) {
+            printf "append a %d 0 [{\"x\":%d}]\n", n, int(rand() * 2000000000000) - 1000000000000
+            if (every && (n + 1) % every == 0) print "checkpoint"
+        }
+    }'
+}
+
+# Many appends, also with checkpoints between them; and a batch that is handed in again and again.
+{ appends 800 0; echo "tail 65536 $beginning"; } >"$work/appends-800"
+appends 2000 0 >"$work/appends-2000"
+appends 2000 100 >"$work/checked-2000"
+appends 8000 0 >"$work/appends-8000"
 { create "$long"; append 0 4096 0 >"$work/one"; for _ in $(seq 51); do cat "$work/one"; done; } >"$work/repeats-50"
 rm "$work/one"
 
@@ -60,7 +75,8 @@ seconds() {
 }
 
 printf '%-12s %8s %8s %12s\n' script rows seconds 'rows/second'
-for script in long-65536:65536 text-65536:65536 appends-800:800 repeats-50:208896 reads-4096:4096; do
+for script in long-65536:65536 text-65536:65536 appends-800:800 appends-2000:2000 checked-2000:2000 appends-8000:8000 \
+    repeats-50:208896 reads-4096:4096; do
     name=${script%:*}
     rows=${script#*:}
     for _ in 1 2 3; do seconds "$work/$name"; done | sort -n | head -1 |
