@@ -13,6 +13,7 @@
   command that is run again, where something was left over: else that folder is the undisturbed one, which is checked once.
 - A table of 10,000 batches is checked, whole and without its last file.
 - Of a log with a gap, and of a folder that isn't there, each command has to tell its own refusal.
+- For a row of a long log behind a checkpoint few of its commits are opened, and none twice.
 
 It ends with status 0 where all held, 1 where something didn't, and 2 where nothing can be tried. A kill loses no write
 that the system took: cuts of power aren't tried.
@@ -27,6 +28,7 @@ import random
 import sys
 import time
 
+from fronts import try_fronts
 from gaps import try_gaps
 from large import try_large
 from races import run_creates, run_race
@@ -105,7 +107,7 @@ def main() -> int:
     faults += leftovers(program, LEFTOVERS)
     faults += run_creates(program, CREATES, CREATORS)
     seconds, found = try_large(program, BATCHES)
-    faults += found + try_gaps(program)
+    faults += found + try_gaps(program) + try_fronts(program)
     races, told, found = try_races(program, asked.races, start + asked.seconds)
     tell(counts, untried, races, told)
     print(f"a table of {BATCHES} batches was checked in {seconds:.1f} s")
