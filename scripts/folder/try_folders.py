@@ -13,7 +13,8 @@
   command that is run again, where something was left over: else that folder is the undisturbed one, which is checked once.
 - A table of 10,000 batches is checked, whole and without its last file.
 - Of a log with a gap, and of a folder that isn't there, each command has to tell its own refusal.
-- For a row of a long log behind a checkpoint few of its commits are opened, and none twice.
+- For a row of a long log behind a checkpoint few commits are opened, where those in front of it are few, and else each
+  once.
 
 It ends with status 0 where all held, 1 where something didn't, and 2 where nothing can be tried. A kill loses no write
 that the system took: cuts of power aren't tried.

@@ -15,7 +15,7 @@ from log import COMMIT_NAME, readable
 from parquet_reader import ReadFault, read_file
 from refusals import explained
 from snapshot import Snapshot
-from table import LARGEST_NUMBER, commit_name, compact, file_name
+from table import LARGEST_NUMBER, commit_name, compact, data_file_name
 
 # What a run that was killed may leave of a file that it wrote.
 LEFTOVER = re.compile(r"(_delta_log/)?\.new-[0-9]+")
@@ -140,7 +140,7 @@ class Audit:
 
     def test_file(self, application: str, number: int, add: dict[str, Any]) -> None:
         """Refuses a batch whose file isn't the one named for it, or isn't there, or is none of the table's."""
-        name = file_name(application, number)
+        name = data_file_name(application, number)
         if not add["dataChange"] or key_of(add["path"]) != name:
             raise Unsound(f"number {number} of {compact(application)} adds another file")
         if name not in self.objects:

@@ -11,12 +11,12 @@ use session_core::{Session, Step};
 use std::alloc::Global;
 use table_folder::{Folder, LoadFault};
 
-/// Drives a session that only reads over a folder's files to its end, or over what is seen of them in front of a version: makes each
+/// Drives a session that only reads over a folder's files to its end, or over what is visible of them in front of a version: makes each
 /// call that it asks for, and tells it the answer. Where a call fails the fault is that call's, and the session is left where it waits
 /// for its answer.
 ///
 /// Where the session asks for the names it is told those that were listed before, if they are given, and else the folder is listed. A
-/// file is opened where it asks for that one and it is seen. Beside that and the session, the time is linear in the names, and else
+/// file is opened where it asks for that one and it is visible. Beside that and the session, the time is linear in the names, and else
 /// constant for each call.
 pub(crate) fn drive_visible<F: Folder, N: Session>(
     alloc: Global,
@@ -28,7 +28,7 @@ pub(crate) fn drive_visible<F: Folder, N: Session>(
     requires new { N.awaits session.old ≡ None }
     requires unended { N.done session.old ≡ false }
     requires reads { (before talk : Talk) (asked : Asked) → N.asks (N.job session.old) before talk asked → IsRead asked }
-    // Over a steady folder it was driven by a talk that shows the folder's objects, as far as they are seen.
+    // Over a steady folder it was driven by a talk that shows the folder's objects, as far as they are visible.
     ensures driven { F.is_steady folder.old → AreNames names (F.objects folder.old) → (before : Talk) → N.fits before session.old [] None
         → IfOk result (λ outcome. ReadsBy N.asks N.ends (N.job session.old) (N.left session.old) before outcome (visible front (F.objects folder.old))) }
     ensures ended { IfOk result (λ outcome. N.done session.new ≡ true) }

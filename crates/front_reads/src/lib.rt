@@ -1,4 +1,4 @@
-//! Reads of a few rows of a long log: in front of which version they are looked for first, which names are seen there, and that what
+//! Reads of a few rows of a long log: in front of which version they are looked for first, which names are visible there, and that what
 //! is read there is what the whole log has.
 #![tactic(auto)]
 

@@ -1,4 +1,4 @@
-//! What is seen of a store where its log is looked at in front of a version: not the commits and checkpoints from there on.
+//! What is visible of a store where its log is looked at in front of a version: not the commits and checkpoints from there on.
 ghost use Rattle.std.specs.Prelude.{◌≡◌, IfOk, filter, map, string_bytes};
 ghost use Rattle.front_reads.specs.Fronts.{is_in_front, is_kept, is_visible};
 
@@ -26,7 +26,7 @@ fn is_kept(alloc: Global, front: u64, name: &str) -> Result<bool, AllocError>
     Ok(is_in_front(checkpoint, front))
 }
 
-/// Whether a name is seen in front of a version, or in the whole store where none is given. Fails where memory runs out.
+/// Whether a name is visible in front of a version, or in the whole store where none is given. Fails where memory runs out.
 pub fn is_visible(alloc: Global, front: Option<u64>, name: &str) -> Result<bool, AllocError>
     ensures { IfOk result (λ visible. visible ≡ is_visible front name.now) }
 {
@@ -36,7 +36,7 @@ pub fn is_visible(alloc: Global, front: Option<u64>, name: &str) -> Result<bool,
     }
 }
 
-/// Those of these names that are seen in front of a version, in their order. Fails where memory runs out. Time is linear in the names.
+/// Those of these names that are visible in front of a version, in their order. Fails where memory runs out. Time is linear in the names.
 pub fn visible_names(alloc: Global, front: u64, names: &[String]) -> Result<Vec<String>, AllocError>
     ensures { IfOk result (λ visible. map string_bytes visible.items ≡ filter (is_kept front) (map string_bytes names.now)) }
 {

@@ -60,7 +60,7 @@ module _ (objects : Objects) (application : List ℕ) (number at : ℕ) (items :
       let a = both_done (append_plan false objects application number at items) (plan_answer number) (Committed version) is in
       step_put version a.0 a.1 a.2
 
-  -- behind the puts of a batch its append is staged: it stands
+  -- behind the puts of a batch its append is known: it stands
   batch_again : (later : ℕ) (batch : EncodedBatch) → IsNew batch → is_past batch.version ≡ false → IsWellMade application number at batch → append_plan false (with_append objects (Ok (puts batch))) application number later items ≡ Ok stands
   batch_again later batch is small well =
       let behind = with_append objects (Ok (puts batch)) in

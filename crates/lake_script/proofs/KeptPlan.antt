@@ -22,7 +22,7 @@ use Rattle.row_core.specs.Rows.{Row}
 use Rattle.row_core.proofs.Callers.{same_rows-is}
 use Rattle.table_model.specs.Table as model
 use Rattle.table_model.specs.Table.{Entry, group, is_closed, last_batch}
-use Rattle.commit_core.proofs.Callers.{commit_name-data_file_name as plain_file_name}
+use Rattle.commit_core.proofs.Callers.{commit_name-data_file_name}
 use Rattle.batch_core.specs.Committing.{data_file_name, greatest_number}
 use Rattle.batch_core.specs.Requests.{checked, is_repeat, is_same, unless_other, where_same, file_or_refusal}
 use Rattle.sink_core.specs.Appending.{EncodedBatch, AppendPlan, puts, stands, size_behind, batch_of, put_plan, new_plan, plan_of, append_plan, with_append, with_file_alone, IsWellMade, PutsWell}
@@ -98,7 +98,7 @@ pub files_commit : (objects : Objects) (schema : Tree) (version : ℕ) (bytes : 
 files_commit objects schema version bytes files application number found utf8 small there =
     elim (stood_or_put objects (names.commit_name version) bytes (plain_file_name application number) found there) [
       | inl before ↦ files application number found utf8 small before
-      | inr put ↦ absurd (commit_name-plain_file_name version application number (sym put.0))
+      | inr put ↦ absurd (commit_name-data_file_name version application number (sym put.0))
     ]
 
 -- ---- an append over a table that is kept

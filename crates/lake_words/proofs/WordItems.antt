@@ -142,4 +142,4 @@ items_are_taken s items p =
 pub all_taken : (s : Shape) (items : List Item) → TakesAll s (walk_from nothing_held) items
     → settle_passes s.rules s.args_override_self (fold (item_walked s.rules) (walk_from nothing_held) items).held ≡ true
     → (list_all default_passes s.rules && is_valid s (item_rows s.rules items) false) ≡ true → items_taken s items ≡ true
-all_taken s items passes stages valid = and_from _ _ (takes_all s _ items passes) (and_from _ _ stages valid)
+all_taken s items passes settles valid = and_from _ _ (takes_all s _ items passes) (and_from _ _ settles valid)

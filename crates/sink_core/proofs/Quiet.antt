@@ -22,7 +22,7 @@ use Rattle.table_log.specs.Counts.{commit_count}
 use Rattle.table_log.specs.Loads.{IsLoaded}
 use Rattle.table_log.specs.LoadSessions.{HasListed}
 use Rattle.table_log.specs.declared.loading.Loaded.{Loaded}
-use Rattle.commit_core.proofs.Callers.{commit_name-data_file_name as plain_file_name}
+use Rattle.commit_core.proofs.Callers.{commit_name-data_file_name}
 use Rattle.commit_core.specs.Commits.{commit_text}
 use Rattle.commit_core.specs.CommitSessions.{CommitEnds, CommitJob, ComesTo, IsUnfinished, Winner, got_told, put_told, taken}
 use Rattle.commit_core.specs.declared.commit_fault.CommitFault.{CommitFault}
@@ -266,7 +266,7 @@ module _ (put : CommitJob) (before race : Talk) (mid new : State) (some : 1 ≤ 
 -- no commit is named as a batch's file
 commit_apart : (version : ℕ) (application : List ℕ) (number : ℕ) → commit_name version ≢ data_file_name application number
 unfolding commit_name data_file_name
-commit_apart version application number = commit_name-plain_file_name version application number
+commit_apart version application number = commit_name-data_file_name version application number
 
 -- no commit stands besides a batch's file where none stood
 needs_free : (job : SinkJob) (old now : State) (request : SinkRequest) (staged : Staged) (version : ℕ) → QuietStaged job old now request staged → object_at old.0 (commit_name version) ≡ None → object_at now.0 (commit_name version) ≡ None
