@@ -1,4 +1,5 @@
-use Rattle.std.proofs.Common.{◌≡◌, ℕ, List, Option, IfSome, [], ◌∷◌, ◌++◌, Some, None, true, false, option_map, refl, sym, ap, subst, ◌∙◌, arith, length-append}
+use Rattle.std.proofs.Common.{◌≡◌, ℕ, List, Option, [], ◌∷◌, ◌++◌, Some, None, true, false, option_map, refl, sym, ap, subst, ◌∙◌, arith, length-append}
+use Rattle.std.specs.Prelude.{MatchOption}
 use Rattle.store_core.specs.Listed.{listed}
 use Rattle.store_core.specs.Memory.{stored_objects}
 use Rattle.store_core.specs.Objects.{Objects, names_of}
@@ -25,7 +26,7 @@ calls-init g c =
       untouched = λ steady. c.in_ok-names.ensures.untouched steady;
       faults = c.in_ok-names.ensures.faults;
       reliable = λ reliable. c.in_ok-names.ensures.stays_reliable reliable;
-      listed = λ steady. rising c.in_ok-names-2.field-0 c.in-Some.names c.in-Some.is c.in_ok-names-2.ensures ∙ c.in_ok-names.ensures.names steady;
+      listed = λ steady. rising c.in_ok-names-2.field-0 c.in-Some.names _ c.in-Some.is c.in_ok-names-2.ensures ∙ c.in_ok-names.ensures.names steady;
       driven = λ steady before fits. record {
         talk = [];
         taken = [];
@@ -41,8 +42,8 @@ calls-init g c =
       };
     }
   where
-    rising : (found : Option Names) (names : Names) {told : List (List ℕ)} → found ≡ Some names → IfSome found (λ shared. listed shared ≡ told) → listed names ≡ told
-    rising found names {told} is some = subst (λ (o : Option Names). IfSome o (λ shared. listed shared ≡ told)) is some
+    rising : (found : Option Names) (names : Names) (P : Type 0) {told : List (List ℕ)} → found ≡ Some names → MatchOption found P (λ shared. listed shared ≡ told) → listed names ≡ told
+    rising found names P {told} is some = subst (λ (o : Option Names). MatchOption o P (λ shared. listed shared ≡ told)) is some
 
 pub returns-in-Done-clause-driven : goal.returns-in-Done-clause-driven
 returns-in-Done-clause-driven g c = λ steady before fits.
