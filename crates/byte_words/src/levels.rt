@@ -3,11 +3,12 @@
 ghost use Rattle.std.specs.Prelude.{◌≤◌};
 
 use crate::fault::LineFault;
+use crate::question::Kind;
 use crate::transcript::Transcript;
 use crate::words::Words;
 use lake_bytes::{
-    Cursor, hybrid_read, hybrid_write, write_i32_le, write_i64_le, write_u32_le, write_varint,
-    write_zigzag,
+    ByteFault, Cursor, hybrid_read, hybrid_write, write_i32_le, write_i64_le, write_u32_le,
+    write_varint, write_zigzag,
 };
 use std::alloc::AllocError;
 
@@ -95,4 +96,36 @@ pub fn tell_hybrid(words: &mut Words<'_>, told: &mut Transcript) -> Result<(), L
     told.show("", &cursor.left().len());
     told.put(" left");
     Ok(())
+}
+
+/// Tells the number in front, and how many bytes are left.
+pub fn tell_number(kind: Kind, bytes: &[u8], told: &mut Transcript) -> Result<(), LineFault> {
+    let mut cursor = Cursor::new(bytes);
+    if matches!(kind, Kind::Varint) {
+        let number = told.given(cursor.varint())?;
+        told.show("", &number);
+    } else {
+        let number = told.given(signed_in_front(kind, &mut cursor))?;
+        told.show("", &number);
+    }
+    tell_left(&cursor, told);
+    Ok(())
+}
+
+/// The number in front, of a kind that fits 64 bits with a sign.
+fn signed_in_front(kind: Kind, cursor: &mut Cursor) -> Result<i64, ByteFault> {
+    match kind {
+        Kind::Zig16 => Ok(i64::from(cursor.zigzag_i16()?)),
+        Kind::Zig32 => Ok(i64::from(cursor.zigzag_i32()?)),
+        Kind::Zig64 => cursor.zigzag_i64(),
+        Kind::U32 => Ok(i64::from(cursor.u32_le()?)),
+        Kind::I32 => Ok(i64::from(cursor.i32_le()?)),
+        _ => cursor.i64_le(),
+    }
+}
+
+/// Tells how many bytes are left.
+pub fn tell_left(cursor: &Cursor, told: &mut Transcript) {
+    told.show(", ", &cursor.left().len());
+    told.put(" left");
 }

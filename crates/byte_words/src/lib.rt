@@ -14,8 +14,8 @@ mod transcript;
 mod words;
 
 pub use fault::LineFault;
-pub use levels::tell_hybrid;
+pub use levels::{tell_hybrid, tell_left, tell_number};
 pub use question::{HeapKind, Kind, Question, TableKind, question_named};
-pub use spoiling::spoiled;
+pub use spoiling::{Tallies, spoiled};
 pub use transcript::Transcript;
 pub use words::{Bindings, Words};

@@ -1,8 +1,7 @@
 //! The headers of Parquet pages as text.
 
-use crate::describing::tell_left;
 use crate::tree::tell_value;
-use byte_words::{LineFault, Transcript};
+use byte_words::{LineFault, Transcript, tell_left};
 use lake_bytes::Cursor;
 use parquet_pages::{PageContent, PageHeader};
 use std::alloc::Global;

@@ -3,10 +3,9 @@
 use crate::describing::tell_bytes;
 use crate::rows::tell_file;
 use crate::schema::schema_of;
-use byte_words::{Kind, LineFault, Question, Transcript, Words, question_named, spoiled};
+use byte_words::{Kind, LineFault, Question, Tallies, Transcript, Words, question_named, spoiled};
 use schema_tree::Schema;
 use std::alloc::Global;
-use std::collections::BTreeMap;
 
 /// What bytes are read as.
 #[derive(Clone, Copy)]
@@ -16,9 +15,6 @@ enum Read<'a> {
     /// As a file of a table of this schema, of which the rows are told.
     File(&'a Schema<Global>),
 }
-
-/// How often each outcome came, for each way of spoiling.
-type Tallies = BTreeMap<String, [u32; 4]>;
 
 /// Tells what comes of spoiled bytes, for `KIND BYTES` and for `file SCHEMA FILE`.
 pub fn tell_spoiled(words: &mut Words<'_>, told: &mut Transcript) -> Result<(), LineFault> {
@@ -47,16 +43,7 @@ fn tell_outcomes(
         told.put(whole.text());
         return Err(fault);
     }
-    let tallies = tallied(read, &bytes, whole.whole()?, told.alloc())?;
-    told.line("cut, without, 00, FF");
-    for (outcome, counts) in tallies.iter() {
-        told.line("");
-        for count in counts {
-            told.show("", count);
-            told.put(" ");
-        }
-        told.put(outcome);
-    }
+    tallied(read, &bytes, whole.whole()?, told.alloc())?.tell(told);
     Ok(())
 }
 
@@ -70,13 +57,11 @@ fn tell_read(read: Read<'_>, bytes: &[u8], told: &mut Transcript) -> Result<(), 
 
 /// How often each outcome came, where this is told of the unspoiled bytes.
 fn tallied(read: Read<'_>, bytes: &[u8], whole: &str, alloc: Global) -> Result<Tallies, LineFault> {
-    let mut tallies = BTreeMap::new(alloc);
+    let mut tallies = Tallies::new(alloc);
     for place in 0..bytes.len() {
         for way in 0..4 {
             let spoiled = spoiled(alloc, bytes, place, way)?;
-            let outcome = outcome(read, &spoiled, whole, alloc)?;
-            let counts: &mut [u32; 4] = tallies.entry(outcome)?.or_insert([0; 4]);
-            counts[way] = counts[way].saturating_add(1);
+            tallies.count(outcome(read, &spoiled, whole, alloc)?, way)?;
         }
     }
     Ok(tallies)

@@ -1,7 +1,6 @@
 //! Thrift structs as text.
 
-use crate::describing::tell_left;
-use byte_words::{LineFault, Transcript};
+use byte_words::{LineFault, Transcript, tell_left};
 use lake_bytes::Cursor;
 use std::alloc::Allocator;
 use thrift_core::{Field, MapEntry, ReadError, TValue, read_struct};
