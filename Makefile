@@ -1,6 +1,6 @@
 PREFIX ?= $(HOME)/.local
 
-.PHONY: bench demo folder inspect install lake model refusals schedules test times
+.PHONY: bench demo folder inspect install lake model refusals samples schedules test times
 
 # Runs the stored script of the program without a proof, and shows each line before its replies.
 demo:
@@ -39,6 +39,11 @@ model:
 # Python 3.11 without a package.
 refusals:
 	@python3 scripts/refusals.py --check
+
+# Runs the examples of README.md and docs/FORMATS.md with the built program, and compares, in Python 3.11 without a
+# package. Run `make lake` before it.
+samples:
+	@python3 scripts/samples.py
 
 # Runs the built program on random scripts of several actors, and compares what it is told with the model, and with what
 # has to hold of batches and reads. Run `make lake` before it.
