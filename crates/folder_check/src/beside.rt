@@ -41,7 +41,7 @@ pub(crate) fn lines_beside<F: Folder, P: Progress>(
     Ok(lines)
 }
 
-// Adds a line: a word and a name.
+/// Adds a line: a word and a name.
 fn push_line(
     alloc: Global,
     lines: &mut Vec<String>,
@@ -53,7 +53,7 @@ fn push_line(
     Ok(())
 }
 
-// Whether a name is a data file's: one of the table's folder, ending with `.parquet`.
+/// Whether a name is a data file's: one of the table's folder, ending with `.parquet`.
 fn is_data(name: &str) -> bool {
     !name.starts_with("_delta_log/") && name.ends_with(".parquet")
 }

@@ -24,8 +24,8 @@ pub struct Report {
 
 impl<F: Folder, P: Progress> FolderReader<F, P> {
     /// Judges the table in the folder. Of its commits, the data files that these add for batches, and its checkpoints
-    /// each is read once at most, one at a time, up to the first unsound version; then each commit once more for what lies
-    /// beside the table. Nothing is written.
+    /// each is read once at most, one at a time, up to the first unsound version; then each commit once more for what
+    /// lies beside the table. Nothing is written.
     pub fn check(&mut self, alloc: Global) -> Result<Report, CheckFault>
         // Over a steady folder the verdict is that of its files.
         ensures told { F.is_steady self.old.folder → IfOk result (λ report. IsVerdictOf (F.objects self.old.folder) report.verdict) }
@@ -46,8 +46,8 @@ impl<F: Folder, P: Progress> FolderReader<F, P> {
         report
     }
 
-    // Why an audit ended with an error, before which the folder had counted so many faults: at which file, where a call of
-    // the folder failed.
+    /// Why an audit ended with an error, before which the folder had counted so many faults: at which file, where a
+    /// call of the folder failed.
     pub(crate) fn why(&mut self, error: AuditError, before: u64) -> CheckFault
         ensures folder { self.new.folder ≡ self.old.folder }
         ensures counted { ComesOfACall before (F.fault_count self.old.folder) result }
@@ -65,7 +65,7 @@ impl<F: Folder, P: Progress> FolderReader<F, P> {
     }
 }
 
-// Whether a folder has counted a fault between two looks at its count, which stays at the greatest number.
+/// Whether a folder has counted a fault between two looks at its count, which stays at the greatest number.
 fn has_risen(before: u64, after: u64) -> bool
     ensures { result ≡ true → HasRisen before after }
 {

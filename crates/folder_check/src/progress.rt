@@ -7,6 +7,9 @@ use std::time::Instant;
 /// How many seconds lie between two lines of progress at least.
 const PAUSE: u64 = 1;
 
+/// Clears a terminal's line from here on, where a longer one may stand that was told before.
+const CLEAR: &str = "\x1b[K";
+
 /// Who is told how far a check is. Nothing is claimed of it.
 pub trait Progress {
     /// So many reads of files were done since the last listing, which told so many names. A read that finds none counts
@@ -27,8 +30,8 @@ impl Progress for NoProgress {
     fn finish(&mut self) {}
 }
 
-/// Somebody at a terminal is told, once a second at most and not before a second is over. What isn't a terminal is told
-/// nothing.
+/// Somebody at a terminal is told on one line, once a second at most and not before a second is over. The line is
+/// cleared at the end, since the count on it is an earlier one. What isn't a terminal is told nothing.
 #[derive(Drop)]
 pub struct TerminalProgress<'r, H, W> {
     clock: &'r H,
@@ -68,14 +71,15 @@ impl<H: Clock, W: Write + IsTerminal> Progress for TerminalProgress<'_, H, W> {
         }
         self.told_at = Some(now);
         self.is_shown = true;
-        let _ = write!(self.terminal, "\r{done} of {total} files read");
+        let _ = write!(self.terminal, "\r{done} of {total} files read{CLEAR}");
         let _ = self.terminal.flush();
     }
 
     fn finish(&mut self) {
         if self.is_shown {
             self.is_shown = false;
-            let _ = self.terminal.write_all(b"\n");
+            let _ = write!(self.terminal, "\r{CLEAR}");
+            let _ = self.terminal.flush();
         }
     }
 }

@@ -7,8 +7,8 @@ use store_core::StoreFault;
 use table_audit::ObjectReader;
 use table_folder::{Folder, FolderFault, LoadFault, Reason};
 
-/// A folder whose files are read for an audit, and who is told how many were. A call of the folder that fails is told as
-/// lost, and why it failed is kept.
+/// A folder whose files are read for an audit, and who is told how many were. A call of the folder that fails is told
+/// as lost, and why it failed is kept.
 #[derive(Drop)]
 pub struct FolderReader<F, P> {
     pub folder: F,
@@ -52,7 +52,7 @@ impl<F: Folder, P: Progress> FolderReader<F, P> {
         }
     }
 
-    // What a fault of the folder is told as.
+    /// What a fault of the folder is told as.
     fn fault_of(&mut self, fault: FolderFault) -> StoreFault
         ensures folder { self.new.folder ≡ self.old.folder }
         ensures memory { fault ≡ FolderFault.Memory → result ≡ StoreFault.Memory }

@@ -1,4 +1,5 @@
-// One call of a folder, as a session that only reads asks for it: of the whole folder, or of what is visible in front of a version.
+//! One call of a folder, as a session that only reads asks for it: of the whole folder, or of what is visible in front
+//! of a version.
 ghost use Rattle.std.specs.Prelude.{◌≡◌, IfOk, MatchOption, false, map, string_bytes};
 ghost use Rattle.session_core.specs.Shown.{IsExact};
 ghost use Rattle.session_core.specs.Talks.{IsAnswerOf, asked_view, is_lost, kind_of, told_view};
@@ -23,7 +24,7 @@ pub(crate) fn listed_as(names: Option<Names>) -> Reply
     }
 }
 
-// Those of the names that are visible.
+/// Those of the names that are visible.
 fn visible_of(
     alloc: Global,
     front: Option<u64>,
@@ -37,8 +38,8 @@ fn visible_of(
     }
 }
 
-/// Makes the call over what is visible of a folder, whose answer is handed on as it is; the names are those that were listed before, if
-/// they are given. A put isn't asked for; of one it would be told that there is no memory for it.
+/// Makes the call over what is visible of a folder, whose answer is handed on as it is; the names are those that were
+/// listed before, if they are given. A put isn't asked for; of one it would be told that there is no memory for it.
 pub(crate) fn ask<F: Folder>(
     alloc: Global,
     folder: &mut F,

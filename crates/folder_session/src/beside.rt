@@ -1,4 +1,5 @@
-//! A session that puts something, driven over a folder: what it puts is kept in memory beside the folder, which is left as it is.
+//! A session that puts something, driven over a folder: what it puts is kept in memory beside the folder, which is left
+//! as it is.
 ghost use Rattle.std.specs.Prelude.{◌≡◌, [], false, true, None, IfOk, option_map};
 ghost use Rattle.std.specs.String.{string_bytes};
 ghost use Rattle.session_core.specs.Stores.{Answers, AnswersPut};
@@ -23,7 +24,7 @@ pub struct Beside<T> {
     pub added: MemoryStore,
 }
 
-// The answer that stands for a call of a store in memory that has none.
+/// The answer that stands for a call of a store in memory that has none.
 fn reply_of(fault: StoreFault) -> Reply
     ensures { result ≡ fault_reply fault }
 {
@@ -33,7 +34,7 @@ fn reply_of(fault: StoreFault) -> Reply
     }
 }
 
-// All names that stand. Behind a put they aren't listed any more: it is told that there is no memory for them.
+/// All names that stand. Behind a put they aren't listed any more: it is told that there is no memory for them.
 fn list_beside(names: &Names, added: &mut MemoryStore) -> Reply
     ensures kind { IsAnswerOf listing (told_view result) }
     ensures never_lost { is_lost (told_view result) ≡ false }
@@ -48,8 +49,8 @@ fn list_beside(names: &Names, added: &mut MemoryStore) -> Reply
     }
 }
 
-// What stands in the folder under a name. It is read where it was listed, and then has to stand; a name that wasn't listed may have
-// nothing.
+/// What stands in the folder under a name. It is read where it was listed, and then has to stand; a name that wasn't
+/// listed may have nothing.
 fn found_in<F: Folder>(
     folder: &mut F,
     names: &Names,
@@ -69,7 +70,7 @@ fn found_in<F: Folder>(
     }
 }
 
-// What stands under a name.
+/// What stands under a name.
 fn get_beside<F: Folder>(
     folder: &mut F,
     names: &Names,
@@ -96,8 +97,8 @@ fn get_beside<F: Folder>(
     }
 }
 
-// Puts bytes beside the folder, unless the name stands in either. What stands is told behind one more listing, which syncs it on a
-// disk: its writer may not have done so yet.
+/// Puts bytes beside the folder, unless the name stands in either. What stands is told behind one more listing, which
+/// syncs it on a disk: its writer may not have done so yet.
 fn put_beside<F: Folder>(
     folder: &mut F,
     added: &mut MemoryStore,
@@ -125,7 +126,7 @@ fn put_beside<F: Folder>(
     }
 }
 
-// Makes the call over a folder, which has these names, and what stands beside it.
+/// Makes the call over a folder, which has these names, and what stands beside it.
 fn ask_beside<F: Folder>(
     alloc: Global,
     folder: &mut F,
@@ -155,12 +156,13 @@ fn ask_beside<F: Folder>(
     }
 }
 
-/// Drives a session over a folder's files to its end: each call is made over the folder, but what is put stands in memory beside
-/// it, to be saved behind the session. Where a call of the folder fails the fault is that call's, and nothing was put.
+/// Drives a session over a folder's files to its end: each call is made over the folder, but what is put stands in
+/// memory beside it, to be saved behind the session. Where a call of the folder fails the fault is that call's, and
+/// nothing was put.
 ///
-/// The folder is listed first, and its names are what the session is told where it asks for them. A file is opened where the session
-/// asks for that one, or where it puts one of that name; where such a one stands the folder is listed once more. Beside that and the
-/// session, a call takes time logarithmic in the number of names.
+/// The folder is listed first, and its names are what the session is told where it asks for them. A file is opened
+/// where the session asks for that one, or where it puts one of that name; where such a one stands the folder is listed
+/// once more. Beside that and the session, a call takes time logarithmic in the number of names.
 pub fn drive_beside<F: Folder, N: Session>(
     alloc: Global,
     folder: &mut F,

@@ -11,13 +11,13 @@ use session_core::{Session, Step};
 use std::alloc::Global;
 use table_folder::{Folder, LoadFault};
 
-/// Drives a session that only reads over a folder's files to its end, or over what is visible of them in front of a version: makes each
-/// call that it asks for, and tells it the answer. Where a call fails the fault is that call's, and the session is left where it waits
-/// for its answer.
+/// Drives a session that only reads over a folder's files to its end, or over what is visible of them in front of a
+/// version: makes each call that it asks for, and tells it the answer. Where a call fails the fault is that call's, and
+/// the session is left where it waits for its answer.
 ///
-/// Where the session asks for the names it is told those that were listed before, if they are given, and else the folder is listed. A
-/// file is opened where it asks for that one and it is visible. Beside that and the session, the time is linear in the names, and else
-/// constant for each call.
+/// Where the session asks for the names it is told those that were listed before, if they are given, and else the
+/// folder is listed. A file is opened where it asks for that one and it is visible. Beside that and the session, the
+/// time is linear in the names, and else constant for each call.
 pub(crate) fn drive_visible<F: Folder, N: Session>(
     alloc: Global,
     folder: &mut F,

@@ -1,8 +1,8 @@
-//! Jobs on the table in a folder as sessions: each file that one asks for is opened in the folder, so that of its files just
-//! those are opened that the job looks at.
+//! Jobs on the table in a folder as sessions: each file that one asks for is opened in the folder, so that of its files
+//! just those are opened that the job looks at.
 //!
-//! [`tail`] reads rows by a session that only reads; [`drive_beside`] runs one that puts something, which is to be saved behind
-//! it, and [`create`], [`append`], [`close`] and [`checkpoint`] do; [`snapshot`] tells what a log leaves.
+//! [`tail`] reads rows by a session that only reads; [`drive_beside`] runs one that puts something, which is to be
+//! saved behind it, and [`create`], [`append`], [`close`] and [`checkpoint`] do; [`snapshot`] tells what a log leaves.
 #![tactic(auto)]
 
 mod asking;

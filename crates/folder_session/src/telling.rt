@@ -9,8 +9,9 @@ use std::alloc::Global;
 use table_folder::{Folder, LoadFault};
 use table_log::{LoadSession, Loaded};
 
-/// Tells the snapshot as `snapshot_core::snapshot` does over a store that has the folder's objects. Of the folder the newest checkpoint
-/// is opened, where these are used, and the commits behind it. Fails where a call of the folder fails.
+/// Tells the snapshot as `snapshot_core::snapshot` does over a store that has the folder's objects. Of the folder the
+/// newest checkpoint is opened, where these are used, and the commits behind it. Fails where a call of the folder
+/// fails.
 pub fn snapshot<F: Folder>(
     alloc: Global,
     folder: &mut F,

@@ -7,9 +7,9 @@ ghost use Rattle.source_core.specs.SourceSessions.{read_told};
 ghost use Rattle.source_core.specs.Tailing.{ReadRows};
 ghost use Rattle.front_reads.specs.Fronts.{IsFrontBehind, front_of};
 
-/// Where a read of the front of a log hands out as many rows as it was to at most, and that is one or more, a read of the whole log hands
-/// out the same, if the whole log's table is read, as some read of no row tells, and none of its versions is missing from the offset's on.
-/// All three go by checkpoints.
+/// Where a read of the front of a log hands out as many rows as it was to at most, and that is one or more, a read of
+/// the whole log hands out the same, if the whole log's table is read, as some read of no row tells, and none of its
+/// versions is missing from the offset's on. All three go by checkpoints.
 pub fn a_front_is_read_as_the_whole()
     ensures { (objects : Objects) (front max : ℕ) (offset end : Offset) (known others : List ℕ) (any told : Tree × ReadRows) → IsInOrder objects → IsFrontBehind objects offset.version front → 0 < max
         → read_told (record { place = end; max = 0; use_checkpoints = true; known = others }) objects ≡ Ok any

@@ -1,5 +1,5 @@
-//! Reads of a few rows of a long log: in front of which version they are looked for first, which names are visible there, and that what
-//! is read there is what the whole log has.
+//! Reads of a few rows of a long log: in front of which version they are looked for first, which names are visible
+//! there, and that what is read there is what the whole log has.
 #![tactic(auto)]
 
 mod fronts;

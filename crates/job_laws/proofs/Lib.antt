@@ -11,10 +11,8 @@ mod Loaded
 mod LoadedItems
 mod NameKinds
 mod OwnSteps
-mod PutNames
 mod Requests
 mod SameLogs
-mod SameLooks
 mod SameReads
 mod SameReplies
 mod SavedFronts

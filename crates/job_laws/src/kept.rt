@@ -26,8 +26,8 @@ ghost use Rattle.job_laws.specs.TextReads.{ReadsByTexts};
 
 /// Over a store that keeps a table, where a commit can have the version behind it, or nothing, a creation, an append, a
 /// read, a checkpoint and a history are told what the plain table tells, and an object that is shown is told as it
-/// stands; where the line puts no other tool's commit, the store goes on to keep the table that is left. It is asked that
-/// what the line puts is well made, as its contract says.
+/// stands; where the line puts no other tool's commit, the store goes on to keep the table that is left. It is asked
+/// that what the line puts is well made, as its contract says.
 pub fn a_kept_table_is_told()
     ensures told { (objects : Objects) (state : State) (statement : Statement) (printed : List ℕ) → Keeps objects state → length (entries_of state) ≤ greatest_version
         → IsSoundStatement objects statement printed → reply_to_statement objects statement printed ≡ reply_over state objects statement printed }

@@ -1,27 +1,28 @@
 //! Calls of a store that loses them, and sessions over it, line by line.
 //!
-//! A line `case NAME` begins a case, with a store in which nothing stands and no candidate, and is told as `== NAME`. Each other
-//! line is one of those below, or a call of that store or what becomes of calls (`tell_call` of the library `case_calls` lists
-//! these). Blank lines and those that begin with `#` are passed over.
+//! A line `case NAME` begins a case, with a store in which nothing stands and no candidate, and is told as `== NAME`.
+//! Each other line is one of those below, or a call of that store or what becomes of calls (`tell_call` of the library
+//! `case_calls` lists these). Blank lines and those that begin with `#` are passed over.
 //!
 //! - `create ID AT SCHEMA`: a `CreateSession` is driven to its end, with the moment in milliseconds, below 2^63;
 //! - `action JSON`: a line of the commit that is begun;
-//! - `candidate WORD ..`: the commit that is begun is the candidate, which reads what each word names besides its own, be it
-//!   `application=ID` or `domain=NAME`;
+//! - `candidate WORD ..`: the commit that is begun is the candidate, which reads what each word names besides its own,
+//!   be it `application=ID` or `domain=NAME`;
 //! - `conflict`: what of the commit that is begun conflicts with the candidate;
-//! - `race V TRIES`: a `CommitSession` of the candidate, whose bytes are its lines, is driven to its end: from version V on, at
-//!   most so many versions. It tells how many winners were met;
-//! - `append APP NUMBER AT TRIES ROWS` and `close APP AT TRIES`: the append of a batch, whose rows are a JSON array, or `fill N`
-//!   for so many rows of a text of 1 MiB, or the close of an application's stream is begun, at a moment in milliseconds, below
-//!   2^63, which tries at most so many versions. It tells what it asks for first, of a file also how many bytes it has;
+//! - `race V TRIES`: a `CommitSession` of the candidate, whose bytes are its lines, is driven to its end: from version
+//!   V on, at most so many versions. It tells how many winners were met;
+//! - `append APP NUMBER AT TRIES ROWS` and `close APP AT TRIES`: the append of a batch, whose rows are a JSON array, or
+//!   `fill N` for so many rows of a text of 1 MiB, or the close of an application's stream is begun, at a moment in
+//!   milliseconds, below 2^63, which tries at most so many versions. It tells what it asks for first, of a file also
+//!   how many bytes it has;
 //! - `step`: the call that it asks for is made. It tells what it asks for next, or how it ended;
 //! - `memory`: memory runs out in the call that it asks for, which isn't made. It tells how it ended;
-//! - `start ACTOR LINE`, `step ACTOR` and `memory ACTOR`: the same, of an append or a close beside others, under a name of its
-//!   own;
+//! - `start ACTOR LINE`, `step ACTOR` and `memory ACTOR`: the same, of an append or a close beside others, under a name
+//!   of its own;
 //! - `checkpoint`: the checkpoint of the newest version is put. It tells that version;
 //! - `read MAX OFFSET`: a read is begun that hands out at most so many rows. It tells what it asks for first;
-//! - `turn` and `starve`: the call that it asks for is made, or memory runs out in it. It tells what it asks for next, or the rows and
-//!   the offset that it handed out, or why it didn't.
+//! - `turn` and `starve`: the call that it asks for is made, or memory runs out in it. It tells what it asks for next,
+//!   or the rows and the offset that it handed out, or why it didn't.
 
 use crate::contests::Contest;
 use crate::reads::{Reader, begin_read, go_on_reading};
@@ -71,7 +72,7 @@ pub fn tell_calls(text: &str, told: &mut Transcript) {
 }
 
 impl Case {
-    // A store in which nothing stands, and which loses no call yet, no candidate, and nothing that waits.
+    /// A store in which nothing stands, and which loses no call yet, no candidate, and nothing that waits.
     fn new(alloc: Global) -> Case {
         Case {
             store: CaseStore::new(alloc, MemoryStore::new(alloc), Vec::new(alloc)),
@@ -81,7 +82,7 @@ impl Case {
         }
     }
 
-    // Does what a line says, and adds how it ended.
+    /// Does what a line says, and adds how it ended.
     fn take(&mut self, line: &str, told: &mut Transcript) {
         let (word, rest) = head(line);
         let store = &mut self.store;
@@ -107,7 +108,7 @@ impl Case {
     }
 }
 
-// Drives the creation of a table, and adds how it ended: `ID AT SCHEMA`.
+/// Drives the creation of a table, and adds how it ended: `ID AT SCHEMA`.
 fn create(store: &mut CaseStore, words: &str, told: &mut Transcript) {
     let (id, words) = told.halves(words);
     let (at, schema) = told.halves(words);
@@ -124,7 +125,7 @@ fn create(store: &mut CaseStore, words: &str, told: &mut Transcript) {
     }
 }
 
-// Puts the checkpoint of the newest version, and adds that version, or why none was put.
+/// Puts the checkpoint of the newest version, and adds that version, or why none was put.
 fn tell_checkpoint(store: &mut CaseStore, told: &mut Transcript) {
     let mut known = Loaded::new(told.alloc);
     match checkpoint(told.alloc, store, true, &mut known) {

@@ -30,7 +30,7 @@ pub fn tell_runs(rt: &HostRuntime, script: &mut Script<'_>, told: &mut Transcrip
     }
 }
 
-// Adds the names of the files that are left, each with its count of bytes.
+/// Adds the names of the files that are left, each with its count of bytes.
 fn tell_files(
     rt: &HostRuntime,
     script: &Script<'_>,
@@ -49,13 +49,13 @@ fn tell_files(
     }
 }
 
-// The files of a folder on the disk.
+/// The files of a folder on the disk.
 fn files_of(rt: &HostRuntime, path: &str) -> Result<MemoryStore, LoadFault> {
     let mut folder = DirFolder::new(rt.clone()?, path)?;
     load(rt.alloc(), &mut folder)
 }
 
-// Runs one command line over these files, and tells what came of it. The files that are left.
+/// Runs one command line over these files, and tells what came of it. The files that are left.
 fn tell_run(
     rt: &HostRuntime,
     script: &Script<'_>,
@@ -75,7 +75,7 @@ fn tell_run(
     reader.folder.into_files()
 }
 
-// Runs one command line, over the folder in memory unless the case is on the disk. Its status.
+/// Runs one command line, over the folder in memory unless the case is on the disk. Its status.
 fn run_command(
     rt: &HostRuntime,
     script: &Script<'_>,
@@ -104,7 +104,7 @@ fn run_command(
     exit.status
 }
 
-// The words of a command line, behind the program's name.
+/// The words of a command line, behind the program's name.
 fn words_of(text: &str, told: &mut Transcript) -> Vec<String> {
     let mut words = Vec::new(told.alloc);
     let name = told.copy_of("lake");

@@ -1,4 +1,5 @@
-//! Which commits conflict with a candidate, and the puts of its commit at version after version, past those that stand there.
+//! Which commits conflict with a candidate, and the puts of its commit at version after version, past those that stand
+//! there.
 
 use case_calls::CaseStore;
 use case_words::{Transcript, add_line, reads_of};
@@ -8,7 +9,8 @@ use session_core::drive;
 use std::alloc::Global;
 use std::mem;
 
-/// The lines of the commit that is begun, and the candidate that commits are compared with, beside the bytes of its commit.
+/// The lines of the commit that is begun, and the candidate that commits are compared with, beside the bytes of its
+/// commit.
 pub struct Contest {
     lines: Vec<u8>,
     contender: Option<(Candidate, Vec<u8>)>,
@@ -38,7 +40,7 @@ impl Contest {
         add_line(&mut self.lines, line, told);
     }
 
-    // The bytes of the commit that is begun; no commit is begun behind them.
+    /// The bytes of the commit that is begun; no commit is begun behind them.
     fn take(&mut self, told: &Transcript) -> Vec<u8> {
         mem::replace(&mut self.lines, Vec::new(told.alloc))
     }
@@ -73,8 +75,8 @@ impl Contest {
         }
     }
 
-    /// Drives the puts of the candidate's commit, and adds how that ended: `V TRIES`, the version that is tried first and how
-    /// many are tried. There is no candidate behind it.
+    /// Drives the puts of the candidate's commit, and adds how that ended: `V TRIES`, the version that is tried first
+    /// and how many are tried. There is no candidate behind it.
     pub fn race(&mut self, store: &mut CaseStore, words: &str, told: &mut Transcript) {
         let (version, tries) = told.halves(words);
         let version = told.number(version);
@@ -91,7 +93,7 @@ impl Contest {
     }
 }
 
-// The actions of a commit's bytes.
+/// The actions of a commit's bytes.
 fn actions_of(bytes: &[u8], told: &mut Transcript) -> Vec<Action> {
     match read_commit(told.alloc, bytes) {
         Ok(actions) => return actions,
@@ -101,7 +103,7 @@ fn actions_of(bytes: &[u8], told: &mut Transcript) -> Vec<Action> {
     Vec::new(told.alloc)
 }
 
-// Adds how a race ended.
+/// Adds how a race ended.
 fn tell_raced(ended: &Result<CommitOutcome, CommitFault>, told: &mut Transcript) {
     let (word, version, winners) = match ended {
         Ok(CommitOutcome::Committed { version, winners }) => ("committed", *version, winners),
@@ -112,7 +114,7 @@ fn tell_raced(ended: &Result<CommitOutcome, CommitFault>, told: &mut Transcript)
     told.tell_counts(&[(word, version), ("past", winners.len() as u64)]);
 }
 
-// Adds why a race ended without an outcome.
+/// Adds why a race ended without an outcome.
 fn tell_fault(fault: &CommitFault, told: &mut Transcript) {
     match fault {
         CommitFault::BadLog { version } => told.tell("bad log", version),

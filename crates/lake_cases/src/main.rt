@@ -1,13 +1,14 @@
 //! A program that reads cases from standard input, and prints what comes of each.
 //!
-//! A line `>>>> KIND` begins the cases of a kind, and is printed. What stands in front of the first one is a heading. A line that
-//! is none of its kind is told as bad, by its number behind that line. The kinds are:
+//! A line `>>>> KIND` begins the cases of a kind, and is printed. What stands in front of the first one is a heading. A
+//! line that is none of its kind is told as bad, by its number behind that line. The kinds are:
 //!
-//! - `scripts`: scripts and command lines, each on a new store or folder, what they write, how they end, and which table they leave
-//!   (`scripts.rt`);
-//! - `calls`: calls of a store that loses them, which commits conflict with a candidate, how the puts of a commit end, and what
-//!   sessions ask for and tell (`calls.rt`);
-//! - `logs`: logs that grow commit by commit, and what the snapshot of each answers (`tell_logs` of the library `case_logs`);
+//! - `scripts`: scripts and command lines, each on a new store or folder, what they write, how they end, and which
+//!   table they leave (`scripts.rt`);
+//! - `calls`: calls of a store that loses them, which commits conflict with a candidate, how the puts of a commit end,
+//!   and what sessions ask for and tell (`calls.rt`);
+//! - `logs`: logs that grow commit by commit, and what the snapshot of each answers (`tell_logs` of the library
+//!   `case_logs`);
 //! - `schedules`: random scripts of several actors, made by a seed, run and judged (`schedules.rt`).
 #![tactic(auto)]
 
@@ -27,7 +28,7 @@ use std::io;
 use std::io::{Read, Write};
 use std::process::ExitCode;
 
-// Tells the cases on standard input.
+/// Tells the cases on standard input.
 fn main(rt: HostRuntime) -> io::Result<ExitCode> {
     let text = io::read_to_string(rt.alloc(), rt.stdin())?;
     let mut told = Transcript::new(rt.alloc());
@@ -42,7 +43,7 @@ fn main(rt: HostRuntime) -> io::Result<ExitCode> {
     Ok(ExitCode::SUCCESS)
 }
 
-// Tells the cases of one kind. A heading has none.
+/// Tells the cases of one kind. A heading has none.
 fn tell_section(rt: &HostRuntime, section: &str, told: &mut Transcript) {
     let (kind, text) = section.split_once('\n').unwrap_or((section, ""));
     if kind.starts_with('#') {

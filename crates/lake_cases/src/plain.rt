@@ -26,7 +26,7 @@ pub fn tell_plain(script: &[u8], told: &mut Transcript) {
     tell_count(table.entries(), told);
 }
 
-// Appends the batch of an application, a number, and rows of one column.
+/// Appends the batch of an application, a number, and rows of one column.
 fn append(table: &mut Table, words: &str, told: &mut Transcript) {
     let (application, words) = head(words);
     let (number, words) = head(words);
@@ -49,7 +49,7 @@ fn append(table: &mut Table, words: &str, told: &mut Transcript) {
     }
 }
 
-// Adds a row of this number.
+/// Adds a row of this number.
 fn add_row(rows: &mut Vec<Value>, word: &str, told: &mut Transcript) {
     let Ok(number) = word.parse::<i64>() else {
         return told.misspelled();
@@ -59,7 +59,7 @@ fn add_row(rows: &mut Vec<Value>, word: &str, told: &mut Transcript) {
     told.note(rows.push(Value::Struct(values)));
 }
 
-// Closes the stream of an application.
+/// Closes the stream of an application.
 fn close(table: &mut Table, application: &str, told: &mut Transcript) {
     match table.close(told.copy_of(application)) {
         Ok(Closing::Closed(version)) => told.tell("Closed", &version),
@@ -68,7 +68,8 @@ fn close(table: &mut Table, application: &str, told: &mut Transcript) {
     }
 }
 
-// Reads at most so many rows from an offset on, and adds what is handed out: the rows and the next offset, in one line.
+/// Reads at most so many rows from an offset on, and adds what is handed out: the rows and the next offset, in one
+/// line.
 fn read(table: &Table, words: &str, told: &mut Transcript) {
     let (max, words) = told.halves(words);
     let (version, words) = told.halves(words);
@@ -94,7 +95,7 @@ fn read(table: &Table, words: &str, told: &mut Transcript) {
     }
 }
 
-// Adds the number of a row of one column.
+/// Adds the number of a row of one column.
 fn tell_row(row: &Value, told: &mut Transcript) {
     if let Value::Struct(values) = row
         && let [Value::Int(number)] = values.as_slice()

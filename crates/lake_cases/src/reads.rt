@@ -9,8 +9,8 @@ use std::alloc::Global;
 /// A read, if one waits.
 pub type Reader = Option<Waiting<SourceSession>>;
 
-/// Begins a read, in place of one that waits: `MAX OFFSET`, how many rows are handed out at most, and the offset that it begins
-/// at.
+/// Begins a read, in place of one that waits: `MAX OFFSET`, how many rows are handed out at most, and the offset that
+/// it begins at.
 pub fn begin_read(reader: &mut Reader, words: &str, told: &mut Transcript) {
     let (max, offset) = told.halves(words);
     let max = told.number(max);
@@ -21,7 +21,7 @@ pub fn begin_read(reader: &mut Reader, words: &str, told: &mut Transcript) {
     }
 }
 
-// Begins a read.
+/// Begins a read.
 fn begin_at(reader: &mut Reader, max: u64, place: Offset, told: &mut Transcript) {
     let log = Log::new(told.alloc);
     let session = SourceSession::read(told.alloc, place, max, true, log, None, None);
@@ -40,8 +40,8 @@ pub fn go_on_reading(
     tell_end(&ended, is_short, told);
 }
 
-// Adds what a read handed out, or why it didn't, if it ended. Want of memory is told where it ran out in a call, and fails
-// elsewhere.
+/// Adds what a read handed out, or why it didn't, if it ended. Want of memory is told where it ran out in a call, and
+/// fails elsewhere.
 fn tell_end(ended: &Option<ReadEnd>, is_short: bool, told: &mut Transcript) {
     if let Some(end) = ended {
         match &end.answer {
@@ -52,7 +52,7 @@ fn tell_end(ended: &Option<ReadEnd>, is_short: bool, told: &mut Transcript) {
     }
 }
 
-// Adds the rows and the offset that a read handed out.
+/// Adds the rows and the offset that a read handed out.
 fn tell_handed(handed: &ReadRows, told: &mut Transcript) {
     match handed_text(told.alloc, handed) {
         Ok(text) => told.add(&text),

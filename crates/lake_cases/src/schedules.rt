@@ -1,8 +1,9 @@
-//! Random scripts of several actors: each is made by a seed and run over a store in memory, and by what it was told and by the
-//! store that is left it is judged whether the laws of batches and of readers were kept. Each line is one of these:
+//! Random scripts of several actors: each is made by a seed and run over a store in memory, and by what it was told and
+//! by the store that is left it is judged whether the laws of batches and of readers were kept. Each line is one of
+//! these:
 //!
-//! - `schedule SEED LINES [no-checkpoint]`: makes a script of so many lines, runs it, and tells what was counted and that it was
-//!   lawful, or which law was broken. With `no-checkpoint` each log is read from version 0.
+//! - `schedule SEED LINES [no-checkpoint]`: makes a script of so many lines, runs it, and tells what was counted and
+//!   that it was lawful, or which law was broken. With `no-checkpoint` each log is read from version 0.
 //! - `script SEED LINES [no-checkpoint]` tells that script, and `told SEED LINES [no-checkpoint]` what it is told.
 //! - `judge NAME` begins a case that is written by hand and judged in the same way: behind it stand lines of a script
 //!   (`> LINE`), of what it was told (`< LINE`), and the entries of the log that is left: `= creation`,
@@ -51,7 +52,7 @@ pub fn tell_schedules(text: &str, told: &mut Transcript) {
     told.say(" lines in all");
 }
 
-// Judges the case that was read, if one was begun.
+/// Judges the case that was read, if one was begun.
 fn end_case(is_begun: bool, trial: &Trial, told: &mut Transcript) {
     if is_begun {
         let is_lawful = is_lawful_text(trial.log.as_text(), told);
@@ -59,7 +60,7 @@ fn end_case(is_begun: bool, trial: &Trial, told: &mut Transcript) {
     }
 }
 
-// Whether a log that is written by hand is lawful, for which its rows don't count.
+/// Whether a log that is written by hand is lawful, for which its rows don't count.
 fn is_lawful_text(log: &str, told: &mut Transcript) -> bool {
     let mut entries = Vec::new(told.alloc);
     for line in log.lines() {
@@ -69,7 +70,7 @@ fn is_lawful_text(log: &str, told: &mut Transcript) -> bool {
     is_lawful(&entries)
 }
 
-// The entry of a line, without rows.
+/// The entry of a line, without rows.
 fn entry_of(line: &str, told: &mut Transcript) -> Entry {
     let (word, rest) = head(line);
     match word {
@@ -90,7 +91,7 @@ fn entry_of(line: &str, told: &mut Transcript) -> Entry {
     }
 }
 
-// Makes a script and runs it, and adds what is asked for. How many lines were judged.
+/// Makes a script and runs it, and adds what is asked for. How many lines were judged.
 fn tell_made(word: &str, rest: &str, told: &mut Transcript) -> u64 {
     let (seed, rest) = told.halves(rest);
     let (lines, option) = head(rest);
@@ -126,8 +127,8 @@ fn tell_made(word: &str, rest: &str, told: &mut Transcript) -> u64 {
     0
 }
 
-// Makes a script. After each round what is there so far is run, and the readers of the next one go on where their last
-// reads ended. So it takes the time of half as many runs as there are rounds.
+/// Makes a script. After each round what is there so far is run, and the readers of the next one go on where their last
+/// reads ended. So it takes the time of half as many runs as there are rounds.
 fn make_script(seed: u64, lines: u64, use_checkpoints: bool, told: &mut Transcript) -> Transcript {
     let mut schedule = Schedule::new(told.alloc, seed, use_checkpoints);
     let most = lines.saturating_sub(2);
@@ -142,7 +143,7 @@ fn make_script(seed: u64, lines: u64, use_checkpoints: bool, told: &mut Transcri
     schedule.into_script()
 }
 
-// Runs a script over a store in memory that began empty, and adds what it is told. The store that it left.
+/// Runs a script over a store in memory that began empty, and adds what it is told. The store that it left.
 fn run_text(text: &str, use_checkpoints: bool, replies: &mut Transcript) -> MemoryStore {
     let mut script = Script::new(replies.alloc, "");
     script.text = replies.bytes_of(text.as_bytes());

@@ -1,8 +1,9 @@
 //! Scripts and command lines: each is run, and what came of it is told.
 //!
-//! A line `== NAME` begins a case. The lines behind it, up to the next such line, are its script, as they are; those that begin
-//! with `>> ` are directives instead (`Script::direct` of the library `case_calls` lists them). `>> let NAME TEXT` names a text for
-//! the cases behind it. What stands before the first case is a heading, of which only such names count.
+//! A line `== NAME` begins a case. The lines behind it, up to the next such line, are its script, as they are; those
+//! that begin with `>> ` are directives instead (`Script::direct` of the library `case_calls` lists them). `>> let NAME
+//! TEXT` names a text for the cases behind it. What stands before the first case is a heading, of which only such names
+//! count.
 
 use crate::commands::tell_runs;
 use crate::plain::tell_plain;
@@ -34,7 +35,7 @@ pub fn tell_scripts(rt: &HostRuntime, text: &str, told: &mut Transcript) {
     tell_case(rt, &mut script, told);
 }
 
-// Names a text, or shapes the case that is read.
+/// Names a text, or shapes the case that is read.
 fn direct<'a>(
     names: &mut Bindings<'a>,
     script: &mut Script<'a>,
@@ -50,8 +51,8 @@ fn direct<'a>(
     }
 }
 
-// Runs a case, and adds what is told of it: its name, what was written, how it ended, and which table is left. A heading is
-// none.
+/// Runs a case, and adds what is told of it: its name, what was written, how it ended, and which table is left. A
+/// heading is none.
 fn tell_case(rt: &HostRuntime, script: &mut Script<'_>, told: &mut Transcript) {
     if script.name.is_empty() {
         return;
@@ -66,7 +67,7 @@ fn tell_case(rt: &HostRuntime, script: &mut Script<'_>, told: &mut Transcript) {
     }
 }
 
-// Runs a script, and adds what came of it.
+/// Runs a script, and adds what came of it.
 fn tell_script(script: &mut Script<'_>, told: &mut Transcript) {
     let mut written = Vec::new(told.alloc);
     let outcome = run_script(script, &mut written, told);
@@ -103,7 +104,7 @@ pub fn run_script(
     outcome
 }
 
-// Runs a text as a script over a store, and adds what it writes.
+/// Runs a text as a script over a store, and adds what it writes.
 fn run_over(
     script: &Script<'_>,
     text: &[u8],
@@ -141,7 +142,7 @@ pub fn tell_written(written: &[u8], last: usize, told: &mut Transcript) {
     }
 }
 
-// Adds how many lines aren't told, and their SHA-256.
+/// Adds how many lines aren't told, and their SHA-256.
 fn tell_hidden(count: usize, hasher: Sha256, told: &mut Transcript) {
     match hex::encode(told.alloc, hasher.finalize()) {
         Ok(digest) => {

@@ -32,7 +32,7 @@ pub fn tell_sink(
     tell_end(&ended, is_short, told);
 }
 
-// Begins a session, in place of one that waits: `append APP NUMBER AT TRIES ROWS` or `close APP AT TRIES`.
+/// Begins a session, in place of one that waits: `append APP NUMBER AT TRIES ROWS` or `close APP AT TRIES`.
 fn start(sink: &mut Sink, line: &str, told: &mut Transcript) -> Option<SinkEnd> {
     let (word, words) = told.halves(line);
     let (application, words) = told.halves(words);
@@ -46,7 +46,7 @@ fn start(sink: &mut Sink, line: &str, told: &mut Transcript) -> Option<SinkEnd> 
     }
 }
 
-// Begins the append of a batch: `NUMBER AT TRIES ROWS`.
+/// Begins the append of a batch: `NUMBER AT TRIES ROWS`.
 fn append(
     sink: &mut Sink,
     application: &str,
@@ -78,7 +78,7 @@ fn append(
     begin(sink, session, told)
 }
 
-// Begins the close of a stream: `AT TRIES`.
+/// Begins the close of a stream: `AT TRIES`.
 fn close(
     sink: &mut Sink,
     application: &str,
@@ -97,7 +97,7 @@ fn close(
     begin(sink, session, told)
 }
 
-// Adds how a session ended, if it did. Want of memory is told where it ran out in a call, and fails elsewhere.
+/// Adds how a session ended, if it did. Want of memory is told where it ran out in a call, and fails elsewhere.
 fn tell_end(ended: &Option<SinkEnd>, is_short: bool, told: &mut Transcript) {
     if let Some(end) = ended {
         match &end.answer {

@@ -46,7 +46,7 @@ pub fn tell_count(entries: &[Entry], told: &mut Transcript) {
     });
 }
 
-// Adds an entry: of a group that isn't one batch the count, and its batches, one a line.
+/// Adds an entry: of a group that isn't one batch the count, and its batches, one a line.
 fn tell_entry(schema: &Schema<Global>, entry: &Entry, told: &mut Transcript) {
     match entry {
         Entry::Creation => told.say("creation"),
@@ -63,7 +63,7 @@ fn tell_entry(schema: &Schema<Global>, entry: &Entry, told: &mut Transcript) {
     }
 }
 
-// Adds a batch: its number, its application, and its rows as JSON.
+/// Adds a batch: its number, its application, and its rows as JSON.
 fn tell_batch(schema: &Schema<Global>, batch: &Batch, told: &mut Transcript) {
     told.with("batch ", &batch.number);
     told.text(" of ");
@@ -73,7 +73,7 @@ fn tell_batch(schema: &Schema<Global>, batch: &Batch, told: &mut Transcript) {
     told.text("\n");
 }
 
-// Adds rows as JSON, the first one behind the one text, and each other one behind the other.
+/// Adds rows as JSON, the first one behind the one text, and each other one behind the other.
 fn add_rows(schema: &Schema<Global>, rows: &[Value], gaps: [&str; 2], told: &mut Transcript) {
     let [mut gap, next] = gaps;
     for row in rows {
@@ -83,7 +83,7 @@ fn add_rows(schema: &Schema<Global>, rows: &[Value], gaps: [&str; 2], told: &mut
     }
 }
 
-// Adds a row as JSON.
+/// Adds a row as JSON.
 fn add_row(schema: &Schema<Global>, row: &Value, told: &mut Transcript) {
     match row_to_json(told.alloc, schema, row) {
         Ok(json) => match json.to_string(told.alloc) {
@@ -106,7 +106,7 @@ pub fn tell_objects(store: &mut MemoryStore, told: &mut Transcript) {
     }
 }
 
-// Adds a name, and the count of its object's bytes.
+/// Adds a name, and the count of its object's bytes.
 fn tell_object(store: &mut MemoryStore, name: &str, told: &mut Transcript) {
     match store.get(name) {
         Ok(Some(bytes)) => told.tell(name, &bytes.len()),
@@ -115,7 +115,8 @@ fn tell_object(store: &mut MemoryStore, name: &str, told: &mut Transcript) {
     }
 }
 
-/// Adds the log that a store holds as the judge of scripts reads it. Whether it is lawful; nothing where there is no table.
+/// Adds the log that a store holds as the judge of scripts reads it. Whether it is lawful; nothing where there is no
+/// table.
 pub fn add_log(store: &mut MemoryStore, log: &mut Transcript) -> Option<bool> {
     match held_by(log.alloc, store) {
         Ok(Some(held)) => {
@@ -130,7 +131,7 @@ pub fn add_log(store: &mut MemoryStore, log: &mut Transcript) -> Option<bool> {
     }
 }
 
-// Adds the entries of a log whose schema is known.
+/// Adds the entries of a log whose schema is known.
 fn add_entries(held: &Held, log: &mut Transcript) {
     if let Some(schema) = &held.schema {
         for entry in &held.entries {
@@ -139,7 +140,7 @@ fn add_entries(held: &Held, log: &mut Transcript) {
     }
 }
 
-// Adds an entry. Scripts make groups of one batch alone.
+/// Adds an entry. Scripts make groups of one batch alone.
 fn add_entry(schema: &Schema<Global>, entry: &Entry, log: &mut Transcript) {
     match entry {
         Entry::Creation => log.say("creation"),

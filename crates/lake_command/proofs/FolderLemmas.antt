@@ -1,78 +1,48 @@
--- What a job leaves in a folder, by what a line of a script leaves over the files that were loaded.
-use Rattle.std.proofs.Common.{◌≡◌, inl, inr, ℕ, Bool, true, false, Contains, List, [], ◌∷◌, Bor, Option, Some, IfSome, Result, Ok, Err, IfOk, IfErr, sym, refl, ap, subst, ◌∙◌, map}
-use Rattle.std.specs.Prelude.{IsErrAnd, is_some, string_bytes}
+-- What a job is told and leaves in a folder, by what a line of a script is told and leaves.
+use Rattle.std.proofs.Common.{◌≡◌, inl, inr, ℕ, Bool, true, false, List, [], ◌∷◌, Bor, Option, Some, IfSome, Result, Ok, Err, IfOk, IfErr, sym, refl, ap, subst, ◌∙◌, map}
+use Rattle.std.specs.Prelude.{IsErrAnd, is_some}
 use Rattle.json_text.specs.Rows.{text_data}
-use Rattle.store_core.specs.Objects.{Objects, IsInOrder, names_of}
+use Rattle.store_core.specs.Objects.{Objects, IsInOrder}
 use Rattle.table_log.specs.Restoring.{RestoresWell}
 use Rattle.table_log.proofs.Callers.{well_sound}
 use Rattle.lake_script.specs.SoundStores.{IsSoundStore}
-use Rattle.table_folder.specs.Copies.{HasSavedFront, to_save, with_copies}
-use Rattle.table_folder.specs.Faults.{CountsSave, SaveFailsAmong}
+use Rattle.table_folder.specs.Faults.{CountsSave}
 use Rattle.table_folder.specs.Loads.{loaded}
 use Rattle.table_folder.specs.declared.fault.SaveFault.{SaveFault}
 use Rattle.table_folder.specs.declared.fault.SaveFault.TheVariants as saves
 use Rattle.json_lines.specs.Rows.{input_lines, object_of}
-use Rattle.lake_script.specs.Growth.{MayPut}
-use Rattle.script_lines.specs.Lines.{Statement, asks, statement_view}
+use Rattle.script_lines.specs.Lines.{Statement, asks, history}
 use Rattle.lake_script.specs.ReplyView.{reply_text}
 use Rattle.lake_script.specs.Runs.{Executes}
 use Rattle.lake_script.specs.Told.{IsPutHere}
-use Rattle.script_lines.specs.declared.line.Line.{Line}
 use Rattle.lake_script.specs.declared.reply.LineReply.{LineReply}
 use Rattle.job_laws.specs.Bytes.{AreBytes}
-use Rattle.job_laws.specs.Looking.{LooksWithin}
-use Rattle.job_laws.proofs.Callers.{executed as line_executed, line_keeps_sound_bytes, looks_within, put_under, restores, saved as line_saved}
+use Rattle.job_laws.proofs.Callers.{executed as line_executed, line_keeps_sound_bytes, restores}
 use Rattle.lake_words.specs.Asked.{Work}
 use Rattle.lake_words.specs.Asked as words
 use Rattle.lake_command.specs.Failures.{ComesOfACall, IsOfFolder, Leaves, NamesPut}
-use Rattle.lake_command.specs.Folders.{AreLineRows, IsJobAnswer, IsAskedBy, JobMayLeave, LineMayLeave}
+use Rattle.lake_command.specs.Folders.{AreLineRows, IsJobAnswer, IsAskedBy, JobMayLeave, LineMayLeave, line_view}
+use Rattle.lake_command.specs.declared.job_line.JobLine.{JobLine}
 use Rattle.lake_command.specs.declared.failure.Failure.{Failure}
 use Rattle.lake_command.specs.declared.failure.Failure.TheVariants.{Loading, Saving}
 
--- ---- what was loaded
+-- ---- a history
 
--- The objects that were loaded are those of the folder's log and some of its data files, with all that a line looks at.
-pub record IsLoadedFor (objects : Objects) (statement : Statement) (loaded_objects : Objects) : Type 0 where
-  pub files : List (List ℕ)
-  pub within : LooksWithin objects statement files
-  pub same : loaded_objects ≡ loaded files objects
+-- it leaves the objects as they are
+leaves_alone : (old after : Objects) (reply : List ℕ) → Executes old history reply after → Executes old history reply old
+leaves_alone old after reply (inl has) = inl (has.0, has.1, has.2, refl)
+leaves_alone old after reply (inr short) = inr (short.0, refl)
 
--- so it is where the log was loaded at first, and then the data files that a line may look at
-pub loaded_for : (base mid log start : Objects) (statement : Statement) (names read : List (List ℕ)) → mid ≡ base → log ≡ loaded [] base → LooksWithin log statement names → read ≡ names
-    → (log ≡ loaded [] mid → start ≡ loaded read mid) → IsLoadedFor base statement start
-loaded_for base mid log start statement names read same is within all load = record {
-  files = names;
-  within = looks_within [] base statement names (subst (λ (o : Objects). LooksWithin o statement names) is within);
-  same = load (is ∙ ap (loaded []) (sym same)) ∙ ap (λ (ns : List (List ℕ)). loaded ns mid) all ∙ ap (loaded names) same;
-}
+-- over the log alone it is told what it is told over all objects
+pub history_told : (old start end : Objects) (reply : List ℕ) → IsInOrder old → start ≡ loaded [] old → Executes start history reply end → Executes old history reply old
+history_told old start end reply order is executed =
+    leaves_alone old _ reply (line_executed old end history [] reply order (λ name none. absurd none) (subst (λ (o : Objects). Executes o history reply end) is executed))
 
--- their checkpoints are sound where the folder's are
-pub loaded_well : (use_checkpoints : Bool) (old start : Objects) (statement : Statement) → IsLoadedFor old statement start → RestoresWell use_checkpoints old → RestoresWell use_checkpoints start
-loaded_well use_checkpoints old start statement is well = subst (RestoresWell use_checkpoints) (sym is.same) (restores old is.files use_checkpoints well)
+-- the log's checkpoints are sound where the folder's are
+pub log_well : (use_checkpoints : Bool) (old start : Objects) → start ≡ loaded [] old → RestoresWell use_checkpoints old → RestoresWell use_checkpoints start
+log_well use_checkpoints old start is well = subst (RestoresWell use_checkpoints) (sym is) (restores old [] use_checkpoints well)
 
--- a line that has what it asks for over what was loaded has it over the folder's objects, once its own are saved
-pub line_done : (old start end new : Objects) (statement : Statement) (reply : List ℕ) (names : List (List ℕ)) → IsInOrder old → IsLoadedFor old statement start → names ≡ names_of start → Executes start statement reply end
-    → new ≡ with_copies end old (to_save names (names_of end)) → Executes old statement reply new
-line_done old start end new statement reply names order is listed executed saved =
-    let added : new ≡ with_copies end old (to_save (names_of (loaded is.files old)) (names_of end)) = saved ∙ ap (λ ns. with_copies end old (to_save ns (names_of end))) (listed ∙ ap names_of is.same) in
-    subst (λ o. Executes old statement reply o) (sym added) (line_executed old end statement is.files reply order is.within (subst (λ o. Executes o statement reply end) is.same executed))
-
--- a front of what a line put over what was loaded may have been put over the folder's objects
-pub front_saved : (old start end new : Objects) (statement : Statement) (names : List (List ℕ)) → IsInOrder old → IsLoadedFor old statement start → names ≡ names_of start → MayPut start statement end
-    → HasSavedFront end (to_save names (names_of end)) old new → LineMayLeave old statement new
-front_saved old start end new statement names order is listed put front =
-    inr (line_saved old end new statement is.files order is.within (subst (λ o. MayPut o statement end) is.same put)
-    (subst (λ ns. HasSavedFront end (to_save ns (names_of end)) old new) (listed ∙ ap names_of is.same) front))
-
--- an object that isn't saved is one that the line puts over the folder's objects, where nothing stood
-pub named_put : (fault : SaveFault) (old start end : Objects) (statement : Statement) (names : List (List ℕ)) → IsInOrder old → IsLoadedFor old statement start → names ≡ names_of start → MayPut start statement end
-    → SaveFailsAmong {X = Unit {0}} (to_save names (names_of end)) (Err fault) → NamesPut (Saving fault) statement old
-named_put (saves.NotSaved name reason) old start end statement names order is listed put new =
-    let found = put_under old end statement is.files (string_bytes name) order is.within (subst (λ o. MayPut o statement end) is.same put)
-    (subst (λ ns. Contains (to_save ns (names_of end)) (string_bytes name)) (listed ∙ ap names_of is.same) new) in
-    record { after = found.0; put = found.1; absent = found.2; stands = found.3 }
-named_put saves.Lost old start end statement names order is listed put new = tt
-named_put saves.Memory old start end statement names order is listed put new = tt
+-- ---- what isn't saved
 
 -- a call that gave this fault failed so
 pub fails_as : {X : Type 0} (result : Result X Failure) (fault : SaveFault) → IsErrAnd result (λ failure. failure ≡ Saving fault) → result ≡ Err (Saving fault)
@@ -144,8 +114,8 @@ sound_restores use_checkpoints objects sound = λ used. well_sound true objects 
 -- ---- failures, and rows of an input
 
 -- what is asked by a line that was found
-pub found_asked : (found : Option Line) (line : Line) (work : Work) (text : Option (List ℕ)) → found ≡ Some line → IfSome found (λ l. IsAskedBy work text (statement_view l)) → IsAskedBy work text (statement_view line)
-found_asked found line work text is asked = subst (λ f. IfSome f (λ l. IsAskedBy work text (statement_view l))) is asked
+pub found_asked : (found : Option JobLine) (line : JobLine) (work : Work) (text : Option (List ℕ)) → found ≡ Some line → IfSome found (λ l. IsAskedBy work text (line_view l)) → IsAskedBy work text (line_view line)
+found_asked found line work text is asked = subst (λ f. IfSome f (λ l. IsAskedBy work text (line_view l))) is asked
 
 -- the rows that were read are those of the input
 pub rows_are : (text : List ℕ) (objects : List (Bor (List ℕ))) → map object_of (input_lines text) ≡ map (λ object. Some (text_data object.now)) objects → AreLineRows text (map (λ object. text_data object.now) objects)

@@ -8,11 +8,13 @@ use Rattle.json_lines.specs.Rows.{input_lines, object_of}
 use Rattle.lake_words.specs.Asked.{Work}
 use Rattle.lake_words.specs.Asked as words
 use Rattle.lake_script.specs.Growth.{MayPut}
-use Rattle.script_lines.specs.Lines.{Statement, Task, create, task, append, close, checkpoint, tail, snapshot, history}
+use Rattle.script_lines.specs.Lines.{Statement, Task, create, task, task_view, append, close, checkpoint, tail, snapshot, history}
 use Rattle.lake_script.specs.Runs.{Executes}
 use Rattle.lake_script.specs.ReplyView.{reply_text}
 use Rattle.lake_script.specs.Told.{not_yet}
 use Rattle.lake_script.specs.declared.reply.LineReply.{LineReply}
+use Rattle.lake_command.specs.declared.job_line.JobLine.{JobLine}
+use Rattle.lake_command.specs.declared.job_line.JobLine.TheVariants as lines
 use Rattle.lake_command.specs.Status.{refuses}
 
 -- these are the rows of an input: the JSON objects of its lines
@@ -68,6 +70,13 @@ pub record IsAnsweredJob (work : Work) (text : Option (List ℕ)) (old : Objects
   pub done : refuses work reply ≡ false
   pub answer : IsJobAnswer work text old (reply_text reply) new
 
+-- what a line of the code that a job asks for is in a script
+abbrev pub line_view : JobLine → Statement
+line_view (lines.Create id at schema) = create id.now at schema.now
+line_view (lines.Job job) = task (task_view job)
+line_view lines.Snapshot = snapshot
+line_view lines.History = history
+
 -- it creates a table, or is a job that puts something
 abbrev pub IsPutter : Statement → Type 0
 IsPutter (create id at schema) = Unit {0}
@@ -75,11 +84,6 @@ IsPutter (task (append application number at items)) = Unit {0}
 IsPutter (task (close application at)) = Unit {0}
 IsPutter (task checkpoint) = Unit {0}
 IsPutter _ = ⊥
-
--- it asks for something else than a job that puts or reads rows, closes a stream or puts a checkpoint
-abbrev pub IsNoTask : Statement → Type 0
-IsNoTask (task job) = ⊥
-IsNoTask statement = Unit {0}
 
 -- behind a line, however it ends: what stood, or what the line may put, all of it or
 -- its data file alone

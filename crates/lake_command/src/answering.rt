@@ -6,19 +6,20 @@ ghost use Rattle.lake_script.specs.SoundStores.{IsSoundStore};
 ghost use Rattle.job_laws.specs.Bytes.{AreBytes};
 ghost use Rattle.table_log.specs.Restoring.{RestoresWell};
 ghost use Rattle.lake_words.specs.Asked.{work_view};
-ghost use Rattle.script_lines.specs.Lines.{statement_view, IsTimely};
+ghost use Rattle.script_lines.specs.Lines.{IsTimely};
 ghost use Rattle.lake_script.specs.ReplyView.{reply_text};
 ghost use Rattle.lake_script.specs.Streams.{read_failed, unread};
 ghost use Rattle.lake_command.specs.Failures.{ComesOfACall, CountsFolderFault, IsByFolder, IsCaused, IsLoading, IsNotRead, IsOfInput, IsTaken, Leaves};
 ghost use Rattle.lake_script.specs.Told.{not_yet};
 ghost use Rattle.lake_script.specs.declared.inputs.TheConstants.{MOST_BYTES};
-ghost use Rattle.lake_command.specs.Folders.{IsJobAnswer, IsAskedBy, IsMiscounted, IsNotYet, IsTextOf, JobMayLeave, reads_input};
+ghost use Rattle.lake_command.specs.Folders.{IsJobAnswer, IsAskedBy, IsMiscounted, IsNotYet, IsTextOf, JobMayLeave, line_view, reads_input};
 
 use crate::Failure;
+use crate::job_line::JobLine;
 use crate::saving::execute_in;
 use json_lines::objects_in;
 use json_text::JsonRows;
-use lake_script::{Fault, Input, Line, LineReply};
+use lake_script::{Fault, Input, LineReply};
 use lake_words::{Job, TableCommand};
 use std::alloc::Global;
 use std::io::Read;
@@ -29,10 +30,11 @@ use table_folder::{Folder, Reason, SaveFault};
 const LAST_MOMENT: u64 = 999_999_999_999_999;
 
 /// Does a job on the table in a folder, and finds its reply. An append reads its rows from the input, one JSON object a
-/// line. Where saving is refused since another process put an append's or a close's commit meanwhile, the job is run again
-/// over the folder as it stands by then, as long as it has tries left: behind the last one, and where the table can't be read
-/// again, the failure is `Saving`. Each run takes time for the folder's names and the files that it opens. Loads aren't there
-/// yet. Where a reply comes of an append, `rows` is set to the count of its rows, for a message.
+/// line. Where saving is refused since another process put an append's or a close's commit meanwhile, the job is run
+/// again over the folder as it stands by then, as long as it has tries left: behind the last one, and where the table
+/// can't be read again, the failure is `Saving`. Each run takes time for the folder's names and the files that it
+/// opens. Loads aren't there yet. Where a reply comes of an append, `rows` is set to the count of its rows, for a
+/// message.
 pub fn answer<F: Folder, R: Read>(
     alloc: Global,
     folder: &mut F,
@@ -40,24 +42,25 @@ pub fn answer<F: Folder, R: Read>(
     input: &mut Input<R>,
     rows: &mut u64,
 ) -> Result<LineReply, Failure>
-    // Over a steady folder whose checkpoints are sound, or with all commits read, the reply and what the folder then holds
-    // are those of the same line of a script over the folder's objects.
+    // Over a steady folder whose checkpoints are sound, or with all commits read, the reply and what the folder then
+    // holds are those of the same line of a script over the folder's objects.
     ensures told { F.is_steady folder.old → RestoresWell command.entry.use_checkpoints (F.objects folder.old)
         → IfOk result (λ reply. IsJobAnswer (work_view command.entry.job) (unread R.remaining input.old)
         (F.objects folder.old) (reply_text reply) (F.objects folder.new)) }
-    // A fault of the words or of the input leaves the folder as it was. Where the table isn't saved whole, it holds what the job
-    // put, or its data file alone, or nothing of it; an object that isn't saved is one that the job puts where nothing stood,
-    // and a call of the folder failed then.
+    // A fault of the words or of the input leaves the folder as it was. Where the table isn't saved whole, it holds
+    // what the job put, or its data file alone, or nothing of it; an object that isn't saved is one that the job puts
+    // where nothing stood, and a call of the folder failed then.
     ensures failed { F.is_steady folder.old → RestoresWell command.entry.use_checkpoints (F.objects folder.old)
         → IfErr result (λ failure. Leaves failure (work_view command.entry.job) (unread R.remaining input.old)
         (F.objects folder.old) (F.objects folder.new)) }
     ensures alone { F.is_steady folder.old → RestoresWell command.entry.use_checkpoints (F.objects folder.old)
         → ComesOfACall result (F.fault_count folder.old) (F.fault_count folder.new) }
-    // However it ends, such a folder holds what it had, or what the job may put, well made: all of it, or its data file alone.
+    // However it ends, such a folder holds what it had, or what the job may put, well made: all of it, or its data file
+    // alone.
     ensures puts { F.is_steady folder.old → RestoresWell command.entry.use_checkpoints (F.objects folder.old)
         → JobMayLeave (work_view command.entry.job) (unread R.remaining input.old) (F.objects folder.old) (F.objects folder.new) }
-    // What comes of it has its cause in the words, the input or the folder's calls, the input before the folder. The folder
-    // isn't touched where the words or the input are refused.
+    // What comes of it has its cause in the words, the input or the folder's calls, the input before the folder. The
+    // folder isn't touched where the words or the input are refused.
     ensures caused { IsCaused result (work_view command.entry.job) (unread R.remaining input.old) (read_failed input.new)
         (F.fault_count folder.old) (F.fault_count folder.new) }
     ensures first { IfErr result (λ failure. IsByFolder failure ⊎ (folder.new ≡ folder.old)) }
@@ -69,7 +72,8 @@ pub fn answer<F: Folder, R: Read>(
     // What isn't there yet is told as such, without a look at the folder.
     ensures later { IsNotYet (work_view command.entry.job)
         → IsOkAnd result (λ reply. reply_text reply ≡ not_yet) × (folder.new ≡ folder.old) }
-    // However it ends, a sound table stays sound: it has all that the job put, or its data file alone, or nothing of it.
+    // However it ends, a sound table stays sound: it has all that the job put, or its data file alone, or nothing of
+    // it.
     ensures sound { F.is_steady folder.old → AreBytes (F.objects folder.old) → IsSoundStore (F.objects folder.old)
         → IsSoundStore (F.objects folder.new) }
     // Whatever happens, what stood stands.
@@ -91,9 +95,9 @@ pub fn answer<F: Folder, R: Read>(
     outcome
 }
 
-// Runs a job again whose commit's name was taken, over the folder as it stands by then: so many runs in all, each with the
-// tries that are left, and the last one is told. Where the table isn't loaded, or no memory is left for the rows, the
-// refusal of the run before is told, whose data file may stand. Each run costs as much as the first.
+/// Runs a job again whose commit's name was taken, over the folder as it stands by then: so many runs in all, each with
+/// the tries that are left, and the last one is told. Where the table isn't loaded, or no memory is left for the rows,
+/// the refusal of the run before is told, whose data file may stand. Each run costs as much as the first.
 fn run_again<F: Folder>(
     alloc: Global,
     folder: &mut F,
@@ -129,7 +133,7 @@ fn run_again<F: Folder>(
     refused
 }
 
-// Whether saving was refused since a commit's name is taken.
+/// Whether saving was refused since a commit's name is taken.
 fn is_taken(outcome: &Result<LineReply, Failure>) -> bool
     ensures { IsTrue result ↔ IsTaken outcome.now }
 {
@@ -146,14 +150,15 @@ fn is_taken(outcome: &Result<LineReply, Failure>) -> bool
     }
 }
 
-// Whether the table isn't loaded.
+/// Whether the table isn't loaded.
 fn is_unloaded(outcome: &Result<LineReply, Failure>) -> bool
     ensures { IsTrue result ↔ IsErrAnd outcome.now (λ failure. IsLoading failure) }
 {
     matches!(outcome, Err(Failure::Loading(_)))
 }
 
-// Whether no call of a folder failed between two counts of its faults. The greatest count stays as it is, and tells nothing.
+/// Whether no call of a folder failed between two counts of its faults. The greatest count stays as it is, and tells
+/// nothing.
 fn none_failed(before: u64, after: u64) -> bool
     ensures same { result ≡ true → after ≡ before }
     ensures none { result ≡ true → HasRisen before after → ⊥ }
@@ -161,7 +166,7 @@ fn none_failed(before: u64, after: u64) -> bool
     after == before && before < u64::MAX
 }
 
-// How many versions a job tries at most; one that puts no commit of a stream tries none, and is taken to try one.
+/// How many versions a job tries at most; one that puts no commit of a stream tries none, and is taken to try one.
 fn tries_of(job: &Job<'_>) -> u64
     ensures { 1 ≤ result }
 {
@@ -171,10 +176,10 @@ fn tries_of(job: &Job<'_>) -> u64
     }
 }
 
-// How many rows a line has, whose texts are at hand.
-fn count_rows(line: &Line<'_>) -> u64 {
+/// How many rows a line has, whose texts are at hand.
+fn count_rows(line: &JobLine<'_>) -> u64 {
     match line {
-        Line::Job(
+        JobLine::Job(
             lake_script::Job::Append {
                 rows: JsonRows::Texts(texts),
                 ..
@@ -184,8 +189,8 @@ fn count_rows(line: &Line<'_>) -> u64 {
     }
 }
 
-// The text that a job reads to its end: that of an append's rows, once its moment is one that a commit may have. Another job
-// leaves the input alone.
+/// The text that a job reads to its end: that of an append's rows, once its moment is one that a commit may have.
+/// Another job leaves the input alone.
 fn text_for<R: Read>(alloc: Global, job: &Job<'_>, input: &mut Input<R>) -> Result<Vec<u8>, Failure>
     ensures read { IfOk result (λ text. IsTextOf (work_view job.now) (unread R.remaining input.old) text.items) }
     ensures broken { reads_input (work_view job.now) ≡ true → read_failed input.new ≡ true → IsNotRead result }
@@ -205,19 +210,19 @@ fn text_for<R: Read>(alloc: Global, job: &Job<'_>, input: &mut Input<R>) -> Resu
     }
 }
 
-// The line of a script that asks for the same, of an append with the rows of this text, or `None` for what isn't there yet.
-// Takes time linear in the text.
-fn line_for<'a>(alloc: Global, job: Job<'a>, text: &'a [u8]) -> Result<Option<Line<'a>>, Failure>
+/// The line of a script that asks for the same, of an append with the rows of this text, or `None` for what isn't there
+/// yet. Takes time linear in the text.
+fn line_for<'a>(alloc: Global, job: Job<'a>, text: &'a [u8]) -> Result<Option<JobLine<'a>>, Failure>
     ensures asked { (known : Option (List ℕ)) → IsTextOf (work_view job.entry) known text.now
-        → IfOk result (λ found. IfSome found (λ line. IsAskedBy (work_view job.entry) known (statement_view line))) }
-    ensures timely { IfOk result (λ found. IfSome found (λ line. IsTimely (statement_view line))) }
+        → IfOk result (λ found. IfSome found (λ line. IsAskedBy (work_view job.entry) known (line_view line))) }
+    ensures timely { IfOk result (λ found. IfSome found (λ line. IsTimely (line_view line))) }
     ensures not_yet { IsNotYet (work_view job.entry) → result ≡ Ok None }
     ensures later { result ≡ Ok None → IsNotYet (work_view job.entry) }
     ensures failed { (known : Option (List ℕ)) (is_broken : Bool) → IsTextOf (work_view job.entry) known text.now
         → IfErr result (λ failure. IsOfInput failure (work_view job.entry) known is_broken) }
 {
     let line = match job {
-        Job::Create { id, schema, at } => Line::Create {
+        Job::Create { id, schema, at } => JobLine::Create {
             id,
             at: moment(at)?,
             schema,
@@ -232,22 +237,22 @@ fn line_for<'a>(alloc: Global, job: Job<'a>, text: &'a [u8]) -> Result<Option<Li
             let at = moment(at)?;
             let texts = objects_in(alloc, text)?;
             counted(rows, texts.len() as u64)?;
-            Line::Job(lake_script::Job::Append {
+            JobLine::Job(lake_script::Job::Append {
                 application,
                 number,
                 at,
                 rows: JsonRows::Texts(texts),
             })
         }
-        Job::Tail { max, offset } => Line::Job(lake_script::Job::Tail { max, offset }),
-        Job::Checkpoint => Line::Job(lake_script::Job::Checkpoint),
-        Job::Snapshot => Line::Snapshot,
-        Job::History => Line::History,
+        Job::Tail { max, offset } => JobLine::Job(lake_script::Job::Tail { max, offset }),
+        Job::Checkpoint => JobLine::Job(lake_script::Job::Checkpoint),
+        Job::Snapshot => JobLine::Snapshot,
+        Job::History => JobLine::History,
         Job::Close {
             application,
             at,
             ..
-        } => Line::Job(lake_script::Job::Close {
+        } => JobLine::Job(lake_script::Job::Close {
             application,
             at: moment(at)?,
         }),
@@ -256,7 +261,7 @@ fn line_for<'a>(alloc: Global, job: Job<'a>, text: &'a [u8]) -> Result<Option<Li
     Ok(Some(line))
 }
 
-// Refuses a count of rows that isn't the one that was said.
+/// Refuses a count of rows that isn't the one that was said.
 fn counted(said: Option<u64>, found: u64) -> Result<(), Failure>
     ensures same { IfOk result (λ _. IfSome said (λ rows. found ≡ rows)) }
     ensures failed { IfErr result (λ failure. IsSomeAnd said (λ rows. (failure ≡ Failure.Miscounted rows found) × (found ≢ rows))) }
@@ -267,7 +272,7 @@ fn counted(said: Option<u64>, found: u64) -> Result<(), Failure>
     }
 }
 
-// A moment that a commit may have.
+/// A moment that a commit may have.
 fn moment(at: u64) -> Result<u64, Failure>
     ensures same { IfOk result (λ moment. (moment ≡ at) × (moment < 2 ^ 63)) }
     ensures failed { IfErr result (λ failure. (failure ≡ Failure.Misused) × (999_999_999_999_999 < at)) }

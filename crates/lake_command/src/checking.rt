@@ -16,10 +16,10 @@ use std::io::Write;
 use table_audit::Verdict;
 use table_folder::Folder;
 
-/// Judges the table in a folder, and tells the verdict: `sound N`, with N versions and the status 0, or `unsound V` and a
-/// line that says why, with the status 1. What lies beside the table is told on `err`, a line each, and why the folder
-/// isn't judged as well, but for a data file that is too large to be read, which is told where the verdict would be.
-/// Commits, the data files of batches and checkpoints are read, one at a time; nothing is written.
+/// Judges the table in a folder, and tells the verdict: `sound N`, with N versions and the status 0, or `unsound V` and
+/// a line that says why, with the status 1. What lies beside the table is told on `err`, a line each, and why the
+/// folder isn't judged as well, but for a data file that is too large to be read, which is told where the verdict would
+/// be. Commits, the data files of batches and checkpoints are read, one at a time; nothing is written.
 pub fn check_command<F: Folder, P: Progress, W: Write, E: Write>(
     alloc: Global,
     reader: &mut FolderReader<F, P>,
@@ -39,7 +39,7 @@ pub fn check_command<F: Folder, P: Progress, W: Write, E: Write>(
     }
 }
 
-// Tells a verdict and what lies beside the table.
+/// Tells a verdict and what lies beside the table.
 fn tell_report<W: Write, E: Write>(
     alloc: Global,
     report: &Report,
@@ -57,7 +57,7 @@ fn tell_report<W: Write, E: Write>(
     exit
 }
 
-// What is told of a verdict.
+/// What is told of a verdict.
 fn text_of(alloc: Global, verdict: &Verdict) -> Result<String, AllocError>
     ensures { IfOk result (λ text. IsOfVerdict verdict.now (string_bytes text)) }
 {
@@ -80,7 +80,7 @@ fn status_of(verdict: &Verdict) -> u8
     }
 }
 
-// Tells that a data file is too large.
+/// Tells that a data file is too large.
 fn tell_large<W: Write, E: Write>(
     alloc: Global,
     name: &str,
@@ -99,7 +99,7 @@ fn tell_large<W: Write, E: Write>(
     }
 }
 
-// Tells a text, with a status.
+/// Tells a text, with a status.
 fn tell_text<W: Write, E: Write>(
     text: &str,
     status: u8,
@@ -117,7 +117,7 @@ fn tell_text<W: Write, E: Write>(
     }
 }
 
-// Gives a text and writes it.
+/// Gives a text and writes it.
 fn give_text<W: Write>(text: &str, output: &mut Output<W>) -> Result<(), OutputError>
     ensures told { OnOk result (Appends (held W.contents output.old) (W.contents output.new.writer) text.now) }
     ensures front { OnErr result (StandsIn (held W.contents output.old) (W.contents output.new.writer) text.now) }
@@ -127,7 +127,7 @@ fn give_text<W: Write>(text: &str, output: &mut Output<W>) -> Result<(), OutputE
     output.flush()
 }
 
-// Tells what lies beside a table, or why that isn't known. Where this fails, nothing is left to tell it on.
+/// Tells what lies beside a table, or why that isn't known. Where this fails, nothing is left to tell it on.
 fn tell_beside<E: Write>(beside: &Result<Vec<String>, CheckFault>, err: &mut E) {
     match beside {
         Ok(lines) => {

@@ -34,7 +34,7 @@ use store_core::MemoryStore;
 use table_folder::{DirFolder, Folder, LoadFault};
 use world_script::run;
 
-// The status of words that ask for help, that are refused, or that were too much to read.
+/// The status of words that ask for help, that are refused, or that were too much to read.
 fn misused(error: &Error) -> u8
     ensures { result ≡ status_of_kind (kind_of error.now) }
 {
@@ -45,8 +45,8 @@ fn misused(error: &Error) -> u8
     }
 }
 
-// The status of a script that ended so. Why a line is bad, by what was kept of it, and a fault of the program itself are told
-// on `err`; where that fails too, nothing is left to tell it on.
+/// The status of a script that ended so. Why a line is bad, by what was kept of it, and a fault of the program itself
+/// are told on `err`; where that fails too, nothing is left to tell it on.
 fn ended<E: Write>(end: End, kept: Option<&[u8]>, err: &mut E) -> u8
     ensures { result ≡ status_of end }
 {
@@ -65,7 +65,7 @@ fn ended<E: Write>(end: End, kept: Option<&[u8]>, err: &mut E) -> u8
     REFUSED
 }
 
-// The folder of that path on the disk.
+/// The folder of that path on the disk.
 fn open<H: Files + AllocGlobal + Clone + Drop>(
     rt: &H,
     path: &str,
@@ -75,7 +75,7 @@ fn open<H: Files + AllocGlobal + Clone + Drop>(
     DirFolder::new(rt.clone()?, path)
 }
 
-// Does a job on the table in a folder on the disk.
+/// Does a job on the table in a folder on the disk.
 fn command_on_disk<H: Files + AllocGlobal + Clone + Drop, R: Read, W: Write, E: Write>(
     rt: &H,
     command: TableCommand<'_>,
@@ -98,7 +98,7 @@ fn command_on_disk<H: Files + AllocGlobal + Clone + Drop, R: Read, W: Write, E: 
     }
 }
 
-// Judges the table in a folder on the disk.
+/// Judges the table in a folder on the disk.
 fn check_on_disk<H: Files + AllocGlobal + Clone + Drop, P: Progress + Drop, W: Write, E: Write>(
     rt: &H,
     path: &str,
@@ -117,11 +117,11 @@ fn check_on_disk<H: Files + AllocGlobal + Clone + Drop, P: Progress + Drop, W: W
     }
 }
 
-/// Runs the command that the words ask for: a script over a store in which nothing stands yet, or a job on the table in a
-/// folder on the disk, of which [`table_command`] tells what is claimed over any folder, or a check of one, of which
+/// Runs the command that the words ask for: a script over a store in which nothing stands yet, or a job on the table in
+/// a folder on the disk, of which [`table_command`] tells what is claimed over any folder, or a check of one, of which
 /// [`check_command`] does, or it tells what a code means. Replies go to `output`. What `clap` says of the words, the
-/// program's own faults, why a line of a script is bad, what refusals mean and what lies beside a table go to `err`, and how
-/// far a check is to `progress`.
+/// program's own faults, why a line of a script is bad, what refusals mean and what lies beside a table go to `err`,
+/// and how far a check is to `progress`.
 pub fn command<
     H: Files + AllocGlobal + Clone + Drop,
     S: AsStr,
@@ -150,8 +150,8 @@ pub fn command<
         → (result.is_short ≡ true) ⊎ ((read_failed input.new ≡ true) ⊎ ((write_failed output.new ≡ true)
         ⊎ IfSome (unread R.remaining input.old) (λ text. MOST_READS ≤ length text))) }
 
-    // What comes of a job is told where it belongs, with its status, and a failure of the words or the input has its cause there,
-    // unless memory runs out. What it leaves in a folder on the disk isn't claimed.
+    // What comes of a job is told where it belongs, with its status, and a failure of the words or the input has its
+    // cause there, unless memory runs out. What it leaves in a folder on the disk isn't claimed.
     ensures job { (folder : List ℕ) (use_checkpoints : Bool) (work : Work) → SpellsJob (map S.text words.now) (table folder use_checkpoints work)
         → TellsJob W.contents work (unread R.remaining input.old) (read_failed input.new) output.old output.new err.old err.new result }
     // An append whose input has another count of lines than its words say has the status 2, by the same rule.
@@ -161,8 +161,8 @@ pub fn command<
     ensures input_untouched { (folder : List ℕ) (use_checkpoints : Bool) (work : Work) → SpellsJob (map S.text words.now) (table folder use_checkpoints work)
         → reads_input work ≡ false → input.new ≡ input.old }
 
-    // A check leaves the input alone, and tells a verdict with its status, or a reason why it tells none. That the verdict is
-    // right of a folder on the disk isn't claimed.
+    // A check leaves the input alone, and tells a verdict with its status, or a reason why it tells none. That the
+    // verdict is right of a folder on the disk isn't claimed.
     ensures checks { (folder : List ℕ) → SpellsJob (map S.text words.now) (check folder) → (input.new ≡ input.old)
         × ChecksDisk W.contents output.old output.new result }
 

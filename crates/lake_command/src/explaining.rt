@@ -50,7 +50,7 @@ pub(crate) fn explain_command<W: Write, E: Write>(
     }
 }
 
-// Gives an entry and writes it.
+/// Gives an entry and writes it.
 fn give_entry<W: Write>(refusal: &Refusal, output: &mut Output<W>) -> Result<(), OutputError>
     ensures told { OnOk result (Appends (held W.contents output.old) (W.contents output.new.writer) (with_newline (refusal_text refusal.now))) }
     ensures broken { result ≡ Err OutputError.Broken → write_failed output.new ≡ true }

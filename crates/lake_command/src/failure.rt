@@ -1,13 +1,11 @@
 //! Why a job on a folder has no reply.
 ghost use Rattle.std.specs.Prelude.{◌≡◌, Some};
-ghost use Rattle.table_folder.specs.declared.fault.LoadFault.TheVariants as loads;
 ghost use Rattle.lake_command.specs.Failures.{failure_text};
 
 use json_lines::{Flaw, LineFault};
 use lake_script::InputError;
 use std::fmt;
 use std::fmt::{Display, Formatter};
-use store_core::StoreFault;
 use table_folder::{LoadFault, SaveFault};
 use thiserror::Error;
 
@@ -93,16 +91,5 @@ impl From<SaveFault> for Failure {
 
     fn from(fault: SaveFault) -> Failure {
         Failure::Saving(fault)
-    }
-}
-
-impl From<StoreFault> for Failure {
-    // The names of a store in memory are lacking for want of memory alone.
-    ghost from_gives = { λ _ failure. failure ≡ Loading loads.Memory };
-
-    ghost use Rattle.lake_command.specs.declared.failure.Failure.TheVariants.{Loading};
-
-    fn from(_fault: StoreFault) -> Failure {
-        Failure::Loading(LoadFault::Memory)
     }
 }

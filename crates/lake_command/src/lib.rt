@@ -10,7 +10,7 @@ mod commands;
 mod exit;
 mod explaining;
 mod failure;
-mod looking;
+mod job_line;
 mod putting;
 mod saving;
 mod telling;

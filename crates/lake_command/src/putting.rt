@@ -1,50 +1,51 @@
-//! The reply to a creation, an append, a close and a checkpoint on the table in a folder, each a session of it, and what is to be
-//! saved behind it.
+//! The reply to a creation, an append, a close and a checkpoint on the table in a folder, each a session of it, and
+//! what is to be saved behind it.
 ghost use Rattle.std.specs.Prelude.{◌≡◌, ◌≤◌, ◌<◌, ◌^◌, IfOk, MatchResult};
 ghost use Rattle.json_text.specs.Rows.{rows_data};
 ghost use Rattle.store_core.specs.Memory.{stored_objects};
 ghost use Rattle.table_folder.specs.Faults.{CountsLoad};
 ghost use Rattle.table_log.specs.Restoring.{RestoresWell};
 ghost use Rattle.folder_session.specs.Beside.{AreApart, with_beside};
-ghost use Rattle.script_lines.specs.Lines.{append, checkpoint, close, create, statement_view, task, IsTimely};
+ghost use Rattle.script_lines.specs.Lines.{append, checkpoint, close, create, task, IsTimely};
 ghost use Rattle.lake_script.specs.Growth.{MayPut};
 ghost use Rattle.lake_script.specs.ReplyView.{reply_text};
 ghost use Rattle.lake_script.specs.Runs.{Executes};
-ghost use Rattle.lake_command.specs.Folders.{IsPutter};
+ghost use Rattle.lake_command.specs.Folders.{IsPutter, line_view};
 
+use crate::job_line::JobLine;
 use commit_core::CreateFault;
 use folder_session::Beside;
 use json_text::JsonRows;
-use lake_script::{Job, Line, LineReply};
+use lake_script::{Job, LineReply};
 use sink_core::{SinkFault, SinkOutcome};
 use snapshot_core::SnapshotFault;
 use std::alloc::Global;
 use table_folder::{Folder, LoadFault};
 
-/// Does what a line that puts something asks for over a folder, and finds its reply. The folder is left as it was: what the line puts
-/// stands beside it.
+/// Does what a line that puts something asks for over a folder, and finds its reply. The folder is left as it was: what
+/// the line puts stands beside it.
 pub(crate) fn reply_beside<F: Folder>(
     alloc: Global,
     folder: &mut F,
-    line: Line<'_>,
+    line: JobLine<'_>,
     tries: u64,
     use_checkpoints: bool,
 ) -> Result<Beside<LineReply>, LoadFault>
     requires tries { 1 ≤ tries }
-    requires timely { IsTimely (statement_view line) }
-    requires puts { IsPutter (statement_view line) }
+    requires timely { IsTimely (line_view line) }
+    requires puts { IsPutter (line_view line) }
     ensures told { F.is_steady folder.old → RestoresWell use_checkpoints (F.objects folder.old) → IfOk result (λ ended. Executes (F.objects folder.old)
-        (statement_view line.entry) (reply_text ended.outcome) (with_beside (F.objects folder.old) (stored_objects ended.added))) }
+        (line_view line.entry) (reply_text ended.outcome) (with_beside (F.objects folder.old) (stored_objects ended.added))) }
     ensures grows { F.is_steady folder.old → RestoresWell use_checkpoints (F.objects folder.old) → IfOk result (λ ended. MayPut (F.objects folder.old)
-        (statement_view line.entry) (with_beside (F.objects folder.old) (stored_objects ended.added))) }
+        (line_view line.entry) (with_beside (F.objects folder.old) (stored_objects ended.added))) }
     ensures apart { F.is_steady folder.old → IfOk result (λ ended. AreApart (F.objects folder.old) (stored_objects ended.added)) }
     ensures untouched { F.is_steady folder.old → F.objects folder.new ≡ F.objects folder.old }
     ensures steady { F.is_steady folder.old → F.is_steady folder.new }
     ensures faults { CountsLoad result (F.fault_count folder.old) (F.fault_count folder.new) }
 {
     match line {
-        Line::Create { id, at, schema } => create_beside(alloc, folder, id, at, schema),
-        Line::Job(
+        JobLine::Create { id, at, schema } => create_beside(alloc, folder, id, at, schema),
+        JobLine::Job(
             Job::Append {
                 application,
                 number,
@@ -61,16 +62,16 @@ pub(crate) fn reply_beside<F: Folder>(
             tries,
             use_checkpoints,
         ),
-        Line::Job(Job::Close { application, at }) => {
+        JobLine::Job(Job::Close { application, at }) => {
             close_beside(alloc, folder, application, at, tries, use_checkpoints)
         }
-        Line::Job(Job::Checkpoint) => checkpoint_beside(alloc, folder, use_checkpoints),
+        JobLine::Job(Job::Checkpoint) => checkpoint_beside(alloc, folder, use_checkpoints),
         // It puts something.
         _ => unreachable!(),
     }
 }
 
-// Creates a table beside a folder.
+/// Creates a table beside a folder.
 fn create_beside<F: Folder>(
     alloc: Global,
     folder: &mut F,
@@ -95,7 +96,7 @@ fn create_beside<F: Folder>(
     })
 }
 
-// Appends a batch beside a folder.
+/// Appends a batch beside a folder.
 fn append_beside<F: Folder>(
     alloc: Global,
     folder: &mut F,
@@ -133,7 +134,7 @@ fn append_beside<F: Folder>(
     })
 }
 
-// Closes a stream beside a folder.
+/// Closes a stream beside a folder.
 fn close_beside<F: Folder>(
     alloc: Global,
     folder: &mut F,
@@ -167,7 +168,7 @@ fn close_beside<F: Folder>(
     })
 }
 
-// Puts a checkpoint beside a folder.
+/// Puts a checkpoint beside a folder.
 fn checkpoint_beside<F: Folder>(
     alloc: Global,
     folder: &mut F,
@@ -189,7 +190,7 @@ fn checkpoint_beside<F: Folder>(
     })
 }
 
-// The reply to a creation, by what it told.
+/// The reply to a creation, by what it told.
 fn creation_reply(answer: Result<(), CreateFault>) -> LineReply
     ensures { MatchResult answer (λ _. result ≡ LineReply.Created) (λ fault. result ≡ LineReply.NotCreated fault) }
 {
@@ -199,7 +200,7 @@ fn creation_reply(answer: Result<(), CreateFault>) -> LineReply
     }
 }
 
-// The reply to an append or a close, by what it told.
+/// The reply to an append or a close, by what it told.
 fn sink_reply(answer: Result<SinkOutcome, SinkFault>) -> LineReply
     ensures { MatchResult answer (λ outcome. result ≡ LineReply.SinkTold outcome) (λ fault. result ≡ LineReply.SinkRefused fault) }
 {
@@ -209,7 +210,7 @@ fn sink_reply(answer: Result<SinkOutcome, SinkFault>) -> LineReply
     }
 }
 
-// The reply to a checkpoint, by what it told.
+/// The reply to a checkpoint, by what it told.
 fn checkpoint_reply(answer: Result<u64, SnapshotFault>) -> LineReply
     ensures { MatchResult answer (λ version. result ≡ LineReply.Checkpointed version) (λ fault. result ≡ LineReply.NoSnapshot fault) }
 {

@@ -2,41 +2,40 @@
 ghost use Rattle.std.specs.Prelude.{◌≡◌, ◌≤◌, ℕ, List, Some, IfOk, IfErr};
 ghost use Rattle.store_core.specs.Objects.{object_at};
 ghost use Rattle.table_log.specs.Restoring.{RestoresWell};
-ghost use Rattle.script_lines.specs.Lines.{snapshot, statement_view, task, tail, IsTimely};
+ghost use Rattle.script_lines.specs.Lines.{history, snapshot, task, tail, IsTimely};
 ghost use Rattle.lake_script.specs.ReplyView.{reply_text};
 ghost use Rattle.lake_script.specs.Runs.{Executes};
 ghost use Rattle.lake_command.specs.Failures.{ComesOfACall, CountsFolderFault, IsByFolder, IsLoading, IsOfFolder, NamesPut};
-ghost use Rattle.lake_command.specs.Folders.{IsNoTask, IsPutter, LineMayLeave};
+ghost use Rattle.lake_command.specs.Folders.{IsPutter, LineMayLeave, line_view};
 
 use crate::Failure;
-use crate::looking::files_for;
+use crate::job_line::JobLine;
 use crate::putting::reply_beside;
 use folder_session::Beside;
 use lake_script::{Job, Line, LineReply, execute, reply_of_read};
 use log_reading::LogCache;
 use std::alloc::Global;
-use store_core::Store;
-use table_folder::{Folder, load_files, load_log, save};
+use table_folder::{Folder, load_log, save};
 
-/// Does what a line asks for on the table in a folder, and finds its reply. A job, a creation and a snapshot open just the files that
-/// their session asks for; an append and a close try so many versions at most. For another line the files of the folder's log are
-/// loaded, and of the data files the one whose bytes it asks for. The new objects are saved before the reply is told: data files, then
-/// commits, then checkpoints. However it ends, what stood stands.
+/// Does what a line asks for on the table in a folder, and finds its reply. A job, a creation and a snapshot open just
+/// the files that their session asks for; an append and a close try so many versions at most. For a history the files
+/// of the folder's log are loaded. The new objects are saved before the reply is told: data files, then commits, then
+/// checkpoints. However it ends, what stood stands.
 pub(crate) fn execute_in<F: Folder>(
     alloc: Global,
     folder: &mut F,
-    line: Line<'_>,
+    line: JobLine<'_>,
     tries: u64,
     use_checkpoints: bool,
 ) -> Result<LineReply, Failure>
     requires tries { 1 ≤ tries }
-    requires timely { IsTimely (statement_view line) }
+    requires timely { IsTimely (line_view line) }
     ensures told { F.is_steady folder.old → RestoresWell use_checkpoints (F.objects folder.old)
-        → IfOk result (λ reply. Executes (F.objects folder.old) (statement_view line.entry) (reply_text reply) (F.objects folder.new)) }
+        → IfOk result (λ reply. Executes (F.objects folder.old) (line_view line.entry) (reply_text reply) (F.objects folder.new)) }
     ensures puts { F.is_steady folder.old → RestoresWell use_checkpoints (F.objects folder.old)
-        → LineMayLeave (F.objects folder.old) (statement_view line.entry) (F.objects folder.new) }
+        → LineMayLeave (F.objects folder.old) (line_view line.entry) (F.objects folder.new) }
     ensures named { F.is_steady folder.old → RestoresWell use_checkpoints (F.objects folder.old)
-        → IfErr result (λ failure. NamesPut failure (statement_view line.entry) (F.objects folder.old)) }
+        → IfErr result (λ failure. NamesPut failure (line_view line.entry) (F.objects folder.old)) }
     ensures alone { F.is_steady folder.old → RestoresWell use_checkpoints (F.objects folder.old)
         → ComesOfACall result (F.fault_count folder.old) (F.fault_count folder.new) }
     ensures failed { F.is_steady folder.old → IfErr result (λ failure. IsOfFolder failure (F.objects folder.old) (F.objects folder.new)) }
@@ -47,18 +46,18 @@ pub(crate) fn execute_in<F: Folder>(
     ensures steady { F.is_steady folder.old → F.is_steady folder.new }
 {
     match line {
-        Line::Job(Job::Tail { max, offset }) => {
+        JobLine::Job(Job::Tail { max, offset }) => {
             read_in(alloc, folder, max, offset, use_checkpoints)
         }
-        Line::Snapshot => snapshot_in(alloc, folder, use_checkpoints),
-        Line::Create { .. } | Line::Job(_) => {
+        JobLine::Snapshot => snapshot_in(alloc, folder, use_checkpoints),
+        JobLine::History => history_in(alloc, folder, use_checkpoints),
+        JobLine::Create { .. } | JobLine::Job(_) => {
             execute_beside(alloc, folder, line, tries, use_checkpoints)
         }
-        _ => execute_loaded(alloc, folder, line, use_checkpoints),
     }
 }
 
-// Reads from an offset on, and leaves the folder as it was.
+/// Reads from an offset on, and leaves the folder as it was.
 fn read_in<F: Folder>(
     alloc: Global,
     folder: &mut F,
@@ -77,7 +76,7 @@ fn read_in<F: Folder>(
     Ok(reply_of_read(told))
 }
 
-// Tells the snapshot, and leaves the folder as it was.
+/// Tells the snapshot, and leaves the folder as it was.
 fn snapshot_in<F: Folder>(
     alloc: Global,
     folder: &mut F,
@@ -96,23 +95,49 @@ fn snapshot_in<F: Folder>(
     }
 }
 
-// Does what a line that puts something asks for, as a session of the folder, and saves what it put.
+/// Tells what each version holds by the files of the log, and leaves the folder as it was.
+fn history_in<F: Folder>(
+    alloc: Global,
+    folder: &mut F,
+    use_checkpoints: bool,
+) -> Result<LineReply, Failure>
+    ensures told { F.is_steady folder.old → RestoresWell use_checkpoints (F.objects folder.old)
+        → IfOk result (λ reply. Executes (F.objects folder.old) history (reply_text reply) (F.objects folder.old)) }
+    ensures untouched { F.is_steady folder.old → F.objects folder.new ≡ F.objects folder.old }
+    ensures caused { IfErr result (λ failure. IsLoading failure) }
+    ensures faults { CountsFolderFault result (F.fault_count folder.old) (F.fault_count folder.new) }
+    ensures steady { F.is_steady folder.old → F.is_steady folder.new }
+{
+    let mut store = load_log(alloc, folder)?;
+    // Jobs alone try versions.
+    let mut tries = 1;
+    Ok(execute(
+        alloc,
+        Line::History,
+        &mut store,
+        &mut tries,
+        use_checkpoints,
+        &mut LogCache::new(alloc),
+    ))
+}
+
+/// Does what a line that puts something asks for, as a session of the folder, and saves what it put.
 fn execute_beside<F: Folder>(
     alloc: Global,
     folder: &mut F,
-    line: Line<'_>,
+    line: JobLine<'_>,
     tries: u64,
     use_checkpoints: bool,
 ) -> Result<LineReply, Failure>
     requires tries { 1 ≤ tries }
-    requires puts { IsPutter (statement_view line) }
-    requires timely { IsTimely (statement_view line) }
+    requires puts { IsPutter (line_view line) }
+    requires timely { IsTimely (line_view line) }
     ensures told { F.is_steady folder.old → RestoresWell use_checkpoints (F.objects folder.old)
-        → IfOk result (λ reply. Executes (F.objects folder.old) (statement_view line.entry) (reply_text reply) (F.objects folder.new)) }
+        → IfOk result (λ reply. Executes (F.objects folder.old) (line_view line.entry) (reply_text reply) (F.objects folder.new)) }
     ensures puts { F.is_steady folder.old → RestoresWell use_checkpoints (F.objects folder.old)
-        → LineMayLeave (F.objects folder.old) (statement_view line.entry) (F.objects folder.new) }
+        → LineMayLeave (F.objects folder.old) (line_view line.entry) (F.objects folder.new) }
     ensures named { F.is_steady folder.old → RestoresWell use_checkpoints (F.objects folder.old)
-        → IfErr result (λ failure. NamesPut failure (statement_view line.entry) (F.objects folder.old)) }
+        → IfErr result (λ failure. NamesPut failure (line_view line.entry) (F.objects folder.old)) }
     ensures alone { F.is_steady folder.old → RestoresWell use_checkpoints (F.objects folder.old)
         → ComesOfACall result (F.fault_count folder.old) (F.fault_count folder.new) }
     ensures failed { F.is_steady folder.old → IfErr result (λ failure. IsOfFolder failure (F.objects folder.old) (F.objects folder.new)) }
@@ -125,46 +150,4 @@ fn execute_beside<F: Folder>(
     let Beside { outcome, mut added } = reply_beside(alloc, folder, line, tries, use_checkpoints)?;
     save(alloc, folder, &mut added, &[])?;
     Ok(outcome)
-}
-
-// Loads what a line may look at that is no job, does what it asks for, and saves what it put.
-fn execute_loaded<F: Folder>(
-    alloc: Global,
-    folder: &mut F,
-    line: Line<'_>,
-    use_checkpoints: bool,
-) -> Result<LineReply, Failure>
-    requires no_task { IsNoTask (statement_view line) }
-    requires timely { IsTimely (statement_view line) }
-    ensures told { F.is_steady folder.old → RestoresWell use_checkpoints (F.objects folder.old)
-        → IfOk result (λ reply. Executes (F.objects folder.old) (statement_view line.entry) (reply_text reply) (F.objects folder.new)) }
-    ensures puts { F.is_steady folder.old → RestoresWell use_checkpoints (F.objects folder.old)
-        → LineMayLeave (F.objects folder.old) (statement_view line.entry) (F.objects folder.new) }
-    ensures named { F.is_steady folder.old → RestoresWell use_checkpoints (F.objects folder.old)
-        → IfErr result (λ failure. NamesPut failure (statement_view line.entry) (F.objects folder.old)) }
-    ensures alone { F.is_steady folder.old → RestoresWell use_checkpoints (F.objects folder.old)
-        → ComesOfACall result (F.fault_count folder.old) (F.fault_count folder.new) }
-    ensures failed { F.is_steady folder.old → IfErr result (λ failure. IsOfFolder failure (F.objects folder.old) (F.objects folder.new)) }
-    ensures caused { IfErr result (λ failure. IsByFolder failure) }
-    ensures faults { CountsFolderFault result (F.fault_count folder.old) (F.fault_count folder.new) }
-    ensures kept { F.is_steady folder.old → (name bytes : List ℕ) → object_at (F.objects folder.old) name ≡ Some bytes
-        → object_at (F.objects folder.new) name ≡ Some bytes }
-    ensures steady { F.is_steady folder.old → F.is_steady folder.new }
-{
-    let mut store = load_log(alloc, folder)?;
-    let files = files_for(alloc, &line)?;
-    load_files(folder, &mut store, &files)?;
-    let loaded = store.list()?;
-    // Jobs alone try versions.
-    let mut tries = 1;
-    let reply = execute(
-        alloc,
-        line,
-        &mut store,
-        &mut tries,
-        use_checkpoints,
-        &mut LogCache::new(alloc),
-    );
-    save(alloc, folder, &mut store, loaded.as_slice())?;
-    Ok(reply)
 }

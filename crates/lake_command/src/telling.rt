@@ -25,8 +25,8 @@ use std::alloc::Global;
 use std::io::{Read, Write};
 use table_folder::{Folder, LoadFault, SaveFault};
 
-/// Does a job on the table in a folder. Replies, bad lines and want of memory for the rows go to `output`, other failures to
-/// `err`, and so does what a refusal means.
+/// Does a job on the table in a folder. Replies, bad lines and want of memory for the rows go to `output`, other
+/// failures to `err`, and so does what a refusal means.
 pub fn table_command<F: Folder, R: Read, W: Write, E: Write>(
     alloc: Global,
     folder: &mut F,
@@ -35,13 +35,14 @@ pub fn table_command<F: Folder, R: Read, W: Write, E: Write>(
     output: &mut Output<W>,
     err: &mut E,
 ) -> Exit
-    // Over a steady folder whose checkpoints are sound, or with all commits read, a job that is done writes the reply of the
-    // same line of a script over the folder's objects, and the folder then holds what that line leaves.
+    // Over a steady folder whose checkpoints are sound, or with all commits read, a job that is done writes the reply
+    // of the same line of a script over the folder's objects, and the folder then holds what that line leaves.
     ensures done { F.is_steady folder.old → RestoresWell command.entry.use_checkpoints (F.objects folder.old) → result.status ≡ DONE
         → IsAnsweredJob (work_view command.entry.job) (unread R.remaining input.old) (F.objects folder.old)
         (held W.contents output.old) (W.contents output.new.writer) (F.objects folder.new) }
-    // However it ends, there is a reply, or a failure that has its cause; over such a folder it is the answer, or leaves what it
-    // may. It is told where it belongs, with its status, or a write failed or a growth was refused, and the status is 1.
+    // However it ends, there is a reply, or a failure that has its cause; over such a folder it is the answer, or
+    // leaves what it may. It is told where it belongs, with its status, or a write failed or a growth was refused, and
+    // the status is 1.
     ensures ended { (outcome : Result LineReply Failure)
         × (F.is_steady folder.old → RestoresWell command.entry.use_checkpoints (F.objects folder.old)
         → IsOutcome outcome (work_view command.entry.job) (unread R.remaining input.old) (F.objects folder.old) (F.objects folder.new)
@@ -49,13 +50,14 @@ pub fn table_command<F: Folder, R: Read, W: Write, E: Write>(
         × IsCaused outcome (work_view command.entry.job) (unread R.remaining input.old) (read_failed input.new)
         (F.fault_count folder.old) (F.fault_count folder.new)
         × EndsWith W.contents (work_view command.entry.job) outcome output.old output.new err.old err.new result }
-    // An append whose input has another count of lines than its words say isn't run: the folder isn't touched, and the status
-    // is 2, unless the input can't be read, its bad line can't be written or memory runs out.
+    // An append whose input has another count of lines than its words say isn't run: the folder isn't touched, and the
+    // status is 2, unless the input can't be read, its bad line can't be written or memory runs out.
     ensures counted { IsMiscounted (work_view command.entry.job) (unread R.remaining input.old) → (folder.new ≡ folder.old)
         × IsMisused (unread R.remaining input.old) (read_failed input.new) (write_failed output.new) result }
     // A job but `append` leaves the input alone.
     ensures input_untouched { reads_input (work_view command.entry.job) ≡ false → input.new ≡ input.old }
-    // However it ends, a sound table stays sound: it has all that the job put, or its data file alone, or nothing of it.
+    // However it ends, a sound table stays sound: it has all that the job put, or its data file alone, or nothing of
+    // it.
     ensures sound { F.is_steady folder.old → AreBytes (F.objects folder.old) → IsSoundStore (F.objects folder.old)
         → IsSoundStore (F.objects folder.new) }
     // Whatever happens, what stood stands.
@@ -70,7 +72,7 @@ pub fn table_command<F: Folder, R: Read, W: Write, E: Write>(
     }
 }
 
-// Tells a reply, and of one that refuses the job, which had so many rows, what that means.
+/// Tells a reply, and of one that refuses the job, which had so many rows, what that means.
 fn tell<W: Write, E: Write>(
     alloc: Global,
     reply: &LineReply,
@@ -103,7 +105,7 @@ fn tell<W: Write, E: Write>(
     }
 }
 
-// Gives a reply and writes it.
+/// Gives a reply and writes it.
 fn give<W: Write>(reply: &LineReply, output: &mut Output<W>) -> Result<(), OutputError>
     ensures told { OnOk result (Appends (held W.contents output.old) (W.contents output.new.writer) (reply_text reply.now)) }
     ensures front { OnErr result (StandsIn (held W.contents output.old) (W.contents output.new.writer) (reply_text reply.now)) }
@@ -126,7 +128,8 @@ pub(crate) fn not_written<E: Write>(error: OutputError, is_short: bool, err: &mu
     }
 }
 
-/// Tells why there is no reply, and what that means. A bad line goes where replies go, and what is wrong with it to `err`.
+/// Tells why there is no reply, and what that means. A bad line goes where replies go, and what is wrong with it to
+/// `err`.
 pub(crate) fn tell_failure<W: Write, E: Write>(
     failure: &Failure,
     output: &mut Output<W>,
@@ -150,7 +153,7 @@ pub(crate) fn tell_failure<W: Write, E: Write>(
     }
 }
 
-// Tells what a failure means that is a refusal, and what more there is to say.
+/// Tells what a failure means that is a refusal, and what more there is to say.
 fn explain_failure<E: Write>(failure: &Failure, err: &mut E) {
     if let Some(code) = code_of(failure) {
         explain(code, err);
@@ -158,8 +161,8 @@ fn explain_failure<E: Write>(failure: &Failure, err: &mut E) {
     hint(failure, err);
 }
 
-// Says what is wrong with a bad line, and what to do about the folder, where it tells why it failed and there is something
-// to do.
+/// Says what is wrong with a bad line, and what to do about the folder, where it tells why it failed and there is
+/// something to do.
 fn hint<E: Write>(failure: &Failure, err: &mut E) {
     match failure {
         Failure::BadLine(_number, flaw) => {
@@ -171,7 +174,7 @@ fn hint<E: Write>(failure: &Failure, err: &mut E) {
     }
 }
 
-// Says why there is no reply, where replies go.
+/// Says why there is no reply, where replies go.
 fn say<W: Write>(failure: &Failure, output: &mut Output<W>) -> Result<(), OutputError>
     ensures told { OnOk result (Appends (held W.contents output.old) (W.contents output.new.writer) (with_newline (failure_text failure.now))) }
     ensures front { OnErr result (StandsIn (held W.contents output.old) (W.contents output.new.writer) (with_newline (failure_text failure.now))) }
@@ -199,7 +202,7 @@ fn is_want_of_memory(failure: &Failure) -> bool
     )
 }
 
-// Whether a reply to a job refuses it. A history that ends early says so in its last line.
+/// Whether a reply to a job refuses it. A history that ends early says so in its last line.
 fn is_refused(reply: &LineReply, job: Job<'_>) -> bool
     ensures { result ≡ refuses (work_view job.entry) reply.now }
 {
@@ -215,21 +218,21 @@ fn is_refused(reply: &LineReply, job: Job<'_>) -> bool
     }
 }
 
-// Whether a text that replies to a job refuses it.
+/// Whether a text that replies to a job refuses it.
 fn text_refuses(text: &[u8], job: Job<'_>) -> bool
     ensures { result ≡ (is_refusal text.now || ends_early (work_view job.entry) text.now) }
 {
     is_refusal(text) || (job == Job::History && has_refusal(text))
 }
 
-// Whether a text begins with `refused `.
+/// Whether a text begins with `refused `.
 fn is_refusal(text: &[u8]) -> bool
     ensures { result ≡ is_refusal text.now }
 {
     text.starts_with(b"refused ")
 }
 
-// Whether a line of a text begins with `refused `.
+/// Whether a line of a text begins with `refused `.
 fn has_refusal(text: &[u8]) -> bool
     ensures { result ≡ has_refusal text.now }
 {

@@ -3,7 +3,7 @@
 use std::io::Write;
 use std::{io, str};
 
-// The words that a line begins with, and what each takes. A form is told behind its word.
+/// The words that a line begins with, and what each takes. A form is told behind its word.
 const FORMS: [(&str, &str); 18] = [
     (
         "create",
@@ -43,8 +43,8 @@ const FORMS: [(&str, &str); 18] = [
     ("foreign", "takes V LINE: V is a number below 2^64"),
 ];
 
-/// Tells in one line why the script's line of that number is bad, as far as what was kept of it shows. Where that can't be
-/// written, nothing is left to tell it on.
+/// Tells in one line why the script's line of that number is bad, as far as what was kept of it shows. Where that can't
+/// be written, nothing is left to tell it on.
 pub fn tell_bad_line<E: Write>(number: u64, kept: Option<&[u8]>, err: &mut E) {
     let _ = match kept {
         Some(line) => tell_flaw(number, line, err),
@@ -52,8 +52,8 @@ pub fn tell_bad_line<E: Write>(number: u64, kept: Option<&[u8]>, err: &mut E) {
     };
 }
 
-// Tells what is wrong with a line: it is no text, or no line begins with its first word, or what is behind that isn't what
-// such a line takes.
+/// Tells what is wrong with a line: it is no text, or no line begins with its first word, or what is behind that isn't
+/// what such a line takes.
 fn tell_flaw<E: Write>(number: u64, line: &[u8], err: &mut E) -> io::Result<()> {
     let Ok(text) = str::from_utf8(line) else {
         return err.writeln(format_args!("line {number}: it isn't UTF-8"));
@@ -71,7 +71,7 @@ fn tell_flaw<E: Write>(number: u64, line: &[u8], err: &mut E) -> io::Result<()> 
     }
 }
 
-// The text in front of its first space, or all of it.
+/// The text in front of its first space, or all of it.
 fn first_word(text: &str) -> &str {
     match text.split_once(' ') {
         Some((word, _rest)) => word,

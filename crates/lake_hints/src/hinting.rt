@@ -31,7 +31,7 @@ pub fn hint_refusal<E: Write>(
     }
 }
 
-// The limit that a job passes.
+/// The limit that a job passes.
 fn limit_passed(reply: &LineReply, job: Job<'_>, rows: u64) -> Option<&'static str> {
     match reply {
         LineReply::SinkRefused(SinkFault::FileTooLarge) => {
@@ -42,7 +42,7 @@ fn limit_passed(reply: &LineReply, job: Job<'_>, rows: u64) -> Option<&'static s
     }
 }
 
-// The limit of numbers, of rows or of versions that a job passes, which are tested in this order.
+/// The limit of numbers, of rows or of versions that a job passes, which are tested in this order.
 fn count_passed(job: Job<'_>, rows: u64) -> &'static str {
     match job {
         Job::Append { number, .. } if number > GREATEST_NUMBER => {

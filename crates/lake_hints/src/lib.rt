@@ -1,6 +1,6 @@
-//! What the program tells on standard error beside a reply: of a table that takes no rows which columns have none, of a refusal
-//! what it means and which limit was passed, of a folder's call that failed what to do about it, and of a bad line of a script
-//! what is wrong with it.
+//! What the program tells on standard error beside a reply: of a table that takes no rows which columns have none, of a
+//! refusal what it means and which limit was passed, of a folder's call that failed what to do about it, and of a bad
+//! line of a script what is wrong with it.
 #![tactic(auto)]
 
 mod flaws;

@@ -5,7 +5,8 @@ use refusal_texts::{refusal_named, refusal_of_reply};
 use std::alloc::Global;
 use std::io::Write;
 
-/// Tells what the refusal of that code means, where there is one. Where that can't be written, nothing is left to tell it on.
+/// Tells what the refusal of that code means, where there is one. Where that can't be written, nothing is left to tell
+/// it on.
 pub fn explain<E: Write>(code: &str, err: &mut E) {
     if let Some(refusal) = refusal_named(code) {
         let _ = err.writeln(refusal);

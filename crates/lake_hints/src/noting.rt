@@ -16,8 +16,8 @@ use std::io::Write;
 /// How many columns without rows are named.
 const MOST_NAMED: u64 = 10;
 
-/// Tells of a table that was created and takes no rows which of its columns are of a type that has none. Where that can't be written,
-/// nothing is left to tell it on. Takes time linear in the schema's text.
+/// Tells of a table that was created and takes no rows which of its columns are of a type that has none. Where that
+/// can't be written, nothing is left to tell it on. Takes time linear in the schema's text.
 pub fn note_rowless<E: Write>(alloc: Global, job: Job<'_>, err: &mut E)
     ensures { creates_rowless (work_view job.entry) ≡ false → err.new ≡ err.old }
 {
@@ -31,8 +31,8 @@ pub fn note_rowless<E: Write>(alloc: Global, job: Job<'_>, err: &mut E)
     }
 }
 
-// The columns that have no rows, where there are some. They are looked for once more than the first of them, so that what
-// a table takes is said by the same function as where its rows are read.
+/// The columns that have no rows, where there are some. They are looked for once more than the first of them, so that
+/// what a table takes is said by the same function as where its rows are read.
 fn rowless(alloc: Global, schema: &str) -> Option<NamedColumns>
     ensures { IfSome result (λ _. has_rowless (schema_of schema.now) ≡ true) }
 {
@@ -45,7 +45,7 @@ fn rowless(alloc: Global, schema: &str) -> Option<NamedColumns>
     }
 }
 
-// The columns of a schema that have no rows. Of many the first are named alone, so the time is linear in the schema.
+/// The columns of a schema that have no rows. Of many the first are named alone, so the time is linear in the schema.
 fn rowless_of(alloc: Global, schema: &Schema<Global>) -> Result<NamedColumns, AllocError> {
     let mut columns = NamedColumns {
         names: String::new(alloc),
@@ -65,7 +65,7 @@ struct NamedColumns {
 }
 
 impl NamedColumns {
-    // Adds the column to which these fields lead.
+    /// Adds the column to which these fields lead.
     fn add(&mut self, path: &[&str]) -> Result<(), AllocError> {
         self.count = self.count.saturating_add(1);
         if self.count > MOST_NAMED {
@@ -95,7 +95,7 @@ impl Display for NamedColumns {
     }
 }
 
-// Adds the columns below these fields, which lie in the ones above.
+/// Adds the columns below these fields, which lie in the ones above.
 #[cycle(rowless)]
 fn add_fields<'a, A: Allocator>(
     fields: &'a [Field<A>],
@@ -108,7 +108,7 @@ fn add_fields<'a, A: Allocator>(
     Ok(())
 }
 
-// Adds the columns of a field.
+/// Adds the columns of a field.
 #[cycle(rowless)]
 fn add_field<'a, A: Allocator>(
     field: &'a Field<A>,
@@ -121,7 +121,7 @@ fn add_field<'a, A: Allocator>(
     Ok(())
 }
 
-// Adds the columns of a type, to which the fields above lead.
+/// Adds the columns of a type, to which the fields above lead.
 #[cycle(rowless)]
 fn add_type<'a, A: Allocator>(
     node: &'a Node<A>,
@@ -135,7 +135,7 @@ fn add_type<'a, A: Allocator>(
     }
 }
 
-// Whether there are values of a primitive type.
+/// Whether there are values of a primitive type.
 fn has_values(primitive: Primitive) -> bool
     ensures { result ≡ has_values primitive }
 {

@@ -3,15 +3,16 @@
 use std::io::Write;
 use table_folder::Reason;
 
-/// Says what to do about a call of a folder that failed for that reason, in one plain sentence, where there is something to say.
-/// Where that can't be written, nothing is left to tell it on.
+/// Says what to do about a call of a folder that failed for that reason, in one plain sentence, where there is
+/// something to say. Where that can't be written, nothing is left to tell it on.
 pub fn hint_reason<E: Write>(reason: Reason, err: &mut E) {
     if let Some(remedy) = remedy_of(reason) {
         let _ = err.writeln(format_args!("hint: {remedy}"));
     }
 }
 
-// What to do about it. A folder that isn't there may be one where a table is to be created, or one where a table is looked for.
+/// What to do about it. A folder that isn't there may be one where a table is to be created, or one where a table is
+/// looked for.
 fn remedy_of(reason: Reason) -> Option<&'static str> {
     let remedy = match reason {
         Reason::Missing => {

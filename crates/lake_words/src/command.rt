@@ -17,13 +17,15 @@ pub enum Command<'a> {
 /// A job, and the folder of the table that it is done on.
 #[derive(Clone, Copy, Debug, PartialEq, Eq)]
 pub struct TableCommand<'a> {
+    /// The path of the table's folder.
     pub folder: &'a str,
     /// Whether the log is read from its newest checkpoint, and otherwise from version 0.
     pub use_checkpoints: bool,
+    /// The job.
     pub job: Job<'a>,
 }
 
-/// What is to be done on a table. Moments (`at`) are in milliseconds, up to 999,999,999,999,999.
+/// What is to be done on a table. Moments (`at`) are in milliseconds since 1970-01-01, up to 999,999,999,999,999.
 #[derive(Clone, Copy, Debug, PartialEq, Eq)]
 pub enum Job<'a> {
     /// Creates the table.

@@ -7,7 +7,7 @@ use clap::builder::ValueParser;
 use clap::{Arg, ArgAction};
 use std::alloc::Global;
 
-// A place of the command line that must be filled.
+/// A place of the command line that must be filled.
 pub(crate) fn place<'a>(alloc: Global, name: &'a str, help: &'a str) -> Arg<'a>
     ensures rule { rule_of result ≡ place name.now }
     ensures local { result.global ≡ false }
@@ -18,7 +18,7 @@ pub(crate) fn place<'a>(alloc: Global, name: &'a str, help: &'a str) -> Arg<'a>
         .help(help)
 }
 
-// A place that must be filled by a number.
+/// A place that must be filled by a number.
 pub(crate) fn number_place<'a>(alloc: Global, name: &'a str, help: &'a str) -> Arg<'a>
     ensures rule { rule_of result ≡ number_place name.now }
     ensures local { result.global ≡ false }
@@ -26,7 +26,7 @@ pub(crate) fn number_place<'a>(alloc: Global, name: &'a str, help: &'a str) -> A
     place(alloc, name, help).value_parser(ValueParser::Unsigned(0, u64::MAX))
 }
 
-// An option `--NAME VALUE` that must be given.
+/// An option `--NAME VALUE` that must be given.
 pub(crate) fn option<'a>(alloc: Global, name: &'a str, value: &'a str, help: &'a str) -> Arg<'a>
     ensures rule { rule_of result ≡ option name.now }
     ensures local { result.global ≡ false }
@@ -39,7 +39,7 @@ pub(crate) fn option<'a>(alloc: Global, name: &'a str, value: &'a str, help: &'a
         .help(help)
 }
 
-// An option `--NAME N` whose number lies between bounds, with a default.
+/// An option `--NAME N` whose number lies between bounds, with a default.
 pub(crate) fn number_option<'a>(
     alloc: Global,
     name: &'a str,
@@ -61,7 +61,7 @@ pub(crate) fn number_option<'a>(
         .help(help)
 }
 
-// An option `--NAME` without a value.
+/// An option `--NAME` without a value.
 pub(crate) fn flag<'a>(alloc: Global, name: &'a str, help: &'a str) -> Arg<'a>
     ensures rule { rule_of result ≡ flag name.now }
     ensures local { result.global ≡ false }

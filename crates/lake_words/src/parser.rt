@@ -1,6 +1,6 @@
 //! The commands of the program, for `clap`.
 ghost use Rattle.std.specs.Prelude.{◌≡◌, IfOk, false};
-ghost use Rattle.clap.specs.Words.{app_of, rule_of, with_rule, with_subcommand};
+ghost use Rattle.clap.specs.Words.{App, app_of, rule_of, with_rule, with_subcommand};
 ghost use Rattle.clap.specs.declared.builder.command.Command.TheViews.{out-Command as fields_of};
 ghost use Rattle.lake_words.specs.Words as words;
 ghost use Rattle.lake_words.specs.Words.{at, commands, max, no_checkpoint, on_folder, rows, tries, workers};
@@ -170,7 +170,7 @@ const SCRIPT: &str =
      \n\
      Exit status: 0 each line was answered, 1 the input or the output failed, 2 `bad line N`.";
 
-// `--at MS`.
+/// `--at MS`.
 fn at<'a>(alloc: Global) -> Arg<'a>
     ensures rule { rule_of result ≡ at }
     ensures local { result.global ≡ false }
@@ -186,7 +186,7 @@ fn at<'a>(alloc: Global) -> Arg<'a>
     )
 }
 
-// `--tries N`.
+/// `--tries N`.
 fn tries<'a>(alloc: Global) -> Arg<'a>
     ensures rule { rule_of result ≡ tries }
     ensures local { result.global ≡ false }
@@ -202,7 +202,7 @@ fn tries<'a>(alloc: Global) -> Arg<'a>
     )
 }
 
-// `--no-checkpoint`.
+/// `--no-checkpoint`.
 fn no_checkpoint<'a>(alloc: Global) -> Arg<'a>
     ensures rule { rule_of result ≡ no_checkpoint }
     ensures local { result.global ≡ false }
@@ -214,7 +214,7 @@ fn no_checkpoint<'a>(alloc: Global) -> Arg<'a>
     )
 }
 
-// `--max N`.
+/// `--max N`.
 fn max<'a>(alloc: Global) -> Arg<'a>
     ensures rule { rule_of result ≡ max }
     ensures local { result.global ≡ false }
@@ -228,7 +228,7 @@ fn max<'a>(alloc: Global) -> Arg<'a>
     .value_parser(ValueParser::Unsigned(0, 65_536))
 }
 
-// `--rows N`.
+/// `--rows N`.
 fn rows<'a>(alloc: Global) -> Arg<'a>
     ensures rule { rule_of result ≡ rows }
     ensures local { result.global ≡ false }
@@ -241,7 +241,7 @@ fn rows<'a>(alloc: Global) -> Arg<'a>
         .help("How many rows the input has: with another count nothing is appended")
 }
 
-// `--workers N`.
+/// `--workers N`.
 fn workers<'a>(alloc: Global) -> Arg<'a>
     ensures rule { rule_of result ≡ workers }
     ensures local { result.global ≡ false }
@@ -251,7 +251,7 @@ fn workers<'a>(alloc: Global) -> Arg<'a>
     )
 }
 
-// A command with one more argument.
+/// A command with one more argument.
 fn with<'a>(command: Command<'a>, arg: Arg<'a>) -> Result<Command<'a>, AllocError>
     requires { arg.global ≡ false }
     ensures app { IfOk result (λ more. app_of more ≡ with_rule (app_of command.entry) (rule_of arg.entry)) }
@@ -261,7 +261,7 @@ fn with<'a>(command: Command<'a>, arg: Arg<'a>) -> Result<Command<'a>, AllocErro
     command.arg(arg)
 }
 
-// A command on the table in a folder.
+/// A command on the table in a folder.
 fn on_folder<'a>(
     alloc: Global,
     name: &'a str,
@@ -356,7 +356,7 @@ fn tail<'a>(alloc: Global) -> Result<Command<'a>, AllocError>
     with(command, no_checkpoint(alloc))
 }
 
-// A command on a folder that has no other option than `--no-checkpoint`.
+/// A command on a folder that has no other option than `--no-checkpoint`.
 fn bare<'a>(
     alloc: Global,
     name: &'a str,
@@ -390,14 +390,19 @@ fn script<'a>(alloc: Global) -> Result<Command<'a>, AllocError>
     with(command, no_checkpoint(alloc))
 }
 
-// A command with one more subcommand.
-fn with_subcommand<'a>(command: Command<'a>, sub: Command<'a>) -> Result<Command<'a>, AllocError>
-    requires sub { (fields_of sub).has_globals ≡ false }
+/// A command with one more subcommand, which is taken as it was made: where a command is held over a `?`, its whole
+/// drop is to be proved.
+fn with_subcommand<'a>(
+    command: Command<'a>,
+    sub: Result<Command<'a>, AllocError>,
+) -> Result<Command<'a>, AllocError>
+    requires sub { IfOk sub (λ made. (fields_of made).has_globals ≡ false) }
     requires above { (fields_of command).has_globals ≡ false }
-    ensures app { IfOk result (λ more. app_of more ≡ with_subcommand (app_of command.entry) (app_of sub.entry).top) }
+    ensures app { (app : App) → IfOk sub.entry (λ made. app_of made ≡ app)
+        → IfOk result (λ more. app_of more ≡ with_subcommand (app_of command.entry) app.top) }
     ensures local { IfOk result (λ more. (fields_of more).has_globals ≡ false) }
 {
-    command.subcommand(sub)
+    command.subcommand(sub?)
 }
 
 /// The program's commands.
@@ -409,24 +414,24 @@ pub(crate) fn parser<'a>(alloc: Global) -> Result<Command<'a>, AllocError>
         .after_help(STATUSES)
         .version(VERSION)
         .subcommand_required(true);
-    let top = with_subcommand(top, create(alloc)?)?;
-    let top = with_subcommand(top, append(alloc)?)?;
-    let top = with_subcommand(top, close(alloc)?)?;
-    let top = with_subcommand(top, load(alloc)?)?;
-    let top = with_subcommand(top, tail(alloc)?)?;
-    let snapshot = bare(alloc, "snapshot", "Print the table's snapshot", SNAPSHOT)?;
+    let top = with_subcommand(top, create(alloc))?;
+    let top = with_subcommand(top, append(alloc))?;
+    let top = with_subcommand(top, close(alloc))?;
+    let top = with_subcommand(top, load(alloc))?;
+    let top = with_subcommand(top, tail(alloc))?;
+    let snapshot = bare(alloc, "snapshot", "Print the table's snapshot", SNAPSHOT);
     let top = with_subcommand(top, snapshot)?;
     let checkpoint = bare(
         alloc,
         "checkpoint",
         "Put a checkpoint of the newest version",
         CHECKPOINT,
-    )?;
+    );
     let top = with_subcommand(top, checkpoint)?;
-    let history = bare(alloc, "history", "Print what each version holds", HISTORY)?;
+    let history = bare(alloc, "history", "Print what each version holds", HISTORY);
     let top = with_subcommand(top, history)?;
-    let check = on_folder(alloc, "check", "Say whether the table is sound", CHECK)?;
+    let check = on_folder(alloc, "check", "Say whether the table is sound", CHECK);
     let top = with_subcommand(top, check)?;
-    let top = with_subcommand(top, explain(alloc)?)?;
-    with_subcommand(top, script(alloc)?)
+    let top = with_subcommand(top, explain(alloc))?;
+    with_subcommand(top, script(alloc))
 }

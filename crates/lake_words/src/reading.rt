@@ -13,28 +13,28 @@ use clap::{ArgMatches, Error};
 use std::alloc::Global;
 use std::convert::AsStr;
 
-// The text that was given.
+/// The text that was given.
 fn text_in<'a>(matches: &ArgMatches<'a>, id: &str) -> &'a str
     ensures { result.now ≡ text_in id.now (rows_of (found_of matches.now)) }
 {
     matches.get_str(id).unwrap_or("")
 }
 
-// The number that was given, if one was.
+/// The number that was given, if one was.
 fn optional_number_in(matches: &ArgMatches<'_>, id: &str) -> Option<u64>
     ensures { result ≡ optional_number_in id.now (rows_of (found_of matches.now)) }
 {
     matches.get_one::<u64>(id)
 }
 
-// The number that was given.
+/// The number that was given.
 fn number_in(matches: &ArgMatches<'_>, id: &str) -> u64
     ensures { result ≡ number_in id.now (rows_of (found_of matches.now)) }
 {
     optional_number_in(matches, id).unwrap_or(0)
 }
 
-// What is to be done, by the subcommand's name.
+/// What is to be done, by the subcommand's name.
 fn job_in<'a>(name: &str, matches: &ArgMatches<'a>) -> Option<Job<'a>>
     ensures { option_map work_view result ≡ work_of name.now (rows_of (found_of matches.now)) }
 {
@@ -101,8 +101,8 @@ fn command_in<'a>(matches: &ArgMatches<'a>) -> Command<'a>
 }
 
 /// Reads the words of a command line, of which the first is the program's name. `Spells` lists the words that ask for a
-/// script and `SpellsJob` those that ask for a job on a table, for its check or for what a refusal means, with options in
-/// the order in which the help has them; `found` says of all other words, too, what they are read as.
+/// script and `SpellsJob` those that ask for a job on a table, for its check or for what a refusal means, with options
+/// in the order in which the help has them; `found` says of all other words, too, what they are read as.
 pub fn read_words<'a, S: AsStr>(alloc: Global, words: &'a [S]) -> Result<Command<'a>, Error>
     // What is read is what `clap` finds in the words, and an error is one that they have.
     ensures found { IfOk result (AsksFor (subcommand_of commands (map S.text words.now))) }

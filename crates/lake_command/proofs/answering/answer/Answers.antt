@@ -1,9 +1,8 @@
 use Rattle.std.proofs.Common.{◌∙◌, sym, subst, ℕ, List}
-use Rattle.script_lines.specs.Lines.{statement_view}
 use Rattle.lake_script.specs.Streams.{read_failed, unread}
 use Rattle.lake_words.specs.Asked.{work_view}
 use Rattle.lake_command.specs.Failures.{CountsFolderFault}
-use Rattle.lake_command.specs.Folders.{IsTextOf}
+use Rattle.lake_command.specs.Folders.{IsTextOf, line_view}
 use Rattle.lake_command.proofs.AgainLemmas.{fails_with, folder_caused, input_alone, input_causes, input_leaves}
 use Rattle.lake_command.proofs.CountLemmas.{asked_count, refused_by}
 use Rattle.lake_command.proofs.FolderLemmas.{fails_for_job, found_asked, may_leave, replies_to_job, sound_restores, stays_sound}
@@ -14,21 +13,21 @@ returns-clause-told g c = λ steady restores.
     let work = work_view c.args.command.job in
     let known = unread g.R.Read.remaining c.args.input.now in
     let is = subst (λ (bytes : List ℕ). IsTextOf work known bytes) (sym c.deref.ensures.value) c.in_ok-text.ensures.read in
-    replies_to_job c.execute_in-outcome.result work _ (statement_view c.in-Some.line) _ _ (found_asked c.in_ok-line.field-0 c.in-Some.line _ _ c.in-Some.is (c.in_ok-line.ensures.asked known is)) (c.execute_in-outcome.ensures.told steady restores)
+    replies_to_job c.execute_in-outcome.result work _ (line_view c.in-Some.line) _ _ (found_asked c.in_ok-line.field-0 c.in-Some.line _ _ c.in-Some.is (c.in_ok-line.ensures.asked known is)) (c.execute_in-outcome.ensures.told steady restores)
 
 pub returns-clause-failed : goal.returns-clause-failed
 returns-clause-failed g c = λ steady restores.
     let work = work_view c.args.command.job in
     let known = unread g.R.Read.remaining c.args.input.now in
     let is = subst (λ (bytes : List ℕ). IsTextOf work known bytes) (sym c.deref.ensures.value) c.in_ok-text.ensures.read in
-    fails_for_job c.execute_in-outcome.result work _ (statement_view c.in-Some.line) _ _ (found_asked c.in_ok-line.field-0 c.in-Some.line _ _ c.in-Some.is (c.in_ok-line.ensures.asked known is)) (c.execute_in-outcome.ensures.failed steady) (c.execute_in-outcome.ensures.puts steady restores) (c.execute_in-outcome.ensures.named steady restores)
+    fails_for_job c.execute_in-outcome.result work _ (line_view c.in-Some.line) _ _ (found_asked c.in_ok-line.field-0 c.in-Some.line _ _ c.in-Some.is (c.in_ok-line.ensures.asked known is)) (c.execute_in-outcome.ensures.failed steady) (c.execute_in-outcome.ensures.puts steady restores) (c.execute_in-outcome.ensures.named steady restores)
 
 pub returns-clause-sound : goal.returns-clause-sound
 returns-clause-sound g c = λ steady bytes sound.
     let work = work_view c.args.command.job in
     let known = unread g.R.Read.remaining c.args.input.now in
     let is = subst (λ (bytes : List ℕ). IsTextOf work known bytes) (sym c.deref.ensures.value) c.in_ok-text.ensures.read in
-    stays_sound work _ (statement_view c.in-Some.line) _ _ bytes (found_asked c.in_ok-line.field-0 c.in-Some.line _ _ c.in-Some.is (c.in_ok-line.ensures.asked known is)) sound
+    stays_sound work _ (line_view c.in-Some.line) _ _ bytes (found_asked c.in_ok-line.field-0 c.in-Some.line _ _ c.in-Some.is (c.in_ok-line.ensures.asked known is)) sound
     (c.execute_in-outcome.ensures.puts steady (sound_restores c.args.command.use_checkpoints _ sound))
 
 pub returns-clause-puts : goal.returns-clause-puts
@@ -36,14 +35,14 @@ returns-clause-puts g c = λ steady restores.
     let work = work_view c.args.command.job in
     let known = unread g.R.Read.remaining c.args.input.now in
     let is = subst (λ (bytes : List ℕ). IsTextOf work known bytes) (sym c.deref.ensures.value) c.in_ok-text.ensures.read in
-    may_leave work _ (statement_view c.in-Some.line) _ _ (found_asked c.in_ok-line.field-0 c.in-Some.line _ _ c.in-Some.is (c.in_ok-line.ensures.asked known is)) (c.execute_in-outcome.ensures.puts steady restores)
+    may_leave work _ (line_view c.in-Some.line) _ _ (found_asked c.in_ok-line.field-0 c.in-Some.line _ _ c.in-Some.is (c.in_ok-line.ensures.asked known is)) (c.execute_in-outcome.ensures.puts steady restores)
 
 pub returns-clause-caused : goal.returns-clause-caused
 returns-clause-caused g c =
     let work = work_view c.args.command.job in
     let known = unread g.R.Read.remaining c.args.input.now in
     let is = subst (λ (bytes : List ℕ). IsTextOf work known bytes) (sym c.deref.ensures.value) c.in_ok-text.ensures.read in
-    folder_caused c.execute_in-outcome.result work known _ (statement_view c.in-Some.line) _ _ (found_asked c.in_ok-line.field-0 c.in-Some.line _ _ c.in-Some.is (c.in_ok-line.ensures.asked known is)) c.execute_in-outcome.ensures.caused
+    folder_caused c.execute_in-outcome.result work known _ (line_view c.in-Some.line) _ _ (found_asked c.in_ok-line.field-0 c.in-Some.line _ _ c.in-Some.is (c.in_ok-line.ensures.asked known is)) c.execute_in-outcome.ensures.caused
     c.in_ok-text.ensures.broken c.in_ok-text.ensures.too_long c.execute_in-outcome.ensures.faults
 
 pub returns-then-none_failed-clause-caused : goal.returns-then-none_failed-clause-caused
@@ -52,7 +51,7 @@ returns-then-none_failed-clause-caused g c =
     let known = unread g.R.Read.remaining c.args.input.now in
     let is = subst (λ (bytes : List ℕ). IsTextOf work known bytes) (sym c.deref.ensures.value) c.in_ok-text.ensures.read in
     let level = sym c.faults.ensures ∙ c.none_failed.ensures.same c.if-none_failed.true ∙ c.faults-before.ensures in
-    folder_caused c.run_again.result work known _ (statement_view c.in-Some.line) _ _ (found_asked c.in_ok-line.field-0 c.in-Some.line _ _ c.in-Some.is (c.in_ok-line.ensures.asked known is)) c.run_again.ensures.caused
+    folder_caused c.run_again.result work known _ (line_view c.in-Some.line) _ _ (found_asked c.in_ok-line.field-0 c.in-Some.line _ _ c.in-Some.is (c.in_ok-line.ensures.asked known is)) c.run_again.ensures.caused
     c.in_ok-text.ensures.broken c.in_ok-text.ensures.too_long
     (subst (λ (n : ℕ). CountsFolderFault c.run_again.result n (g.F.Folder.fault_count c.run_again.new.folder)) level c.run_again.ensures.faults)
 
@@ -83,14 +82,14 @@ returns-clause-counted g c = λ other.
     let work = work_view c.args.command.job in
     let known = unread g.R.Read.remaining c.args.input.now in
     let is = subst (λ (bytes : List ℕ). IsTextOf work known bytes) (sym c.deref.ensures.value) c.in_ok-text.ensures.read in
-    absurd (asked_count work known (statement_view c.in-Some.line) (found_asked c.in_ok-line.field-0 c.in-Some.line _ _ c.in-Some.is (c.in_ok-line.ensures.asked known is)) other)
+    absurd (asked_count work known (line_view c.in-Some.line) (found_asked c.in_ok-line.field-0 c.in-Some.line _ _ c.in-Some.is (c.in_ok-line.ensures.asked known is)) other)
 
 pub returns-then-none_failed-clause-counted : goal.returns-then-none_failed-clause-counted
 returns-then-none_failed-clause-counted g c = λ other.
     let work = work_view c.args.command.job in
     let known = unread g.R.Read.remaining c.args.input.now in
     let is = subst (λ (bytes : List ℕ). IsTextOf work known bytes) (sym c.deref.ensures.value) c.in_ok-text.ensures.read in
-    absurd (asked_count work known (statement_view c.in-Some.line) (found_asked c.in_ok-line.field-0 c.in-Some.line _ _ c.in-Some.is (c.in_ok-line.ensures.asked known is)) other)
+    absurd (asked_count work known (line_view c.in-Some.line) (found_asked c.in_ok-line.field-0 c.in-Some.line _ _ c.in-Some.is (c.in_ok-line.ensures.asked known is)) other)
 
 pub returns-in_err-line-clause-counted : goal.returns-in_err-line-clause-counted
 returns-in_err-line-clause-counted g c = λ other.

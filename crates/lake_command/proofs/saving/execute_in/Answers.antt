@@ -7,3 +7,6 @@ returns-in-Job-Tail-clause-told g c = λ steady well.
 
 pub returns-in-Snapshot-clause-told : goal.returns-in-Snapshot-clause-told
 returns-in-Snapshot-clause-told g c = λ steady well. rw (c.in-Snapshot.is, c.snapshot_in.ensures.untouched steady) (c.snapshot_in.ensures.told steady well)
+
+pub returns-in-History-clause-told : goal.returns-in-History-clause-told
+returns-in-History-clause-told g c = λ steady well. rw (c.in-History.is, c.history_in.ensures.untouched steady) (c.history_in.ensures.told steady well)
