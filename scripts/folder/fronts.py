@@ -15,7 +15,7 @@ BATCHES = 400
 OTHERS, MORE = 14, 6
 
 # The version of the offset, and how many files of commits and batches a read of one row from there on opens, at least
-# and at most. The commits in front of it tell the schema. A front is looked at first where it reads less than half of
+# and at most. The commits in front of it tell the schema. A front is looked at first where it reads at most half of
 # what the whole log does; else each commit is opened once. Where no batch has rows, the front is looked at in vain.
 READS = ((1, 0, 2), (100, 100, 101), (180, 180, 181), (350, BATCHES + 1, BATCHES + 2))
 WITHOUT_ROWS = ((1, 2 * BATCHES + 1, 2 * BATCHES + 1 + MORE),)

@@ -11,12 +11,14 @@ use std::fmt::{Display, Formatter};
 use table_log::LogFault;
 use thiserror::Error;
 
-/// Why a sink refuses to append a batch of rows, or to close a stream. Its texts are written by hand, so that contracts know them.
+/// Why a sink refuses to append a batch of rows, or to close a stream. Its texts are written by hand, so that contracts
+/// know them.
 #[derive(Debug, Error)]
 pub enum SinkFault {
     /// The application's id has no bytes, or over 64.
     BadApp,
-    /// The number passes 999,999,999,999, there are more than 65,536 rows, or no commit has the version that comes next.
+    /// The number passes 999,999,999,999, there are more than 65,536 rows, or no commit has the version that comes
+    /// next.
     TooLarge,
     /// The file passes 64 MiB.
     FileTooLarge,
@@ -36,8 +38,8 @@ pub enum SinkFault {
     SchemaChanged { version: u64 },
     /// As many versions as may be tried were taken meanwhile, the last of them this one.
     Contended { newest: u64 },
-    /// A call of the store was lost: the put of the commit of that version, which may have taken effect, or may do so later, or
-    /// never; or another call.
+    /// A call of the store was lost: the put of the commit of that version, which may have taken effect, or may do so
+    /// later, or never; or another call.
     Lost { version: Option<u64> },
     /// A growth was refused, and no put is known to have created the commit.
     Memory,

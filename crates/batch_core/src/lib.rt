@@ -1,5 +1,5 @@
-//! A batch of rows and the close of a stream, as what the rules let be done over a log: the rows of a batch, its file, the commit
-//! of either, and what is compared with a file that stands.
+//! A batch of rows and the close of a stream, as what the rules let be done over a log: the rows of a batch, its file,
+//! the commit of either, and what is compared with a file that stands.
 #![tactic(auto)]
 
 mod batch;

@@ -78,8 +78,8 @@ impl Words<'_> {
     }
 }
 
-/// Tells the values in front of a hybrid, for `WIDTH COUNT BYTES`: each with how often it stands there, and how many bytes
-/// are left; or why it is refused.
+/// Tells the values in front of a hybrid, for `WIDTH COUNT BYTES`: each with how often it stands there, and how many
+/// bytes are left; or why it is refused.
 pub fn tell_hybrid(words: &mut Words<'_>, told: &mut Transcript) -> Result<(), LineFault> {
     let word = words.word();
     let width = words.width(word);

@@ -1,8 +1,8 @@
-//! Lines of cases as words: what a line asks for, the bytes, numbers and levels that it spells, and what is told of it, as
-//! text. It knows nothing of schemas, rows and files.
+//! Lines of cases as words: what a line asks for, the bytes, numbers and levels that it spells, and what is told of it,
+//! as text. It knows nothing of schemas, rows and files.
 //!
-//! Reading words and telling go on after a fault: it is remembered, and told at the end. So what is called on the way gives
-//! no results that have to be looked at.
+//! Reading words and telling go on after a fault: it is remembered, and told at the end. So what is called on the way
+//! gives no results that have to be looked at.
 #![tactic(auto)]
 
 mod fault;

@@ -7,8 +7,8 @@ use crate::transcript::Transcript;
 use std::alloc::{AllocError, Global};
 use std::collections::BTreeMap;
 
-/// Bytes that are spoiled at a place, in one of four ways: cut there for 0; else without the byte there for 1, and with 00
-/// and FF in place of it for 2 and 3.
+/// Bytes that are spoiled at a place, in one of four ways: cut there for 0; else without the byte there for 1, and with
+/// 00 and FF in place of it for 2 and 3.
 pub fn spoiled(alloc: Global, bytes: &[u8], place: usize, way: usize) -> Result<Vec<u8>, AllocError>
     requires { place < length bytes.now }
 {

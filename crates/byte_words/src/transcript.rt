@@ -142,7 +142,8 @@ impl Transcript {
         }
     }
 
-    /// Tells, in a line of its own, why something is refused; unless it is since memory was, which all errors tell alike.
+    /// Tells, in a line of its own, why something is refused; unless it is since memory was, which all errors tell
+    /// alike.
     pub fn refused<E: Display>(&mut self, error: &E) -> LineFault {
         let mut why = Transcript::new(self.alloc(), "");
         why.show("", error);

@@ -35,7 +35,7 @@ pub fn tell_call(store: &mut CaseStore, word: &str, rest: &str, told: &mut Trans
     }
 }
 
-// Adds what stands under a name in the store below, which loses no call.
+/// Adds what stands under a name in the store below, which loses no call.
 fn tell_standing(store: &mut CaseStore, name: &str, told: &mut Transcript) {
     match store.store.get(name) {
         Ok(Some(bytes)) => tell_object("stands", &bytes, told),
@@ -44,7 +44,7 @@ fn tell_standing(store: &mut CaseStore, name: &str, told: &mut Transcript) {
     }
 }
 
-// The call that a line asks for.
+/// The call that a line asks for.
 fn request_of(word: &str, rest: &str, told: &mut Transcript) -> Request {
     match word {
         "list" if rest.is_empty() => Request::List,
@@ -64,7 +64,7 @@ fn request_of(word: &str, rest: &str, told: &mut Transcript) -> Request {
     }
 }
 
-// Adds the answer of a call.
+/// Adds the answer of a call.
 fn tell_reply(reply: &Reply, told: &mut Transcript) {
     match reply {
         Reply::Names(names) => tell_names(names.as_slice(), told),
@@ -76,7 +76,7 @@ fn tell_reply(reply: &Reply, told: &mut Transcript) {
     }
 }
 
-// Adds names in a line.
+/// Adds names in a line.
 fn tell_names(names: &[String], told: &mut Transcript) {
     told.text("names");
     for name in names {
@@ -86,7 +86,7 @@ fn tell_names(names: &[String], told: &mut Transcript) {
     told.text("\n");
 }
 
-// Adds the bytes of an object, behind a word.
+/// Adds the bytes of an object, behind a word.
 fn tell_object(word: &str, bytes: &[u8], told: &mut Transcript) {
     told.text(word);
     told.text(" ");

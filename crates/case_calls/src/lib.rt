@@ -1,6 +1,6 @@
-//! Stores and folders of cases: calls of a store as lines, what becomes of them, and what they answer; sessions that wait for
-//! their answers; scripts with what stands before they run; and folders that another process writes to as well. It knows nothing
-//! of tables and their logs.
+//! Stores and folders of cases: calls of a store as lines, what becomes of them, and what they answer; sessions that
+//! wait for their answers; scripts with what stands before they run; and folders that another process writes to as
+//! well. It knows nothing of tables and their logs.
 #![tactic(auto)]
 
 mod calls;

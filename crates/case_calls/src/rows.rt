@@ -3,8 +3,8 @@
 use case_words::Transcript;
 use json_text::{ArrayText, JsonRows, TextError};
 
-/// The rows of these words: a JSON array, or `fill N`, which is so many rows with a text of 1 MiB under `s`. `None` where they are
-/// misspelled or memory runs out.
+/// The rows of these words: a JSON array, or `fill N`, which is so many rows with a text of 1 MiB under `s`. `None`
+/// where they are misspelled or memory runs out.
 pub fn spelled_rows(text: &str, told: &mut Transcript) -> Option<JsonRows<'static>> {
     match text.strip_prefix("fill ") {
         Some(count) => {
@@ -15,7 +15,7 @@ pub fn spelled_rows(text: &str, told: &mut Transcript) -> Option<JsonRows<'stati
     }
 }
 
-// The rows of a JSON array.
+/// The rows of a JSON array.
 fn rows_in(text: &str, told: &mut Transcript) -> Option<JsonRows<'static>> {
     match ArrayText::from_text(told.alloc, text) {
         Ok(array) => Some(JsonRows::Array(array)),
@@ -30,7 +30,7 @@ fn rows_in(text: &str, told: &mut Transcript) -> Option<JsonRows<'static>> {
     }
 }
 
-// So many rows as a JSON array.
+/// So many rows as a JSON array.
 fn filled(count: &str, told: &mut Transcript) -> Transcript {
     let mut rows = Transcript::new(told.alloc);
     rows.text("[");

@@ -93,12 +93,12 @@ impl<'a> Script<'a> {
     /// - `object NAME TEXT` and `commit V TEXT` put an object, or the commit of a version, before the script runs;
     /// - `meets TURN ..`: the store's calls meet these turns, each `pass`, `request` (the request is lost) or `answer`
     ///   (the answer is), and past them every call passes;
-    /// - `words WORD ..` runs the command of these words, with the lines behind it, up to the next such directive, on its
-    ///   standard input, over a folder in memory that holds the objects, whatever its name is;
-    /// - `stops before N`, `stops after N`: of the files that the command makes the one after N others fails, before it is
-    ///   made or after;
-    /// - `rival N NAME TEXT`: right before the command makes the file after N others, another process makes this one, where
-    ///   nothing of that name stands;
+    /// - `words WORD ..` runs the command of these words, with the lines behind it, up to the next such directive, on
+    ///   its standard input, over a folder in memory that holds the objects, whatever its name is;
+    /// - `stops before N`, `stops after N`: of the files that the command makes the one after N others fails, before it
+    ///   is made or after;
+    /// - `rival N NAME TEXT`: right before the command makes the file after N others, another process makes this one,
+    ///   where nothing of that name stands;
     /// - `folder NAME`: the commands run on the disk, where a new folder of that name is made for them;
     /// - `plain` runs the script over the plain table;
     /// - `replays`: logs are read from version 0, without a checkpoint;
@@ -122,7 +122,7 @@ impl<'a> Script<'a> {
         }
     }
 
-    // Sets what a directive says of how it is run or told.
+    /// Sets what a directive says of how it is run or told.
     fn set(&mut self, directive: &'a str, told: &mut Transcript) {
         let (key, number) = directive.rsplit_once(' ').unwrap_or((directive, ""));
         if FLAGS.contains(&directive) {
@@ -186,7 +186,7 @@ impl<'a> Script<'a> {
         }
     }
 
-    // Begins a command line; the script so far is the input of the one before it.
+    /// Begins a command line; the script so far is the input of the one before it.
     fn begin(&mut self, words: &'a str, told: &mut Transcript) {
         self.end_run(told.alloc);
         let run = Run {
@@ -205,7 +205,7 @@ impl<'a> Script<'a> {
         }
     }
 
-    // Says which file's making fails in the last command line.
+    /// Says which file's making fails in the last command line.
     fn stop(&mut self, text: &str, told: &mut Transcript) {
         let (when, count) = told.halves(text);
         let count = told.number(count);
@@ -220,7 +220,7 @@ impl<'a> Script<'a> {
         }
     }
 
-    // Adds a file that another process makes during the last command line.
+    /// Adds a file that another process makes during the last command line.
     fn add_rival(&mut self, names: &Bindings<'_>, text: &'a str, told: &mut Transcript) {
         let (behind, text) = told.halves(text);
         let (name, text) = head(text);
@@ -238,7 +238,7 @@ impl<'a> Script<'a> {
         }
     }
 
-    // Adds a text so many times, `#` in it being the count.
+    /// Adds a text so many times, `#` in it being the count.
     fn repeat(&mut self, names: &Bindings<'_>, text: &str, told: &mut Transcript) {
         let (times, text) = told.halves(text);
         for count in 0..told.number(times) {
@@ -254,7 +254,7 @@ impl<'a> Script<'a> {
         }
     }
 
-    // Puts an object, unless its name stands.
+    /// Puts an object, unless its name stands.
     fn put(&mut self, names: &Bindings<'_>, text: &str, told: &mut Transcript) {
         let (name, text) = head(text);
         let mut bytes = Vec::new(told.alloc);
@@ -265,7 +265,7 @@ impl<'a> Script<'a> {
         }
     }
 
-    // Puts the commit of a version, unless it stands.
+    /// Puts the commit of a version, unless it stands.
     fn put_commit(&mut self, names: &Bindings<'_>, text: &str, told: &mut Transcript) {
         let (version, text) = head(text);
         let version = told.number(version);

@@ -23,8 +23,8 @@ impl Drop for Rival<'_> {
     }
 }
 
-/// A folder in memory, in which rivals make their files right before the command comes to make one. Nothing is claimed of
-/// it: it is never steady.
+/// A folder in memory, in which rivals make their files right before the command comes to make one. Nothing is claimed
+/// of it: it is never steady.
 pub struct SharedFolder<'a> {
     alloc: Global,
     files: MemoryFolder,
@@ -67,7 +67,7 @@ impl<'a> SharedFolder<'a> {
     }
 }
 
-// The rivals whose turn it is make their files, where the names are absent.
+/// The rivals whose turn it is make their files, where the names are absent.
 fn make_rivals(
     alloc: Global,
     store: &mut MemoryStore,

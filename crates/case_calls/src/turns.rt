@@ -21,8 +21,8 @@ pub fn turn_of(word: &str, told: &mut Transcript) -> Turn {
     }
 }
 
-/// Adds turns of these names, with a space between each two, behind those that the store was given. Where one of them is
-/// misspelled, none is added.
+/// Adds turns of these names, with a space between each two, behind those that the store was given. Where one of them
+/// is misspelled, none is added.
 pub fn add_turns(store: &mut CaseStore, words: &str, told: &mut Transcript) {
     for word in words.split(' ') {
         turn_of(word, told);

@@ -27,7 +27,7 @@ impl<N: Session + Drop> Drop for Waiting<N> {
 }
 
 impl<N: Session + Drop> Waiting<N> {
-    // The session, and the call that it asks for.
+    /// The session, and the call that it asks for.
     fn into_parts(self) -> (N, Request)
         ensures kind { N.awaits result.0 ≡ Some (kind_of (asked_view result.1)) }
         ensures unended { N.done result.0 ≡ false }
@@ -52,8 +52,8 @@ where
     go_on(waiting, session, None, told)
 }
 
-/// Makes the call that a session asks for; or tells it that memory ran out in that call, which isn't made. Adds what it asks
-/// for next, or else tells how it ended.
+/// Makes the call that a session asks for; or tells it that memory ran out in that call, which isn't made. Adds what it
+/// asks for next, or else tells how it ended.
 pub fn step<N: Session + Drop>(
     store: &mut CaseStore,
     waiting: &mut Option<Waiting<N>>,
@@ -76,7 +76,7 @@ where
     go_on(waiting, session, Some(reply), told)
 }
 
-// Tells a session an answer. It waits where it asks for another call.
+/// Tells a session an answer. It waits where it asks for another call.
 fn go_on<N: Session + Drop>(
     waiting: &mut Option<Waiting<N>>,
     session: N,

@@ -25,7 +25,7 @@ pub fn tell_list(snapshot: &Snapshot, word: &str, told: &mut Transcript) {
     }
 }
 
-// Adds the applications whose streams are closed.
+/// Adds the applications whose streams are closed.
 fn tell_closed(snapshot: &Snapshot, told: &mut Transcript) {
     match snapshot.closed(told.alloc) {
         Ok(applications) => {

@@ -43,13 +43,13 @@ impl Growing {
         }
     }
 
-    // The lines that are begun; none are behind them.
+    /// The lines that are begun; none are behind them.
     fn take(&mut self, told: &Transcript) -> Vec<u8> {
         mem::replace(&mut self.lines, Vec::new(told.alloc))
     }
 
-    /// Ends the commit that is begun, if one is: it is kept as the next version, and the snapshot takes its actions in. A
-    /// commit that can't be read is told, and changes no snapshot.
+    /// Ends the commit that is begun, if one is: it is kept as the next version, and the snapshot takes its actions in.
+    /// A commit that can't be read is told, and changes no snapshot.
     pub fn end_commit(&mut self, told: &mut Transcript) {
         if self.lines.is_empty() {
             return;
@@ -63,7 +63,7 @@ impl Growing {
         }
     }
 
-    // Keeps a commit as the next version.
+    /// Keeps a commit as the next version.
     fn keep(&mut self, bytes: &[u8], told: &mut Transcript) {
         let version = self.kept.next;
         match version_of(told.alloc, bytes) {
@@ -78,7 +78,7 @@ impl Growing {
         self.kept.next = self.kept.next.saturating_add(1);
     }
 
-    // The snapshot takes the actions of a commit in. Adds the applications whose streams they close.
+    /// The snapshot takes the actions of a commit in. Adds the applications whose streams they close.
     fn take_in(&mut self, actions: Vec<Action>, told: &mut Transcript) {
         for action in &actions {
             tell_close(action, told);
@@ -86,8 +86,8 @@ impl Growing {
         told.note(self.snapshot.apply(told.alloc, actions));
     }
 
-    /// Adds lines to those that are begun: `FILES APPLICATIONS`, so many files, and so many applications' numbers, named by
-    /// their places.
+    /// Adds lines to those that are begun: `FILES APPLICATIONS`, so many files, and so many applications' numbers,
+    /// named by their places.
     pub fn grow(&mut self, sizes: &str, told: &mut Transcript) {
         let (files, applications) = told.halves(sizes);
         let files = told.number(files);
@@ -132,8 +132,8 @@ impl Growing {
         }
     }
 
-    /// Adds what the log of the store is loaded as: the version that comes next, and all applications with their numbers, a
-    /// line each; or the first version of those that are read that is missing or can't be read.
+    /// Adds what the log of the store is loaded as: the version that comes next, and all applications with their
+    /// numbers, a line each; or the first version of those that are read that is missing or can't be read.
     pub fn tell_loaded(&mut self, restores: bool, told: &mut Transcript) {
         match load(told.alloc, &mut self.store, restores) {
             Ok(loaded) => {
@@ -145,8 +145,8 @@ impl Growing {
         }
     }
 
-    /// Adds how many of the texts are read as a version's checkpoint, and how many are refused by each code, that are the lines
-    /// that are begun, cut before each byte, and with each byte changed to 00 and to FF.
+    /// Adds how many of the texts are read as a version's checkpoint, and how many are refused by each code, that are
+    /// the lines that are begun, cut before each byte, and with each byte changed to 00 and to FF.
     pub fn tell_spoiled(&mut self, version: &str, told: &mut Transcript) {
         let version = told.number(version);
         let bytes = self.take(told);
@@ -162,7 +162,7 @@ impl Growing {
     }
 }
 
-// Adds the application whose stream an action closes.
+/// Adds the application whose stream an action closes.
 fn tell_close(action: &Action, told: &mut Transcript) {
     match closes(told.alloc, action) {
         Ok(Some(application)) => told.tell("closes", &application),
@@ -171,7 +171,7 @@ fn tell_close(action: &Action, told: &mut Transcript) {
     }
 }
 
-// That bytes are read as a version's checkpoint, or the code by which they are refused.
+/// That bytes are read as a version's checkpoint, or the code by which they are refused.
 fn code_of(bytes: &[u8], version: u64, told: &mut Transcript) -> &'static str {
     match read_checkpoint(told.alloc, bytes, version) {
         Ok(_snapshot) => "read",

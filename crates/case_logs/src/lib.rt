@@ -1,5 +1,5 @@
-//! Logs of cases, which are given as text, and what their snapshots and checkpoints answer. It knows nothing of rows, and of
-//! stores but such as hold what a case puts.
+//! Logs of cases, which are given as text, and what their snapshots and checkpoints answer. It knows nothing of rows,
+//! and of stores but such as hold what a case puts.
 #![tactic(auto)]
 
 mod answers;

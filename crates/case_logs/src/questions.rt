@@ -1,16 +1,17 @@
 //! Logs that grow commit by commit, and the questions that each is asked.
 //!
-//! A line `== NAME` begins a case, the log without commits. A line that begins with `>> ` is a question. Any other line is one of
-//! the commit that is begun, which the next question ends; but these are of the lines that are begun, and end no commit:
+//! A line `== NAME` begins a case, the log without commits. A line that begins with `>> ` is a question. Any other line
+//! is one of the commit that is begun, which the next question ends; but these are of the lines that are begun, and end
+//! no commit:
 //!
-//! - `grow FILES APPLICATIONS`: they are followed by those of so many files, and of so many applications' numbers, named by
-//!   their places;
+//! - `grow FILES APPLICATIONS`: they are followed by those of so many files, and of so many applications' numbers,
+//!   named by their places;
 //! - `restore V`: they are read as that version's checkpoint, and its snapshot takes the place of the log's;
-//! - `spoil V`: they are read as that version's checkpoint, cut before each byte, and with each byte changed to 00 and to
-//!   FF. It tells how many of these are read, and how many are refused by each code;
+//! - `spoil V`: they are read as that version's checkpoint, cut before each byte, and with each byte changed to 00 and
+//!   to FF. It tells how many of these are read, and how many are refused by each code;
 //! - `object NAME`: they are put under that name into the store;
-//! - `load` and `load restore`: what the log of the store is loaded as, with `restore` from its newest checkpoint that reads
-//!   well.
+//! - `load` and `load restore`: what the log of the store is loaded as, with `restore` from its newest checkpoint that
+//!   reads well.
 //!
 //! The others are:
 //!
@@ -53,7 +54,7 @@ pub fn tell_logs(text: &str, told: &mut Transcript) {
     }
 }
 
-// Does what a question says.
+/// Does what a question says.
 fn take(log: &mut Growing, question: &str, told: &mut Transcript) {
     let (word, rest) = head(question);
     match word {
@@ -69,7 +70,7 @@ fn take(log: &mut Growing, question: &str, told: &mut Transcript) {
     }
 }
 
-// Adds the answer to a question, in front of which the commit that is begun was ended.
+/// Adds the answer to a question, in front of which the commit that is begun was ended.
 fn answer(log: &mut Growing, word: &str, rest: &str, told: &mut Transcript) {
     let snapshot = &log.snapshot;
     match word {

@@ -72,7 +72,7 @@ pub fn tell_sizes(snapshot: &Snapshot, told: &mut Transcript) {
     told.text("\n");
 }
 
-// Adds how many of a kind there are.
+/// Adds how many of a kind there are.
 fn tell_size<T, E: Drop>(kind: &str, found: Result<Vec<&T>, E>, told: &mut Transcript) {
     told.text(kind);
     match found {

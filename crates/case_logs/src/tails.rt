@@ -31,7 +31,7 @@ pub fn tell_tail(log: &Log, version: &str, told: &mut Transcript) {
     }
 }
 
-// Adds a line for a version that a read stops at; a schema that changes counts behind the first one alone.
+/// Adds a line for a version that a read stops at; a schema that changes counts behind the first one alone.
 fn tell_standing(
     schema: &SchemaText<'_>,
     log: &Log,
@@ -53,7 +53,7 @@ fn tell_standing(
     }
 }
 
-// Adds that a version changes the schema, if it does.
+/// Adds that a version changes the schema, if it does.
 fn tell_change(schema: &SchemaText<'_>, found: &Version, at: u64, told: &mut Transcript) {
     match changes_schema(told.alloc, schema.text, &schema.schema, found) {
         Ok(true) => told.tell("changes", &at),

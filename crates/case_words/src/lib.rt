@@ -1,5 +1,5 @@
-//! Cases as they are written and told: lines of words and numbers, the bytes that a text spells, streams that fail where a case
-//! wants it, and what is told of all that. It knows nothing of stores, tables and their logs.
+//! Cases as they are written and told: lines of words and numbers, the bytes that a text spells, streams that fail
+//! where a case wants it, and what is told of all that. It knows nothing of stores, tables and their logs.
 #![tactic(auto)]
 
 mod bytes;

@@ -33,9 +33,9 @@ impl<'a> Bindings<'a> {
         told.note(self.named.push((name, bytes)));
     }
 
-    /// Adds the bytes that a text spells: `\n`, `\r` and `\t` stand for a newline, a carriage return and a tab, `\x{..}` for
-    /// bytes in hexadecimal, and `${NAME}` for the bytes that were named so. Everything else, another backslash too, stands
-    /// for itself.
+    /// Adds the bytes that a text spells: `\n`, `\r` and `\t` stand for a newline, a carriage return and a tab,
+    /// `\x{..}` for bytes in hexadecimal, and `${NAME}` for the bytes that were named so. Everything else, another
+    /// backslash too, stands for itself.
     pub fn spell(&self, text: &str, bytes: &mut Vec<u8>, told: &mut Transcript) {
         let mut is_behind = false;
         for part in text.split('\\') {
@@ -48,7 +48,7 @@ impl<'a> Bindings<'a> {
         }
     }
 
-    // Adds what a backslash and the text behind it stand for.
+    /// Adds what a backslash and the text behind it stand for.
     fn add_escaped(&self, text: &str, bytes: &mut Vec<u8>, told: &mut Transcript) {
         for (letter, byte) in LETTERS {
             if let Some(rest) = text.strip_prefix(letter) {
@@ -69,7 +69,7 @@ impl<'a> Bindings<'a> {
         }
     }
 
-    // Adds a text without backslashes.
+    /// Adds a text without backslashes.
     fn add_plain(&self, text: &str, bytes: &mut Vec<u8>, told: &mut Transcript) {
         let mut is_behind = false;
         for part in text.split("${") {
@@ -85,7 +85,7 @@ impl<'a> Bindings<'a> {
         }
     }
 
-    // Adds the bytes that were named so last.
+    /// Adds the bytes that were named so last.
     fn add_named(&self, name: &str, bytes: &mut Vec<u8>, told: &mut Transcript) {
         for (known, found) in self.named.iter().rev() {
             if *known == name {
@@ -96,7 +96,7 @@ impl<'a> Bindings<'a> {
     }
 }
 
-// Adds the bytes that digits spell.
+/// Adds the bytes that digits spell.
 fn add_decoded(digits: &str, bytes: &mut Vec<u8>, told: &mut Transcript) {
     match hex::decode(told.alloc, digits) {
         Ok(decoded) => told.note(bytes.extend_from_slice(&decoded)),

@@ -20,7 +20,7 @@ pub const SOUND: Manner = Manner {
     until: usize::MAX,
 };
 
-// The lesser number.
+/// The lesser number.
 fn lesser(one: usize, other: usize) -> usize
     ensures one { result ≤ one }
     ensures other { result ≤ other }
@@ -28,7 +28,7 @@ fn lesser(one: usize, other: usize) -> usize
     if one < other { one } else { other }
 }
 
-// How many bytes a call moves.
+/// How many bytes a call moves.
 fn count_of(manner: Manner, wanted: usize) -> usize
     ensures wanted { result ≤ wanted }
     ensures until { result ≤ manner.until }

@@ -5,8 +5,8 @@ use std::fmt::Display;
 use std::io::Write;
 use std::str;
 
-/// What is told so far. It remembers whether memory ran out and whether a line is misspelled: so nobody has to look at each
-/// step whether it failed, and what is made of a step that did is nothing, 0 or the least number that is allowed.
+/// What is told so far. It remembers whether memory ran out and whether a line is misspelled: so nobody has to look at
+/// each step whether it failed, and what is made of a step that did is nothing, 0 or the least number that is allowed.
 pub struct Transcript {
     pub alloc: Global,
     bytes: Vec<u8>,

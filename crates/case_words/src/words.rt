@@ -9,8 +9,8 @@ pub fn head(line: &str) -> (&str, &str) {
     line.split_once(' ').unwrap_or((line, ""))
 }
 
-/// What a commit reads besides its own, as words name it: ids of applications, each by `application=ID`, and names of domains,
-/// each by `domain=NAME`.
+/// What a commit reads besides its own, as words name it: ids of applications, each by `application=ID`, and names of
+/// domains, each by `domain=NAME`.
 pub fn reads_of(words: &str, told: &mut Transcript) -> (Vec<String>, Vec<String>) {
     let mut applications = Vec::new(told.alloc);
     let mut domains = Vec::new(told.alloc);

@@ -1,4 +1,4 @@
-// Why a commit wasn't put.
+//! Why a commit wasn't put.
 ghost use Rattle.std.specs.Prelude.{◌≡◌};
 ghost use Rattle.commit_core.specs.declared.commit_fault.CommitFault.TheVariants as faults;
 
@@ -11,8 +11,8 @@ pub enum CommitFault {
     BadLog { version: u64 },
     /// The next version is one that no commit can have.
     PastLimit,
-    /// A call was lost: the put of that version, which may have taken effect, or may do so later, or never; or a get, where
-    /// there is no version.
+    /// A call was lost: the put of that version, which may have taken effect, or may do so later, or never; or a get,
+    /// where there is no version.
     Lost { version: Option<u64> },
     /// A growth was refused, before the put or behind one that isn't known to have created the commit.
     Memory,

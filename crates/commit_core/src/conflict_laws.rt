@@ -1,4 +1,4 @@
-// Laws of which commits conflict with a candidate. Each is a function that does nothing, whose contract is the law.
+//! Laws of which commits conflict with a candidate. Each is a function that does nothing, whose contract is the law.
 ghost use Rattle.std.specs.Prelude.{◌≢◌, ℕ, List, [], ◌∷◌};
 ghost use Rattle.std.specs.List.{Contains};
 ghost use Rattle.std.specs.Str.{IsUtf8};
@@ -18,10 +18,10 @@ pub fn a_candidate_reads_its_own()
     ensures { (candidate : Candidate) → ReadsItsOwn (candidate_view candidate) }
 {}
 
-/// The commit of batches that reads no more than it has to doesn't conflict with a commit of other applications' batches,
-/// nor with one that closes another application's stream, whatever the schemas are. The commit of a close that reads the
-/// domain of its own close, and nothing else, doesn't conflict with a commit of batches, nor with one that closes another
-/// application's stream.
+/// The commit of batches that reads no more than it has to doesn't conflict with a commit of other applications'
+/// batches, nor with one that closes another application's stream, whatever the schemas are. The commit of a close that
+/// reads the domain of its own close, and nothing else, doesn't conflict with a commit of batches, nor with one that
+/// closes another application's stream.
 pub fn other_streams_do_not_conflict()
     ensures batch { (schema other : Schema) (bs cs : List Batch) (made won : List Action) → StandFor schema (group bs) (without_commit_info made) → StandFor other (group cs) (without_commit_info won)
         → ((b c : Batch) → Contains bs b → Contains cs c → IsUtf8 b.application × IsUtf8 c.application × (b.application ≢ c.application)) → Conflicts (reading made [] []) won → ⊥ }

@@ -1,4 +1,4 @@
-// Why a table isn't created.
+//! Why a table isn't created.
 ghost use Rattle.std.specs.Prelude.{Some};
 ghost use Rattle.commit_core.specs.Texts.{create_fault_text};
 

@@ -1,5 +1,5 @@
-//! What is done to a table's log: its creation, as a session and over a store, the puts of a commit as a session, what each
-//! version holds, and which commits conflict.
+//! What is done to a table's log: its creation, as a session and over a store, the puts of a commit as a session, what
+//! each version holds, and which commits conflict.
 #![tactic(auto)]
 
 mod candidate;
@@ -18,7 +18,7 @@ mod fault;
 mod new_table;
 mod versions;
 
-pub use candidate::{Candidate, close_domain};
+pub use candidate::Candidate;
 pub use commit_fault::CommitFault;
 pub use commit_laws::{a_commit_asks_for_little, a_created_commit_is_told, what_a_commit_may};
 pub use commit_state::{CommitOutcome, CommitSession, CommitStage};

@@ -16,7 +16,7 @@ mod writing;
 pub use action::{
     Action, Add, CheckpointMetadata, DomainMetadata, MetaData, Protocol, Remove, Txn,
 };
-pub use domains::application_of;
+pub use domains::{application_of, stream_domain};
 pub use fault::ActionFault;
 pub use file_path::FilePath;
 pub use json_fields::TextMap;

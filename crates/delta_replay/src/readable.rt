@@ -28,9 +28,9 @@ impl Snapshot {
 /// Delta PROTOCOL.md, "Protocol Evolution" and "Change Metadata": reader version 1, or 3 with no feature but
 /// `v2Checkpoint`; no partition columns; and a schema that can be read.
 ///
-/// C1 without a protocol, C2 without a metadata, C5 for another reader version, C3 for the first other reader feature, C4
-/// for a table with partition columns, and C6 for the schema's text, in this order; `Memory` where memory runs out. The
-/// time is linear in the protocol and the schema's text.
+/// C1 without a protocol, C2 without a metadata, C5 for another reader version, C3 for the first other reader feature,
+/// C4 for a table with partition columns, and C6 for the schema's text, in this order; `Memory` where memory runs out.
+/// The time is linear in the protocol and the schema's text.
 pub(crate) fn supports_read(
     alloc: Global,
     protocol: Option<&Protocol>,
@@ -42,9 +42,9 @@ pub(crate) fn supports_read(
     schema_in(alloc, readable_meta_data(alloc, protocol, meta_data)?)
 }
 
-/// The metadata of a table of which only the schema's text is still to be read, for a caller who may have the schema of this
-/// text from before: that is [`Snapshot::supports_read`] without C6. So C1, C2, C5, C3 and C4, in this order; `Memory` where
-/// memory runs out. Time is linear in the protocol.
+/// The metadata of a table of which only the schema's text is still to be read, for a caller who may have the schema of
+/// this text from before: that is [`Snapshot::supports_read`] without C6. So C1, C2, C5, C3 and C4, in this order;
+/// `Memory` where memory runs out. Time is linear in the protocol.
 pub fn readable_meta_data<'a>(
     alloc: Global,
     protocol: Option<&Protocol>,
@@ -92,7 +92,8 @@ fn check_features(alloc: Global, features: &[String]) -> Result<(), SupportError
     Ok(())
 }
 
-/// The schema that a metadata's text tells: C6 where it is none, `Memory` where memory runs out. Time is linear in the text.
+/// The schema that a metadata's text tells: C6 where it is none, `Memory` where memory runs out. Time is linear in the
+/// text.
 pub fn schema_in(alloc: Global, meta_data: &MetaData) -> Result<Schema<Global>, SupportError>
     ensures { Gives says tree_of result (schema_told (meta_data_view meta_data.now)) }
 {

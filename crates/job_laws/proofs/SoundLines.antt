@@ -1,6 +1,6 @@
 -- Whatever a line puts leaves a sound store sound.
 use Rattle.std.proofs.Common.{true, inl, inr, refl, sym, subst}
-use Rattle.store_core.specs.Objects.{Objects}
+use Rattle.store_core.specs.Objects.{AreBytes, Objects}
 use Rattle.delta_actions.specs.Names.{data_file_name}
 use Rattle.table_store.specs.Sound.{IsSound}
 use Rattle.commit_core.specs.SoundStores.{IsSoundStore}
@@ -8,7 +8,7 @@ use Rattle.lake_script.specs.Growth.{MayPut}
 use Rattle.script_lines.specs.Lines.{Statement, append, asks, checkpoint, close, create, foreign, task}
 use Rattle.lake_script.specs.Told.{IsPutHere}
 use Rattle.lake_script.proofs.SoundPuts.{puts_sound}
-use Rattle.job_laws.specs.Bytes.{AreBytes, LooksAtBytes}
+use Rattle.job_laws.specs.Bytes.{LooksAtBytes}
 use Rattle.commit_core.proofs.Callers.{no_checkpoint, sound_beside}
 use Rattle.job_laws.proofs.CloseSound.{close_sound}
 use Rattle.job_laws.proofs.SoundGrowth.{append_sound, create_sound}

@@ -5,10 +5,6 @@ use Rattle.store_core.specs.Objects.{Objects, object_at}
 use Rattle.script_lines.specs.Lines.{Statement}
 use Rattle.job_laws.specs.Looking.{MayLookAt}
 
--- each object is of numbers of eight bits
-abbrev pub AreBytes : Objects → Type 0
-AreBytes objects = (name bytes : List ℕ) → object_at objects name ≡ Some bytes → IsBytes bytes
-
 -- each data file that a line may look at is
 abbrev pub LooksAtBytes : Objects → Statement → Type 0
 LooksAtBytes objects statement = (name bytes : List ℕ) → MayLookAt objects statement name → object_at objects name ≡ Some bytes → IsBytes bytes

@@ -34,7 +34,9 @@ pub fn find<T: FieldKind + Drop>(
 /// The fields of an object.
 #[derive(Clone, Copy)]
 pub struct Fields<'a> {
+    /// Where what they hold is allocated.
     pub alloc: Global,
+    /// The object that has them.
     pub value: &'a Value,
 }
 

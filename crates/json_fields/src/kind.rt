@@ -35,7 +35,8 @@ pub trait FieldKind: Sized {
     fn read(alloc: Global, value: &Value) -> Result<Option<Self>, AllocError>
         ensures { IfOk result (λ found. option_map plain found ≡ kind (view value.now)) };
 
-    /// Writes the JSON value that it is printed as, whose text reads as that value: so it has no number but whole ones of 64 bits.
+    /// Writes the JSON value that it is printed as, whose text reads as that value: so it has no number but whole ones
+    /// of 64 bits.
     fn write(&self, out: &mut Writer) -> Result<(), AllocError>
         ensures ok { OnOk result (IsWritten (printed (plain self.now)) out.old.tokens out.new.tokens) }
         ensures before { out.new.before ≡ out.old.before };

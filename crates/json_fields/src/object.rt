@@ -28,7 +28,7 @@ impl Object {
     }
 
     /// One field more. One of that name that stood before is replaced.
-    pub fn put_value(&mut self, name: &str, value: Value) -> Result<(), AllocError>
+    pub fn put(&mut self, name: &str, value: Value) -> Result<(), AllocError>
         ensures { OnOk result (object_view self.new ≡ put_if name.now (Some (view value)) (object_view self.old)) }
     {
         serde_json::put(&mut self.members, self.alloc, name, value)

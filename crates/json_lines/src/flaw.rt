@@ -5,8 +5,8 @@ use std::alloc::Global;
 use std::str;
 use thiserror::Error;
 
-/// Why a text is no JSON object, as far as a look at it tells. It is printed as what is said of the text. Bytes and lines
-/// are counted from 1, but for a text that is told to fail in front of a line's first byte.
+/// Why a text is no JSON object, as far as a look at it tells. It is printed as what is said of the text. Bytes and
+/// lines are counted from 1, but for a text that is told to fail in front of a line's first byte.
 #[derive(Clone, Copy, Debug, PartialEq, Eq, Error)]
 pub enum Flaw {
     /// It has no bytes.
@@ -18,8 +18,8 @@ pub enum Flaw {
     /// It is the front of a text that could be read.
     #[error("ends too early")]
     CutShort,
-    /// At this byte the token begins that can't be read, however far behind its start the fault lies; or the reader stopped
-    /// right in front of it.
+    /// At this byte the token begins that can't be read, however far behind its start the fault lies; or the reader
+    /// stopped right in front of it.
     #[error("can't be read as JSON near byte {0}")]
     NoJson(usize),
     /// The same of this byte of a line behind the first one.

@@ -46,9 +46,9 @@ impl<T: Drop> From<AllocFailed<T>> for LineFault {
     }
 }
 
-/// The texts of the objects of a text, one a line: a line ends at a newline, and what stands behind the last newline is a
-/// line too, unless it is empty. An empty line is no object. The fault names the first line that is none, at which it looks
-/// once more for what is wrong. Takes time linear in the text.
+/// The texts of the objects of a text, one a line: a line ends at a newline, and what stands behind the last newline is
+/// a line too, unless it is empty. An empty line is no object. The fault names the first line that is none, at which it
+/// looks once more for what is wrong. Takes time linear in the text.
 pub fn objects_in<'a>(alloc: Global, text: &'a [u8]) -> Result<Vec<&'a str>, LineFault>
     // They are the text's lines, and each is that of an object.
     ensures texts { IfOk result (λ objects. map (λ object. object.now) objects.items ≡ input_lines text.now) }
@@ -71,14 +71,14 @@ pub fn objects_in<'a>(alloc: Global, text: &'a [u8]) -> Result<Vec<&'a str>, Lin
     Ok(objects)
 }
 
-// A text without a newline at its end.
+/// A text without a newline at its end.
 fn without_last_newline(text: &[u8]) -> &[u8]
     ensures { result.now ≡ without_last_newline text.now }
 {
     text.strip_suffix(b"\n").unwrap_or(text)
 }
 
-// The text of the object that a line is.
+/// The text of the object that a line is.
 #[tactic(auto, unfolding(crate::specs::Rows::object_of))]
 fn object_in<'a>(
     alloc: Global,
@@ -98,7 +98,7 @@ fn object_in<'a>(
     }
 }
 
-// Whether a text is a JSON object.
+/// Whether a text is a JSON object.
 fn is_object(alloc: Global, text: &str, scratch: &mut Scratch) -> Result<bool, AllocError>
     ensures { IfOk result (λ is. is ≡ is_some (only_object (read text.now))) }
 {

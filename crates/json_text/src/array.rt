@@ -1,4 +1,4 @@
-// An array of JSON that owns its text.
+//! An array of JSON that owns its text.
 ghost use Rattle.std.specs.Prelude.{◌≡◌, string_bytes, Some, None, Err, IfOk, option_map};
 ghost use Rattle.serde_json.specs.Events.{items_len};
 ghost use Rattle.json_text.specs.Arrays.{array_in};

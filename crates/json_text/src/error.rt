@@ -1,4 +1,4 @@
-// Why a text is not read.
+//! Why a text is not read.
 ghost use Rattle.std.specs.Prelude.{◌≡◌};
 
 use json::Invalid;

@@ -1,4 +1,4 @@
-// The number that a token writes.
+//! The number that a token writes.
 ghost use Rattle.std.specs.Prelude.{◌≡◌, ◌==◌, true, false, option_map, slice_index};
 ghost use Rattle.serde_json.specs.View.{number_view};
 ghost use Rattle.serde_json.specs.Read.{number_of, number_from, float_of};

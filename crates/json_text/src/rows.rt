@@ -1,4 +1,4 @@
-// Rows of JSON, read or still to be read.
+//! Rows of JSON, read or still to be read.
 ghost use Rattle.std.specs.Prelude.{◌≡◌};
 ghost use Rattle.serde_json.specs.Events.{items_len};
 ghost use Rattle.json_text.specs.Rows.{rows_data};

@@ -1,4 +1,4 @@
-// A value, and what is asked of it.
+//! A value, and what is asked of it.
 ghost use Rattle.std.specs.Prelude.{◌≡◌, IfOk, option_map, is_some};
 ghost use Rattle.serde_json.specs.Find.{as_null, as_bool, as_number, as_object, as_str, get_member};
 ghost use Rattle.serde_json.specs.View.{number_view};
@@ -82,7 +82,7 @@ pub fn named<'a, 't>(
     }
 }
 
-// Of members with the same name the last one counts.
+/// Of members with the same name the last one counts.
 fn by_name<'a, 't>(
     alloc: Global,
     members: &'a [(&'t str, Value<'t>)],

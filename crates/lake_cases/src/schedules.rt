@@ -152,7 +152,7 @@ fn run_text(text: &str, use_checkpoints: bool, replies: &mut Transcript) -> Memo
     }
     let mut written = Vec::new(replies.alloc);
     let outcome = run_script(&mut script, &mut written, replies);
-    if outcome.short() || outcome.end == End::NotRead || outcome.end == End::NotWritten {
+    if outcome.is_short() || outcome.end == End::NotRead || outcome.end == End::NotWritten {
         replies.lacks_memory();
     }
     replies.add(&written);

@@ -78,7 +78,7 @@ fn tell_script(script: &mut Script<'_>, told: &mut Transcript) {
         End::NotRead => told.text("end NotRead"),
         End::NotWritten => told.text("end NotWritten"),
     }
-    told.text(if outcome.short() { " short\n" } else { "\n" });
+    told.text(if outcome.is_short() { " short\n" } else { "\n" });
     let tells_entries = script.has("entries");
     let tells_objects = script.has("objects");
     tell_table(&mut script.store.store, tells_entries, told);

@@ -1,9 +1,7 @@
 //! What is told of the store that a script leaves: the slow program of the definitions looks at it.
 
 use case_words::Transcript;
-use row_core::{Value, row_to_json};
-use schema_tree::Schema;
-use std::alloc::Global;
+use row_core::{RowPrinter, Value};
 use store_core::{MemoryStore, Store};
 use table_model::{Batch, Entry, is_lawful};
 use table_store::{Held, held_by};
@@ -30,8 +28,11 @@ fn tell_held(held: &Held, tells_entries: bool, told: &mut Transcript) {
     told.text(", ");
     tell_count(&held.entries, told);
     if tells_entries {
+        let Ok(printer) = RowPrinter::of_schema(told.alloc, schema) else {
+            return told.lacks_memory();
+        };
         for entry in &held.entries {
-            tell_entry(schema, entry, told);
+            tell_entry(&printer, entry, told);
         }
     }
 }
@@ -47,7 +48,7 @@ pub fn tell_count(entries: &[Entry], told: &mut Transcript) {
 }
 
 /// Adds an entry: of a group that isn't one batch the count, and its batches, one a line.
-fn tell_entry(schema: &Schema<Global>, entry: &Entry, told: &mut Transcript) {
+fn tell_entry(printer: &RowPrinter, entry: &Entry, told: &mut Transcript) {
     match entry {
         Entry::Creation => told.say("creation"),
         Entry::Close(application) => told.tell("close of", application),
@@ -57,39 +58,36 @@ fn tell_entry(schema: &Schema<Global>, entry: &Entry, told: &mut Transcript) {
                 told.say(" batches");
             }
             for batch in batches {
-                tell_batch(schema, batch, told);
+                tell_batch(printer, batch, told);
             }
         }
     }
 }
 
 /// Adds a batch: its number, its application, and its rows as JSON.
-fn tell_batch(schema: &Schema<Global>, batch: &Batch, told: &mut Transcript) {
+fn tell_batch(printer: &RowPrinter, batch: &Batch, told: &mut Transcript) {
     told.with("batch ", &batch.number);
     told.text(" of ");
     told.text(&batch.application);
     told.text(":");
-    add_rows(schema, &batch.rows, [" ", " "], told);
+    add_rows(printer, &batch.rows, [" ", " "], told);
     told.text("\n");
 }
 
 /// Adds rows as JSON, the first one behind the one text, and each other one behind the other.
-fn add_rows(schema: &Schema<Global>, rows: &[Value], gaps: [&str; 2], told: &mut Transcript) {
+fn add_rows(printer: &RowPrinter, rows: &[Value], gaps: [&str; 2], told: &mut Transcript) {
     let [mut gap, next] = gaps;
     for row in rows {
         told.text(gap);
-        add_row(schema, row, told);
+        add_row(printer, row, told);
         gap = next;
     }
 }
 
 /// Adds a row as JSON.
-fn add_row(schema: &Schema<Global>, row: &Value, told: &mut Transcript) {
-    match row_to_json(told.alloc, schema, row) {
-        Ok(json) => match json.to_string(told.alloc) {
-            Ok(text) => told.text(&text),
-            Err(_error) => told.lacks_memory(),
-        },
+fn add_row(printer: &RowPrinter, row: &Value, told: &mut Transcript) {
+    match printer.write(told.alloc, row, Vec::new(told.alloc)) {
+        Ok(text) => told.add(&text),
         Err(_error) => told.lacks_memory(),
     }
 }
@@ -134,14 +132,17 @@ pub fn add_log(store: &mut MemoryStore, log: &mut Transcript) -> Option<bool> {
 /// Adds the entries of a log whose schema is known.
 fn add_entries(held: &Held, log: &mut Transcript) {
     if let Some(schema) = &held.schema {
+        let Ok(printer) = RowPrinter::of_schema(log.alloc, schema) else {
+            return log.lacks_memory();
+        };
         for entry in &held.entries {
-            add_entry(schema, entry, log);
+            add_entry(&printer, entry, log);
         }
     }
 }
 
 /// Adds an entry. Scripts make groups of one batch alone.
-fn add_entry(schema: &Schema<Global>, entry: &Entry, log: &mut Transcript) {
+fn add_entry(printer: &RowPrinter, entry: &Entry, log: &mut Transcript) {
     match entry {
         Entry::Creation => log.say("creation"),
         Entry::Close(application) => log.tell("close", application),
@@ -151,7 +152,7 @@ fn add_entry(schema: &Schema<Global>, entry: &Entry, log: &mut Transcript) {
                 log.text(&batch.application);
                 log.with(" ", &batch.number);
                 log.text(" [");
-                add_rows(schema, &batch.rows, ["", ","], log);
+                add_rows(printer, &batch.rows, ["", ","], log);
                 log.say("]");
             }
         }

@@ -2,7 +2,7 @@
 use Rattle.std.proofs.Common.{◌≡◌, inl, inr, ℕ, Bool, true, false, List, [], ◌∷◌, Bor, Option, Some, IfSome, Result, Ok, Err, IfOk, IfErr, sym, refl, ap, subst, ◌∙◌, map}
 use Rattle.std.specs.Prelude.{IsErrAnd, is_some}
 use Rattle.json_text.specs.Rows.{text_data}
-use Rattle.store_core.specs.Objects.{Objects, IsInOrder}
+use Rattle.store_core.specs.Objects.{AreBytes, IsInOrder, Objects}
 use Rattle.table_log.specs.Restoring.{RestoresWell}
 use Rattle.table_log.proofs.Callers.{well_sound}
 use Rattle.lake_script.specs.SoundStores.{IsSoundStore}
@@ -16,7 +16,6 @@ use Rattle.lake_script.specs.ReplyView.{reply_text}
 use Rattle.lake_script.specs.Runs.{Executes}
 use Rattle.lake_script.specs.Told.{IsPutHere}
 use Rattle.lake_script.specs.declared.reply.LineReply.{LineReply}
-use Rattle.job_laws.specs.Bytes.{AreBytes}
 use Rattle.job_laws.proofs.Callers.{executed as line_executed, line_keeps_sound_bytes, restores}
 use Rattle.lake_words.specs.Asked.{Work}
 use Rattle.lake_words.specs.Asked as words

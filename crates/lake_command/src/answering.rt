@@ -1,9 +1,8 @@
 //! The reply to a job on the table in a folder.
 ghost use Rattle.std.specs.Prelude.{◌≡◌, ◌≢◌, ◌⊎◌, ◌↔◌, ◌<◌, ◌≤◌, ◌^◌, ℕ, Bool, List, Option, true, false, Some, None, IfOk, IfErr, IfSome, IsErrAnd, IsSomeAnd, IsOk, IsOkAnd, IsTrue, Ok, length};
 ghost use Rattle.store_core.specs.Calls.{HasRisen};
-ghost use Rattle.store_core.specs.Objects.{object_at};
+ghost use Rattle.store_core.specs.Objects.{AreBytes, object_at};
 ghost use Rattle.lake_script.specs.SoundStores.{IsSoundStore};
-ghost use Rattle.job_laws.specs.Bytes.{AreBytes};
 ghost use Rattle.table_log.specs.Restoring.{RestoresWell};
 ghost use Rattle.lake_words.specs.Asked.{work_view};
 ghost use Rattle.script_lines.specs.Lines.{IsTimely};

@@ -184,7 +184,7 @@ pub fn command<
             let ran = run(alloc, input, output, store, use_checkpoints);
             Exit {
                 status: ended(ran.outcome.end, ran.bad.as_deref(), err),
-                is_short: ran.outcome.short(),
+                is_short: ran.outcome.is_short(),
             }
         }
         Err(error) => {

@@ -2,9 +2,8 @@
 ghost use Rattle.outcomes.specs.Lines.{with_newline};
 ghost use Rattle.std.specs.Prelude.{◌≡◌, ◌≢◌, ◌⊎◌, ◌||◌, ◌<◌, ℕ, List, true, false, Some, Result, Ok, Err, OnOk, OnErr};
 ghost use Rattle.std.specs.Io.KnownBytes.{Appends};
-ghost use Rattle.store_core.specs.Objects.{object_at};
+ghost use Rattle.store_core.specs.Objects.{AreBytes, object_at};
 ghost use Rattle.lake_script.specs.SoundStores.{IsSoundStore};
-ghost use Rattle.job_laws.specs.Bytes.{AreBytes};
 ghost use Rattle.table_log.specs.Restoring.{RestoresWell};
 ghost use Rattle.lake_words.specs.Asked.{Work, work_view};
 ghost use Rattle.lake_script.specs.ReplyView.{reply_text};

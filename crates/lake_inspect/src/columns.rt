@@ -10,7 +10,7 @@ use crate::schema::tell_leaf;
 use byte_words::{LineFault, Transcript};
 use json::Scratch;
 use json_text::{Named, Value as Json, member_of, named};
-use row_core::{Value, conforms, same_rows};
+use row_core::{RowPrinter, Value, conforms, same_rows};
 use schema_tree::Schema;
 use shred::{Column, Shape, assemble, shred};
 use std::alloc::{AllocError, Global};
@@ -45,19 +45,20 @@ fn tell_leaves(
     columns: &[Column<&Value>],
     told: &mut Transcript,
 ) -> Result<(), AllocError> {
+    let printer = RowPrinter::of_schema(told.alloc(), schema)?;
     for (leaf, column) in schema.leaves(told.alloc())?.iter().zip(columns) {
         tell_leaf(leaf, told);
-        tell_column(schema, column, told);
+        tell_column(&printer, column, told);
     }
     Ok(())
 }
 
-fn tell_column(schema: &Schema<Global>, column: &Column<&Value>, told: &mut Transcript) {
+fn tell_column(printer: &RowPrinter, column: &Column<&Value>, told: &mut Transcript) {
     told.debug(", levels ", &column.levels);
     told.put(", values");
     for value in &column.values {
         told.put(" ");
-        tell_value(schema, value, told);
+        tell_value(printer, value, told);
     }
 }
 
@@ -117,9 +118,10 @@ pub fn tell_assembled(
     let shape = Shape::of_schema(told.alloc(), schema)?;
     let columns = columns_in(told.alloc(), text)?;
     let rows = told.given(assemble(told.alloc(), &shape, columns))?;
+    let printer = RowPrinter::of_schema(told.alloc(), schema)?;
     for row in &rows {
         told.line("");
-        tell_value(schema, row, told);
+        tell_value(&printer, row, told);
         if !conforms(schema, row) {
             told.put(" doesn't conform");
         }

@@ -9,7 +9,7 @@ use byte_words::{LineFault, Transcript};
 use json::Scratch;
 use json_text::{TextError, Value as Json, value_in};
 use parquet_file::read_rows;
-use row_core::{RowError, Value, conforms, row_from_json, row_to_json, same_rows};
+use row_core::{RowError, RowPrinter, Value, conforms, row_from_json, same_rows};
 use schema_tree::Schema;
 use std::alloc::{AllocError, Allocator, Global};
 use std::str::from_utf8;
@@ -24,23 +24,26 @@ pub fn tell_file<H: Allocator + Copy>(
     let rows = told.given(read_rows(told.alloc(), heap, schema, bytes))?;
     told.show("", &rows.len());
     told.put(" rows");
+    let printer = RowPrinter::of_schema(told.alloc(), schema)?;
     for row in &rows {
         told.line("");
-        tell_value(schema, row, told);
+        tell_value(&printer, row, told);
     }
     Ok(())
 }
 
 /// Tells a row, or the value of a leaf, as JSON.
-pub fn tell_value(schema: &Schema<Global>, row: &Value, told: &mut Transcript) {
-    match printed(told.alloc(), schema, row) {
-        Ok(text) => told.put(&text),
+pub fn tell_value(printer: &RowPrinter, row: &Value, told: &mut Transcript) {
+    let alloc = told.alloc();
+    match printer.write(alloc, row, Vec::new(alloc)) {
+        Ok(text) => told.bytes(&text),
         Err(_) => told.lack_memory(),
     }
 }
 
-fn printed(alloc: Global, schema: &Schema<Global>, row: &Value) -> Result<String, AllocError> {
-    row_to_json(alloc, schema, row)?.to_string(alloc)
+/// The text of a row as JSON.
+fn printed(alloc: Global, schema: &Schema<Global>, row: &Value) -> Result<Vec<u8>, AllocError> {
+    RowPrinter::of_schema(alloc, schema)?.write(alloc, row, Vec::new(alloc))
 }
 
 /// The JSON value that bytes are the text of.
@@ -76,8 +79,8 @@ pub fn tell_row(
 ) -> Result<(), LineFault> {
     let row = row_of(schema, text, told)?;
     let line = printed(told.alloc(), schema, &row)?;
-    let is_same = reads_again(schema, row, line.as_bytes(), told)?;
-    told.put(&line);
+    let is_same = reads_again(schema, row, &line, told)?;
+    told.bytes(&line);
     if !is_same {
         told.put(" isn't read as it stands");
     }

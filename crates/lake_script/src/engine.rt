@@ -1,4 +1,4 @@
-// The engine of `script`: it reads its input to the end, then answers line by line.
+//! The engine of `script`: it reads its input to the end, then answers line by line.
 ghost use Rattle.std.specs.Prelude.{◌≡◌, ◌≢◌, ◌+◌, ◌<◌, ◌≤◌, ◌^◌, suc, [], ◌∷◌, ◌⊎◌, Bool, true, false, not, length, position, option_map, ⊤, OnOk, OnErr, IfOk, IfErr, IfSome};
 ghost use Rattle.std.specs.Io.KnownBytes.{Appends};
 ghost use Rattle.lake_script.specs.declared.inputs.TheConstants.{MOST_BYTES, MOST_READS};
@@ -57,7 +57,7 @@ impl Outcome {
 
     /// Whether a growth was refused on the way, or a commit, a data file or a checkpoint would have
     /// passed 64 MiB. A run that ends by itself may have met one: its lines that did are told so.
-    pub fn short(&self) -> bool
+    pub fn is_short(&self) -> bool
         ensures { result ≡ fell_short self.now }
     {
         self.is_short
@@ -67,7 +67,7 @@ impl Outcome {
 /// How many versions an append and a close try at most, until a line says otherwise.
 pub(crate) const TRIES: u64 = 16;
 
-// Answers one line. False where the line is bad. Where a growth was refused, it says so.
+/// Answers one line. False where the line is bad. Where a growth was refused, it says so.
 fn answer<S: Store, W: Write>(
     alloc: Global,
     number: u64,
@@ -118,8 +118,8 @@ fn answer<S: Store, W: Write>(
     }
 }
 
-// Answers the lines of a text, and writes the replies. The result is the number of the bad line
-// that ended it. Where a growth was refused, it says so.
+/// Answers the lines of a text, and writes the replies. The result is the number of the bad line
+/// that ended it. Where a growth was refused, it says so.
 fn answer_all<S: Store, W: Write>(
     alloc: Global,
     text: &[u8],
@@ -174,7 +174,7 @@ fn answer_all<S: Store, W: Write>(
     Ok(None)
 }
 
-// Answers the lines of a text, and writes what waits then.
+/// Answers the lines of a text, and writes what waits then.
 fn answer_and_flush<S: Store, W: Write>(
     alloc: Global,
     text: &[u8],
@@ -242,17 +242,17 @@ pub fn run_text<S: Store, W: Write>(
     // A run that finishes is short only where a reply that is written tells so.
     ensures short { S.is_reliable store.old → RestoresWell use_checkpoints (S.objects store.old) → fell_short result ≡ true → Finishes result.end
         (λ _. Tells (held W.contents output.old) (W.contents output.new.writer) (FallsShort 1 (S.objects store.old) (lines_of text.now))) }
-    // Over a store that keeps a table, or nothing, where there can be as many versions as it has entries and the text lines,
-    // this is what the plain table tells, where no line shows an object, tells the snapshot or puts another tool's commit;
-    // where none puts such a commit, what is shown is told by the objects and all else by the table, the store then keeps
-    // the table that was told, and reads over it hand out its rows.
+    // Over a store that keeps a table, or nothing, where there can be as many versions as it has entries and the text
+    // lines, this is what the plain table tells, where no line shows an object, tells the snapshot or puts another
+    // tool's commit; where none puts such a commit, what is shown is told by the objects and all else by the table, the
+    // store then keeps the table that was told, and reads over it hand out its rows.
     ensures script { (state : State) → S.is_reliable store.old → RestoresWell use_checkpoints (S.objects store.old) → Keeps (S.objects store.old) state
         → fell_short result ≡ false → Finishes result.end
         (λ _. length (entries_of state) + length (lines_of text.now) ≤ suc greatest_version
         → IsScript state (held W.contents output.old) (W.contents output.new.writer) text.now (S.objects store.old) (S.objects store.new)) }
-    // Over such a store, in which data files of other batches may stand too, that loses no call and whose checkpoints are
-    // the log's, and where no line puts another tool's commit, the store that is left is sound, its log is lawful, and it
-    // is such a store again, however the run ends and whatever growth is refused on the way.
+    // Over such a store, in which data files of other batches may stand too, that loses no call and whose checkpoints
+    // are the log's, and where no line puts another tool's commit, the store that is left is sound, its log is lawful,
+    // and it is such a store again, however the run ends and whatever growth is refused on the way.
     ensures lawful { (state : State) → S.is_reliable store.old → HasOnlySoundCheckpoints (S.objects store.old) → KeepsBeside (S.objects store.old) state
         → ArePutHere (lines_of text.now) → StaysSound state (length (lines_of text.now)) (S.objects store.new) }
     ensures reliable { S.is_reliable store.old → S.is_reliable store.new }
@@ -318,19 +318,20 @@ pub fn run<R: Read, W: Write, S: Store>(
         → Finishes result.end (λ _. IfSome (unread R.remaining input.old) (λ text.
         IsScriptRun (S.objects store.old) text (held W.contents output.old) (W.contents output.new.writer) (S.objects store.new))) }
 
-    // Over a store that keeps a table, or nothing, where there can be as many versions as it has entries and the text lines,
-    // this is what the plain table tells, where no line shows an object, tells the snapshot or puts another tool's commit,
-    // and begins with that in any case; where none puts such a commit, what is shown is told by the objects and all else
-    // by the table, the store then keeps the table that was told, and reads over it, each from the offset where the one
-    // before ended, are answered and hand out its rows, whatever their limits.
+    // Over a store that keeps a table, or nothing, where there can be as many versions as it has entries and the text
+    // lines, this is what the plain table tells, where no line shows an object, tells the snapshot or puts another
+    // tool's commit, and begins with that in any case; where none puts such a commit, what is shown is told by the
+    // objects and all else by the table, the store then keeps the table that was told, and reads over it, each from the
+    // offset where the one before ended, are answered and hand out its rows, whatever their limits.
     ensures script { (state : State) → S.is_reliable store.old → RestoresWell use_checkpoints (S.objects store.old) → Keeps (S.objects store.old) state
         → fell_short result ≡ false → Finishes result.end (λ _. IfSome (unread R.remaining input.old)
         (λ text. length (entries_of state) + length (lines_of text) ≤ suc greatest_version
         → IsScript state (held W.contents output.old) (W.contents output.new.writer) text (S.objects store.old) (S.objects store.new))) }
 
-    // Over such a store, in which data files of other batches may stand too, that loses no call and whose checkpoints are
-    // the log's, and where no line of the text that is read puts another tool's commit, the store that is left is sound,
-    // its log is lawful, and it is such a store again, however the run ends and whatever growth is refused on the way.
+    // Over such a store, in which data files of other batches may stand too, that loses no call and whose checkpoints
+    // are the log's, and where no line of the text that is read puts another tool's commit, the store that is left is
+    // sound, its log is lawful, and it is such a store again, however the run ends and whatever growth is refused on
+    // the way.
     ensures lawful { (state : State) → S.is_reliable store.old → HasOnlySoundCheckpoints (S.objects store.old) → KeepsBeside (S.objects store.old) state
         → IfSome (unread R.remaining input.old) (λ text. ArePutHere (lines_of text) → StaysSound state (length (lines_of text)) (S.objects store.new)) }
 

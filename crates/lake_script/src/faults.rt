@@ -1,4 +1,4 @@
-// The program's own faults, and how every refusal is told.
+//! The program's own faults, and how every refusal is told.
 ghost use Rattle.std.specs.Prelude.{Some, option_map};
 ghost use Rattle.commit_core.specs.Texts.{refused};
 ghost use Rattle.lake_script.specs.Replies.{fault_text};

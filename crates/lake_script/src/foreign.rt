@@ -1,4 +1,4 @@
-// Commits that another tool puts.
+//! Commits that another tool puts.
 ghost use Rattle.outcomes.specs.Lines.{with_newline};
 ghost use Rattle.std.specs.Prelude.{◌≡◌, IfOk, OnOk, IsErrOf};
 ghost use Rattle.store_core.specs.Calls.{CountsFault, MayHaveLanded, put_told};
@@ -11,7 +11,7 @@ use session_core::commit_name;
 use std::alloc::{AllocError, Global};
 use store_core::{Put, Store, StoreFault};
 
-// The bytes of a line, with the newline that ends it.
+/// The bytes of a line, with the newline that ends it.
 fn line_bytes(alloc: Global, text: &str) -> Result<Vec<u8>, AllocError>
     ensures { IfOk result (λ bytes. bytes.items ≡ with_newline text.now) }
 {

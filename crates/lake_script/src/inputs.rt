@@ -1,4 +1,4 @@
-// The input of a run, which is read to its end before a line is run.
+//! The input of a run, which is read to its end before a line is run.
 ghost use Rattle.std.specs.Prelude.{◌≡◌, ◌≢◌, ◌+◌, ◌<◌, ◌≤◌, length, true, false, IfOk, OnOk, IfErr, IfSome, IsOk, Some};
 ghost use Rattle.std.specs.Io.{ReadsAtMost};
 ghost use Rattle.std.specs.Io.KnownBytes.{ReadConsumes, IsAtEnd};
@@ -39,7 +39,7 @@ impl From<AllocError> for InputError {
     }
 }
 
-// Room for one read.
+/// Room for one read.
 fn zeros(alloc: Global, count: usize) -> Result<Vec<u8>, AllocError>
     ensures { IfOk result (λ room. length room.items ≡ count) }
 {
@@ -65,7 +65,7 @@ impl<R: Read> Input<R> {
         }
     }
 
-    // One read.
+    /// One read.
     fn read(&mut self, buffer: &mut [u8]) -> Result<usize, InputError>
         ensures bound { ReadsAtMost result buffer.new }
         ensures bytes { ReadConsumes (unread R.remaining self.old) (unread R.remaining self.new) result buffer.new }
@@ -84,7 +84,7 @@ impl<R: Read> Input<R> {
         }
     }
 
-    // One read, whose bytes go behind the text. False where the input has ended.
+    /// One read, whose bytes go behind the text. False where the input has ended.
     fn read_more(&mut self, chunk: &mut [u8], text: &mut Vec<u8>) -> Result<bool, InputError>
         requires room { 0 < length chunk.old }
         requires bounded { length text.old.items ≤ MOST_BYTES }

@@ -1,5 +1,5 @@
-//! What the lines of a script do over a store, and their replies. [`run`] answers a whole script, [`execute`] one line. How a
-//! line is spelled is `script_lines`' affair; words of a command line and folders are none of either.
+//! What the lines of a script do over a store, and their replies. [`run`] answers a whole script, [`execute`] one line.
+//! How a line is spelled is `script_lines`' affair; words of a command line and folders are none of either.
 #![tactic(auto)]
 
 mod engine;

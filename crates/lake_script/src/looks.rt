@@ -1,4 +1,4 @@
-// Lines that show what stands and leave the store as it is, and their replies.
+//! Lines that show what stands and leave the store as it is, and their replies.
 ghost use Rattle.std.specs.Prelude.{◌≡◌, false, true};
 ghost use Rattle.store_core.specs.Calls.{HasRisen};
 ghost use Rattle.store_core.specs.Objects.{object_at};

@@ -1,4 +1,4 @@
-// The output of a run, which gathers many replies into one write.
+//! The output of a run, which gathers many replies into one write.
 ghost use Rattle.outcomes.specs.Lines.{with_newline};
 ghost use Rattle.std.specs.Prelude.{◌≡◌, ◌⊎◌, [], OnOk, OnErr, IfErr, IfSome, true, false};
 ghost use Rattle.std.specs.Io.KnownBytes.{Appends};
@@ -40,7 +40,7 @@ pub struct Output<W> {
     is_broken: bool,
 }
 
-// Writes all bytes, or as many as go before a write fails.
+/// Writes all bytes, or as many as go before a write fails.
 fn write_through<W: Write>(writer: &mut W, bytes: &[u8]) -> bool
     ensures all { result ≡ true → Appends (W.contents writer.old) (W.contents writer.new) bytes.now }
     ensures front { result ≡ false → StandsIn (W.contents writer.old) (W.contents writer.new) bytes.now }

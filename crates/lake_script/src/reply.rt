@@ -1,4 +1,4 @@
-// What a line is told, and how it is found.
+//! What a line is told, and how it is found.
 ghost use Rattle.std.specs.Prelude.{◌≡◌, ◌≢◌, ◌<◌, ◌≤◌, ◌^◌, ◌⊎◌, ℕ, List, [], Bool, Result, Err, false, OnOk, OnErr, true};
 ghost use Rattle.std.specs.Io.KnownBytes.{Appends};
 ghost use Rattle.json_text.specs.Rows.{rows_data};
@@ -145,7 +145,7 @@ impl LineReply {
     }
 }
 
-// The reply to a line that creates a table.
+/// The reply to a line that creates a table.
 fn create_table<S: Store>(
     alloc: Global,
     store: &mut S,
@@ -171,7 +171,7 @@ fn create_table<S: Store>(
     }
 }
 
-// The reply to a line that appends a batch.
+/// The reply to a line that appends a batch.
 fn append_batch<S: Store>(
     alloc: Global,
     store: &mut S,
@@ -214,7 +214,7 @@ fn append_batch<S: Store>(
     }
 }
 
-// The reply to a line that closes a stream.
+/// The reply to a line that closes a stream.
 fn close_stream<S: Store>(
     alloc: Global,
     store: &mut S,
@@ -253,7 +253,7 @@ fn close_stream<S: Store>(
     }
 }
 
-// The reply to a line that reads from an offset on.
+/// The reply to a line that reads from an offset on.
 fn read<S: Store>(
     alloc: Global,
     store: &mut S,
@@ -299,7 +299,7 @@ pub fn reply_of_read(told: Result<Vec<u8>, TailFault>) -> LineReply
     }
 }
 
-// The reply to a line that puts a checkpoint.
+/// The reply to a line that puts a checkpoint.
 fn take_checkpoint<S: Store>(
     alloc: Global,
     store: &mut S,
@@ -325,7 +325,7 @@ fn take_checkpoint<S: Store>(
     }
 }
 
-// The reply to a line that puts another tool's commit.
+/// The reply to a line that puts another tool's commit.
 fn put_foreign<S: Store>(alloc: Global, store: &mut S, version: u64, action: &str) -> LineReply
     ensures told { S.is_reliable store.old → Executes (S.objects store.old) (foreign version action.now) (reply_text result) (S.objects store.new) }
     ensures whole { S.is_reliable store.old → is_short result ≡ false → IsExecuted (S.objects store.old) (foreign version action.now) (reply_text result) (S.objects store.new) }
@@ -344,14 +344,14 @@ fn put_foreign<S: Store>(alloc: Global, store: &mut S, version: u64, action: &st
     }
 }
 
-// Nothing is known of the log any more.
+/// Nothing is known of the log any more.
 fn forget(alloc: Global, cache: &mut LogCache)
     ensures { (objects : Objects) → IsCacheOf objects cache.new }
 {
     *cache = LogCache::new(alloc);
 }
 
-// Does what a job asks for, and finds its reply.
+/// Does what a job asks for, and finds its reply.
 fn execute_job<S: Store>(
     alloc: Global,
     job: Job<'_>,
@@ -401,9 +401,9 @@ fn execute_job<S: Store>(
     }
 }
 
-/// Does what a line asks for, and finds its reply. An append and a close try so many versions at most, until a line says
-/// otherwise. What is known of the store's log is what earlier calls over this store left, or [`LogCache::new`]: appends,
-/// closes and reads needn't read those commits again.
+/// Does what a line asks for, and finds its reply. An append and a close try so many versions at most, until a line
+/// says otherwise. What is known of the store's log is what earlier calls over this store left, or [`LogCache::new`]:
+/// appends, closes and reads needn't read those commits again.
 pub fn execute<S: Store>(
     alloc: Global,
     line: Line<'_>,

@@ -1,4 +1,4 @@
-// Objects of a store in hexadecimal.
+//! Objects of a store in hexadecimal.
 ghost use Rattle.std.specs.Prelude.{◌≡◌, IfOk, IsErrOf, option_map, string_bytes};
 ghost use Rattle.hex.specs.Hex.{encode_lower};
 ghost use Rattle.store_core.specs.Calls.{CountsFault};

@@ -26,9 +26,9 @@ pub fn a_creation_is_admissible()
     ensures { (objects : Objects) (schema : Schema) (bytes : List ℕ) → IsCommitOf schema creation bytes → IsAdmissible objects 0 bytes }
 {}
 
-/// Behind the versions of a lawful table, of which the creation is one, these commits are admissible at the version that
-/// comes next, if a commit can have it: that of a batch which the table takes, whose file stands, and that of a stream's
-/// close which isn't closed. The name of the version may be taken meanwhile, and versions behind it too.
+/// Behind the versions of a lawful table, of which the creation is one, these commits are admissible at the version
+/// that comes next, if a commit can have it: that of a batch which the table takes, whose file stands, and that of a
+/// stream's close which isn't closed. The name of the version may be taken meanwhile, and versions behind it too.
 pub fn the_next_entry_is_admissible()
     ensures batch { (objects : Objects) (schema : Schema) (first : Entry) (entries : List Entry) (b : Batch) (bytes : List ℕ) → HoldsFirst objects schema 0 (first ∷ entries) → IsLawful (first ∷ entries)
         → length (first ∷ entries) ≤ greatest_version → appended b (first ∷ entries) ≡ Committed (length (first ∷ entries)) → IsCommitOf schema (group (b ∷ [])) bytes → FileStands objects schema b
@@ -39,8 +39,8 @@ pub fn the_next_entry_is_admissible()
 {}
 
 /// The rules of conflicts are sound: in a lawful store, where the bytes of a candidate that reads the close of each
-/// application that it has a `txn` of may be put at a version, whose commit stands already and doesn't conflict with the
-/// candidate, they may be put at the version behind it, if a commit can have it.
+/// application that it has a `txn` of may be put at a version, whose commit stands already and doesn't conflict with
+/// the candidate, they may be put at the version behind it, if a commit can have it.
 pub fn a_candidate_without_conflict_goes_on()
     ensures { (objects : Objects) (version : ℕ) (bytes won : List ℕ) (candidate : Candidate) (winner : List Action) → IsLawfulStore objects → IsAdmissible objects version bytes → IsCommit bytes candidate.actions
         → ReadsItsOwn candidate → object_at objects (commit_name version) ≡ Some won → IsCommit won winner → (Conflicts candidate winner → ⊥) → suc version ≤ greatest_version

@@ -8,9 +8,9 @@ ghost use Rattle.table_log.specs.Restoring.{IsSoundCheckpoint, checkpoint_versio
 ghost use Rattle.table_store.specs.Sound.{IsAdmissible};
 ghost use Rattle.log_laws.specs.Sound.{IsSoundStore};
 
-/// A commit that is admissible at a version leaves a sound store sound, its checkpoints too, whether its name was free or
-/// taken: a name that is taken keeps its bytes. So it does of each sound store that this one grew to meanwhile, as where
-/// a put lands late.
+/// A commit that is admissible at a version leaves a sound store sound, its checkpoints too, whether its name was free
+/// or taken: a name that is taken keeps its bytes. So it does of each sound store that this one grew to meanwhile, as
+/// where a put lands late.
 pub fn an_admissible_commit_lands()
     ensures now { (objects : Objects) (version : ℕ) (bytes : List ℕ) → IsSoundStore objects → IsAdmissible objects version bytes
         → IsSoundStore (with_object objects (commit_name version) bytes) }
@@ -18,8 +18,8 @@ pub fn an_admissible_commit_lands()
         → IsSoundStore (with_object more (commit_name version) bytes) }
 {}
 
-/// A commit that is admissible at a version of a store is so of each store that has all its objects and maybe more, also
-/// where the version's name is taken there.
+/// A commit that is admissible at a version of a store is so of each store that has all its objects and maybe more,
+/// also where the version's name is taken there.
 pub fn an_admissible_commit_stays_admissible()
     ensures { (objects more : Objects) (version : ℕ) (bytes : List ℕ) → HasObjectsOf objects more → IsAdmissible objects version bytes → IsAdmissible more version bytes }
 {}
@@ -32,9 +32,9 @@ pub fn a_data_file_lands()
         → IsSoundStore (with_object objects name bytes) }
 {}
 
-/// A checkpoint of a version, which is one of the log's commits up to it, leaves a sound store sound under each name that
-/// a checkpoint of this version may have, whether it is free or taken. So it does of each sound store that this one grew
-/// to meanwhile.
+/// A checkpoint of a version, which is one of the log's commits up to it, leaves a sound store sound under each name
+/// that a checkpoint of this version may have, whether it is free or taken. So it does of each sound store that this
+/// one grew to meanwhile.
 pub fn a_sound_checkpoint_lands()
     ensures now { (objects : Objects) (name bytes : List ℕ) (version : ℕ) → checkpoint_version name ≡ Some version → IsSoundStore objects → IsSoundCheckpoint objects version bytes
         → IsSoundStore (with_object objects name bytes) }

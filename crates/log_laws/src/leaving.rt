@@ -1,4 +1,5 @@
-//! Laws of what the log of a sound store leaves: what its table tells, whether it is read whole or from a checkpoint on.
+//! Laws of what the log of a sound store leaves: what its table tells, whether it is read whole or from a checkpoint
+//! on.
 
 ghost use Rattle.std.specs.Prelude.{◌≡◌, ℕ, suc, ◌+◌, List, [], ◌∷◌, ◌++◌, length, Bool, false, option_map, Ok, Err, IsUtf8};
 ghost use Rattle.store_core.specs.Objects.{Objects};
@@ -27,9 +28,9 @@ pub fn a_sound_log_is_read()
     ensures empty { (objects : Objects) → IsSoundStore objects → IsLog objects [] → log_of objects ≡ Err 0 }
 {}
 
-/// What a log leaves is what the table tells that the store holds: the number that an application has come to is that of
-/// its last batch, and its stream is closed where the table has it closed (of applications whose ids are text; for any
-/// other, a stream that the log leaves open is open). In a sound store the schema by which the table is read is the
+/// What a log leaves is what the table tells that the store holds: the number that an application has come to is that
+/// of its last batch, and its stream is closed where the table has it closed (of applications whose ids are text; for
+/// any other, a stream that the log leaves open is open). In a sound store the schema by which the table is read is the
 /// table's, and so is the one by which it is written, where it is.
 pub fn a_sound_log_leaves_its_table()
     ensures number { (objects : Objects) (schema : Schema) (entries : List Entry) (commits : List (List Action)) (application : List ℕ) → Holds objects schema entries → IsLog objects commits
@@ -61,8 +62,8 @@ pub fn the_first_commits_leave_the_first_entries()
         → commits_in 0 (versions_from (length entries) 0 objects) ≡ Ok commits → writable commits ≡ Ok found → found ≡ schema }
 {}
 
-/// From its newest checkpoint on, the log of a sound store leaves for each key what all its commits leave, and is refused
-/// where they are. So it leaves what the table tells.
+/// From its newest checkpoint on, the log of a sound store leaves for each key what all its commits leave, and is
+/// refused where they are. So it leaves what the table tells.
 pub fn a_checkpoint_leaves_what_its_log_leaves()
     ensures leaves { (use_checkpoints : Bool) (objects : Objects) (commits : List (List Action)) → IsSoundStore objects → replayed use_checkpoints objects ≡ Ok commits
         → (log : List (List Action)) × (log_of objects ≡ Ok log) × ((key : Key) → at key commits ≡ at key log) }

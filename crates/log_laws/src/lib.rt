@@ -1,5 +1,5 @@
-//! What the log of a sound store leaves, and what puts leave of a sound store, stated over stores alone: definitions, and
-//! laws, each a function with an empty body whose contract is the law. The product calls no code of this crate but
+//! What the log of a sound store leaves, and what puts leave of a sound store, stated over stores alone: definitions,
+//! and laws, each a function with an empty body whose contract is the law. The product calls no code of this crate but
 //! laws, which do nothing.
 #![tactic(auto)]
 

@@ -24,11 +24,11 @@ pub fn a_sound_table_grows_at_its_end()
         → is_offset offset entries ≡ true → (is_offset offset others ≡ true) × (position offset others ≡ position offset entries) }
 {}
 
-/// What a sound store's table has, the table of each store has that it grows to: a version stays the entry that it is, a
-/// batch stays, of whatever number, and a stream that is closed stays closed. So what an append or a close was answered
-/// stays true: its version, that the batch stands already, that a greater number of the application stands, that other
-/// rows stand under the number, that the stream is closed. And an application's last number never falls while the store
-/// stays sound.
+/// What a sound store's table has, the table of each store has that it grows to: a version stays the entry that it is,
+/// a batch stays, of whatever number, and a stream that is closed stays closed. So what an append or a close was
+/// answered stays true: its version, that the batch stands already, that a greater number of the application stands,
+/// that other rows stand under the number, that the stream is closed. And an application's last number never falls
+/// while the store stays sound.
 pub fn what_a_sound_table_has_stays()
     ensures version { (objects more : Objects) (schema other : Schema) (entries others : List Entry) (version : ℕ) (entry : Entry) → IsSoundStore objects → HasObjectsOf objects more → Holds objects schema entries
         → Holds more other others → slice_get entries version ≡ Some entry → slice_get others version ≡ Some entry }

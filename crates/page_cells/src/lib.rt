@@ -1,5 +1,5 @@
-//! The cells in the body of a page, read from bytes: definition levels, and values in PLAIN. It knows nothing of a page's
-//! header, nor of what stands behind the page.
+//! The cells in the body of a page, read from bytes: definition levels, and values in PLAIN. It knows nothing of a
+//! page's header, nor of what stands behind the page.
 #![tactic(auto)]
 
 mod fault;

@@ -39,8 +39,8 @@ pub fn cut_runs(alloc: Global, runs: &[Run], skip: u64, count: u64) -> Result<Ve
     Ok(cut)
 }
 
-/// Adds so many values behind those that are passed over; all stand in the bytes, and their texts are UTF-8. Values of a
-/// fixed size are passed over at once.
+/// Adds so many values behind those that are passed over; all stand in the bytes, and their texts are UTF-8. Values of
+/// a fixed size are passed over at once.
 pub(crate) fn add_some_values(
     alloc: Global,
     leaf_type: LeafType,

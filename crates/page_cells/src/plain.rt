@@ -13,11 +13,8 @@ use crate::fault::bad_bytes;
 use crate::types::{LeafType, PhysicalType};
 use lake_bytes::{ByteFault, Cursor, unpack};
 use parquet_footer::{FileError, FileFault};
-use row_core::Value;
+use row_core::{MAX_BYTES, Value};
 use std::alloc::{AllocError, Global};
-
-/// The most bytes of a text, and of bytes: 1 MiB.
-const MAX_CONTENT: usize = 1_048_576;
 
 /// Passes so many values in front of the cursor: whether one of them is a text or bytes of over 1 MiB. B1 where they
 /// aren't all there. The time is constant but for texts and bytes, where it is linear in their number.
@@ -71,7 +68,7 @@ fn pass_contents(cursor: &mut Cursor, count: u64) -> Result<bool, ByteFault>
     let mut is_too_long = false;
     for _value in 0..count {
         let content = content(cursor)?;
-        is_too_long = is_too_long || content.len() > MAX_CONTENT;
+        is_too_long = is_too_long || content.len() > MAX_BYTES;
     }
     Ok(is_too_long)
 }

@@ -46,8 +46,8 @@ impl<'a> PlainReader<'a> {
         }
     }
 
-    /// Passes so many values, of which there are as many at least. The time is constant but for texts and bytes, where it
-    /// is linear in their number.
+    /// Passes so many values, of which there are as many at least. The time is constant but for texts and bytes, where
+    /// it is linear in their number.
     pub fn pass(&mut self, count: u64) -> Result<(), FileFault>
         ensures { (type : LeafType) (values : List rows.Value) → HasValuesLeft type self.old values → count ≤ length values
             → IsOk result × OnOk result (HasValuesLeft type self.new (drop count values)) }

@@ -19,9 +19,9 @@ use std::alloc::{AllocError, Global};
 pub const MAX_PAGE_ROWS: usize = 4_096;
 
 /// Writes a data page of a column of at most [`MAX_PAGE_ROWS`] rows: its header, its levels as runs of equal ones, as
-/// few as there can be, and its values in PLAIN (Apache Parquet, "Data Pages"). The highest level is the number of nodes
-/// on the way to the leaf that may be null, at most 16. Of a value that the leaf's physical type can't hold nothing is
-/// written; where that is BOOLEAN, a bit 0 is.
+/// few as there can be, and its values in PLAIN (Apache Parquet, "Data Pages"). The highest level is the number of
+/// nodes on the way to the leaf that may be null, at most 16. Of a value that the leaf's physical type can't hold
+/// nothing is written; where that is BOOLEAN, a bit 0 is.
 ///
 /// P9 for a page whose body is over 64 MiB. Behind a refusal, and out of memory, `out` holds what it held. The time is
 /// linear in the levels and the bytes that are written.

@@ -46,8 +46,8 @@ fn value_size(physical_type: PhysicalType, value: &Value) -> u64
     }
 }
 
-/// Writes values, one behind the other. Of a value of another type nothing is written; among truth values, the bit 0. The
-/// time is linear in the bytes.
+/// Writes values, one behind the other. Of a value of another type nothing is written; among truth values, the bit 0.
+/// The time is linear in the bytes.
 #[tactic(auto, using(crate::proofs::Kept::keeps_each))]
 pub(crate) fn write_plain(
     out: &mut Vec<u8>,

@@ -27,9 +27,9 @@ use std::alloc::Global;
 /// How many rows are made at a time at most, so that what is made of a page doesn't grow with it.
 const ROWS_AT_A_TIME: u64 = 4_096;
 
-/// Adds at most `most` of so many rows, from the one of the number `first` on; the readers, one for each leaf, have their
-/// columns left. P8 where the columns are those of no rows. Where no field is a struct the pages behind these rows
-/// aren't looked at.
+/// Adds at most `most` of so many rows, from the one of the number `first` on; the readers, one for each leaf, have
+/// their columns left. P8 where the columns are those of no rows. Where no field is a struct the pages behind these
+/// rows aren't looked at.
 pub(crate) fn add_rows(
     alloc: Global,
     shape: &Shape,
@@ -80,8 +80,8 @@ fn rows_at_hand(alloc: Global, readers: &mut [ColumnReader], most: u64) -> Resul
     Ok(rows)
 }
 
-/// Adds at most `most` of so many rows, whose cells are at hand, from the one of the number `first` on, and leaves those
-/// behind them.
+/// Adds at most `most` of so many rows, whose cells are at hand, from the one of the number `first` on, and leaves
+/// those behind them.
 fn add_rows_at_hand(
     alloc: Global,
     shape: &Shape,
@@ -107,8 +107,8 @@ fn add_rows_at_hand(
     Ok(())
 }
 
-/// Takes so many cells, which are at hand, from each reader: the levels of all of them, and the columns of at most `most`
-/// of them, from the one of the number `first` on.
+/// Takes so many cells, which are at hand, from each reader: the levels of all of them, and the columns of at most
+/// `most` of them, from the one of the number `first` on.
 fn take_parts(
     alloc: Global,
     readers: &mut [ColumnReader],

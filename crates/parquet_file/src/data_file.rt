@@ -86,7 +86,7 @@ pub fn read_file_part<A: Allocator, H: FooterHeap>(
     }
 }
 
-// What is answered for an error of a file whose footer is read in a heap.
+/// What is answered for an error of a file whose footer is read in a heap.
 fn in_heap<H: FooterHeap>(heap: H, error: RowsError) -> FileError
     ensures { result ≡ in_heap H.refusal error }
 {

@@ -91,7 +91,7 @@ fn add_group<A: Allocator>(
         → AddsPart first most (rows_of_group bytes.now t (shape_view file.now.shape) (group_view group.now))
         (row_views rows.old.items) result (row_views rows.new.items) }
 {
-    // A proof knows a number's range once it is read.
+    // Read once: the proof needs its range.
     let num_rows = group.num_rows;
     let passed = rows_to_pass(&file.shape, num_rows, first);
     let mut readers = tested_columns(alloc, bytes, &group.columns, &file.leaves, passed)?;

@@ -66,7 +66,8 @@ pub fn read_rows<A: Allocator, H: Allocator + Copy>(
 }
 
 /// Reads at most `most` rows of a file, from the one of the number `first` on, and how many there are (Apache Parquet,
-/// File Format). The whole file is tested, with the faults of [`read_rows`] in the same order, and in the same memories.
+/// File Format). The whole file is tested, with the faults of [`read_rows`] in the same order, and in the same
+/// memories.
 ///
 /// The time is linear in the footer's bytes, the headers and levels of the pages of each group, the bytes of columns of
 /// texts, bytes, and numbers of one or two bytes, and the rows that are given times the leaves; other values of a fixed

@@ -159,8 +159,8 @@ fn write_group<A: Allocator>(
     Ok(group_tree(alloc, chunks, out.len() - MAGIC.len(), count)?)
 }
 
-/// Writes the chunks of the leaves behind what was there, and gives what is said of them. Each leaf stands at the end of
-/// its way.
+/// Writes the chunks of the leaves behind what was there, and gives what is said of them. Each leaf stands at the end
+/// of its way.
 fn write_chunks(
     alloc: Global,
     out: &mut Vec<u8>,

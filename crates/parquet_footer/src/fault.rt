@@ -32,8 +32,8 @@ pub enum FileFault {
     /// The file's columns aren't those of the table, a row group has no chunk of one, a null or a number out of range
     /// stands where the table has none, or two columns differ on whether a struct above both is null.
     SchemaMismatch,
-    /// The file is over 64 MiB, it or a row group of it claims over 4,194,304 rows, or a text or bytes of it are over
-    /// 1 MiB. Of a file that is to be written: it would have over 4,194,304 rows, or it, a name, a page or the chunks so
+    /// The file is over 64 MiB, it or a row group of it claims over 4,194,304 rows, or a text or bytes of it are over 1
+    /// MiB. Of a file that is to be written: it would have over 4,194,304 rows, or it, a name, a page or the chunks so
     /// far over 64 MiB.
     TooLarge,
     /// A text isn't UTF-8.

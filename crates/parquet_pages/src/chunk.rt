@@ -15,9 +15,9 @@ use crate::pages::read_page;
 use parquet_footer::{FileError, FileFault};
 use std::alloc::Global;
 
-/// Tests the pages of a chunk, which states where its first page begins and how many values it has, nulls among them, and
-/// keeps nothing of them; `bytes` are the file's before its footer (Apache Parquet, "Column Chunks"). Of a chunk without
-/// values no page is read.
+/// Tests the pages of a chunk, which states where its first page begins and how many values it has, nulls among them,
+/// and keeps nothing of them; `bytes` are the file's before its footer (Apache Parquet, "Column Chunks"). Of a chunk
+/// without values no page is read.
 ///
 /// P6 where the first page begins before byte 4; then page by page as [`read_page`] has it. The time is linear in the
 /// bytes of the pages, however many values they claim; the memory in the runs of one page's levels.
@@ -102,7 +102,8 @@ fn later_mark(mark: Mark, next: Mark, passed: u64, before: u64) -> Mark
     if passed <= before { next } else { mark }
 }
 
-/// Tests the pages from a place on, up to so many values, and marks the last one that at most so many cells stand before.
+/// Tests the pages from a place on, up to so many values, and marks the last one that at most so many cells stand
+/// before.
 fn test_pages(
     alloc: Global,
     leaf: &Leaf,

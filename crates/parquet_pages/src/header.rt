@@ -104,7 +104,8 @@ fn in_page(error: ReadError) -> FileError
     }
 }
 
-/// A fault of what a page's header says, as a file's.
+/// A fault of what a page's header says, as a file's. It stands here since only a crate's own functions are values
+/// that the prover follows (`map_err`).
 fn bad_header(fault: ThriftFault) -> FileFault
     ensures { result ≡ BadPage fault }
 {

@@ -80,11 +80,11 @@ impl<'a> ColumnReader<'a> {
         })
     }
 
-    /// Tests a chunk as [`test_chunk`](crate::test_chunk) does, with its faults, and gives the reader of what stands behind
-    /// so many of its cells.
+    /// Tests a chunk as [`test_chunk`](crate::test_chunk) does, with its faults, and gives the reader of what stands
+    /// behind so many of its cells.
     ///
-    /// The time is linear in the bytes of the pages, and in the runs of levels, texts and bytes of the page in which those
-    /// cells end, which is read again.
+    /// The time is linear in the bytes of the pages, and in the runs of levels, texts and bytes of the page in which
+    /// those cells end, which is read again.
     pub fn tested(
         alloc: Global,
         leaf: Leaf<'a>,
@@ -135,8 +135,8 @@ impl<'a> ColumnReader<'a> {
     }
 
     /// Goes on to the next page with cells, where all cells of the page at hand were taken: how many cells are at hand
-    /// then, 0 only behind the last page. Of a chunk that [`test_chunk`](crate::test_chunk) refuses nothing is said: test
-    /// it first. Where memory runs out the same column is left.
+    /// then, 0 only behind the last page. Of a chunk that [`test_chunk`](crate::test_chunk) refuses nothing is said:
+    /// test it first. Where memory runs out the same column is left.
     pub fn fill(&mut self, alloc: Global) -> Result<u64, FileError>
         // The same column is left, and of it so many cells are at hand, unless memory runs out.
         ensures filled { (l : pages.Leaf) (c : columns.Column) → AreLeft l self.old c → Fills l c result self.new }
@@ -168,9 +168,9 @@ impl<'a> ColumnReader<'a> {
         Ok(())
     }
 
-    /// Takes so many cells of the page at hand: the levels of all of them, and the column of at most `most` of them, from
-    /// the one of the number `first` on. Where there are fewer at hand, and of what is left where memory runs out, nothing
-    /// is said.
+    /// Takes so many cells of the page at hand: the levels of all of them, and the column of at most `most` of them,
+    /// from the one of the number `first` on. Where there are fewer at hand, and of what is left where memory runs out,
+    /// nothing is said.
     ///
     /// The time is linear in the runs of these levels, in the cells that are kept, and in the texts and bytes among the
     /// cells that are taken; other values that aren't kept cost nothing.

@@ -4,8 +4,8 @@ ghost use Rattle.refusal_texts.specs.Codes.{fault_codes};
 
 use crate::{Again, Refusal};
 
-/// The faults by letter and number, each code once: C of a table, V of a row, G of a schema, A of a commit's line, P of a
-/// Parquet file, H of columns, TH of Thrift, B of bytes. The same bytes have the same fault again.
+/// The faults by letter and number, each code once: C of a table, V of a row, G of a schema, A of a commit's line, P of
+/// a Parquet file, H of columns, TH of Thrift, B of bytes. The same bytes have the same fault again.
 pub fn faults() -> &'static [Refusal]
     ensures { map (λ refusal. refusal.code.now) result.now ≡ fault_codes }
 {

@@ -27,7 +27,7 @@ pub fn refusal_of_reply(reply: &[u8]) -> Option<&'static Refusal>
     }
 }
 
-// What stands in front of the first space or newline, or all of it.
+/// What stands in front of the first space or newline, or all of it.
 fn first_word(text: &[u8]) -> &[u8]
     ensures { result.now ≡ before_first ends_word text.now }
 {
@@ -37,14 +37,14 @@ fn first_word(text: &[u8]) -> &[u8]
     }
 }
 
-// The place of the first space or newline.
+/// The place of the first space or newline.
 fn word_end(text: &[u8]) -> Option<usize>
     ensures { result ≡ position ends_word text.now }
 {
     text.iter().position(|byte| *byte == b' ' || *byte == b'\n')
 }
 
-// The entry of this code, in the first table or else in the second.
+/// The entry of this code, in the first table or else in the second.
 fn entry_of(code: &[u8]) -> Option<&'static Refusal>
     ensures code { IfSome result (λ refusal. refusal.now.code.now ≡ code.now) }
     ensures listed { is_some result ≡ has_entry code.now }
@@ -52,7 +52,7 @@ fn entry_of(code: &[u8]) -> Option<&'static Refusal>
     first_with(refusals(), code).or(first_with(faults(), code))
 }
 
-// The first of some entries that has this code.
+/// The first of some entries that has this code.
 #[tactic(auto, unfolding(crate::specs::Tables::first_with))]
 fn first_with<'a>(entries: &'a [Refusal], code: &[u8]) -> Option<&'a Refusal>
     ensures code { IfSome result (λ entry. entry.now.code.now ≡ code.now) }

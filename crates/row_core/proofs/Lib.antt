@@ -4,7 +4,6 @@ pub mod Fields
 pub mod KnownNames
 pub mod ConformsReads
 pub mod ReadConforms
-pub mod PrintedFields
 pub mod OrderedMembers
 pub mod PrintedMembers
 pub mod ReadFields

@@ -5,7 +5,6 @@ mod conforming;
 mod fault;
 mod laws;
 mod printer;
-mod printing;
 mod ranges;
 mod reading;
 mod support;
@@ -18,7 +17,6 @@ pub use laws::{
     what_is_read_conforms,
 };
 pub use printer::RowPrinter;
-pub use printing::row_to_json;
 pub use ranges::MAX_BYTES;
 pub use reading::row_from_json;
 pub use support::unsupported;

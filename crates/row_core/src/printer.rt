@@ -37,8 +37,9 @@ pub struct RowPrinter {
 }
 
 impl RowPrinter {
-    /// The printer of a schema's rows: those that conform are printed as [`row_to_json`](crate::row_to_json) gives them.
-    /// The time is linear in the schema, but for the places of the names in each struct.
+    /// The printer of a schema's rows. A row that conforms is printed as an object with each field of the schema, a
+    /// null as null and bytes as a hexadecimal text in lower case, and is read again as itself. The time is linear in
+    /// the schema, but for the places of the names in each struct.
     pub fn of_schema<A: Allocator>(
         alloc: Global,
         schema: &Schema<A>,

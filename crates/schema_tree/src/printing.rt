@@ -51,10 +51,10 @@ impl<A: Allocator> Field<A> {
             value_view v ≡ field_data c.name (data_of c.data_type) c.nullable c.metadata) }
     {
         let mut object = Object::new(alloc);
-        object.put_value("name", Value::try_from_str(alloc, self.name.as_str())?)?;
-        object.put_value("type", self.data_type.to_value(alloc)?)?;
-        object.put_value("nullable", Value::Bool(self.nullable))?;
-        object.put_value("metadata", self.metadata.value(alloc)?)?;
+        object.put("name", Value::try_from_str(alloc, self.name.as_str())?)?;
+        object.put("type", self.data_type.to_value(alloc)?)?;
+        object.put("nullable", Value::Bool(self.nullable))?;
+        object.put("metadata", self.metadata.value(alloc)?)?;
         Ok(object.into_value())
     }
 }
@@ -79,8 +79,8 @@ pub(crate) fn struct_value(alloc: Global, items: Vec<Value>) -> Result<Value, Al
     ensures { IfOk result (λ v. value_view v ≡ struct_data (items_view items.items)) }
 {
     let mut object = Object::new(alloc);
-    object.put_value("type", Value::try_from_str(alloc, "struct")?)?;
-    object.put_value("fields", Value::Array(items))?;
+    object.put("type", Value::try_from_str(alloc, "struct")?)?;
+    object.put("fields", Value::Array(items))?;
     Ok(object.into_value())
 }
 
@@ -88,9 +88,9 @@ fn array_value(alloc: Global, element: Value, contains_null: bool) -> Result<Val
     ensures { IfOk result (λ v. value_view v ≡ array_data (value_view element) contains_null) }
 {
     let mut object = Object::new(alloc);
-    object.put_value("type", Value::try_from_str(alloc, "array")?)?;
-    object.put_value("elementType", element)?;
-    object.put_value("containsNull", Value::Bool(contains_null))?;
+    object.put("type", Value::try_from_str(alloc, "array")?)?;
+    object.put("elementType", element)?;
+    object.put("containsNull", Value::Bool(contains_null))?;
     Ok(object.into_value())
 }
 
@@ -103,9 +103,9 @@ fn map_value(
     ensures { IfOk result (λ v. value_view v ≡ map_data (value_view key) (value_view value) contains_null) }
 {
     let mut object = Object::new(alloc);
-    object.put_value("type", Value::try_from_str(alloc, "map")?)?;
-    object.put_value("keyType", key)?;
-    object.put_value("valueType", value)?;
-    object.put_value("valueContainsNull", Value::Bool(contains_null))?;
+    object.put("type", Value::try_from_str(alloc, "map")?)?;
+    object.put("keyType", key)?;
+    object.put("valueType", value)?;
+    object.put("valueContainsNull", Value::Bool(contains_null))?;
     Ok(object.into_value())
 }

@@ -29,7 +29,7 @@ impl Findings {
         }
     }
 
-    // Begins to note that a law is broken, where none was before.
+    /// Begins to note that a law is broken, where none was before.
     fn begins(&mut self, law: &str) -> bool {
         if self.is_broken {
             return false;

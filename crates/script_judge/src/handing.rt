@@ -10,8 +10,8 @@ const FRONT: &str =
 
 const PART: &str = "a read hands out the rows between its two offsets";
 
-/// Notes where a reader that goes on was handed another list of rows than the log's up to its last offset, or a read handed out
-/// other rows than those between its offsets. How many rows the actors that read were handed.
+/// Notes where a reader that goes on was handed another list of rows than the log's up to its last offset, or a read
+/// handed out other rows than those between its offsets. How many rows the actors that read were handed.
 pub fn judge_reads(log: &Log<'_>, talk: &Talk<'_>, findings: &mut Findings) -> usize {
     let mut handed = 0usize;
     for read in &talk.reads {
@@ -25,7 +25,7 @@ pub fn judge_reads(log: &Log<'_>, talk: &Talk<'_>, findings: &mut Findings) -> u
     handed
 }
 
-// Whether a read was handed the rows between the two places.
+/// Whether a read was handed the rows between the two places.
 fn is_part(log: &Log<'_>, talk: &Talk<'_>, read: &Read<'_>) -> bool {
     match position_of(log, read.from) {
         Some(from) => {
@@ -36,7 +36,7 @@ fn is_part(log: &Log<'_>, talk: &Talk<'_>, read: &Read<'_>) -> bool {
     }
 }
 
-// Whether the rows that a read was handed stand from a place of the log's on.
+/// Whether the rows that a read was handed stand from a place of the log's on.
 fn stand_at(log: &Log<'_>, place: usize, talk: &Talk<'_>, read: &Read<'_>) -> bool {
     for count in 0..read.count {
         let handed = talk.rows.get(read.first.saturating_add(count));
@@ -47,8 +47,8 @@ fn stand_at(log: &Log<'_>, place: usize, talk: &Talk<'_>, read: &Read<'_>) -> bo
     true
 }
 
-// Whether a reader that goes on where it ended was handed the first rows, up to its last offset. One that doesn't is
-// not judged.
+/// Whether a reader that goes on where it ended was handed the first rows, up to its last offset. One that doesn't is
+/// not judged.
 fn was_handed_a_front(log: &Log<'_>, talk: &Talk<'_>, reader: &str) -> bool {
     let Some(offset) = talk.offset_of(reader) else {
         return true;
@@ -65,7 +65,7 @@ fn was_handed_a_front(log: &Log<'_>, talk: &Talk<'_>, reader: &str) -> bool {
     position_of(log, offset) == Some(place)
 }
 
-// How many rows stand before an offset. `None` where it is none of this log.
+/// How many rows stand before an offset. `None` where it is none of this log.
 fn position_of(log: &Log<'_>, text: &str) -> Option<usize> {
     let offset = ReaderOffset::of(text)?;
     let entry = log.at(offset.version as usize)?;

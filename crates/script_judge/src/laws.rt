@@ -45,7 +45,7 @@ pub fn judge_log(
     counts
 }
 
-// Notes the laws that each entry breaks, and counts.
+/// Notes the laws that each entry breaks, and counts.
 fn judge_entries(entries: &[Entry<'_>], talk: &Talk<'_>, findings: &mut Findings) -> Counts {
     let mut counts = Counts {
         acknowledged: 0,
@@ -69,7 +69,7 @@ fn judge_entries(entries: &[Entry<'_>], talk: &Talk<'_>, findings: &mut Findings
     counts
 }
 
-// Whether entries have one of the same application, of at most the same number: of a close, any.
+/// Whether entries have one of the same application, of at most the same number: of a close, any.
 fn stands_in(entries: &[Entry<'_>], entry: &Entry<'_>) -> bool {
     for other in entries {
         if other.number <= entry.number && other.application == entry.application {
@@ -79,7 +79,7 @@ fn stands_in(entries: &[Entry<'_>], entry: &Entry<'_>) -> bool {
     false
 }
 
-// Whether a batch was submitted with its rows.
+/// Whether a batch was submitted with its rows.
 fn was_submitted(talk: &Talk<'_>, entry: &Entry<'_>) -> bool {
     for other in &talk.submitted {
         if entry.is(other) {
@@ -98,8 +98,8 @@ fn was_acknowledged(talk: &Talk<'_>, entry: &Entry<'_>) -> bool {
     false
 }
 
-// Notes where a batch that was told to stand doesn't stand once, in the version that was told, with the rows that its
-// session had submitted.
+/// Notes where a batch that was told to stand doesn't stand once, in the version that was told, with the rows that its
+/// session had submitted.
 fn judge_acknowledged(
     entries: &[Entry<'_>],
     talk: &Talk<'_>,
@@ -118,13 +118,13 @@ fn judge_acknowledged(
     findings.need_of_batch(count == 1 && is_there, ACKNOWLEDGED, &batch);
 }
 
-// Whether a version is that which was told, if one was.
+/// Whether a version is that which was told, if one was.
 fn is_at(told: Option<u64>, version: usize) -> bool {
     let version = version as u64;
     told.unwrap_or(version) == version
 }
 
-// Whether a stream that was told closed is, by the entry of the version that was told.
+/// Whether a stream that was told closed is, by the entry of the version that was told.
 fn is_closed(entries: &[Entry<'_>], told: &Closed<'_>) -> bool {
     for (version, entry) in entries.iter().enumerate() {
         if entry.is_close && entry.application == told.application && is_at(told.version, version) {

@@ -1,5 +1,5 @@
-//! The judge of scripts of several actors: by what such a script was told and by the log that is left, whether the laws of
-//! batches and of readers were kept. It knows lines and replies as texts, and nothing of the code that answers them.
+//! The judge of scripts of several actors: by what such a script was told and by the log that is left, whether the laws
+//! of batches and of readers were kept. It knows lines and replies as texts, and nothing of the code that answers them.
 #![tactic(auto)]
 
 mod findings;

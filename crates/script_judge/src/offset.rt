@@ -41,7 +41,7 @@ impl ReaderOffset {
     }
 }
 
-// The number between two texts.
+/// The number between two texts.
 fn number_in(text: &str, before: &str, behind: &str) -> Option<u64> {
     let (_front, rest) = text.split_once(before)?;
     let (number, _rest) = rest.split_once(behind)?;

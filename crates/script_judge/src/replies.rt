@@ -5,8 +5,8 @@ use case_words::head;
 /// The most rows that a read hands out.
 pub const MOST_ROWS: u64 = 65_536;
 
-/// The codes of the refusals that an append may be told over a table that sessions alone write, or whose application's id is
-/// none.
+/// The codes of the refusals that an append may be told over a table that sessions alone write, or whose application's
+/// id is none.
 pub const OF_APPENDS: [&str; 8] = ["S1", "S2", "S3", "S4", "S5", "S7", "S8", "S11"];
 
 /// Those of a close.

@@ -127,7 +127,7 @@ impl<'a> Talk<'a> {
         Some(offset)
     }
 
-    // Takes a line and what it is told.
+    /// Takes a line and what it is told.
     fn take(&mut self, line: &'a str) {
         let (word, rest) = head(line);
         match word {
@@ -144,14 +144,14 @@ impl<'a> Talk<'a> {
         }
     }
 
-    // The next reply is one of these.
+    /// The next reply is one of these.
     fn expect(&mut self, line: &str, known: &[&str]) {
         let reply = self.replies.take();
         let is_known = known.contains(&reply);
         self.findings.need_reply(is_known, line, reply);
     }
 
-    // The job that a line without an actor is, or that is behind the actor of a `start`.
+    /// The job that a line without an actor is, or that is behind the actor of a `start`.
     fn job_of(&mut self, line: &'a str) -> Option<Job<'a>> {
         let (word, rest) = head(line);
         let (first, behind) = head(rest);
@@ -168,7 +168,7 @@ impl<'a> Talk<'a> {
         }
     }
 
-    // Keeps a batch that is submitted by these words: `NUMBER AT ROWS`.
+    /// Keeps a batch that is submitted by these words: `NUMBER AT ROWS`.
     fn submit(&mut self, application: &'a str, words: &'a str) {
         let (number, words) = head(words);
         let (_moment, rows) = head(words);
@@ -184,12 +184,12 @@ impl<'a> Talk<'a> {
         }
     }
 
-    // An actor has this job from here on, or none.
+    /// An actor has this job from here on, or none.
     fn give(&mut self, actor: &'a str, job: Option<Job<'a>>) {
         self.findings.broken.note(self.jobs.push((actor, job)));
     }
 
-    // The job that an actor has.
+    /// The job that an actor has.
     fn job_at(&self, actor: &str) -> Option<Job<'a>> {
         let mut found = None;
         for (name, job) in &self.jobs {
@@ -200,7 +200,7 @@ impl<'a> Talk<'a> {
         found
     }
 
-    // An actor begins a job, in place of an older one.
+    /// An actor begins a job, in place of an older one.
     fn start(&mut self, rest: &'a str) {
         let (actor, text) = head(rest);
         self.expect(rest, &["ok"]);
@@ -209,7 +209,7 @@ impl<'a> Talk<'a> {
         self.give(actor, job);
     }
 
-    // An actor is led on, or dies: it is told so, or what its job is told at its end, or that it has no job.
+    /// An actor is led on, or dies: it is told so, or what its job is told at its end, or that it has no job.
     fn lead(&mut self, word: &str, rest: &'a str) {
         let (actor, _kind) = head(rest);
         let job = self.job_at(actor);
@@ -226,7 +226,7 @@ impl<'a> Talk<'a> {
         }
     }
 
-    // A job ends, and is told so.
+    /// A job ends, and is told so.
     fn end(&mut self, actor: &'a str, job: Job<'a>) {
         match job {
             Job::Append(place) => self.end_append(place),
@@ -237,7 +237,7 @@ impl<'a> Talk<'a> {
         }
     }
 
-    // It is told this word with a number, or one of these refusals.
+    /// It is told this word with a number, or one of these refusals.
     fn end_plainly(&mut self, job: &str, word: &str, codes: &[&str]) {
         let reply = self.replies.take();
         let is_known = number_behind(reply, word).is_some() || is_refusal(reply, codes);
@@ -283,7 +283,7 @@ impl<'a> Talk<'a> {
         self.findings.broken.note(self.closed.push(closed));
     }
 
-    // Takes the rows of a read, and where it ended.
+    /// Takes the rows of a read, and where it ended.
     fn end_read(&mut self, actor: &'a str, from: &'a str) {
         let first = self.rows.len();
         let mut last = "";
@@ -316,7 +316,7 @@ impl<'a> Talk<'a> {
         }
     }
 
-    // Takes the lines of a history: each begins with its version, from 0 on.
+    /// Takes the lines of a history: each begins with its version, from 0 on.
     fn hear_history(&mut self) {
         let mut count = 0u64;
         for _ in 0..self.replies.rest.len() {

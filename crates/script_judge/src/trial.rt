@@ -1,4 +1,5 @@
-//! A script that is judged, and what is told of that: what was counted, and that it was lawful, or which law was broken.
+//! A script that is judged, and what is told of that: what was counted, and that it was lawful, or which law was
+//! broken.
 
 use crate::findings::Findings;
 use crate::handing::judge_reads;
@@ -42,8 +43,8 @@ impl Trial {
         }
     }
 
-    /// Adds a line that is written by hand: of the script (`> LINE`), of what it was told (`< LINE`), or an entry of the log
-    /// (`= ENTRY`); or that no table is left (`= nothing`).
+    /// Adds a line that is written by hand: of the script (`> LINE`), of what it was told (`< LINE`), or an entry of
+    /// the log (`= ENTRY`); or that no table is left (`= nothing`).
     pub fn add(&mut self, word: &str, rest: &str, told: &mut Transcript) {
         match word {
             ">" => self.script.say(rest),

@@ -1,4 +1,4 @@
-// The fields of a line: words, numbers, and arrays.
+//! The fields of a line: words, numbers, and arrays.
 ghost use Rattle.std.specs.Prelude.{◌≡◌, option_map};
 ghost use Rattle.json_text.specs.Rows.{array_data, rows_data};
 ghost use Rattle.json_text.specs.View.{items_view};
@@ -82,7 +82,7 @@ pub fn array_of<'a>(
     }
 }
 
-// The members of a JSON array, which owns its text.
+/// The members of a JSON array, which owns its text.
 #[tactic(auto, unfolding(crate::specs::Fields::array_of))]
 fn owned_array(alloc: Global, text: &str) -> Result<ArrayText, FieldError>
     ensures { LineGives array_data result (array_of text.now) }

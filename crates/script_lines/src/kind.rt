@@ -1,4 +1,4 @@
-// How a store answers a call that a script has chosen.
+//! How a store answers a call that a script has chosen.
 ghost use Rattle.std.specs.Prelude.{◌≡◌};
 ghost use Rattle.script_lines.specs.Names.{kind_name, kind_of};
 

@@ -1,4 +1,4 @@
-// The lines of a script, and the reader of one line.
+//! The lines of a script, and the reader of one line.
 ghost use Rattle.std.specs.Prelude.{◌≡◌, option_map};
 ghost use Rattle.script_lines.specs.Fields.{LineGives};
 ghost use Rattle.script_lines.specs.Lines.{task_view, statement_view, append_head, append_from, close_from, tail_from, task_from, bare_task, task_of, create_from, start_from, step_from, foreign_from, bare_statement, counted_from, plain_from, statement_from, statement_of};
@@ -249,7 +249,7 @@ fn bare_line<'a>(verb: Verb) -> Option<Line<'a>>
     }
 }
 
-// A line with a number or a kind, of whose text nothing is kept.
+/// A line with a number or a kind, of whose text nothing is kept.
 fn counted_line<'a>(verb: Verb, text: &str) -> Option<Line<'a>>
     ensures { option_map statement_view result ≡ counted_from verb text.now }
 {
@@ -271,7 +271,7 @@ fn counted_line<'a>(verb: Verb, text: &str) -> Option<Line<'a>>
     Some(line)
 }
 
-// A line that is neither a job nor names one, so that nothing of it is kept in memory.
+/// A line that is neither a job nor names one, so that nothing of it is kept in memory.
 fn plain_line(verb: Verb, text: &str) -> Option<Line<'_>>
     ensures { option_map statement_view result ≡ plain_from verb text.now }
 {

@@ -1,4 +1,4 @@
-// What one line of a script is.
+//! What one line of a script is.
 ghost use Rattle.std.specs.Prelude.{◌≡◌, IfOk, option_map};
 ghost use Rattle.delta_actions.specs.Commit.{is_blank};
 ghost use Rattle.script_lines.specs.Lines.{text_of, reading_of, reading_view};
@@ -34,11 +34,11 @@ fn is_blank(bytes: &[u8]) -> bool
         .all(|byte| matches!(byte, b' ' | b'\t' | b'\r'))
 }
 
-/// Reads one line, which is given without the newline behind it. It is skipped where it is blank (spaces, tabs and carriage
-/// returns alone) or begins with `#`, and bad where it isn't UTF-8 or spells no line. Numbers are below 2^64, moments at most
-/// 999,999,999,999,999 milliseconds, `max` at most 65,536 and a count of tries from 1 to 64. What it asks for borrows the
-/// line, and `scratch` where texts had escapes; but rows that are to be owned are kept as the text of their array
-/// ([`JsonRows::Array`](json_text::JsonRows)), which is read again when its turn comes.
+/// Reads one line, which is given without the newline behind it. It is skipped where it is blank (spaces, tabs and
+/// carriage returns alone) or begins with `#`, and bad where it isn't UTF-8 or spells no line. Numbers are below 2^64,
+/// moments at most 999,999,999,999,999 milliseconds, `max` at most 65,536 and a count of tries from 1 to 64. What it
+/// asks for borrows the line, and `scratch` where texts had escapes; but rows that are to be owned are kept as the text
+/// of their array ([`JsonRows::Array`](json_text::JsonRows)), which is read again when its turn comes.
 ///
 /// Takes time linear in the line. The only error is that a growth was refused.
 #[tactic(auto, unfolding(crate::specs::Lines::reading_of))]

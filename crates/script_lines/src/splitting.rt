@@ -1,4 +1,4 @@
-// A text of a script, split at its first newline.
+//! A text of a script, split at its first newline.
 ghost use Rattle.std.specs.Prelude.{◌≡◌, ◌<◌, ◌∷◌, length, position, option_map, IfSome};
 ghost use Rattle.delta_actions.specs.Commit.{lines_of};
 ghost use Rattle.script_lines.specs.Splitting.{lines_left, is_newline};

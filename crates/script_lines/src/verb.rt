@@ -1,4 +1,4 @@
-// The first word of a line of a script.
+//! The first word of a line of a script.
 ghost use Rattle.std.specs.Prelude.{◌≡◌};
 ghost use Rattle.script_lines.specs.Names.{verb_name, verb_of};
 

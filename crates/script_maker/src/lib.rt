@@ -1,5 +1,5 @@
-//! Random scripts of several actors, as texts: each is made by a seed, in rounds, between which it is told where its readers ended.
-//! It knows nothing of the code that answers them.
+//! Random scripts of several actors, as texts: each is made by a seed, in rounds, between which it is told where its
+//! readers ended. It knows nothing of the code that answers them.
 #![tactic(auto)]
 
 mod random;

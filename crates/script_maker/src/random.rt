@@ -14,7 +14,7 @@ impl Random {
         }
     }
 
-    // The next number below 2^31.
+    /// The next number below 2^31.
     fn draw(&mut self) -> u64 {
         self.state = self
             .state

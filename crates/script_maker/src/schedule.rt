@@ -235,13 +235,13 @@ impl Schedule {
         }
     }
 
-    // Ends the line that was added.
+    /// Ends the line that was added.
     fn end_line(&mut self) {
         self.text.text("\n");
         self.lines = self.lines.saturating_add(1);
     }
 
-    // Adds a line of one of these words.
+    /// Adds a line of one of these words.
     fn say_any(&mut self, words: &[(&'static str, u64)]) {
         self.text.text(self.random.word(words));
         self.end_line();
@@ -259,7 +259,7 @@ impl Schedule {
         }
     }
 
-    // Adds a line of a job that may put something.
+    /// Adds a line of a job that may put something.
     fn add_job(&mut self) {
         match self.random.word(&JOBS) {
             "batch" => self.streams.add_batch(&mut self.random, &mut self.text),
@@ -269,7 +269,7 @@ impl Schedule {
         self.end_line();
     }
 
-    // A random writer that is idle, or one that isn't; any where all others are.
+    /// A random writer that is idle, or one that isn't; any where all others are.
     fn writer(&mut self, is_idle: bool) -> usize {
         let first = self.random.place(WRITERS);
         for step in 0..WRITERS {
@@ -294,7 +294,7 @@ impl Schedule {
         }
     }
 
-    // A writer begins, mostly one that does nothing.
+    /// A writer begins, mostly one that does nothing.
     fn begin(&mut self) {
         let is_idle = self.random.chance(92);
         let writer = self.writer(is_idle);
@@ -304,7 +304,7 @@ impl Schedule {
         self.add_job();
     }
 
-    // A writer makes a step, or several, or dies.
+    /// A writer makes a step, or several, or dies.
     fn go_on(&mut self) {
         let writer = self.writer(false);
         let stage = self.stage(writer);
@@ -320,7 +320,7 @@ impl Schedule {
         self.lead(word, " w", writer);
     }
 
-    // Adds the line by which an actor ends, is led on, dies, or makes a step that meets a kind.
+    /// Adds the line by which an actor ends, is led on, dies, or makes a step that meets a kind.
     fn lead(&mut self, word: &str, kind: &str, number: usize) {
         let is_step = !matches!(word, "finish" | "die" | "until");
         self.text.text(if is_step { "step" } else { word });
@@ -332,7 +332,7 @@ impl Schedule {
         self.end_line();
     }
 
-    // A line without an actor.
+    /// A line without an actor.
     fn act_plainly(&mut self) {
         if self.random.chance(20) {
             self.text.text("tail ");
@@ -347,7 +347,7 @@ impl Schedule {
         self.add_job();
     }
 
-    // An offset that a reader was told, or one that may be none.
+    /// An offset that a reader was told, or one that may be none.
     fn some_offset(&mut self) -> ReaderOffset {
         let place = self.random.place(READERS.len());
         match self.readers.get(place) {
@@ -360,7 +360,7 @@ impl Schedule {
         }
     }
 
-    // A reader begins where its last read ended, or goes on. One that has ended waits for the next round.
+    /// A reader begins where its last read ended, or goes on. One that has ended waits for the next round.
     fn read(&mut self) {
         let place = self.random.place(READERS.len());
         let limit = self.random.word(&LIMITS);
@@ -387,7 +387,7 @@ impl Schedule {
         }
     }
 
-    // Adds the line by which a reader begins.
+    /// Adds the line by which a reader begins.
     fn begin_read(&mut self, place: usize, limit: &str, offset: ReaderOffset) {
         self.text.with("start r", &place);
         self.text.text(" tail ");
@@ -397,7 +397,7 @@ impl Schedule {
         self.end_line();
     }
 
-    // A put in flight takes effect, mostly one of the last; seldom one that isn't.
+    /// A put in flight takes effect, mostly one of the last; seldom one that isn't.
     fn land(&mut self) {
         let back = self.random.below(7).saturating_add(1);
         let near = self.flight.saturating_sub(back);
@@ -407,7 +407,7 @@ impl Schedule {
         self.end_line();
     }
 
-    // A fault of the next commit put of a line without an actor, or how many versions are tried.
+    /// A fault of the next commit put of a line without an actor, or how many versions are tried.
     fn set(&mut self) {
         if self.random.chance(75) {
             self.text.text("fault ");
@@ -419,7 +419,7 @@ impl Schedule {
     }
 }
 
-// Where a writer is behind a line of it.
+/// Where a writer is behind a line of it.
 fn stage_behind(word: &str) -> Stage {
     match word {
         "until" => Stage::AtCommit,
@@ -428,7 +428,7 @@ fn stage_behind(word: &str) -> Stage {
     }
 }
 
-// Where a reader is behind a line of it. A first call that is lost ends its read, and so does its death.
+/// Where a reader is behind a line of it. A first call that is lost ends its read, and so does its death.
 fn read_stage_behind(stage: Stage, word: &str) -> Stage {
     match word {
         "pass" | "twice" => Stage::Steps,

@@ -28,8 +28,8 @@ struct SubmittedBatch {
     rows: Rows,
 }
 
-/// An application, by its number and what its name ends in, and the batches that were handed in under its numbers, the oldest
-/// first.
+/// An application, by its number and what its name ends in, and the batches that were handed in under its numbers, the
+/// oldest first.
 struct Stream {
     number: u64,
     ending: &'static str,
@@ -71,7 +71,7 @@ impl Drop for Streams {
 }
 
 impl Rows {
-    // A few rows from this number on.
+    /// A few rows from this number on.
     fn new(first: u64, random: &mut Random) -> Rows {
         let count = random.below(5);
         let mut nulls = 0;
@@ -87,7 +87,7 @@ impl Rows {
         }
     }
 
-    // Adds them as a JSON array.
+    /// Adds them as a JSON array.
     fn tell(self, told: &mut Transcript) {
         told.text("[");
         let mut before = "{\"s\":";
@@ -108,13 +108,13 @@ impl Rows {
     }
 }
 
-// The bit of a place.
+/// The bit of a place.
 fn bit_of(place: u64) -> u64 {
     if place < 64 { 1 << place } else { 0 }
 }
 
 impl Stream {
-    // A stream of another application than all of other numbers.
+    /// A stream of another application than all of other numbers.
     fn new(alloc: Global, number: u64, random: &mut Random) -> Stream {
         Stream {
             number,
@@ -123,13 +123,13 @@ impl Stream {
         }
     }
 
-    // Adds its application.
+    /// Adds its application.
     fn tell(&self, told: &mut Transcript) {
         told.with("a", &self.number);
         told.text(self.ending);
     }
 
-    // Adds the line of a batch of it.
+    /// Adds the line of a batch of it.
     fn tell_batch(&self, number: u64, at: u64, rows: Rows, told: &mut Transcript) {
         told.text("append ");
         self.tell(told);
@@ -139,7 +139,7 @@ impl Stream {
         rows.tell(told);
     }
 
-    // The number behind the last one, or behind a gap.
+    /// The number behind the last one, or behind a gap.
     fn next_number(&self, random: &mut Random) -> u64 {
         let gap = if random.chance(10) {
             random.below(4)
@@ -152,7 +152,7 @@ impl Stream {
         }
     }
 
-    // Adds the line of a batch with a new number. Behind it, the number of the row that is made next.
+    /// Adds the line of a batch with a new number. Behind it, the number of the row that is made next.
     fn add_new(&mut self, next_row: u64, random: &mut Random, told: &mut Transcript) -> u64 {
         let number = self.next_number(random);
         let rows = Rows::new(next_row, random);
@@ -161,8 +161,8 @@ impl Stream {
         next_row.saturating_add(rows.count)
     }
 
-    // Adds the line of a batch that was handed in before, mostly the last one and seldom with other rows. Behind it, the
-    // number of the row that is made next.
+    /// Adds the line of a batch that was handed in before, mostly the last one and seldom with other rows. Behind it,
+    /// the number of the row that is made next.
     fn add_old(&self, next_row: u64, random: &mut Random, told: &mut Transcript) -> u64 {
         let last = self.batches.len().saturating_sub(1);
         let place = if random.chance(70) {
@@ -183,7 +183,7 @@ impl Stream {
         next_row
     }
 
-    // Adds the line of a batch. Behind it, the number of the row that is made next.
+    /// Adds the line of a batch. Behind it, the number of the row that is made next.
     fn add(&mut self, next_row: u64, random: &mut Random, told: &mut Transcript) -> u64 {
         if !self.batches.is_empty() && random.chance(35) {
             self.add_old(next_row, random, told)
@@ -240,7 +240,7 @@ impl Streams {
     }
 }
 
-// Adds the line of a batch of one of these. Behind it, the number of the row that is made next.
+/// Adds the line of a batch of one of these. Behind it, the number of the row that is made next.
 fn add_of(
     streams: &mut [Stream],
     next_row: u64,
@@ -254,7 +254,7 @@ fn add_of(
     }
 }
 
-// Adds the line of a close.
+/// Adds the line of a close.
 fn tell_close(stream: &Stream, at: u64, told: &mut Transcript) {
     told.text("close ");
     stream.tell(told);

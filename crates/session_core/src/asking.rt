@@ -36,7 +36,7 @@ pub enum Reply {
 }
 
 impl Reply {
-    // What stands for a call that has no answer.
+    /// What stands for a call that has no answer.
     fn of_fault(fault: StoreFault) -> Reply
         ensures { result ≡ fault_reply fault }
     {
@@ -47,8 +47,8 @@ impl Reply {
     }
 }
 
-/// Makes the call over a store. What is put is moved into it, and what it answers is handed on as it is. `Memory` is told also
-/// where there is none for a commit's name, and the store isn't asked then.
+/// Makes the call over a store. What is put is moved into it, and what it answers is handed on as it is. `Memory` is
+/// told also where there is none for a commit's name, and the store isn't asked then.
 pub fn ask<S: Store>(alloc: Global, store: &mut S, request: Request) -> Reply
     ensures kind { IsAnswerOf (kind_of (asked_view request)) (told_view result) }
     ensures answer { MayAnswer (S.objects store.old, S.in_flight store.old) (asked_view request) (told_view result)

@@ -10,9 +10,9 @@ use store_core::Store;
 
 /// Drives a session over a store to its end: makes each call that it asks for, and tells it the answer.
 ///
-/// What becomes of the store is what the calls of the talk do, and nothing else. Where there is no memory for a commit's
-/// name, the session is told so, and the store isn't asked. The time beside that of the store and the session is constant for
-/// each call.
+/// What becomes of the store is what the calls of the talk do, and nothing else. Where there is no memory for a
+/// commit's name, the session is told so, and the store isn't asked. The time beside that of the store and the session
+/// is constant for each call.
 pub fn drive<S: Store, N: Session>(alloc: Global, store: &mut S, session: &mut N) -> N::Outcome
     requires new { N.awaits session.old ≡ None }
     requires unended { N.done session.old ≡ false }

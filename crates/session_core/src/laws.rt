@@ -6,15 +6,15 @@ ghost use Rattle.session_core.specs.Shown.{AllReads, AllStand, IsExact, Shows};
 ghost use Rattle.session_core.specs.Stores.{Answers, MayAnswer, MayAnswerAmid, State, Talked};
 ghost use Rattle.session_core.specs.Talks.{Asked, Bears, IsBorne, Talk, Told, list_names, told_names};
 
-/// What the objects of a store bear, those of each store bear that has them all and maybe more: a talk stays borne while a
-/// store grows.
+/// What the objects of a store bear, those of each store bear that has them all and maybe more: a talk stays borne
+/// while a store grows.
 pub fn what_is_borne_stays_borne()
     ensures answer { (objects more : Objects) (asked : Asked) (told : Told) → HasObjectsOf objects more → IsBorne objects asked told → IsBorne more asked told }
     ensures talk { (objects more : Objects) (talk : Talk) → HasObjectsOf objects more → Bears objects talk → Bears more talk }
 {}
 
-/// A store has what its answers told, also one that loses calls, and into which others put something between the calls: it
-/// bears the talk, and it has all that it had before.
+/// A store has what its answers told, also one that loses calls, and into which others put something between the calls:
+/// it bears the talk, and it has all that it had before.
 pub fn a_talk_is_borne()
     ensures grown { (old new : State) (talk : Talk) → Talked MayAnswerAmid old talk new → HasObjectsOf old.0 new.0 }
     ensures borne { (old new : State) (talk : Talk) → Talked MayAnswerAmid old talk new → Bears new.0 talk }
@@ -44,8 +44,8 @@ pub fn what_a_longer_talk_shows()
     ensures { (objects : Objects) (talk : Talk) (asked : Asked) (told : Told) → Shows (talk ++ (asked, told) ∷ []) objects → Shows talk objects × IsExact objects asked told }
 {}
 
-/// A store that grows, also by others' puts between the calls, is shown as it was when the names were listed, where what is got
-/// behind that stood then.
+/// A store that grows, also by others' puts between the calls, is shown as it was when the names were listed, where
+/// what is got behind that stood then.
 pub fn what_grows_is_shown_as_it_was_listed()
     ensures { (listed : Objects) (old new : State) (gets : Talk) (names : List (List ℕ)) → names ≡ names_of listed → HasObjectsOf listed old.0
         → AllStand gets listed → Talked MayAnswerAmid old gets new → Shows ((list_names, told_names names) ∷ gets) listed }

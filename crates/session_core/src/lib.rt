@@ -1,8 +1,9 @@
 //! Sessions: machines without input and output, which ask for one call of a store at a time and are told its answer.
 //!
 //! What a session does is said of its *talk*, what was asked and told so far, and of no store. `drive` runs one over a
-//! store, and alone says what becomes of the store meanwhile. Whoever answers in another way (a store that many share, a
-//! lock, a world that loses what it likes) proves that it answers as a store may, and has all that is said of the session.
+//! store, and alone says what becomes of the store meanwhile. Whoever answers in another way (a store that many share,
+//! a lock, a world that loses what it likes) proves that it answers as a store may, and has all that is said of the
+//! session.
 #![tactic(auto)]
 
 mod asking;

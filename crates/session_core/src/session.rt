@@ -14,11 +14,11 @@ pub enum Step<T> {
     Done(T),
 }
 
-/// A machine without input and output that makes calls of a store: it asks for one, is told what was answered, and goes on,
-/// until it has an outcome. Its contract speaks of its job and of its talk, the calls so far with what was told, and of no
-/// store: what it asks for and what it tells hold whoever answers, and however much time and how many others there are
-/// between two calls. A session may begin with something that is known of the store from calls of others; the talk in which
-/// these were made goes before its own, and no call of it counts as one of its own.
+/// A machine without input and output that makes calls of a store: it asks for one, is told what was answered, and goes
+/// on, until it has an outcome. Its contract speaks of its job and of its talk, the calls so far with what was told,
+/// and of no store: what it asks for and what it tells hold whoever answers, and however much time and how many others
+/// there are between two calls. A session may begin with something that is known of the store from calls of others; the
+/// talk in which these were made goes before its own, and no call of it counts as one of its own.
 pub trait Session {
     ghost use Rattle.session_core.specs.Talks.{Asked, Kind, Talk};
 
@@ -33,8 +33,8 @@ pub trait Session {
     /// The kind of the call that waits for an answer. Before the first call none does.
     ghost awaits: { Self → Option Kind };
 
-    /// Behind what was known before it began, a session where it is now may have had this talk of its own, and wait for an
-    /// answer to this call. No store stands in it.
+    /// Behind what was known before it began, a session where it is now may have had this talk of its own, and wait for
+    /// an answer to this call. No store stands in it.
     ghost fits: { (before : Talk) → Self → Talk → Option Asked → Type 0 };
 
     /// How many calls it still makes at most.

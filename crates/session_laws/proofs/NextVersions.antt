@@ -8,7 +8,7 @@ use Rattle.table_log.specs.LoadSessions.{HasListed}
 use Rattle.table_log.specs.declared.loading.Loaded.{Loaded}
 use Rattle.commit_core.specs.CommitSessions.{CommitJob, ComesTo, Winner, got_told, taken}
 use Rattle.batch_core.specs.Requests.{SinkRequest}
-use Rattle.sink_core.specs.SinkSessions.{InRace, Point, PutsFile, Reaches, Stages, SinkJob, SinkTask, anew, appends, closes, conflicts, file_of, goes_on, loaded, race_of, ready, rules, stages, stood}
+use Rattle.sink_core.specs.SinkSessions.{InRace, Point, PutsFile, Reaches, Readies, SinkJob, SinkTask, anew, appends, closes, conflicts, file_of, goes_on, loaded, race_of, ready, rules, readies, stood}
 use Rattle.session_laws.specs.Rows.{next_after, next_version}
 
 -- ---- talks
@@ -54,10 +54,10 @@ puts_next : (name : List ℕ) (request : SinkRequest) (calls : Talk) (size next 
 puts_next name request calls size next (anew file written) = refl
 puts_next name request calls size next (stood file bytes written same) = refl
 
-stages_next : (job : SinkJob) (request : SinkRequest) (calls : Talk) (size next : ℕ) → Stages job request calls size → next_after next calls ≡ next
-stages_next job request calls size next staged = by_task job.task staged
+readies_next : (job : SinkJob) (request : SinkRequest) (calls : Talk) (size next : ℕ) → Readies job request calls size → next_after next calls ≡ next
+readies_next job request calls size next readied = by_task job.task readied
   where
-    by_task : (task : SinkTask) → Stages (record job { task = task }) request calls size → next_after next calls ≡ next
+    by_task : (task : SinkTask) → Readies (record job { task = task }) request calls size → next_after next calls ≡ next
     by_task (appends number items) puts = puts_next (file_of job number) request calls size next puts
     by_task closes none = ap (next_after next) none.0
 
@@ -85,26 +85,26 @@ module _ (job : SinkJob) (before : Talk) where
   -- What is known of the log ends below the version that comes next.
   pub reaches_next : (talk : Talk) (known : Loaded) (tries : ℕ) (point : Point) → Reaches job before talk known tries point → known.next ≡ next_version talk
   reaches_next talk known tries point (loaded _ _ fine load) = load.next ∙ sym (listed_next talk load.names load.listed)
-  reaches_next talk known tries point (stages front calls _ _ _ request size reaches asked new staged reads talked) =
+  reaches_next talk known tries point (readies front calls _ _ _ request size reaches asked new readied reads talked) =
       reaches_next front known tries (rules None) reaches
-      ∙ (sym (stages_next job request calls size (next_version front) staged)
+      ∙ (sym (readies_next job request calls size (next_version front) readied)
       ∙ (sym (next_both 0 front calls) ∙ ap next_version (sym talked)))
-  reaches_next talk known tries point (goes_on _ _ _ staged reaches asked) = reaches_next talk known tries (rules (Some staged)) reaches
-  reaches_next talk known tries point (conflicts front race _ old _ some left newest staged winners reaches few ends talked rest next front_known) =
+  reaches_next talk known tries point (goes_on _ _ _ readied reaches asked) = reaches_next talk known tries (rules (Some readied)) reaches
+  reaches_next talk known tries point (conflicts front race _ old _ some left newest readied winners reaches few ends talked rest next front_known) =
       let told = told_object (Some ends.1.bytes) in
-      let put = race_of job staged old.next some in
-      let from = reaches_next front old some (ready staged) reaches in
+      let put = race_of job readied old.next some in
+      let from = reaches_next front old some (ready readied) reaches in
       next ∙ (sym (race_next put front race (got_told put newest told) newest ends.0 from ends.2) ∙ ap next_version (sym talked))
 
   -- Some version is known.
   pub reaches_some : (talk : Talk) (known : Loaded) (tries : ℕ) (point : Point) → Reaches job before talk known tries point → 0 < known.next
   reaches_some talk known tries point (loaded _ _ fine load) = omega (arith, load.some, load.next)
-  reaches_some talk known tries point (stages front calls _ _ _ request size reaches asked new staged reads talked) = reaches_some front known tries (rules None) reaches
-  reaches_some talk known tries point (goes_on _ _ _ staged reaches asked) = reaches_some talk known tries (rules (Some staged)) reaches
-  reaches_some talk known tries point (conflicts front race _ old _ some left newest staged winners reaches few ends talked rest next front_known) = omega (arith, next)
+  reaches_some talk known tries point (readies front calls _ _ _ request size reaches asked new readied reads talked) = reaches_some front known tries (rules None) reaches
+  reaches_some talk known tries point (goes_on _ _ _ readied reaches asked) = reaches_some talk known tries (rules (Some readied)) reaches
+  reaches_some talk known tries point (conflicts front race _ old _ some left newest readied winners reaches few ends talked rest next front_known) = omega (arith, next)
 
   -- where its puts have come to a version, that follows from the talk
   pub in_race_next : (talk : Talk) (P : CommitJob → Talk → Type 0) (r : InRace job before talk P) (version : ℕ) (commits : List (List Action)) (behind : Talk)
-      → ComesTo (race_of job r.staged r.known.next r.tries) r.race version commits behind → next_version talk ≡ next_after version behind
+      → ComesTo (race_of job r.readied r.known.next r.tries) r.race version commits behind → next_version talk ≡ next_after version behind
   in_race_next talk P r version commits behind comes =
-      ap next_version r.talked ∙ race_next (race_of job r.staged r.known.next r.tries) r.front r.race behind version commits (reaches_next r.front r.known r.tries (ready r.staged) r.reaches) comes
+      ap next_version r.talked ∙ race_next (race_of job r.readied r.known.next r.tries) r.front r.race behind version commits (reaches_next r.front r.known r.tries (ready r.readied) r.reaches) comes

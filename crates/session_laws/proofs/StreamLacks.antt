@@ -1,7 +1,7 @@
 -- Which commit a stream's session lacks, and what it tells at all.
 use Rattle.std.proofs.Common.{◌≡◌, ◌∙◌, ℕ, suc, List, [], ◌∷◌, ◌++◌, true, false, Some, None, Result, Ok, Err, append_assoc, inl, inr, refl, sym, ap, subst, arith, string_bytes}
 use Rattle.std.specs.Str.{IsUtf8}
-use Rattle.store_core.specs.Objects.{Objects}
+use Rattle.store_core.specs.Objects.{AreBytes, Objects}
 use Rattle.store_core.specs.declared.store.Put.TheVariants.{Exists}
 use Rattle.session_core.specs.Sessions.{AllAsked}
 use Rattle.session_core.specs.Talks.{Asked, Bears, Talk, get_object, put_commit, told_object, told_put}
@@ -28,7 +28,6 @@ use Rattle.sink_core.specs.SinkSessions.{AnswerEnds, InRace, LooksAt, SinkAsks, 
 use Rattle.sink_core.specs.declared.sink_state.SinkOutcome.{SinkOutcome}
 use Rattle.sink_core.specs.declared.sink_state.SinkOutcome.TheVariants.{Already, AlreadyClosed, Closed, Committed}
 use Rattle.sink_core.proofs.SinkCounts.{all_tried}
-use Rattle.session_laws.specs.May.{AreBytes}
 use Rattle.session_laws.specs.Rows.{LacksCommit, MayTellOfStream, next_version}
 use Rattle.session_laws.proofs.NextVersions.{in_race_next}
 use Rattle.session_laws.proofs.Lacks.{begins_with_list, listed_front, load_lacks, winner_lacks}
@@ -74,7 +73,7 @@ module _ (job : SinkJob) (before : Talk) where
       let file = looks_at_file front (commit_name version) request looks in
       absurd (other_name version job.application file.0 file.1)
   load_asked front listed_names version listed (fine, inr (inr r)) =
-      let put = race_of job r.staged r.known.next r.tries in
+      let put = race_of job r.readied r.known.next r.tries in
       let comes : ComesTo put r.race r.holds.0 r.holds.1 (put_told put r.holds.0 (told_put Exists)) = r.holds.2 in
       let met = taken put.version put.bytes comes.winners in
       let call : Talk = put_told put r.holds.0 (told_put Exists) in
@@ -90,7 +89,7 @@ module _ (objects : Objects) (sound : IsSoundStore objects) (job : SinkJob) (bef
       let last = asked_last (SinkAsks job before) [] front (get_object (commit_name version), told_object found) (subst (AllAsked (SinkAsks job before) []) talked asked) in
       load_asked job before front bad.1.names version (listed_front talk front bad.1.names (commit_name version) found bad.1.listed talked) last) bad.1
   lacks_tells version (inr r) =
-      let put = race_of job r.staged r.known.next r.tries in
+      let put = race_of job r.readied r.known.next r.tries in
       let found = r.holds.1 in
       let comes : ComesTo put r.race version r.holds.0 (got_told put version (told_object found)) = r.holds.2 in
       let met = taken put.version put.bytes comes.winners in

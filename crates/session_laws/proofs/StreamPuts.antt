@@ -2,7 +2,7 @@
 use Rattle.std.proofs.Common.{◌≡◌, ◌∙◌, ◌≤◌, ℕ, List, [], ◌∷◌, ◌++◌, length, false, None, Ok, inl, refl, sym, ap, subst, arith}
 use Rattle.std.specs.Str.{IsUtf8}
 use Rattle.serde_json.specs.Data.{Items}
-use Rattle.store_core.specs.Objects.{Objects}
+use Rattle.store_core.specs.Objects.{AreBytes, Objects}
 use Rattle.session_core.specs.Talks.{Bears, Talk, put_commit, put_file}
 use Rattle.delta_actions.specs.Action.{Action}
 use Rattle.delta_actions.specs.Commit.{IsCommit}
@@ -27,23 +27,22 @@ use Rattle.commit_core.proofs.Callers.{bears_end, bears_front, own_read}
 use Rattle.commit_core.proofs.CandidateLemmas.{reading_reads}
 use Rattle.batch_core.specs.Closing.{close_candidate, closing}
 use Rattle.batch_core.specs.Committing.{append_candidate, appending, batch_actions}
-use Rattle.sink_core.specs.SinkSessions.{Reaches, Staged, SinkAsks, SinkJob, SinkTask, actions_of, appends, candidate_of, closes, race_of, ready, rules}
+use Rattle.sink_core.specs.SinkSessions.{Reaches, Readied, SinkAsks, SinkJob, SinkTask, actions_of, appends, candidate_of, closes, race_of, ready, rules}
 use Rattle.sink_core.proofs.ReachLemmas.{reaches_reads}
-use Rattle.session_laws.specs.May.{AreBytes}
 use Rattle.session_laws.specs.Rows.{IsBatchOf, IsJobCommit, IsJobFile, MayPutNext, next_version}
 use Rattle.session_laws.proofs.Fronts.{reached_front}
 use Rattle.session_laws.proofs.NextVersions.{in_race_next}
 use Rattle.session_laws.proofs.TableAnswers.{written_front}
 use Rattle.session_laws.proofs.Ready.{batch_by, file_named, ready_batch, ready_close, ready_for, ruled_batch, ruled_close}
 
--- ---- the commit of what is staged
+-- ---- the commit of what is readied
 
 -- its actions, of a batch and of a close
-pub batch_made : (job : SinkJob) (staged : Staged) (number : ℕ) (items : Items) → job.task ≡ appends number items → actions_of job staged ≡ batch_actions job.application number job.at staged.size (length staged.rows)
-batch_made job staged number items task = ap (λ (t : SinkTask). actions_of (record job { task = t }) staged) task
+pub batch_made : (job : SinkJob) (readied : Readied) (number : ℕ) (items : Items) → job.task ≡ appends number items → actions_of job readied ≡ batch_actions job.application number job.at readied.size (length readied.rows)
+batch_made job readied number items task = ap (λ (t : SinkTask). actions_of (record job { task = t }) readied) task
 
-pub close_made : (job : SinkJob) (staged : Staged) → job.task ≡ closes → actions_of job staged ≡ closing job.application job.at
-close_made job staged task = ap (λ (t : SinkTask). actions_of (record job { task = t }) staged) task
+pub close_made : (job : SinkJob) (readied : Readied) → job.task ≡ closes → actions_of job readied ≡ closing job.application job.at
+close_made job readied task = ap (λ (t : SinkTask). actions_of (record job { task = t }) readied) task
 
 -- they are a commit of the batch's entry, or of the close's
 pub batch_commit : (schema : Schema) (b : Batch) (at size : ℕ) (bytes : List ℕ) → IsCommit bytes (batch_actions b.application b.number at size (length b.rows)) → IsCommitOf schema (group (b ∷ [])) bytes
@@ -59,18 +58,18 @@ unfolding closing
 close_commit schema application at bytes text commit = record { actions = closing application at; commit = commit; stand = record { actions = refl; text = text } }
 
 -- a stream's candidate reads what it is to
-own_candidate : (job : SinkJob) (staged : Staged) → ReadsItsOwn (candidate_of job staged)
-own_candidate job staged = by_task job.task refl
+own_candidate : (job : SinkJob) (readied : Readied) → ReadsItsOwn (candidate_of job readied)
+own_candidate job readied = by_task job.task refl
   where
-    by_task : (task : SinkTask) → job.task ≡ task → ReadsItsOwn (candidate_of (record job { task = task }) staged)
-    by_task (appends number items) is = own_read (append_candidate job.application number job.at staged.size (length staged.rows)) (reading_reads (batch_actions job.application number job.at staged.size (length staged.rows)) [] [])
+    by_task : (task : SinkTask) → job.task ≡ task → ReadsItsOwn (candidate_of (record job { task = task }) readied)
+    by_task (appends number items) is = own_read (append_candidate job.application number job.at readied.size (length readied.rows)) (reading_reads (batch_actions job.application number job.at readied.size (length readied.rows)) [] [])
     by_task closes is = own_read (close_candidate job.application job.at) (reading_reads (closing job.application job.at) [] (stream_domain job.application ∷ []))
 
 -- its candidate has the same actions
-candidate_reads : (job : SinkJob) (staged : Staged) → IsCommit (commit_text (actions_of job staged)) (actions_of job staged) → IsCommit (commit_text (actions_of job staged)) (candidate_of job staged).actions
-candidate_reads job staged reads = subst (IsCommit (commit_text (actions_of job staged))) (by_task job.task) reads
+candidate_reads : (job : SinkJob) (readied : Readied) → IsCommit (commit_text (actions_of job readied)) (actions_of job readied) → IsCommit (commit_text (actions_of job readied)) (candidate_of job readied).actions
+candidate_reads job readied reads = subst (IsCommit (commit_text (actions_of job readied))) (by_task job.task) reads
   where
-    by_task : (task : SinkTask) → actions_of (record job { task = task }) staged ≡ (candidate_of (record job { task = task }) staged).actions
+    by_task : (task : SinkTask) → actions_of (record job { task = task }) readied ≡ (candidate_of (record job { task = task }) readied).actions
     by_task (appends number items) = refl
     by_task closes = refl
 
@@ -112,53 +111,53 @@ module _ (objects : Objects) (schema : Schema) (entries : List Entry) (sound : I
         puts.written.limits,
       )
 
-  module _ (text : IsUtf8 job.application) (talk : Talk) (borne : Bears objects talk) (known : Loaded) (tries : ℕ) (staged : Staged) (reaches : Reaches job before talk known tries (ready staged)) where
+  module _ (text : IsUtf8 job.application) (talk : Talk) (borne : Bears objects talk) (known : Loaded) (tries : ℕ) (readied : Readied) (reaches : Reaches job before talk known tries (ready readied)) where
     -- where its commit may be put, it is admissible behind what is known
-    pub first_admissible : known.next ≤ greatest_version → IsAdmissible objects known.next (commit_text (actions_of job staged))
+    pub first_admissible : known.next ≤ greatest_version → IsAdmissible objects known.next (commit_text (actions_of job readied))
     first_admissible small = by_task job.task refl
       where
-        reads : IsCommit (commit_text (actions_of job staged)) (actions_of job staged)
-        reads = reaches_reads job before talk known tries (ready staged) staged (inl refl) reaches
+        reads : IsCommit (commit_text (actions_of job readied)) (actions_of job readied)
+        reads = reaches_reads job before talk known tries (ready readied) readied (inl refl) reaches
 
-        by_task : (task : SinkTask) → job.task ≡ task → IsAdmissible objects known.next (commit_text (actions_of job staged))
+        by_task : (task : SinkTask) → job.task ≡ task → IsAdmissible objects known.next (commit_text (actions_of job readied))
         by_task (appends number items) is =
-            let own = ready_batch objects schema entries sound holds job before talk known_before borne known tries staged reaches are number items is in
+            let own = ready_batch objects schema entries sound holds job before talk known_before borne known tries readied reaches are number items is in
             let front = own.front.front in
-            batch_next objects schema known.next small own.front.log own.written front.firsts front.stand front.lawful front.long front.made (batch_by job number staged.rows) (commit_text (actions_of job staged)) own.taken
-            (batch_commit schema (batch_by job number staged.rows) job.at staged.size (commit_text (actions_of job staged)) (subst (IsCommit (commit_text (actions_of job staged))) (batch_made job staged number items is) reads))
+            batch_next objects schema known.next small own.front.log own.written front.firsts front.stand front.lawful front.long front.made (batch_by job number readied.rows) (commit_text (actions_of job readied)) own.taken
+            (batch_commit schema (batch_by job number readied.rows) job.at readied.size (commit_text (actions_of job readied)) (subst (IsCommit (commit_text (actions_of job readied))) (batch_made job readied number items is) reads))
             (own.file.0, own.file.1, own.file.2.0)
         by_task closes is =
-            let wants = ready_for job before talk known tries staged (ready staged) refl reaches in
-            let here = reached_front objects schema entries sound holds job before talk known tries (ready staged) known_before borne reaches in
-            let parts = ruled_close objects schema entries sound holds job before talk known_before borne known tries (ready staged) reaches wants.request is wants.asked in
+            let wants = ready_for job before talk known tries readied (ready readied) refl reaches in
+            let here = reached_front objects schema entries sound holds job before talk known tries (ready readied) known_before borne reaches in
+            let parts = ruled_close objects schema entries sound holds job before talk known_before borne known tries (ready readied) reaches wants.request is wants.asked in
             let same : wants.request.schema ≡ schema = written_front objects schema entries known.next here.log here.front wants.request.schema parts.0 in
             let front = here.front in
-            close_next objects schema known.next small here.log (parts.0 ∙ ap (λ (t : Schema). Ok t) same) front.firsts front.stand front.lawful front.long front.made job.application (commit_text (actions_of job staged))
-            (ready_close objects schema entries sound holds job before talk known_before borne known tries staged reaches is)
-            (close_commit schema job.application job.at (commit_text (actions_of job staged)) text (subst (IsCommit (commit_text (actions_of job staged))) (close_made job staged is) reads))
+            close_next objects schema known.next small here.log (parts.0 ∙ ap (λ (t : Schema). Ok t) same) front.firsts front.stand front.lawful front.long front.made job.application (commit_text (actions_of job readied))
+            (ready_close objects schema entries sound holds job before talk known_before borne known tries readied reaches is)
+            (close_commit schema job.application job.at (commit_text (actions_of job readied)) text (subst (IsCommit (commit_text (actions_of job readied))) (close_made job readied is) reads))
 
     -- it is the job's, to the byte
-    pub own_commit : IsJobCommit objects schema job (commit_text (actions_of job staged))
+    pub own_commit : IsJobCommit objects schema job (commit_text (actions_of job readied))
     own_commit = by_task job.task refl
       where
-        reads : IsCommit (commit_text (actions_of job staged)) (actions_of job staged)
-        reads = reaches_reads job before talk known tries (ready staged) staged (inl refl) reaches
+        reads : IsCommit (commit_text (actions_of job readied)) (actions_of job readied)
+        reads = reaches_reads job before talk known tries (ready readied) readied (inl refl) reaches
 
-        by_task : (task : SinkTask) → job.task ≡ task → IsJobCommit objects schema job (commit_text (actions_of job staged))
+        by_task : (task : SinkTask) → job.task ≡ task → IsJobCommit objects schema job (commit_text (actions_of job readied))
         by_task (appends number items) is =
-            let own = ready_batch objects schema entries sound holds job before talk known_before borne known tries staged reaches are number items is in
-            let text = commit_text (actions_of job staged) in
-            let made : actions_of job staged ≡ batch_actions job.application number job.at (length own.file.0) (length staged.rows) =
-            batch_made job staged number items is ∙ ap (λ (size : ℕ). batch_actions job.application number job.at size (length staged.rows)) own.file.2.1 in
+            let own = ready_batch objects schema entries sound holds job before talk known_before borne known tries readied reaches are number items is in
+            let text = commit_text (actions_of job readied) in
+            let made : actions_of job readied ≡ batch_actions job.application number job.at (length own.file.0) (length readied.rows) =
+            batch_made job readied number items is ∙ ap (λ (size : ℕ). batch_actions job.application number job.at size (length readied.rows)) own.file.2.1 in
             subst (λ (t : SinkTask). IsJobCommit objects schema (record job { task = t }) text) (sym is) (
-              batch_by job number staged.rows,
-              subst (λ (t : SinkTask). IsBatchOf schema (record job { task = t }) (batch_by job number staged.rows)) is own.of_job,
+              batch_by job number readied.rows,
+              subst (λ (t : SinkTask). IsBatchOf schema (record job { task = t }) (batch_by job number readied.rows)) is own.of_job,
               (own.file.0, own.file.1, (own.file.2.0, (ap commit_text made, subst (IsCommit text) made reads))),
             )
         by_task closes is =
-            let made = close_made job staged is in
-            subst (λ (t : SinkTask). IsJobCommit objects schema (record job { task = t }) (commit_text (actions_of job staged))) (sym is)
-            (ap commit_text made, subst (IsCommit (commit_text (actions_of job staged))) made reads)
+            let made = close_made job readied is in
+            subst (λ (t : SinkTask). IsJobCommit objects schema (record job { task = t }) (commit_text (actions_of job readied))) (sym is)
+            (ap commit_text made, subst (IsCommit (commit_text (actions_of job readied))) made reads)
 
   -- its commit, as the version that comes next
   pub puts_commit : ((put : CommitJob) (race : Talk) (version : ℕ) (bytes : List ℕ) → IsLawfulStore objects → Bears objects race → IsAdmissible objects put.version put.bytes → IsCommit put.bytes put.candidate.actions → ReadsItsOwn put.candidate
@@ -166,14 +165,14 @@ module _ (objects : Objects) (schema : Schema) (entries : List Entry) (sound : I
       → (talk : Talk) (version : ℕ) (bytes : List ℕ) → Bears objects talk → SinkAsks job before talk (put_commit version bytes) → MayPutNext objects talk version bytes × IsJobCommit objects schema job bytes
   puts_commit stays text talk version bytes borne asks =
       let r = asks.1 in
-      let put = race_of job r.staged r.known.next r.tries in
+      let put = race_of job r.readied r.known.next r.tries in
       let both : Bears objects (r.front ++ r.race) = subst (Bears objects) r.talked borne in
       let own_front = bears_front objects r.front r.race both in
       let comes : ComesTo put r.race version r.holds.0 [] = r.holds.1 in
       let small : r.known.next ≤ greatest_version = omega (arith, comes.at, r.holds.4) in
-      let first = first_admissible text r.front own_front r.known r.tries r.staged r.reaches small in
-      let reads = reaches_reads job before r.front r.known r.tries (ready r.staged) r.staged (inl refl) r.reaches in
+      let first = first_admissible text r.front own_front r.known r.tries r.readied r.reaches small in
+      let reads = reaches_reads job before r.front r.known r.tries (ready r.readied) r.readied (inl refl) r.reaches in
       let lawful : IsLawfulStore objects = record { schema = sound.table.schema; entries = sound.table.entries; holds = sound.table.holds; lawful = sound.table.lawful } in
-      let admissible = stays put r.race version bytes lawful (bears_end objects r.front r.race both) first (candidate_reads job r.staged reads) (own_candidate job r.staged) r.holds in
+      let admissible = stays put r.race version bytes lawful (bears_end objects r.front r.race both) first (candidate_reads job r.readied reads) (own_candidate job r.readied) r.holds in
       let next : version ≡ next_version talk = sym (in_race_next job before talk _ r version r.holds.0 [] comes) in
-      ((admissible, next), subst (IsJobCommit objects schema job) (sym r.holds.2) (own_commit text r.front own_front r.known r.tries r.staged r.reaches))
+      ((admissible, next), subst (IsJobCommit objects schema job) (sym r.holds.2) (own_commit text r.front own_front r.known r.tries r.readied r.reaches))

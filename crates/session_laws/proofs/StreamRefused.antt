@@ -38,7 +38,7 @@ use Rattle.batch_core.specs.declared.fault.SinkFault.TheVariants as faults
 use Rattle.batch_core.specs.RowsIn.{rows_from}
 use Rattle.batch_core.proofs.Callers.{IsOfNumber, asked_parts, close_parts, reads_as_file, refused_parts}
 use Rattle.sink_core.specs.SinkSessions as sinks
-use Rattle.sink_core.specs.SinkSessions.{AnswerEnds, HasLooked, HoldsOf, LooksAt, Point, Reaches, Staged, SinkJob, SinkTask, appends, asked_of, closes, conflicts, file_of, goes_on, loaded, race_of, ready, repeated, rules, stages, tell_metadata}
+use Rattle.sink_core.specs.SinkSessions.{AnswerEnds, HasLooked, HoldsOf, LooksAt, Point, Reaches, Readied, SinkJob, SinkTask, appends, asked_of, closes, conflicts, file_of, goes_on, loaded, race_of, ready, repeated, rules, readies, tell_metadata}
 use Rattle.session_laws.specs.Rows.{FoundTaken, GotNone, HasLargeFile, HasOtherFile, IsBatchOf, LosesCommit, RulesSay, TellsOfBatch, name_of, next_version}
 use Rattle.session_laws.proofs.Entries.{batch_file}
 use Rattle.session_laws.proofs.Fronts.{IsKnownFront, reached_front}
@@ -186,11 +186,11 @@ module _ (objects : Objects) (schema : Schema) (entries : List Entry) (sound : I
   pub schema_tells : ((put : CommitJob) (race : Talk) (result : Result CommitOutcome CommitFault) → Bears objects race → CommitEnds put before race result → HoldsOfCommit objects put result) → (version : ℕ) → AnswerEnds job before talk (Err (faults.SchemaChanged version)) → ⊥
   schema_tells tells version ends =
       let r = ends.1 in
-      let put = race_of job r.staged r.known.next r.tries in
+      let put = race_of job r.readied r.known.next r.tries in
       let winners = r.holds.1 in
       let raced = bears_end objects r.front r.race (subst (Bears objects) r.talked borne) in
       let held = tells put r.race (Ok (outcomes.Conflicted r.holds.0 winners)) raced r.holds.2 in
-      let some : 0 < r.known.next = reaches_some job before r.front r.known r.tries (ready r.staged) r.reaches in
+      let some : 0 < r.known.next = reaches_some job before r.front r.known r.tries (ready r.readied) r.reaches in
       let last : r.holds.0 ≤ greatest_version = r.holds.2.5 in
       let plain : tell_metadata (commits_view winners) ≡ false = plain_commits objects sound.table r.known.next (commits_view winners) some (omega (arith, held.1, last)) held.0 in
       let wrong : true ≡ false = sym r.holds.3 ∙ plain in
@@ -208,12 +208,12 @@ module _ (objects : Objects) (schema : Schema) (entries : List Entry) (sound : I
   -- the put of its commit was lost
   pub lost_tells : (version : ℕ) → AnswerEnds job before talk (Err (faults.Lost (Some version))) → LosesCommit talk version
   lost_tells version r =
-      let put = race_of job r.staged r.known.next r.tries in
+      let put = race_of job r.readied r.known.next r.tries in
       let comes : ComesTo put r.race version r.holds.0 (put_told put version told_lost) = r.holds.1 in
       let met = taken put.version put.bytes comes.winners in
       (r.front ++ met, put.bytes, r.talked ∙ (ap (λ (t : Talk). r.front ++ t) comes.told ∙ sym (append_assoc r.front met (put_told put version told_lost))))
 
   -- the version that it tells at last is the one in front of the next
   pub contended_next : (newest : ℕ) → AnswerEnds job before talk (Err (faults.Contended newest)) → next_version talk ≡ suc newest
-  contended_next newest (inl (known, staged, reaches, next)) = sym (reaches_next job before talk known 0 (ready staged) reaches) ∙ next
+  contended_next newest (inl (known, readied, reaches, next)) = sym (reaches_next job before talk known 0 (ready readied) reaches) ∙ next
   contended_next newest (inr r) = in_race_next job before talk _ r (suc newest) _ [] r.holds.1.0

@@ -1,8 +1,7 @@
 -- What each session may do next, in every sound store that bears its talk.
 use Rattle.std.specs.Prelude.{◌≡◌, ◌≤◌, ℕ, List, [], ◌∷◌, ◌++◌, Option, None, Some, Ok}
 use Rattle.std.specs.Str.{IsUtf8}
-use Rattle.outcomes.specs.Bytes.{IsBytes}
-use Rattle.store_core.specs.Objects.{Objects, object_at}
+use Rattle.store_core.specs.Objects.{AreBytes, Objects}
 use Rattle.store_core.specs.declared.store.Put.TheVariants.{Created}
 use Rattle.session_core.specs.Talks.{Asked, Bears, Talk, Told, asked_view, list_names, get_object, put_commit, put_file, told_put}
 use Rattle.session_core.specs.declared.session.Step.{Step}
@@ -18,10 +17,6 @@ use Rattle.session_laws.specs.Rows.{IsCheckpointPut, IsJobCommit, IsJobFile, May
 use Rattle.session_laws.specs.Sessions.{HasAsked, Job, Move, Outcome, asks, checkpoint, checkpoints, creates, creation, load, loads, read, reads, stream, streams, tells}
 
 -- ---- the store, and the job
-
--- each object is of numbers of eight bits
-abbrev pub AreBytes : Objects → Type 0
-AreBytes objects = (name bytes : List ℕ) → object_at objects name ≡ Some bytes → IsBytes bytes
 
 -- A sound store bears the talk of a session, each call of which its job asks for, and what was known before it. It holds the table of this
 -- schema with these entries.

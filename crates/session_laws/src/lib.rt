@@ -1,5 +1,5 @@
-//! What sessions may ask for and tell, in every sound store that bears their talk: laws, each a function whose contract is the law, and
-//! each session's next step under them. The product calls no code of this crate.
+//! What sessions may ask for and tell, in every sound store that bears their talk: laws, each a function whose contract
+//! is the law, and each session's next step under them. The product calls no code of this crate.
 #![tactic(auto)]
 
 mod sessions;

@@ -1,4 +1,5 @@
-//! What each session may ask for and tell next, in every sound store that bears its talk: laws, each a function that does nothing.
+//! What each session may ask for and tell next, in every sound store that bears its talk: laws, each a function that
+//! does nothing.
 
 ghost use Rattle.std.specs.Prelude.{ℕ, List, Result};
 ghost use Rattle.store_core.specs.Objects.{Objects};
@@ -21,8 +22,9 @@ ghost use Rattle.session_laws.specs.Sessions.{Does, HasAsked, Job, Move, checkpo
 
 use commit_core::{what_a_commit_may, what_a_creation_may};
 
-/// A load asks for lists and gets, and tells the snapshot of the commits that were listed, which all stand; or a commit that is
-/// lacked: where none was listed, where not all below the newest were, or where its get gave nothing: what is got can be read.
+/// A load asks for lists and gets, and tells the snapshot of the commits that were listed, which all stand; or a commit
+/// that is lacked: where none was listed, where not all below the newest were, or where its get gave nothing: what is
+/// got can be read.
 pub fn what_a_load_may()
     ensures asks { (objects : Objects) (schema : Schema) (entries : List Entry) (job : LoadJob) (before talk : Talk) (asked : Asked) → BearsSession objects schema entries (loads job) before talk
         → LoadAsks job before talk asked → MayAsk objects schema (loads job) talk asked }
@@ -30,9 +32,9 @@ pub fn what_a_load_may()
         → Does (loads job) before talk (tells (load result)) → MayTellOfLoad objects talk result }
 {}
 
-/// The put of a checkpoint asks, besides, that a checkpoint is put: one of the log's commits up to its version, under a name of such. It
-/// tells the newest version that was listed, which has an object under such a name, with the snapshot of the commits up to it; a
-/// commit that is lacked; or why the commits that were listed have no checkpoint.
+/// The put of a checkpoint asks, besides, that a checkpoint is put: one of the log's commits up to its version, under a
+/// name of such. It tells the newest version that was listed, which has an object under such a name, with the snapshot
+/// of the commits up to it; a commit that is lacked; or why the commits that were listed have no checkpoint.
 pub fn what_a_checkpoint_may()
     ensures asks { (objects : Objects) (schema : Schema) (entries : List Entry) (job : LoadJob) (before talk : Talk) (asked : Asked) → BearsSession objects schema entries (checkpoints job) before talk
         → CheckpointAsks job before talk asked → MayAsk objects schema (checkpoints job) talk asked }
@@ -40,14 +42,15 @@ pub fn what_a_checkpoint_may()
         → Does (checkpoints job) before talk (tells (checkpoint result)) → MayTellOfCheckpoint objects talk result }
 {}
 
-/// The append of a batch asks that a file of its rows is put under the batch's name, and then its commit, to the byte, as the version
-/// that comes next, where it is admissible: its number is new there, its stream open, and its file stands. The close of a stream
-/// asks that its commit is put, so too. What they tell is so of the table: that this version holds the batch, or is the close; that
-/// the batch stands, with these rows, or the close; that a greater number stands; that the close stands, and all numbers are below
-/// the batch's; that no file of its rows stands under its name, of those within the limits of what is read, or that nothing was got
-/// there. Or it is so of their talk: that as many versions were taken as may be tried, and the last of them; which call was lost;
-/// which commit is lacked. Or the rules say so of the commits that were listed and of the winners. That a winner changed the schema
-/// isn't told. Of want of memory nothing is said.
+/// The append of a batch asks that a file of its rows is put under the batch's name, and then its commit, to the byte,
+/// as the version that comes next, where it is admissible: its number is new there, its stream open, and its file
+/// stands. The close of a stream asks that its commit is put, so too. What they tell is so of the table: that this
+/// version holds the batch, or is the close; that the batch stands, with these rows, or the close; that a greater
+/// number stands; that the close stands, and all numbers are below the batch's; that no file of its rows stands under
+/// its name, of those within the limits of what is read, or that nothing was got there. Or it is so of their talk: that
+/// as many versions were taken as may be tried, and the last of them; which call was lost; which commit is lacked. Or
+/// the rules say so of the commits that were listed and of the winners. That a winner changed the schema isn't told. Of
+/// want of memory nothing is said.
 pub fn what_a_stream_may()
     ensures asks { (objects : Objects) (schema : Schema) (entries : List Entry) (job : SinkJob) (before talk : Talk) (asked : Asked) → BearsSession objects schema entries (streams job) before talk → IsValidJob (streams job)
         → SinkAsks job before talk asked → MayAsk objects schema (streams job) talk asked }
@@ -57,11 +60,12 @@ pub fn what_a_stream_may()
     what_a_commit_may();
 }
 
-/// A read of rows asks for lists and gets. That a call was lost it tells only right behind one that was. Where its talk shows a store as it
-/// stood when the names were listed, which is a sound one whose files can be read and has grown since, it tells a part of the table's
-/// versions that were listed: its rows from the offset on, which end with as many as it was to hand out, or at the start of the version that
-/// came next then; or that the offset is past their end, or in no file of its version; and of a log without versions that version 0 is
-/// missing. No other refusal comes there, but for want of memory.
+/// A read of rows asks for lists and gets. That a call was lost it tells only right behind one that was. Where its talk
+/// shows a store as it stood when the names were listed, which is a sound one whose files can be read and has grown
+/// since, it tells a part of the table's versions that were listed: its rows from the offset on, which end with as many
+/// as it was to hand out, or at the start of the version that came next then; or that the offset is past their end, or
+/// in no file of its version; and of a log without versions that version 0 is missing. No other refusal comes there,
+/// but for want of memory.
 pub fn what_a_read_may()
     ensures asks { (objects : Objects) (schema : Schema) (entries : List Entry) (job : SourceJob) (before talk : Talk) (asked : Asked) → BearsSession objects schema entries (reads job) before talk
         → SourceAsks job before talk asked → MayAsk objects schema (reads job) talk asked }
@@ -69,8 +73,8 @@ pub fn what_a_read_may()
         → Does (reads job) before talk (tells (read end)) → MayTellOfRead objects entries job before talk end.answer }
 {}
 
-/// What any session does next it may do, in every sound store that bears its talk. Right behind a put that created its commit it tells
-/// that, with that very version, and does nothing else.
+/// What any session does next it may do, in every sound store that bears its talk. Right behind a put that created its
+/// commit it tells that, with that very version, and does nothing else.
 pub fn what_a_session_may()
     ensures may { (objects : Objects) (schema : Schema) (entries : List Entry) (job : Job) (before talk : Talk) (move : Move) → BearsSession objects schema entries job before talk → IsValidJob job → Does job before talk move
         → May objects schema entries job before talk move }

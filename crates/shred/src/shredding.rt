@@ -12,8 +12,8 @@ use crate::ways::{Step, ways_of};
 use row_core::Value;
 use std::alloc::{AllocError, Global};
 
-/// The columns of rows, one for each leaf of the shape, depth first. The values are borrowed. [`column_of`] makes one of
-/// them, or that of a few rows.
+/// The columns of rows, one for each leaf of the shape, depth first. The values are borrowed. [`column_of`] makes one
+/// of them, or that of a few rows.
 ///
 /// Each row has to fit the shape: a struct with one value for each field, which is null only where the field is
 /// optional; a leaf has a value that is no struct. The time is linear in rows times leaves, and for each of these in

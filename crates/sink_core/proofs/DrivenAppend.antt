@@ -34,7 +34,7 @@ use Rattle.batch_core.specs.Requests.{SinkRequest, IsTooLarge, IsWrittenFor, che
 use Rattle.batch_core.specs.declared.fault.SinkFault.{SinkFault}
 use Rattle.batch_core.specs.declared.fault.SinkFault.TheVariants as faults
 use Rattle.sink_core.specs.Appending.{EncodedBatch, AppendPlan, puts, stands, IsWellMade, append_plan, batch_of, new_plan, plan_of, put_plan, repeated_plan, request_of, size_behind, with_file}
-use Rattle.sink_core.specs.SinkSessions.{AnswerEnds, HoldsOf, InRace, IsFine, IsNewBatch, IsOldBatch, IsUnput, LooksAt, Reaches, Staged, SinkAsks, SinkJob, actions_of, append_job, asked_of, filed, only_read, raced, ready, repeated, rules, staged_by, taken}
+use Rattle.sink_core.specs.SinkSessions.{AnswerEnds, HoldsOf, InRace, IsFine, IsNewBatch, IsOldBatch, IsUnput, LooksAt, Reaches, Readied, SinkAsks, SinkJob, actions_of, append_job, asked_of, filed, only_read, raced, ready, repeated, rules, readied_by, taken}
 use Rattle.sink_core.specs.declared.sink_state.SinkOutcome.{SinkOutcome}
 use Rattle.sink_core.specs.declared.sink_state.SinkOutcome.TheVariants.{Committed, Already, Closed, AlreadyClosed}
 use Rattle.sink_core.proofs.Driven.{asked_behind, listed_quiet, loaded_quiet, raced_quiet, reads_quiet, ruled_quiet, undecided_quiet, unfine_behind, unread_behind}
@@ -134,26 +134,26 @@ module _ (application : List ℕ) (number : ℕ) (items : Items) (at tries : ℕ
   made_of request file written reads = record { size = size_behind file found; commit = reads; file = written.is_file; limits = written.limits }
 
   -- The batch that is put where its commit may be.
-  pub record IsPut (now : State) (known : Loaded) (staged : Staged) : Type 0 where
+  pub record IsPut (now : State) (known : Loaded) (readied : Readied) : Type 0 where
     pub batch : EncodedBatch
     pub is : plan ≡ Ok (puts batch)
     pub made : IsWellMade application number at batch
     pub version : batch.version ≡ known.next
-    pub commit : commit_text (actions_of job staged) ≡ batch.commit
+    pub commit : commit_text (actions_of job readied) ≡ batch.commit
     pub file : now.0 ≡ with_file old.0 batch
 
-  ready_put : (now : State) (known : Loaded) (count : ℕ) (staged : Staged) → IsFine job → QuietReady job old now known count staged → IsPut now known staged
-  ready_put now known count staged fine is =
+  ready_put : (now : State) (known : Loaded) (count : ℕ) (readied : Readied) → IsFine job → QuietReady job old now known count readied → IsPut now known readied
+  ready_put now known count readied fine is =
       let request = is.request in
       let file = is.needs.0 in
       let here = request_is known fine is.is (Ok request) is.asked in
-      let staged_is : staged ≡ staged_by request (size_behind file found) = is.needs.3 in
+      let readied_is : readied ≡ readied_by request (size_behind file found) = is.needs.3 in
       record {
         batch = batch_with request file;
         is = put_as request file (Ok tt) here is.new is.needs.1.written is.needs.2;
-        made = made_of request file is.needs.1 (subst (λ (s : Staged). IsCommit (commit_text (actions_of job s)) (actions_of job s)) staged_is is.reads);
+        made = made_of request file is.needs.1 (subst (λ (s : Readied). IsCommit (commit_text (actions_of job s)) (actions_of job s)) readied_is is.reads);
         version = version_is known request is.is is.asked;
-        commit = ap (λ (s : Staged). commit_text (actions_of job s)) staged_is;
+        commit = ap (λ (s : Readied). commit_text (actions_of job s)) readied_is;
         file = ap (λ (s : State). s.0) is.needs.4;
       }
 
@@ -174,8 +174,8 @@ module _ (application : List ℕ) (number : ℕ) (items : Items) (at tries : ℕ
       after_committed : (version : ℕ) → (race : InRace job before talk (λ put race. (winners : Vec (Vec actions.Action Global) Global) × CommitEnds put before race (Ok (outcomes.Committed version winners)))) → After (Ok (Committed version))
       after_committed version race =
           let raced = raced_quiet job before old bears some _ new talk race told asked (Ok (outcomes.Committed version race.holds.0)) race.holds.1 in
-          let fine = reaches_fine job before race.front race.known race.tries (ready race.staged) race.reaches in
-          let put = ready_put raced.0 race.known race.tries race.staged fine raced.1 in
+          let fine = reaches_fine job before race.front race.known race.tries (ready race.readied) race.reaches in
+          let put = ready_put raced.0 race.known race.tries race.readied fine raced.1 in
           let ends = raced.3 in
           let same : put.batch.version ≡ version = put.version ∙ sym ends.0 in
           let landed : new.0 ≡ with_object raced.0.0 (commit_name version) put.batch.commit = ap (λ (s : State). s.0) ends.2 ∙ ap (with_object raced.0.0 (commit_name version)) put.commit in
@@ -185,19 +185,19 @@ module _ (application : List ℕ) (number : ℕ) (items : Items) (at tries : ℕ
       after_past : InRace job before talk (λ put race. CommitEnds put before race (Err commit_faults.PastLimit)) → After (Err faults.TooLarge)
       after_past race =
           let raced = raced_quiet job before old bears some _ new talk race told asked (Err commit_faults.PastLimit) race.holds in
-          let fine = reaches_fine job before race.front race.known race.tries (ready race.staged) race.reaches in
-          let put = ready_put raced.0 race.known race.tries race.staged fine raced.1 in
+          let fine = reaches_fine job before race.front race.known race.tries (ready race.readied) race.reaches in
+          let put = ready_put raced.0 race.known race.tries race.readied fine raced.1 in
           let great : greatest_version < put.batch.version = rw put.version raced.3.0 in
           passed application number at old.0 new.0 put.batch put.made plan put.is great (ap (λ (s : State). s.0) raced.3.1 ∙ put.file)
 
     module _ (talk : Talk) (told : Talked Answers old talk new) (may : Talked MayAnswer old talk new) where
       -- ---- the rules
 
-      after_rules : (refusal : SinkRefusal) (fault : SinkFault) (known : Loaded) (left : ℕ) (staged : Option Staged) → Reaches job before talk known left (rules staged) → HoldsOf known (λ log. asked_of job known.next log ≡ Err refusal)
+      after_rules : (refusal : SinkRefusal) (fault : SinkFault) (known : Loaded) (left : ℕ) (readied : Option Readied) → Reaches job before talk known left (rules readied) → HoldsOf known (λ log. asked_of job known.next log ≡ Err refusal)
           → says (refusal_view fault) ≡ refuses refusal → After (Err fault)
-      after_rules refusal fault known left staged reaches asked told_as =
-          let quiet = ruled_quiet job before old bears some new talk known left staged reaches told in
-          let fine = reaches_fine job before talk known left (rules staged) reaches in
+      after_rules refusal fault known left readied reaches asked told_as =
+          let quiet = ruled_quiet job before old bears some new talk known left readied reaches told in
+          let fine = reaches_fine job before talk known left (rules readied) reaches in
           refused application number at old.0 new.0 refusal fault plan (refused_plan refusal (request_is known fine quiet.1 (Err refusal) asked)) (ap (λ (s : State). s.0) quiet.0) told_as
 
       after_bad : (version : ℕ) → IsFine job → IsBadBehind job.load before talk version → After (Err (faults.BadLog version))
@@ -313,8 +313,8 @@ module _ (application : List ℕ) (number : ℕ) (items : Items) (at tries : ℕ
       after_unput (raced front rest _ race reads talked) =
           let parts = talked_behind Answers old new front rest (subst (λ (t : Talk). Talked Answers old t new) talked told) in
           let quiet = undecided_quiet job before old bears some parts.0 front race parts.1 in
-          let fine = reaches_fine job before race.front race.known race.tries (ready race.staged) race.reaches in
-          let put = ready_put quiet.0 race.known race.tries race.staged fine quiet.1 in
+          let fine = reaches_fine job before race.front race.known race.tries (ready race.readied) race.reaches in
+          let put = ready_put quiet.0 race.known race.tries race.readied fine quiet.1 in
           unfinished application number at old.0 new.0 put.batch put.made plan put.is (reads_quiet parts.0 new rest reads parts.2 ∙ (ap (λ (s : State). s.0) quiet.2 ∙ put.file))
 
     -- ---- each answer

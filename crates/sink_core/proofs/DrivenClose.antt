@@ -30,7 +30,7 @@ use Rattle.batch_core.specs.declared.fault.SinkFault.{SinkFault}
 use Rattle.batch_core.specs.declared.fault.SinkFault.TheVariants as faults
 use Rattle.sink_core.specs.Appending.{is_past}
 use Rattle.sink_core.specs.Closes.{ClosesWell, MayClose, close_answer, close_of, close_plan, close_text, closing_version, with_close}
-use Rattle.sink_core.specs.SinkSessions.{AnswerEnds, HoldsOf, InRace, IsFine, IsUnput, LooksAt, Reaches, Staged, SinkAsks, SinkJob, appends, asked_of, close_job, closes, filed, only_read, raced, ready, repeated, rules, taken}
+use Rattle.sink_core.specs.SinkSessions.{AnswerEnds, HoldsOf, InRace, IsFine, IsUnput, LooksAt, Reaches, Readied, SinkAsks, SinkJob, appends, asked_of, close_job, closes, filed, only_read, raced, ready, repeated, rules, taken}
 use Rattle.sink_core.specs.declared.sink_state.SinkOutcome.{SinkOutcome}
 use Rattle.sink_core.specs.declared.sink_state.SinkOutcome.TheVariants.{Committed, Already, Closed, AlreadyClosed}
 use Rattle.sink_core.proofs.Driven.{asked_behind, listed_quiet, raced_quiet, reads_quiet, ruled_quiet, undecided_quiet, unfine_behind, unread_behind}
@@ -139,13 +139,13 @@ module _ (application : List ℕ) (at tries : ℕ) (use_checkpoints : Bool) (fir
   asked_plan request repeats is told = plan_for (Ok request) is ∙ ap (λ (b : Bool). Ok (if b then None else Some request.version)) told
 
   -- The close that is put where its commit may be.
-  pub record IsPut (now : State) (known : Loaded) (staged : Staged) : Type 0 where
+  pub record IsPut (now : State) (known : Loaded) (readied : Readied) : Type 0 where
     pub is : plan ≡ Ok (Some known.next)
     pub made : IsCommit (close_text application at) (closing application at)
     pub same : now ≡ old
 
-  ready_put : (now : State) (known : Loaded) (count : ℕ) (staged : Staged) → IsFine job → QuietReady job old now known count staged → IsPut now known staged
-  ready_put now known count staged fine is =
+  ready_put : (now : State) (known : Loaded) (count : ℕ) (readied : Readied) → IsFine job → QuietReady job old now known count readied → IsPut now known readied
+  ready_put now known count readied fine is =
       let request = is.request in
       let here = request_is known fine is.is (Ok request) is.asked in
       record {
@@ -164,8 +164,8 @@ module _ (application : List ℕ) (at tries : ℕ) (use_checkpoints : Bool) (fir
       after_closed : (version : ℕ) → (race : InRace job before talk (λ put race. (winners : Vec (Vec actions.Action Global) Global) × CommitEnds put before race (Ok (outcomes.Committed version winners)))) → After (Ok (Closed version))
       after_closed version race =
           let raced = raced_quiet job before old bears some _ new talk race told asked (Ok (outcomes.Committed version race.holds.0)) race.holds.1 in
-          let fine = reaches_fine job before race.front race.known race.tries (ready race.staged) race.reaches in
-          let put = ready_put raced.0 race.known race.tries race.staged fine raced.1 in
+          let fine = reaches_fine job before race.front race.known race.tries (ready race.readied) race.reaches in
+          let put = ready_put raced.0 race.known race.tries race.readied fine raced.1 in
           let ends = raced.3 in
           let planned : plan ≡ Ok (Some version) = put.is ∙ ap (λ (v : ℕ). Ok (Some v)) (sym ends.0) in
           let landed : new.0 ≡ with_object old.0 (commit_name version) (close_text application at) = ap (λ (s : State). s.0) ends.2 ∙ ap (λ (s : State). with_object s.0 (commit_name version) (close_text application at)) put.same in
@@ -174,18 +174,18 @@ module _ (application : List ℕ) (at tries : ℕ) (use_checkpoints : Bool) (fir
       after_past : InRace job before talk (λ put race. CommitEnds put before race (Err commit_faults.PastLimit)) → After (Err faults.TooLarge)
       after_past race =
           let raced = raced_quiet job before old bears some _ new talk race told asked (Err commit_faults.PastLimit) race.holds in
-          let fine = reaches_fine job before race.front race.known race.tries (ready race.staged) race.reaches in
-          let put = ready_put raced.0 race.known race.tries race.staged fine raced.1 in
+          let fine = reaches_fine job before race.front race.known race.tries (ready race.readied) race.reaches in
+          let put = ready_put raced.0 race.known race.tries race.readied fine raced.1 in
           passed application at old.0 new.0 race.known.next put.made plan put.is raced.3.0 (ap (λ (s : State). s.0) (raced.3.1 ∙ put.same))
 
     module _ (talk : Talk) (told : Talked Answers old talk new) (may : Talked MayAnswer old talk new) where
       -- ---- the rules
 
-      after_rules : (refusal : SinkRefusal) (fault : SinkFault) (known : Loaded) (left : ℕ) (staged : Option Staged) → Reaches job before talk known left (rules staged) → HoldsOf known (λ log. asked_of job known.next log ≡ Err refusal)
+      after_rules : (refusal : SinkRefusal) (fault : SinkFault) (known : Loaded) (left : ℕ) (readied : Option Readied) → Reaches job before talk known left (rules readied) → HoldsOf known (λ log. asked_of job known.next log ≡ Err refusal)
           → says (refusal_view fault) ≡ refuses refusal → After (Err fault)
-      after_rules refusal fault known left staged reaches asked told_as =
-          let quiet = ruled_quiet job before old bears some new talk known left staged reaches told in
-          let fine = reaches_fine job before talk known left (rules staged) reaches in
+      after_rules refusal fault known left readied reaches asked told_as =
+          let quiet = ruled_quiet job before old bears some new talk known left readied reaches told in
+          let fine = reaches_fine job before talk known left (rules readied) reaches in
           refused application at old.0 new.0 refusal fault plan (refused_plan refusal (request_is known fine quiet.1 (Err refusal) asked)) (ap (λ (s : State). s.0) quiet.0) told_as
 
       after_bad : (version : ℕ) → IsFine job → IsBadBehind job.load before talk version → After (Err (faults.BadLog version))
@@ -213,8 +213,8 @@ module _ (application : List ℕ) (at tries : ℕ) (use_checkpoints : Bool) (fir
       after_unput (raced front rest _ race reads talked) =
           let parts = talked_behind Answers old new front rest (subst (λ (t : Talk). Talked Answers old t new) talked told) in
           let quiet = undecided_quiet job before old bears some parts.0 front race parts.1 in
-          let fine = reaches_fine job before race.front race.known race.tries (ready race.staged) race.reaches in
-          let put = ready_put quiet.0 race.known race.tries race.staged fine quiet.1 in
+          let fine = reaches_fine job before race.front race.known race.tries (ready race.readied) race.reaches in
+          let put = ready_put quiet.0 race.known race.tries race.readied fine quiet.1 in
           nothing application at old.0 new.0 plan (reads_quiet parts.0 new rest reads parts.2 ∙ ap (λ (s : State). s.0) (quiet.2 ∙ put.same))
 
     -- a close looks at no file

@@ -33,35 +33,35 @@ use Rattle.batch_core.specs.Committing.{data_file_name}
 use Rattle.batch_core.specs.Refusals.{SinkRefusal, differs}
 use Rattle.batch_core.specs.Requests.{SinkRequest, IsWrittenFor, unless_other}
 use Rattle.sink_core.specs.Appending.{size_behind}
-use Rattle.sink_core.specs.SinkSessions.{HoldsOf, IsUndecided, Point, PutsFile, Reaches, Staged, Stages, SinkAsks, SinkJob, SinkTask, actions_of, anew, appends, asked_of, closes, conflicts, file_of, goes_on, loaded, race_of, ready, rules, staged_by, stages, stood}
+use Rattle.sink_core.specs.SinkSessions.{HoldsOf, IsUndecided, Point, PutsFile, Reaches, Readied, Readies, SinkAsks, SinkJob, SinkTask, actions_of, anew, appends, asked_of, closes, conflicts, file_of, goes_on, loaded, race_of, ready, rules, readied_by, readies, stood}
 use Rattle.sink_core.proofs.LogEnd.{log_end}
 
--- what its commit needs is staged: the batch's file stands besides what stood, and where one stood it has the same rows; for a close
+-- what its commit needs is readied: the batch's file stands besides what stood, and where one stood it has the same rows; for a close
 -- nothing was put
-abbrev pub QuietStaged : SinkJob → (old now : State) → SinkRequest → Staged → Type 0
-QuietStaged job old now request staged = by_task job.task
+abbrev pub QuietReadied : SinkJob → (old now : State) → SinkRequest → Readied → Type 0
+QuietReadied job old now request readied = by_task job.task
   where
     by_task : SinkTask → Type 0
     by_task (appends number items) = (file : List ℕ) × IsWrittenFor request.schema request.rows file × (unless_other request.schema request.rows (file_of job number) (object_at old.0 (file_of job number)) ≡ Ok tt)
-        × (staged ≡ staged_by request (size_behind file (object_at old.0 (file_of job number)))) × (now ≡ (with_object old.0 (file_of job number) file, old.1))
-    by_task closes = (staged ≡ staged_by request 0) × (now ≡ old)
+        × (readied ≡ readied_by request (size_behind file (object_at old.0 (file_of job number)))) × (now ≡ (with_object old.0 (file_of job number) file, old.1))
+    by_task closes = (readied ≡ readied_by request 0) × (now ≡ old)
 
 -- its commit may be put for the first time
-pub record QuietReady (job : SinkJob) (old now : State) (known : Loaded) (tries : ℕ) (staged : Staged) : Type 0 where
+pub record QuietReady (job : SinkJob) (old now : State) (known : Loaded) (tries : ℕ) (readied : Readied) : Type 0 where
   pub request : SinkRequest
   pub is : IsLoaded job.load.use_checkpoints old.0 known
   pub given : tries ≡ job.tries
   pub asked : HoldsOf known (λ log. asked_of job known.next log ≡ Ok request)
   pub new : request.repeats ≡ false
-  pub needs : QuietStaged job old now request staged
-  pub reads : IsCommit (commit_text (actions_of job staged)) (actions_of job staged)
+  pub needs : QuietReadied job old now request readied
+  pub reads : IsCommit (commit_text (actions_of job readied)) (actions_of job readied)
 
 -- What stands where a session has come to a point: behind the load what stood, and once its commit may be put its file besides. It
 -- doesn't come to the rules again.
 abbrev pub QuietAt : SinkJob → (old now : State) → Loaded → (tries : ℕ) → Point → Type 0
 QuietAt job old now known tries (rules None) = (now ≡ old) × IsLoaded job.load.use_checkpoints old.0 known × (tries ≡ job.tries)
-QuietAt job old now known tries (rules (Some staged)) = ⊥
-QuietAt job old now known tries (ready staged) = QuietReady job old now known tries staged
+QuietAt job old now known tries (rules (Some readied)) = ⊥
+QuietAt job old now known tries (ready readied) = QuietReady job old now known tries readied
 
 -- how the puts of a commit end where no commit has their first version
 abbrev pub QuietRace : CommitJob → (mid new : State) → Result CommitOutcome CommitFault → Type 0
@@ -269,10 +269,10 @@ unfolding commit_name data_file_name
 commit_apart version application number = commit_name-data_file_name version application number
 
 -- no commit stands besides a batch's file where none stood
-needs_free : (job : SinkJob) (old now : State) (request : SinkRequest) (staged : Staged) (version : ℕ) → QuietStaged job old now request staged → object_at old.0 (commit_name version) ≡ None → object_at now.0 (commit_name version) ≡ None
-needs_free job old now request staged version needs free = by_task job.task needs
+needs_free : (job : SinkJob) (old now : State) (request : SinkRequest) (readied : Readied) (version : ℕ) → QuietReadied job old now request readied → object_at old.0 (commit_name version) ≡ None → object_at now.0 (commit_name version) ≡ None
+needs_free job old now request readied version needs free = by_task job.task needs
   where
-    by_task : (task : SinkTask) → QuietStaged (record job { task = task }) old now request staged → object_at now.0 (commit_name version) ≡ None
+    by_task : (task : SinkTask) → QuietReadied (record job { task = task }) old now request readied → object_at now.0 (commit_name version) ≡ None
     by_task (appends number items) is =
         ap (λ (s : State). object_at s.0 (commit_name version)) is.4
         ∙ (object_at-with_object_other old.0 (file_of job number) is.0 (commit_name version) (commit_apart version job.application number) ∙ free)
@@ -283,7 +283,7 @@ module _ (name : List ℕ) (request : SinkRequest) (old now : State) where
   -- what is so of the file that was put, and of the size of the one that stands
   abbrev QuietFile : (size : ℕ) → Type 0
   QuietFile size = (file : List ℕ) × IsWrittenFor request.schema request.rows file × (unless_other request.schema request.rows name (object_at old.0 name) ≡ Ok tt)
-      × (staged_by request size ≡ staged_by request (size_behind file (object_at old.0 name))) × (now ≡ (with_object old.0 name file, old.1))
+      × (readied_by request size ≡ readied_by request (size_behind file (object_at old.0 name))) × (now ≡ (with_object old.0 name file, old.1))
 
   quiet_file : (calls : Talk) (size : ℕ) → PutsFile name request calls size → Talked Answers old calls now → QuietFile size
   quiet_file calls size (anew file written) told =
@@ -292,7 +292,7 @@ module _ (name : List ℕ) (request : SinkRequest) (old now : State) where
         file,
         written,
         ap (λ (found : Option (List ℕ)). unless_other request.schema request.rows name found) none,
-        ap (λ (found : Option (List ℕ)). staged_by request (size_behind file found)) (sym none),
+        ap (λ (found : Option (List ℕ)). readied_by request (size_behind file found)) (sym none),
         told.2 ∙ landed,
       )
   quiet_file calls size (stood file bytes written same) told =
@@ -303,17 +303,17 @@ module _ (name : List ℕ) (request : SinkRequest) (old now : State) where
         file,
         written,
         ap (λ (kept : Option (List ℕ)). unless_other request.schema request.rows name kept) found ∙ ap (λ (b : Bool). refused_if {E = SinkRefusal} (not b) (differs name)) same,
-        ap (λ (kept : Option (List ℕ)). staged_by request (size_behind file kept)) (sym found),
+        ap (λ (kept : Option (List ℕ)). readied_by request (size_behind file kept)) (sym found),
         told.2.2 ∙ (left ∙ landed),
       )
 
--- what was staged is so
-needs_so : (job : SinkJob) (request : SinkRequest) (old now : State) (calls : Talk) (size : ℕ) → Stages job request calls size → Talked Answers old calls now → QuietStaged job old now request (staged_by request size)
-needs_so job request old now calls size staged told = by_task job.task staged
+-- what was readied is so
+needs_so : (job : SinkJob) (request : SinkRequest) (old now : State) (calls : Talk) (size : ℕ) → Readies job request calls size → Talked Answers old calls now → QuietReadied job old now request (readied_by request size)
+needs_so job request old now calls size readied told = by_task job.task readied
   where
-    by_task : (task : SinkTask) → Stages (record job { task = task }) request calls size → QuietStaged (record job { task = task }) old now request (staged_by request size)
+    by_task : (task : SinkTask) → Readies (record job { task = task }) request calls size → QuietReadied (record job { task = task }) old now request (readied_by request size)
     by_task (appends number items) puts = quiet_file (file_of job number) request old now calls size puts told
-    by_task closes none = (ap (λ (s : ℕ). staged_by request s) none.1, subst (λ (t : Talk). Talked Answers old t now) none.0 told)
+    by_task closes none = (ap (λ (s : ℕ). readied_by request s) none.1, subst (λ (t : Talk). Talked Answers old t now) none.0 told)
 
 -- a load only reads
 listed_reads : (talk : Talk) (names : List (List ℕ)) → HasListed talk names → AllReads talk
@@ -321,11 +321,11 @@ listed_reads talk names listed = subst AllReads (sym listed.talked) (tt, gets_re
 
 module _ (job : SinkJob) (before : Talk) (old : State) (bears : Bears old.0 before) (some : 1 ≤ job.tries) where
   -- no commit stands at the version behind the log that is known, nor once the batch's file stands
-  pub quiet_free : (now : State) (known : Loaded) (tries : ℕ) (staged : Staged) → QuietReady job old now known tries staged → known.next ≤ greatest_version → object_at now.0 (commit_name known.next) ≡ None
-  quiet_free now known tries staged is small =
+  pub quiet_free : (now : State) (known : Loaded) (tries : ℕ) (readied : Readied) → QuietReady job old now known tries readied → known.next ≤ greatest_version → object_at now.0 (commit_name known.next) ≡ None
+  quiet_free now known tries readied is small =
       let next : known.next ≡ commit_count old.0 = is.is.next in
       let free = subst (λ (version : ℕ). version ≤ greatest_version → object_at old.0 (commit_name version) ≡ None) (sym next) (log_end old.0) in
-      needs_free job old now is.request staged known.next is.needs (free small)
+      needs_free job old now is.request readied known.next is.needs (free small)
 
   -- where it has come to a point
   pub quiet_reaches : (talk : Talk) (known : Loaded) (tries : ℕ) (point : Point) → Reaches job before talk known tries point → (now : State) → Talked Answers old talk now → QuietAt job old now known tries point
@@ -334,13 +334,13 @@ module _ (job : SinkJob) (before : Talk) (old : State) (bears : Bears old.0 befo
       let may = reads_may old now talk reads told in
       let here = reads_untouched old now talk reads may in
       (λ i. (here.0 i, here.1 i), load.whole old.0 bears (reads_shown old now talk reads may), refl)
-  quiet_reaches talk known tries point (stages front calls _ _ _ request size reaches asked new staged reads talked) now told =
+  quiet_reaches talk known tries point (readies front calls _ _ _ request size reaches asked new readied reads talked) now told =
       let parts = talked_behind Answers old now front calls (subst (λ (t : Talk). Talked Answers old t now) talked told) in
       let at = quiet_reaches front known tries (rules None) reaches parts.0 parts.1 in
       let rest : Talked Answers old calls now = subst (λ (s : State). Talked Answers s calls now) at.0 parts.2 in
-      record { request = request; is = at.1; given = at.2; asked = asked; new = new; needs = needs_so job request old now calls size staged rest; reads = reads }
-  quiet_reaches talk known tries point (goes_on _ _ _ staged reaches asked) now told = absurd (quiet_reaches talk known tries (rules (Some staged)) reaches now told)
-  quiet_reaches talk known tries point (conflicts front race _ first _ more left newest staged winners reaches few ends talked rest next front_known) now told =
+      record { request = request; is = at.1; given = at.2; asked = asked; new = new; needs = needs_so job request old now calls size readied rest; reads = reads }
+  quiet_reaches talk known tries point (goes_on _ _ _ readied reaches asked) now told = absurd (quiet_reaches talk known tries (rules (Some readied)) reaches now told)
+  quiet_reaches talk known tries point (conflicts front race _ first _ more left newest readied winners reaches few ends talked rest next front_known) now told =
       let parts = talked_behind Answers old now front race (subst (λ (t : Talk). Talked Answers old t now) talked told) in
-      let at = quiet_reaches front first more (ready staged) reaches parts.0 parts.1 in
-      no_conflict (race_of job staged first.next more) before race parts.0 now few (quiet_free parts.0 first more staged at) parts.2 newest winners ends
+      let at = quiet_reaches front first more (ready readied) reaches parts.0 parts.1 in
+      no_conflict (race_of job readied first.next more) before race parts.0 now few (quiet_free parts.0 first more readied at) parts.2 newest winners ends

@@ -14,7 +14,7 @@ use Rattle.batch_core.specs.Requests.{SinkRequest}
 use Rattle.batch_core.specs.declared.fault.SinkFault.{SinkFault}
 use Rattle.batch_core.specs.declared.fault.SinkFault.TheVariants as faults
 use Rattle.sink_core.specs.SinkLaws.{versions_taken}
-use Rattle.sink_core.specs.SinkSessions.{AnswerEnds, HoldsOf, InRace, IsOldBatch, IsNoCommitPut, LooksAt, Point, PutsFile, Reaches, Staged, Stages, SinkAsks, SinkJob, SinkTask, actions_of, anew, appends, asked_of, closes, conflicts, file_of, goes_on, loaded, race_of, ready, repeated, rules, staged_by, stages, stood}
+use Rattle.sink_core.specs.SinkSessions.{AnswerEnds, HoldsOf, InRace, IsOldBatch, IsNoCommitPut, LooksAt, Point, PutsFile, Reaches, Readied, Readies, SinkAsks, SinkJob, SinkTask, actions_of, anew, appends, asked_of, closes, conflicts, file_of, goes_on, loaded, race_of, ready, repeated, rules, readied_by, readies, stood}
 use Rattle.sink_core.specs.SinkSessions as talks
 use Rattle.sink_core.specs.declared.sink_state.SinkOutcome.{SinkOutcome}
 
@@ -45,10 +45,10 @@ puts_none : (name : List ℕ) (request : SinkRequest) (calls : Talk) (size : ℕ
 puts_none name request calls size (anew file written) = refl
 puts_none name request calls size (stood file bytes written same) = refl
 
-stages_none : (job : SinkJob) (request : SinkRequest) (calls : Talk) (size : ℕ) → Stages job request calls size → versions_taken calls ≡ 0
-stages_none job request calls size staged = by_task job.task staged
+readies_none : (job : SinkJob) (request : SinkRequest) (calls : Talk) (size : ℕ) → Readies job request calls size → versions_taken calls ≡ 0
+readies_none job request calls size readied = by_task job.task readied
   where
-    by_task : (task : SinkTask) → Stages (record job { task = task }) request calls size → versions_taken calls ≡ 0
+    by_task : (task : SinkTask) → Readies (record job { task = task }) request calls size → versions_taken calls ≡ 0
     by_task (appends number items) puts = puts_none (file_of job number) request calls size puts
     by_task closes none = ap versions_taken none.0
 
@@ -69,22 +69,22 @@ module _ (job : SinkJob) (before : Talk) where
   reaches_taken : (talk : Talk) (known : Loaded) (tries : ℕ) (point : Point) → Reaches job before talk known tries point → versions_taken talk + tries ≡ job.tries
   reaches_taken talk known tries point (loaded _ _ fine load) =
       omega (arith, ap versions_taken load.listed.talked, gets_none load.listed.gets load.listed.only)
-  reaches_taken talk known tries point (stages front calls _ _ _ request size reaches asked new staged reads talked) =
-      omega (arith, reaches_taken front known tries (rules None) reaches, ap versions_taken talked, taken_both front calls, stages_none job request calls size staged)
-  reaches_taken talk known tries point (goes_on _ _ _ staged reaches asked) = reaches_taken talk known tries (rules (Some staged)) reaches
-  reaches_taken talk known tries point (conflicts front race _ old _ some left newest staged winners reaches few ends talked rest next front_known) =
-      let put = race_of job staged old.next some in
+  reaches_taken talk known tries point (readies front calls _ _ _ request size reaches asked new readied reads talked) =
+      omega (arith, reaches_taken front known tries (rules None) reaches, ap versions_taken talked, taken_both front calls, readies_none job request calls size readied)
+  reaches_taken talk known tries point (goes_on _ _ _ readied reaches asked) = reaches_taken talk known tries (rules (Some readied)) reaches
+  reaches_taken talk known tries point (conflicts front race _ old _ some left newest readied winners reaches few ends talked rest next front_known) =
+      let put = race_of job readied old.next some in
       let tried = race_taken put race newest ends.0 (got_told put newest (told_object (Some ends.1.bytes))) ends.2 in
       let won : length (commits_view winners) ≡ length winners.items = length-map winners.items (λ (commit : Vec CodeAction Global). views commit.items) in
-      omega (arith, reaches_taken front old some (ready staged) reaches, tried, won, rest, ap (λ (cs : List (List Action)). length cs) ends.4, length-append ends.0 (ends.1.commit ∷ []), ap versions_taken talked, taken_both front race)
+      omega (arith, reaches_taken front old some (ready readied) reaches, tried, won, rest, ap (λ (cs : List (List Action)). length cs) ends.4, length-append ends.0 (ends.1.commit ∷ []), ap versions_taken talked, taken_both front race)
 
   -- where it tells that it was contended, none are left
   contended_taken : (talk : Talk) (newest : ℕ) → AnswerEnds job before talk (Err (faults.Contended newest)) → versions_taken talk ≡ job.tries
   contended_taken talk newest (inl ready_for) = omega (arith, reaches_taken talk ready_for.0 0 (ready ready_for.1) ready_for.2)
   contended_taken talk newest (inr r) =
-      let put = race_of job r.staged r.known.next r.tries in
+      let put = race_of job r.readied r.known.next r.tries in
       let tried = race_taken put r.race (suc newest) (commits_view r.holds.0) [] r.holds.1.0 in
-      omega (arith, reaches_taken r.front r.known r.tries (ready r.staged) r.reaches, tried, r.holds.1.1, ap versions_taken r.talked, taken_both r.front r.race)
+      omega (arith, reaches_taken r.front r.known r.tries (ready r.readied) r.reaches, tried, r.holds.1.1, ap versions_taken r.talked, taken_both r.front r.race)
 
   pub all_tried : (talk : Talk) (answer : Result SinkOutcome SinkFault) (newest : ℕ) → AnswerEnds job before talk answer → answer ≡ Err (faults.Contended newest) → versions_taken talk ≡ job.tries
   all_tried talk answer newest ends is = contended_taken talk newest (subst (λ (a : Result SinkOutcome SinkFault). AnswerEnds job before talk a) is ends)
@@ -100,17 +100,17 @@ pub record BeginsWith (talk : Talk) : Type 0 where
 -- calls for the batch's file, at most: one puts it, and one looks at what stands
 abbrev of_file : Point → ℕ
 of_file (rules None) = 0
-of_file (rules (Some staged)) = 2
-of_file (ready staged) = 2
+of_file (rules (Some readied)) = 2
+of_file (ready readied) = 2
 
 puts_two : (name : List ℕ) (request : SinkRequest) (calls : Talk) (size : ℕ) → PutsFile name request calls size → length calls ≤ 2
 puts_two name request calls size (anew file written) = omega arith
 puts_two name request calls size (stood file bytes written same) = omega arith
 
-stages_two : (job : SinkJob) (request : SinkRequest) (calls : Talk) (size : ℕ) → Stages job request calls size → length calls ≤ 2
-stages_two job request calls size staged = by_task job.task staged
+readies_two : (job : SinkJob) (request : SinkRequest) (calls : Talk) (size : ℕ) → Readies job request calls size → length calls ≤ 2
+readies_two job request calls size readied = by_task job.task readied
   where
-    by_task : (task : SinkTask) → Stages (record job { task = task }) request calls size → length calls ≤ 2
+    by_task : (task : SinkTask) → Readies (record job { task = task }) request calls size → length calls ≤ 2
     by_task (appends number items) puts = puts_two (file_of job number) request calls size puts
     by_task closes none = omega (arith, ap (λ (t : Talk). length t) none.0)
 
@@ -119,15 +119,15 @@ module _ (job : SinkJob) (before : Talk) where
   reaches_few : (talk : Talk) (known : Loaded) (tries : ℕ) (point : Point) → Reaches job before talk known tries point → (begins : BeginsWith talk) × (length talk + 2 * tries ≤ suc (length begins.names + 2 * job.tries) + of_file point)
   reaches_few talk known tries point (loaded _ _ fine load) =
       (record { names = load.names; rest = load.listed.gets; is = load.listed.talked }, omega (arith, ap (λ (t : Talk). length t) load.listed.talked, load.few))
-  reaches_few talk known tries point (stages front calls _ _ _ request size reaches asked new staged reads talked) =
+  reaches_few talk known tries point (readies front calls _ _ _ request size reaches asked new readied reads talked) =
       let more = reaches_few front known tries (rules None) reaches in (
         record { names = more.0.names; rest = more.0.rest ++ calls; is = talked ∙ ap (λ (t : Talk). t ++ calls) more.0.is },
-        omega (arith, more.1, stages_two job request calls size staged, ap (λ (t : Talk). length t) talked, length-append front calls),
+        omega (arith, more.1, readies_two job request calls size readied, ap (λ (t : Talk). length t) talked, length-append front calls),
       )
-  reaches_few talk known tries point (goes_on _ _ _ staged reaches asked) = reaches_few talk known tries (rules (Some staged)) reaches
-  reaches_few talk known tries point (conflicts front race _ old _ some left newest staged winners reaches few ends talked rest next front_known) =
-      let more = reaches_few front old some (ready staged) reaches in
-      let put = race_of job staged old.next some in
+  reaches_few talk known tries point (goes_on _ _ _ readied reaches asked) = reaches_few talk known tries (rules (Some readied)) reaches
+  reaches_few talk known tries point (conflicts front race _ old _ some left newest readied winners reaches few ends talked rest next front_known) =
+      let more = reaches_few front old some (ready readied) reaches in
+      let put = race_of job readied old.next some in
       let calls = came_by put before race newest ends.0 (got_told put newest (told_object (Some ends.1.bytes))) ends.2 in
       let won : length (commits_view winners) ≡ length winners.items = length-map winners.items (λ (commit : Vec CodeAction Global). views commit.items) in (
         record { names = more.0.names; rest = more.0.rest ++ race; is = talked ∙ ap (λ (t : Talk). t ++ race) more.0.is },
@@ -140,9 +140,9 @@ module _ (job : SinkJob) (before : Talk) where
       let more = reaches_few talk is.known is.tries (rules is.old) is.reaches in
       (more.0, omega (arith, more.1, two_more is.old))
     where
-      two_more : (old : Option Staged) → of_file (rules old) ≤ 2
+      two_more : (old : Option Readied) → of_file (rules old) ≤ 2
       two_more None = omega arith
-      two_more (Some staged) = omega arith
+      two_more (Some readied) = omega arith
   looks_few talk name request (talks.taken front _ number _ file is written talked) =
       let more = reaches_few front is.known is.tries (rules None) is.reaches in
       let put : Talk = (put_file (file_of job number) file, told_put Exists) ∷ [] in (
@@ -189,7 +189,7 @@ module _ (job : SinkJob) (before : Talk) (names : List (List ℕ)) where
       (omega (arith, few.1, names_same talk rest is few.0), (λ e. absurd cc))
   asks_few talk rest is (get_object name) (fine, inr (inr r)) room =
       let comes = r.holds.2 in
-      let job_put = race_of job r.staged r.known.next r.tries in
+      let job_put = race_of job r.readied r.known.next r.tries in
       let put : Asked = put_commit r.holds.0 job_put.bytes in
       let gone = taken job_put.version job_put.bytes comes.winners in
       let ends : commit_last false talk ≡ true =
@@ -200,8 +200,8 @@ module _ (job : SinkJob) (before : Talk) (names : List (List ℕ)) where
       let more = reaches_few job before talk puts.is.known puts.is.tries (rules None) puts.is.reaches in
       (omega (arith, more.1, names_same talk rest is more.0), (λ e. absurd cc))
   asks_few talk rest is (put_commit version bytes) (fine, r) room =
-      let put = race_of job r.staged r.known.next r.tries in
-      let front = reaches_few job before r.front r.known r.tries (ready r.staged) r.reaches in
+      let put = race_of job r.readied r.known.next r.tries in
+      let front = reaches_few job before r.front r.known r.tries (ready r.readied) r.reaches in
       let calls = came_by put before r.race version r.holds.0 [] r.holds.1 in
       let same = names_same talk rest is (record { names = front.0.names; rest = front.0.rest ++ r.race; is = r.talked ∙ ap (λ (t : Talk). t ++ r.race) front.0.is }) in
       let two : suc (suc (length talk)) ≤ most =

@@ -24,7 +24,7 @@ use Rattle.batch_core.specs.declared.fault.SinkFault.{SinkFault}
 use Rattle.batch_core.specs.declared.fault.SinkFault.TheVariants as faults
 use Rattle.batch_core.proofs.Callers.{HasRead, asked_parts, numbered_parts, reads_as_file, repeats_last}
 use Rattle.sink_core.specs.SinkLaws.{FileOfItems, HadSchema, IsCommittedIn, IsCommitOfJob, IsFileOfJob, StandsIn, TellsCommit, WasSo}
-use Rattle.sink_core.specs.SinkSessions.{AnswerEnds, HoldsOf, InRace, IsOldBatch, IsNoCommitPut, LooksAt, Point, PutsFile, Reaches, Staged, Stages, SinkAsks, SinkJob, SinkTask, actions_of, anew, appends, asked_of, closes, conflicts, file_of, goes_on, loaded, race_of, ready, repeated, rules, staged_by, stages, stood}
+use Rattle.sink_core.specs.SinkSessions.{AnswerEnds, HoldsOf, InRace, IsOldBatch, IsNoCommitPut, LooksAt, Point, PutsFile, Reaches, Readied, Readies, SinkAsks, SinkJob, SinkTask, actions_of, anew, appends, asked_of, closes, conflicts, file_of, goes_on, loaded, race_of, ready, repeated, rules, readied_by, readies, stood}
 use Rattle.sink_core.specs.SinkSessions as talks
 use Rattle.sink_core.specs.declared.sink_state.SinkOutcome.{SinkOutcome}
 use Rattle.sink_core.specs.declared.sink_state.SinkOutcome.TheVariants.{Already, AlreadyClosed, Closed, Committed}
@@ -101,42 +101,42 @@ module _ (objects : Objects) (job : SinkJob) (before : Talk) (number : ℕ) (ite
     same = same;
   }
 
-  -- where its commit may be put, or may be put again, the file that was staged stands
-  pub file_stands : (talk : Talk) (known : Loaded) (tries : ℕ) (point : Point) (staged : Staged) → (point ≡ ready staged) ⊎ (point ≡ rules (Some staged)) → Bears objects talk → Reaches job before talk known tries point
-      → FileOfItems objects (file_of job number) items staged.size (length staged.rows)
-  file_stands talk known tries point staged (inl is) bears (loaded _ _ fine load) = absurd cc
-  file_stands talk known tries point staged (inr is) bears (loaded _ _ fine load) = absurd cc
-  file_stands talk known tries point staged (inl is) bears (stages front calls _ _ _ request size reaches asked new staged_so reads talked) =
+  -- where its commit may be put, or may be put again, the file that was readied stands
+  pub file_stands : (talk : Talk) (known : Loaded) (tries : ℕ) (point : Point) (readied : Readied) → (point ≡ ready readied) ⊎ (point ≡ rules (Some readied)) → Bears objects talk → Reaches job before talk known tries point
+      → FileOfItems objects (file_of job number) items readied.size (length readied.rows)
+  file_stands talk known tries point readied (inl is) bears (loaded _ _ fine load) = absurd cc
+  file_stands talk known tries point readied (inr is) bears (loaded _ _ fine load) = absurd cc
+  file_stands talk known tries point readied (inl is) bears (readies front calls _ _ _ request size reaches asked new readied_so reads talked) =
       let all = subst (Bears objects) talked bears in
       let spelled = rows_spelled front known tries (rules None) request (bears_front objects front calls all) reaches asked in
-      let same : staged_by request size ≡ staged = cc in
-      subst (λ (s : Staged). FileOfItems objects (file_of job number) items s.size (length s.rows)) same
-      (puts_stands front calls request size all spelled (subst (λ (t : SinkTask). Stages (record job { task = t }) request calls size) task staged_so))
-  file_stands talk known tries point staged (inr is) bears (stages front calls _ _ _ request size reaches asked new staged_so reads talked) = absurd cc
-  file_stands talk known tries point staged (inl is) bears (goes_on _ _ _ other reaches asked) =
-      let same : other ≡ staged = cc in file_stands talk known tries (rules (Some other)) staged (inr (ap (λ (s : Staged). rules (Some s)) same)) bears reaches
-  file_stands talk known tries point staged (inr is) bears (goes_on _ _ _ other reaches asked) = absurd cc
-  file_stands talk known tries point staged (inl is) bears (conflicts front race _ old _ some left newest other winners reaches few ends talked rest next front_known) = absurd cc
-  file_stands talk known tries point staged (inr is) bears (conflicts front race _ old _ some left newest other winners reaches few ends talked rest next front_known) =
-      let same : other ≡ staged = cc in file_stands front old some (ready other) staged (inl (ap ready same)) (bears_front objects front race (subst (Bears objects) talked bears)) reaches
+      let same : readied_by request size ≡ readied = cc in
+      subst (λ (s : Readied). FileOfItems objects (file_of job number) items s.size (length s.rows)) same
+      (puts_stands front calls request size all spelled (subst (λ (t : SinkTask). Readies (record job { task = t }) request calls size) task readied_so))
+  file_stands talk known tries point readied (inr is) bears (readies front calls _ _ _ request size reaches asked new readied_so reads talked) = absurd cc
+  file_stands talk known tries point readied (inl is) bears (goes_on _ _ _ other reaches asked) =
+      let same : other ≡ readied = cc in file_stands talk known tries (rules (Some other)) readied (inr (ap (λ (s : Readied). rules (Some s)) same)) bears reaches
+  file_stands talk known tries point readied (inr is) bears (goes_on _ _ _ other reaches asked) = absurd cc
+  file_stands talk known tries point readied (inl is) bears (conflicts front race _ old _ some left newest other winners reaches few ends talked rest next front_known) = absurd cc
+  file_stands talk known tries point readied (inr is) bears (conflicts front race _ old _ some left newest other winners reaches few ends talked rest next front_known) =
+      let same : other ≡ readied = cc in file_stands front old some (ready other) readied (inl (ap ready same)) (bears_front objects front race (subst (Bears objects) talked bears)) reaches
 
 -- ---- what it puts
 
 module _ (objects : Objects) (job : SinkJob) (before : Talk) (borne : Bears objects before) where
   -- its commit is that of its job, with the size of the file that stands
-  pub commit_of_job : (talk : Talk) (known : Loaded) (tries : ℕ) (staged : Staged) → Bears objects talk → Reaches job before talk known tries (ready staged) → IsCommitOfJob objects job (commit_text (actions_of job staged))
-  commit_of_job talk known tries staged bears reaches = by_task job.task refl
+  pub commit_of_job : (talk : Talk) (known : Loaded) (tries : ℕ) (readied : Readied) → Bears objects talk → Reaches job before talk known tries (ready readied) → IsCommitOfJob objects job (commit_text (actions_of job readied))
+  commit_of_job talk known tries readied bears reaches = by_task job.task refl
     where
-      by_task : (task : SinkTask) → job.task ≡ task → IsCommitOfJob objects job (commit_text (actions_of job staged))
+      by_task : (task : SinkTask) → job.task ≡ task → IsCommitOfJob objects job (commit_text (actions_of job readied))
       by_task (appends number items) is =
-          subst (λ (t : SinkTask). IsCommitOfJob objects (record job { task = t }) (commit_text (actions_of (record job { task = t }) staged))) (sym is)
-          (staged.size, length staged.rows, refl, file_stands objects job before number items is borne talk known tries (ready staged) staged (inl refl) bears reaches)
-      by_task closes is = subst (λ (t : SinkTask). IsCommitOfJob objects (record job { task = t }) (commit_text (actions_of (record job { task = t }) staged))) (sym is) refl
+          subst (λ (t : SinkTask). IsCommitOfJob objects (record job { task = t }) (commit_text (actions_of (record job { task = t }) readied))) (sym is)
+          (readied.size, length readied.rows, refl, file_stands objects job before number items is borne talk known tries (ready readied) readied (inl refl) bears reaches)
+      by_task closes is = subst (λ (t : SinkTask). IsCommitOfJob objects (record job { task = t }) (commit_text (actions_of (record job { task = t }) readied))) (sym is) refl
 
   pub puts_own_commit : (talk : Talk) (version : ℕ) (bytes : List ℕ) → Bears objects talk → SinkAsks job before talk (put_commit version bytes) → IsCommitOfJob objects job bytes
   puts_own_commit talk version bytes bears asks =
       let r = asks.1 in
-      let own = commit_of_job r.front r.known r.tries r.staged (bears_front objects r.front r.race (subst (Bears objects) r.talked bears)) r.reaches in
+      let own = commit_of_job r.front r.known r.tries r.readied (bears_front objects r.front r.race (subst (Bears objects) r.talked bears)) r.reaches in
       subst (IsCommitOfJob objects job) (sym r.holds.2) own
 
   -- its file is written for the rows of its items, under the batch's name
@@ -150,9 +150,9 @@ module _ (objects : Objects) (job : SinkJob) (before : Talk) (borne : Bears obje
   -- ---- what stands where it tells so
 
   -- its commit stands at the version that it tells
-  committed_stands : (talk : Talk) (P : CommitJob → Talk → Type 0) (r : InRace job before talk P) (version : ℕ) → Bears objects talk → object_at objects (commit_name version) ≡ Some (race_of job r.staged r.known.next r.tries).bytes → IsCommittedIn objects job version
+  committed_stands : (talk : Talk) (P : CommitJob → Talk → Type 0) (r : InRace job before talk P) (version : ℕ) → Bears objects talk → object_at objects (commit_name version) ≡ Some (race_of job r.readied r.known.next r.tries).bytes → IsCommittedIn objects job version
   committed_stands talk P r version bears stands =
-      (commit_text (actions_of job r.staged), stands, commit_of_job r.front r.known r.tries r.staged (bears_front objects r.front r.race (subst (Bears objects) r.talked bears)) r.reaches)
+      (commit_text (actions_of job r.readied), stands, commit_of_job r.front r.known r.tries r.readied (bears_front objects r.front r.race (subst (Bears objects) r.talked bears)) r.reaches)
 
   -- what stands under the name that was got has the rows of the batch
   found_stands : (talk front : Talk) (number : ℕ) (request : SinkRequest) (found : Option (List ℕ)) → IsOldBatch job before front number request → Bears objects (front ++ (get_object (file_of job number), told_object found) ∷ [])
@@ -192,7 +192,7 @@ module _ (objects : Objects) (job : SinkJob) (before : Talk) (borne : Bears obje
     race_stands : (at version : ℕ) → at ≡ version → InRace job before talk (λ put race. (winners : Vec (Vec CodeAction Global) Global) × CommitEnds put before race (Ok (outcomes.Committed at winners))) → IsCommittedIn objects job version
     race_stands at version same r =
         let own = bears_end objects r.front r.race (subst (Bears objects) r.talked bears) in
-        let put = race_of job r.staged r.known.next r.tries in
+        let put = race_of job r.readied r.known.next r.tries in
         let stands = (tells put r.race (Ok (outcomes.Committed at r.holds.0)) own r.holds.1).2 in
         subst (IsCommittedIn objects job) same (committed_stands talk _ r at bears stands)
 
@@ -242,12 +242,12 @@ module _ (job : SinkJob) (before talk : Talk) (version : ℕ) (bytes : List ℕ)
 
   module _ (P : CommitJob → Talk → Type 0) (r : InRace job before created P) where
     abbrev own_put : CommitJob
-    own_put = race_of job r.staged r.known.next r.tries
+    own_put = race_of job r.readied r.known.next r.tries
 
     -- nor is its commit being put
     race_never : (at : ℕ) (commits : List (List Action)) (behind : Talk) → ComesTo own_put r.race at commits behind → IsUnfinished own_put at behind → ⊥
     race_never at commits behind comes is =
-        never (subst NotCreated (sym r.talked) (race_uncreated own_put r.front r.race at commits behind (reaches_uncreated job before r.front r.known r.tries (ready r.staged) r.reaches) comes is))
+        never (subst NotCreated (sym r.talked) (race_uncreated own_put r.front r.race at commits behind (reaches_uncreated job before r.front r.known r.tries (ready r.readied) r.reaches) comes is))
 
     -- where its commit was put, that is the put which created it
     race_ends : (at : ℕ) (commits : List (List Action)) → ComesTo own_put r.race at commits (put_told own_put at (told_put Created)) → at ≡ version
@@ -268,7 +268,7 @@ module _ (job : SinkJob) (before talk : Talk) (version : ℕ) (bytes : List ℕ)
   created_told (Err faults.TooLarge) (inr r) = race_never _ r r.holds.0 r.holds.1 [] r.holds.2 (inl refl)
   created_told (Err faults.FileTooLarge) ends = at_no_point ends.is.known ends.is.tries (rules None) ends.is.reaches
   created_told (Err (faults.BadLog at)) (inl bad) = never (listed_uncreated created bad.1.names bad.1.listed)
-  created_told (Err (faults.BadLog at)) (inr r) = race_never _ r at r.holds.0 (got_told (race_of job r.staged r.known.next r.tries) at (told_object r.holds.1)) r.holds.2 (inr (inr (told_object r.holds.1, refl)))
+  created_told (Err (faults.BadLog at)) (inr r) = race_never _ r at r.holds.0 (got_told (race_of job r.readied r.known.next r.tries) at (told_object r.holds.1)) r.holds.2 (inr (inr (told_object r.holds.1, refl)))
   created_told (Err (faults.ReadOnly fault)) ends = at_no_point ends.1.known ends.1.tries (rules ends.0) ends.1.reaches
   created_told (Err (faults.BadRow index fault)) ends = at_no_point ends.1.known ends.1.tries (rules ends.0) ends.1.reaches
   created_told (Err (faults.Stale last)) ends = at_no_point ends.1.known ends.1.tries (rules ends.0) ends.1.reaches
@@ -277,7 +277,7 @@ module _ (job : SinkJob) (before talk : Talk) (version : ℕ) (bytes : List ℕ)
   created_told (Err (faults.SchemaChanged at)) ends = at_no_point ends.0.1.known ends.0.1.tries (rules (Some ends.0.0)) ends.0.1.reaches
   created_told (Err (faults.Contended newest)) (inl ready_for) = at_no_point ready_for.0 0 (ready ready_for.1) ready_for.2
   created_told (Err (faults.Contended newest)) (inr r) = race_never _ r (suc newest) (commits_view r.holds.0) [] r.holds.1.0 (inl refl)
-  created_told (Err (faults.Lost (Some at))) r = race_never _ r at r.holds.0 (put_told (race_of job r.staged r.known.next r.tries) at told_lost) r.holds.1 (inr (inl (told_lost, (λ e. absurd cc), refl)))
+  created_told (Err (faults.Lost (Some at))) r = race_never _ r at r.holds.0 (put_told (race_of job r.readied r.known.next r.tries) at told_lost) r.holds.1 (inr (inl (told_lost, (λ e. absurd cc), refl)))
   created_told (Err (faults.Lost None)) ends = never (subst NotCreated (sym ends.talked) (other_uncreated ends.front ends.asked ends.other))
   created_told (Err faults.Memory) ends = never (unput_uncreated job before created ends)
 
@@ -289,6 +289,6 @@ module _ (job : SinkJob) (before talk : Talk) (version : ℕ) (bytes : List ℕ)
   created_quiet (get_object name) (fine, inr (inl (request, talks.taken front _ number _ file is written talked))) =
       never (subst NotCreated (sym talked) (file_uncreated front (file_of job number) file (told_put Exists)))
   created_quiet (get_object name) (fine, inr (inr r)) =
-      race_never _ r r.holds.0 r.holds.1 (put_told (race_of job r.staged r.known.next r.tries) r.holds.0 (told_put Exists)) r.holds.2 (inr (inl (told_put Exists, (λ e. absurd cc), refl)))
+      race_never _ r r.holds.0 r.holds.1 (put_told (race_of job r.readied r.known.next r.tries) r.holds.0 (told_put Exists)) r.holds.2 (inr (inl (told_put Exists, (λ e. absurd cc), refl)))
   created_quiet (put_file name file) (fine, puts) = at_no_point puts.is.known puts.is.tries (rules None) puts.is.reaches
   created_quiet (put_commit at text) (fine, r) = race_never _ r at r.holds.0 [] r.holds.1 (inl refl)

@@ -1,5 +1,5 @@
-//! The sink of a table: batches of rows are appended, and streams closed, each by a session that loads the log, puts what the rules
-//! let be put, and goes past the commits of others; and over one store, which drives such a session.
+//! The sink of a table: batches of rows are appended, and streams closed, each by a session that loads the log, puts
+//! what the rules let be put, and goes past the commits of others; and over one store, which drives such a session.
 #![tactic(auto)]
 
 mod filing;
@@ -15,5 +15,5 @@ pub use sink_laws::{
     a_contended_sink_tried_all, a_created_commit_is_told, a_sink_asks_for_little,
     a_sink_hands_back_what_it_learnt, what_a_sink_may,
 };
-pub use sink_state::{SinkEnd, SinkOutcome, SinkSession, SinkStage, SinkTask, Staged};
+pub use sink_state::{Readied, SinkEnd, SinkOutcome, SinkSession, SinkStage, SinkTask};
 pub use sinking::{append, close};

@@ -1,5 +1,5 @@
-//! Laws of a sink's sessions: what they may ask for and tell, and how many calls and tries they make. Each is a function that does nothing,
-//! whose contract is the law.
+//! Laws of a sink's sessions: what they may ask for and tell, and how many calls and tries they make. Each is a
+//! function that does nothing, whose contract is the law.
 ghost use Rattle.std.specs.Prelude.{◌≡◌, ◌≤◌, ◌+◌, ◌*◌, ℕ, List, [], ◌∷◌, ◌++◌, length, Ok, Err};
 ghost use Rattle.store_core.specs.Objects.{Objects};
 ghost use Rattle.store_core.specs.declared.store.Put.TheVariants.{Created};
@@ -13,12 +13,13 @@ ghost use Rattle.sink_core.specs.declared.sink_state.SinkOutcome.TheVariants.{Al
 
 use commit_core::what_a_commit_may;
 
-/// A session puts no commit but that of its job, to the byte: of a close the one that closes its stream, of an append the one of its
-/// batch, with the size of the file that stands under its name in each store that bears the talk and what went before it; and, over
-/// such a store, no file but one of the rows that its items spell for a schema that the table had at some version, under the batch's
-/// name. A close puts no file. Where it tells that its commit was put, that stands at that version of each store that bears its talk
-/// and what went before it, and a batch's file stands there with its rows, for a schema that the table had; where it tells that its
-/// batch stands already, such a file stands there too, and the batch's number was the application's last one at some version.
+/// A session puts no commit but that of its job, to the byte: of a close the one that closes its stream, of an append
+/// the one of its batch, with the size of the file that stands under its name in each store that bears the talk and
+/// what went before it; and, over such a store, no file but one of the rows that its items spell for a schema that the
+/// table had at some version, under the batch's name. A close puts no file. Where it tells that its commit was put,
+/// that stands at that version of each store that bears its talk and what went before it, and a batch's file stands
+/// there with its rows, for a schema that the table had; where it tells that its batch stands already, such a file
+/// stands there too, and the batch's number was the application's last one at some version.
 pub fn what_a_sink_may()
     ensures commit { (objects : Objects) (job : SinkJob) (before talk : Talk) (version : ℕ) (bytes : List ℕ) → Bears objects before → Bears objects talk → SinkAsks job before talk (put_commit version bytes) → IsCommitOfJob objects job bytes }
     ensures file { (objects : Objects) (job : SinkJob) (before talk : Talk) (name bytes : List ℕ) → Bears objects before → Bears objects talk → SinkAsks job before talk (put_file name bytes) → IsFileOfJob objects job name bytes }
@@ -30,8 +31,8 @@ pub fn what_a_sink_may()
     what_a_commit_may();
 }
 
-/// Right behind a put that created its commit a session asks for nothing more, and tells nothing but that, with that very version:
-/// neither that memory ran out nor any other fault.
+/// Right behind a put that created its commit a session asks for nothing more, and tells nothing but that, with that
+/// very version: neither that memory ran out nor any other fault.
 pub fn a_created_commit_is_told()
     ensures told { (job : SinkJob) (before talk : Talk) (version : ℕ) (bytes : List ℕ) (end : SinkEnd)
         → SinkEnds job before (talk ++ (put_commit version bytes, told_put Created) ∷ []) end → TellsCommit end.answer version }
@@ -39,14 +40,16 @@ pub fn a_created_commit_is_told()
         → SinkAsks job before (talk ++ (put_commit version bytes, told_put Created) ∷ []) asked → ⊥ }
 {}
 
-/// Where a session tells that it was contended, just as many of its puts of a commit as tries were given found their version taken.
+/// Where a session tells that it was contended, just as many of its puts of a commit as tries were given found their
+/// version taken.
 pub fn a_contended_sink_tried_all()
     ensures { (job : SinkJob) (before talk : Talk) (end : SinkEnd) (newest : ℕ) → SinkEnds job before talk end → end.answer ≡ Err (Contended newest) → versions_taken talk ≡ job.tries }
 {}
 
-/// With an answer that it tells only behind its rules, a session hands back what it had learnt of the log: what was known at a point to
-/// which it came by a front of its talk. With another answer it may hand back less: where its job isn't fine, a commit is missing or can't
-/// be read, no commit has the version that it comes to, another call than a put of its commit was lost, or memory ran out.
+/// With an answer that it tells only behind its rules, a session hands back what it had learnt of the log: what was
+/// known at a point to which it came by a front of its talk. With another answer it may hand back less: where its job
+/// isn't fine, a commit is missing or can't be read, no commit has the version that it comes to, another call than a
+/// put of its commit was lost, or memory ran out.
 pub fn a_sink_hands_back_what_it_learnt()
     ensures { (job : SinkJob) (before talk : Talk) (end : SinkEnd) → SinkEnds job before talk end → IsBehindRules end.answer → HandsBack job before talk end.known }
 {}

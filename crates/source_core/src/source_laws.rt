@@ -7,8 +7,8 @@ ghost use Rattle.session_core.specs.Stores.{MayAnswerAmid, State, Talked};
 ghost use Rattle.session_core.specs.Talks.{Bears, Talk, list_names, told_names};
 ghost use Rattle.source_core.specs.SourceSessions.{HasNewFiles, SourceAsks, SourceJob};
 
-/// A read only lists the names and gets objects. Where the names were listed, it is shown the store as that stood then, whatever others
-/// put behind the list: each object that it gets stood then, if the files did that the commits of that log bring from its version on.
+/// A read only lists names and gets objects. Where it listed the names, it is shown the store as that stood then,
+/// whatever others put behind the list: each object that it gets stood then, if the files that the log adds did.
 pub fn what_a_read_is_shown()
     ensures reads { (job : SourceJob) (before talk : Talk) → AllAsked (SourceAsks job before) [] talk → AllReads talk }
     ensures shown { (job : SourceJob) (before gets : Talk) (names : List (List ℕ)) (listed : Objects) (old new : State) → AllAsked (SourceAsks job before) [] ((list_names, told_names names) ∷ gets)

@@ -1,4 +1,4 @@
-// Why a read hands out nothing.
+//! Why a read hands out nothing.
 ghost use Rattle.std.specs.Prelude.{Some};
 ghost use Rattle.source_core.specs.TailFaults.{refusal_text, refusal_view};
 

@@ -7,6 +7,7 @@ use Rattle.std.specs.Cmp.Lexicographic.{slice_cmp}
 use Rattle.std.specs.List.Sorted.{IsStrictlySortedBy}
 use Rattle.std.specs.Map.{lookup, keys_of}
 use Rattle.std.specs.BTreeMap.{insert_entry}
+use Rattle.outcomes.specs.Bytes.{IsBytes}
 
 -- the objects of a store: names with their bytes
 abbrev pub Objects : Type 0
@@ -36,3 +37,7 @@ with_object objects name bytes =
 -- what stands in the one stands in the other, under its name and with its bytes
 abbrev pub HasObjectsOf : (objects more : Objects) → Type 0
 HasObjectsOf objects more = (name bytes : List ℕ) → object_at objects name ≡ Some bytes → object_at more name ≡ Some bytes
+
+-- each object is of numbers of eight bits
+abbrev pub AreBytes : Objects → Type 0
+AreBytes objects = (name bytes : List ℕ) → object_at objects name ≡ Some bytes → IsBytes bytes

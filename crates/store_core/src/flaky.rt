@@ -1,5 +1,4 @@
-//! A store that loses calls as it is told to: what looks at the code above a store, and what a world of many actors acts
-//! on.
+//! A store that loses calls as it is told to: for cases, and as the store of a world of many actors.
 ghost use Rattle.std.specs.Prelude.{◌≡◌, ◌≤◌, ℕ, List, [], Some, None, Ok, length, slice_get, option_map, IfOk, IsErrOf};
 ghost use Rattle.store_core.specs.Calls.{CountsFault, CountsOne, RisesByOne, put_told};
 ghost use Rattle.store_core.specs.Memory.{object_of};
@@ -26,12 +25,14 @@ pub enum Turn {
 }
 
 /// A store over another one whose calls meet these turns, one after the other; past the last turn every call passes. A
-/// list or a get that is to land twice passes, and one that is to land late is lost. A call that is lost is counted once,
-/// one that the store below loses too.
+/// list or a get that is to land twice passes, and one that is to land late is lost. A call that is lost is counted
+/// once, one that the store below loses too.
 #[derive(Drop)]
 pub struct Flaky<S> {
     alloc: Global,
+    /// The store below.
     pub store: S,
+    /// The turns, the ones that were met too.
     pub turns: Vec<Turn>,
     /// How many turns were met.
     pub met: usize,
@@ -39,6 +40,7 @@ pub struct Flaky<S> {
     pub armed: Option<Turn>,
     /// The puts that went in flight here, in the order in which they were sent: names with bytes. They stay.
     pub sent: Vec<(String, Vec<u8>)>,
+    /// How many calls were lost; at 2^64 - 1 it stays.
     pub lost: u64,
 }
 
@@ -70,9 +72,9 @@ impl<S: Store> Flaky<S> {
         self.armed = Some(turn);
     }
 
-    /// Lets a put in flight take effect, from 0 in the order in which they were sent: `Created` where its name was absent,
-    /// `Exists` where it stood and keeps its bytes. It stays in flight. `None` where none of that number is. It meets no
-    /// turn. Fails where the store below loses the put or memory runs out. Copies the object's bytes.
+    /// Lets a put in flight take effect, from 0 in the order in which they were sent: `Created` where its name was
+    /// absent, `Exists` where it stood and keeps its bytes. It stays in flight. `None` where none of that number is. It
+    /// meets no turn. Fails where the store below loses the put or memory runs out. Copies the object's bytes.
     pub fn land(&mut self, number: usize) -> Result<Option<Put>, StoreFault>
         ensures nothing { length (puts_sent self.old) ≤ number → (result ≡ Ok None) × (self.new ≡ self.old) }
         ensures landed { (name bytes : List ℕ) → slice_get (puts_sent self.old) number ≡ Some (name, bytes)
@@ -98,7 +100,7 @@ impl<S: Store> Flaky<S> {
         Ok(Some(told))
     }
 
-    // A copy of a put in flight.
+    /// A copy of a put in flight.
     fn copy_of(&self, number: usize) -> Result<Option<(String, Vec<u8>)>, AllocError>
         ensures none { length (puts_sent self.now) ≤ number → result ≡ Ok None }
         ensures same { IfOk result (λ put. option_map object_of put ≡ slice_get (puts_sent self.now) number) }
@@ -112,7 +114,7 @@ impl<S: Store> Flaky<S> {
         }
     }
 
-    // The turn that the next call meets.
+    /// The turn that the next call meets.
     fn next_turn(&mut self) -> Turn
         ensures kept { (self.new.store ≡ self.old.store) × (self.new.lost ≡ self.old.lost) }
         ensures sent { (self.new.sent ≡ self.old.sent) × (self.new.armed ≡ self.old.armed) }
@@ -129,7 +131,7 @@ impl<S: Store> Flaky<S> {
         }
     }
 
-    // The turn that a put of this name meets.
+    /// The turn that a put of this name meets.
     fn turn_of_put(&mut self, name: &str) -> Turn
         ensures kept { (self.new.store ≡ self.old.store) × (self.new.lost ≡ self.old.lost) }
         ensures sent { self.new.sent ≡ self.old.sent }
@@ -145,7 +147,7 @@ impl<S: Store> Flaky<S> {
         }
     }
 
-    // One more call is lost. At the greatest number the count stays.
+    /// One more call is lost. At the greatest number the count stays.
     fn lose(&mut self) -> StoreFault
         ensures lost { result ≡ StoreFault.Lost }
         ensures kept { self.new ≡ record self.old { lost = self.new.lost } }
@@ -155,7 +157,7 @@ impl<S: Store> Flaky<S> {
         StoreFault::Lost
     }
 
-    // An answer of the store below, which may have lost the call too.
+    /// An answer of the store below, which may have lost the call too.
     fn counted<T>(&mut self, answer: Result<T, StoreFault>) -> Result<T, StoreFault>
         ensures answer { result ≡ answer }
         ensures kept { self.new ≡ record self.old { lost = self.new.lost } }
@@ -167,8 +169,8 @@ impl<S: Store> Flaky<S> {
         }
     }
 
-    /// A put that goes in flight, behind those that were sent before: it has no effect yet, and `land` lets it take effect.
-    /// It is told as lost; or memory runs out, and nothing is sent. It meets no turn.
+    /// A put that goes in flight, behind those that were sent before: it has no effect yet, and `land` lets it take
+    /// effect. It is told as lost; or memory runs out, and nothing is sent. It meets no turn.
     pub fn send(&mut self, name: &str, bytes: Vec<u8>) -> Result<Put, StoreFault>
         ensures sent { SendsLate name.now bytes.items result (puts_sent self.old) (puts_sent self.new) }
         ensures kept { (self.new.store ≡ self.old.store) × (turns_left self.new ≡ turns_left self.old) }
@@ -181,9 +183,9 @@ impl<S: Store> Flaky<S> {
     }
 }
 
-/// Each call meets one turn, which is taken off those that are left; a put of a commit's name meets the armed one in its
-/// place. Where it passes, or none is left, it answers and leaves what the store below does; what becomes of the other turns
-/// is said at each call.
+/// Each call meets one turn, which is taken off those that are left; a put of a commit's name meets the armed one in
+/// its place. Where it passes, or none is left, it answers and leaves what the store below does; what becomes of the
+/// other turns is said at each call.
 impl<S: Store> Store for Flaky<S> {
     ghost use Rattle.std.specs.Prelude.{◌≢◌, ◌⊎◌, ◌++◌, [], None, Ok, Err, IfOk, OnOk, IsErrOf};
     ghost use Rattle.std.specs.Option.{option_map};
@@ -253,9 +255,10 @@ impl<S: Store> Store for Flaky<S> {
         }
     }
 
-    /// A request that is lost never reaches the store below, nor does one that goes in flight. Where the answer is lost,
-    /// the put has landed, or the store below lost it too; or memory ran out there, and is told as that. A put that is to land
-    /// twice is sent once, and told that its name stands: so a repetition would be told, which would change nothing.
+    /// A request that is lost never reaches the store below, nor does one that goes in flight. Where the answer is
+    /// lost, the put has landed, or the store below lost it too; or memory ran out there, and is told as that. A put
+    /// that is to land twice is sent once, and told that its name stands: so a repetition would be told, which would
+    /// change nothing.
     fn put_absent(&mut self, name: &str, bytes: Vec<u8>) -> Result<Put, StoreFault>
         ensures created { result ≡ Ok Put.Created → object_at (S.objects self.old.store) name.now ≡ None }
         ensures stands { IfOk result (λ put. StandsAfter put bytes.items (object_at (S.objects self.new.store) name.now)) }

@@ -32,7 +32,8 @@ impl Names {
         }
     }
 
-    /// These names, where they rise, and else `None`. Takes time linear in their bytes, and fails where memory runs out.
+    /// These names, where they rise, and else `None`. Takes time linear in their bytes, and fails where memory runs
+    /// out.
     pub fn rising(alloc: Global, names: Vec<String>) -> Result<Option<Names>, AllocError>
         ensures { IfOk result (λ found. MatchOption found (¬ IsStrictlySortedBy name_order (map string_bytes names.items)) (λ shared. listed shared ≡ map string_bytes names.items)) }
     {
@@ -58,7 +59,7 @@ impl Names {
     }
 }
 
-// Whether the names rise, each below the next.
+/// Whether the names rise, each below the next.
 fn rise(names: &[String]) -> bool
     ensures { MatchBool result (IsStrictlySortedBy name_order (map string_bytes names.now)) (¬ IsStrictlySortedBy name_order (map string_bytes names.now)) }
 {

@@ -65,8 +65,8 @@ impl Store for MemoryStore {
 
     ghost is_reliable = { λ _. Unit {0} };
 
-    /// Shares the names, in constant time. Only the first time they are copied, in time linear in their bytes, and behind a put
-    /// while others shared them.
+    /// Shares the names, in constant time. Only the first time they are copied, in time linear in their bytes, and
+    /// behind a put while others shared them.
     fn list(&mut self) -> Result<Names, StoreFault> {
         list_in(self.alloc, &self.objects, &mut self.names)
     }
@@ -76,8 +76,8 @@ impl Store for MemoryStore {
         copy_of(self.alloc, &self.objects, name)
     }
 
-    /// Copies the name and moves the bytes, in time logarithmic in the number of names, but that those behind it make room
-    /// for it in the list of names.
+    /// Copies the name and moves the bytes, in time logarithmic in the number of names, but that those behind it make
+    /// room for it in the list of names.
     fn put_absent(&mut self, name: &str, bytes: Vec<u8>) -> Result<Put, StoreFault> {
         put_in(self.alloc, &mut self.objects, &mut self.names, name, bytes)
     }
@@ -89,7 +89,7 @@ impl Store for MemoryStore {
     ghost in_order = { IsInOrder-stored };
 }
 
-// Copies of the names, in order.
+/// Copies of the names, in order.
 fn names_in(alloc: Global, objects: &BTreeMap<String, Vec<u8>>) -> Result<Vec<String>, StoreFault>
     ensures names { IfOk result (λ names. map string_bytes names.items ≡ names_of (objects_of objects.now)) }
     ensures never_lost { IsErrOf result StoreFault.Lost → ⊥ }
@@ -101,7 +101,7 @@ fn names_in(alloc: Global, objects: &BTreeMap<String, Vec<u8>>) -> Result<Vec<St
     Ok(names)
 }
 
-// The names, and they are kept.
+/// The names, and they are kept.
 fn list_in(
     alloc: Global,
     objects: &BTreeMap<String, Vec<u8>>,
@@ -121,7 +121,7 @@ fn list_in(
     Ok(names)
 }
 
-// The names with one more in its place. None where they are shared, or memory runs out.
+/// The names with one more in its place. None where they are shared, or memory runs out.
 fn with_name(alloc: Global, names: Names, name: &str) -> Option<Names>
     ensures { IfSome result (λ later. listed later ≡ insert_key name_order (listed names) name.now) }
 {
@@ -140,7 +140,7 @@ fn with_name(alloc: Global, names: Names, name: &str) -> Option<Names>
     }
 }
 
-// Keeps one name more in its place, where any are kept and there is room; else none is kept any more.
+/// Keeps one name more in its place, where any are kept and there is room; else none is kept any more.
 fn keep_name(alloc: Global, kept: &mut Option<Names>, name: &str)
     ensures { (names : List (List ℕ)) → IfSome kept.old (λ kept. listed kept ≡ names)
         → IfSome kept.new (λ later. listed later ≡ insert_key name_order names name.now) }
@@ -150,7 +150,7 @@ fn keep_name(alloc: Global, kept: &mut Option<Names>, name: &str)
     }
 }
 
-// A copy of the bytes under a name.
+/// A copy of the bytes under a name.
 #[tactic(auto, using(crate::proofs::Trees::object_at_tree))]
 fn copy_of(
     alloc: Global,
@@ -167,7 +167,7 @@ fn copy_of(
     }
 }
 
-// Puts bytes under a name that is absent.
+/// Puts bytes under a name that is absent.
 fn put_in(
     alloc: Global,
     objects: &mut BTreeMap<String, Vec<u8>>,

@@ -6,8 +6,9 @@ ghost use Rattle.store_core.specs.Objects.{name_order};
 
 use std::rc::Rc;
 
-/// The names that stood in a store when they were listed: they rise by their bytes, and each is there once. They are shared: to
-/// clone them takes constant time and no memory, however many they are. It fails only where they are shared 2^64 - 1 times.
+/// The names that stood in a store when they were listed: they rise by their bytes, and each is there once. They are
+/// shared: to clone them takes constant time and no memory, however many they are. It fails only where they are shared
+/// 2^64 - 1 times.
 #[derive(Drop)]
 pub struct Names {
     pub shared: Rc<Vec<String>>,

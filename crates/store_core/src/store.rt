@@ -25,8 +25,8 @@ pub trait Store {
     /// The finite map from names to bytes that stands.
     ghost objects: { Self → Objects };
 
-    /// The puts whose answers were lost and that the store's own type may let take effect later, between two calls, each
-    /// as often as it was sent.
+    /// The puts whose answers were lost and that the store's own type may let take effect later, between two calls,
+    /// each as often as it was sent.
     ghost in_flight: { Self → Flight };
 
     /// How often a call was lost. At 2^64 - 1 it stays.

@@ -5,7 +5,7 @@ use Rattle.std.proofs.lemmas.Bool.{cases_Bool, false≢true}
 use Rattle.std.proofs.lemmas.Slice.Eq.{bytes_eq-Decides}
 use Rattle.std.proofs.lemmas.List.Elements.{Contains-append_cases, Contains-push_cases}
 use Rattle.outcomes.specs.Bytes.{IsBytes}
-use Rattle.store_core.specs.Objects.{HasObjectsOf, Objects, object_at, with_object}
+use Rattle.store_core.specs.Objects.{AreBytes, HasObjectsOf, Objects, object_at, with_object}
 use Rattle.store_core.specs.ObjectLaws.{object_at-with_object_kept, object_at-with_object_other, object_at-with_object_same, with_object_stands}
 use Rattle.delta_actions.specs.Action as actions
 use Rattle.delta_actions.specs.Names.{commit_name, data_file_name}
@@ -27,7 +27,6 @@ use Rattle.table_store.proofs.HoldingKept.{FilesStand-kept, Stands-kept}
 use Rattle.table_store.proofs.HoldingPuts.{HoldsFrom-commit}
 use Rattle.log_laws.specs.Sound.{IsSoundStore}
 use Rattle.sink_core.specs.SinkSessions.{SinkJob}
-use Rattle.session_laws.specs.May.{AreBytes}
 use Rattle.session_laws.specs.Rows.{IsBatchOf}
 use Rattle.stream_model.specs.Events.{Event}
 use Rattle.stream_model.specs.Puts.{HasTable, IsGoodPut, IsMade, IsSubmittedFile, Submitted, a_checkpoint, a_commit, a_file, appends, closes, creates}

@@ -1,5 +1,5 @@
-//! Worlds of actors over one store, event by event, and what is so of every one: laws, each a function whose contract is the law. The product
-//! calls no code of this crate.
+//! Worlds of actors over one store, event by event, and what is so of every one: laws, each a function whose contract
+//! is the law. The product calls no code of this crate.
 #![tactic(auto)]
 
 mod worlds;

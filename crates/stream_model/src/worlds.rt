@@ -2,7 +2,7 @@
 
 ghost use Rattle.std.specs.Prelude.{◌≡◌, ℕ, List, [], ◌∷◌, ◌++◌, None, Option, Some, Contains, codes, true};
 ghost use Rattle.delta_replay.specs.Support.{has_key_inside};
-ghost use Rattle.store_core.specs.Objects.{HasObjectsOf, Objects, object_at};
+ghost use Rattle.store_core.specs.Objects.{AreBytes, HasObjectsOf, Objects, object_at};
 ghost use Rattle.session_core.specs.Talks.{Bears};
 ghost use Rattle.delta_actions.specs.Names.{data_file_name};
 ghost use Rattle.table_model.specs.Table.{Entry};
@@ -11,7 +11,6 @@ ghost use Rattle.table_store.specs.Schema.{Schema};
 ghost use Rattle.log_laws.specs.Sound.{IsSoundStore};
 ghost use Rattle.source_core.specs.SourceSessions.{SourceJob};
 ghost use Rattle.source_core.specs.declared.source_session.ReadEnd.{ReadEnd};
-ghost use Rattle.session_laws.specs.May.{AreBytes};
 ghost use Rattle.session_laws.specs.Rows.{Lists, WasListed};
 ghost use Rattle.session_laws.specs.Sessions.{HasAsked, Job, Outcome, read, reads};
 ghost use Rattle.stream_model.specs.Effects.{HasEffect};
@@ -31,31 +30,37 @@ use table_model::{a_part_from_the_beginning_is_a_front, parts_that_follow_are_on
 
 /// Over every list of events, of any length and with any number of actors, from a world in which nothing stands:
 /// - the store is sound, its checkpoints too (`sound`), and each object is of numbers of eight bits (`bytes`);
-/// - it bears what each session was told, each call that a session had an answer to is one that its job asks for there, and its job can begin
-///   (`borne`); a read that listed names was shown a sound store, as it stood then, whose files can be read and which has grown since
-///   (`shown`); so what a job does next by its talk it may do, as `what_a_session_may` has it;
-/// - each put in flight may take effect at any time: it is a file of a batch that was handed in, an admissible commit of a creation or a close
-///   that a job asks for or of such a batch, or a checkpoint of the log's commits up to its version (`flight`);
+/// - it bears what each session was told, each call that a session had an answer to is one that its job asks for there,
+///   and its job can begin (`borne`); a read that listed names was shown a sound store, as it stood then, whose files
+///   can be read and which has grown since (`shown`); so what a job does next by its talk it may do, as
+///   `what_a_session_may` has it;
+/// - each put in flight may take effect at any time: it is a file of a batch that was handed in, an admissible commit
+///   of a creation or a close that a job asks for or of such a batch, or a checkpoint of the log's commits up to its
+///   version (`flight`);
 /// - each data file has the rows of a batch of its name that was handed in, for the table that stands (`files`);
-/// - of the table that the store holds (by `sound` there is one, without versions until a creation takes effect): each batch stands once, each
-///   application's in rising number, and none with or behind its close; each batch that was acknowledged was handed in, and stands; each that
-///   stands was handed in, with these rows; and where an append told that its batch was put as a version, stands already, is below a number
-///   that stands (S1) or comes behind the close of its stream (S2), or a close that it was put as a version or its stream was closed already,
-///   that is so; each read handed out a part of that table, from its offset up to where it ended; and reads that follow one another from an
-///   offset of that table, each from where the one before ended, were handed its rows from the first offset to the last, which from the
-///   beginning are the log's first rows, each once, in the order of the log (`headline`). Of other refusals it says nothing;
-/// - a read that has ended and had listed names told of the versions that were listed, which all stand: their rows from its offset on, as many
-///   as it was to hand out or up to the start of the version that came next then; that its offset is past their end (O2), or in no file of its
-///   version (O10); where no commit was listed, that version 0 is missing (O12); that a call was lost, right behind one that was; or that
-///   memory ran out. No other refusal of a read comes (`reads`);
-/// - a session that has ended, and whose list had a commit, didn't tell that one is missing or can't be read (`listed`); none told that a
-///   winner changed the schema (`schema`); and one told that a checkpoint isn't put for what the table asks of its writers only where a field
-///   has `delta.invariants` (`supported`).
+/// - of the table that the store holds (by `sound` there is one, without versions until a creation takes effect): each
+///   batch stands once, each application's in rising number, and none with or behind its close; each batch that was
+///   acknowledged was handed in, and stands; each that stands was handed in, with these rows; and where an append told
+///   that its batch was put as a version, stands already, is below a number that stands (S1) or comes behind the close
+///   of its stream (S2), or a close that it was put as a version or its stream was closed already, that is so; each
+///   read handed out a part of that table, from its offset up to where it ended; and reads that follow one another from
+///   an offset of that table, each from where the one before ended, were handed its rows from the first offset to the
+///   last, which from the beginning are the log's first rows, each once, in the order of the log (`headline`). Of other
+///   refusals it says nothing;
+/// - a read that has ended and had listed names told of the versions that were listed, which all stand: their rows from
+///   its offset on, as many as it was to hand out or up to the start of the version that came next then; that its
+///   offset is past their end (O2), or in no file of its version (O10); where no commit was listed, that version 0 is
+///   missing (O12); that a call was lost, right behind one that was; or that memory ran out. No other refusal of a read
+///   comes (`reads`);
+/// - a session that has ended, and whose list had a commit, didn't tell that one is missing or can't be read
+///   (`listed`); none told that a winner changed the schema (`schema`); and one told that a checkpoint isn't put for
+///   what the table asks of its writers only where a field has `delta.invariants` (`supported`).
 ///
-/// A put takes effect on a free name alone; when it takes effect, a get gives what stands under its name, and a list all names that stand; and
-/// all objects are put by these sessions, of numbers of eight bits, as a program's bytes are. Jobs are creations, loads, checkpoints, appends
-/// of a batch, closes and reads of rows. A session begins with nothing known from an earlier one; an append's and a close's application is a
-/// text, and they try a version at least: another job can't begin.
+/// A put takes effect on a free name alone; when it takes effect, a get gives what stands under its name, and a list
+/// all names that stand; and all objects are put by these sessions, of numbers of eight bits, as a program's bytes are.
+/// Jobs are creations, loads, checkpoints, appends of a batch, closes and reads of rows. A session begins with nothing
+/// known from an earlier one; an append's and a close's application is a text, and they try a version at least: another
+/// job can't begin.
 pub fn every_world()
     ensures sound { (events : List Event) (outs : List (Job × Outcome)) (w : World) → IsWorldOf events outs w → IsSoundStore w.objects }
     ensures bytes { (events : List Event) (outs : List (Job × Outcome)) (w : World) → IsWorldOf events outs w → AreBytes w.objects }
@@ -90,9 +95,9 @@ pub fn every_world()
     a_part_from_the_beginning_is_a_front();
 }
 
-/// Whatever happens, an object that stands keeps its bytes (`objects`), and the log of each later world begins with the log that stood (`log`),
-/// with the same schema where that had a version (`schema`). A later world is a world of the earlier events followed by the later ones
-/// (`world`), so what was acknowledged stands there once, too.
+/// Whatever happens, an object that stands keeps its bytes (`objects`), and the log of each later world begins with the
+/// log that stood (`log`), with the same schema where that had a version (`schema`). A later world is a world of the
+/// earlier events followed by the later ones (`world`), so what was acknowledged stands there once, too.
 pub fn what_stands_in_a_world_stays()
     ensures objects { (w later : World) (events : List Event) (outs : List (Job × Outcome)) → Ran w events outs later → HasObjectsOf w.objects later.objects }
     ensures world { (events more : List Event) (outs told : List (Job × Outcome)) (w later : World) → IsWorldOf events outs w → Ran w more told later → IsWorldOf (events ++ more) (outs ++ told) later }
@@ -105,9 +110,10 @@ pub fn what_stands_in_a_world_stays()
     a_sound_table_grows_at_its_end();
 }
 
-/// An event that fits a world has its effect there (`effect`): an actor begins, or is gone; its call is answered just so, and what it puts stands
-/// or is in flight; its session makes a step, by the answer that waits or by the loss of it; a put in flight takes effect, where its name is
-/// free, and stays in flight. One that doesn't fit changes nothing, and tells nothing (`nothing`).
+/// An event that fits a world has its effect there (`effect`): an actor begins, or is gone; its call is answered just
+/// so, and what it puts stands or is in flight; its session makes a step, by the answer that waits or by the loss of
+/// it; a put in flight takes effect, where its name is free, and stays in flight. One that doesn't fit changes nothing,
+/// and tells nothing (`nothing`).
 pub fn an_event_that_fits_has_its_effect()
     ensures effect { (w later : World) (event : Event) (told : Option (Job × Outcome)) → Happens w event told later → Fits w event → HasEffect w event later }
     ensures nothing { (w later : World) (event : Event) (told : Option (Job × Outcome)) → Happens w event told later → (Fits w event → ⊥) → (later ≡ w) × (told ≡ None) }

@@ -60,7 +60,7 @@ pub(crate) fn session_of(alloc: Global, job: Job) -> TableSession
     }
 }
 
-// The session of an append or a close.
+/// The session of an append or a close.
 fn stream_of(alloc: Global, job: StreamJob) -> SinkSession<'static>
     ensures job { sinks.job_of result ≡ stream_view job }
     ensures stage { result.stage ≡ sink_stages.Loading }

@@ -12,7 +12,8 @@ use session_core::{Reply, Request, ask, commit_name};
 use std::alloc::Global;
 use store_core::{Flaky, Put, Store, StoreFault};
 
-/// Answers a call in this way, or finds no memory for it. Where it takes effect, the store below is asked, and no turn is met.
+/// Answers a call in this way, or finds no memory for it. Where it takes effect, the store below is asked, and no turn
+/// is met.
 pub(crate) fn answer<S: Store>(
     alloc: Global,
     store: &mut Flaky<S>,
@@ -33,7 +34,7 @@ pub(crate) fn answer<S: Store>(
     }
 }
 
-// What is told of a call that takes effect once more, where this was told of it before: of a put that its name stands.
+/// What is told of a call that takes effect once more, where this was told of it before: of a put that its name stands.
 fn asked_again(reply: Reply) -> Reply
     ensures { told_view result ≡ again (told_view reply) }
 {
@@ -43,7 +44,7 @@ fn asked_again(reply: Reply) -> Reply
     }
 }
 
-// A put goes in flight, and is told as lost; a list or a get is lost.
+/// A put goes in flight, and is told as lost; a list or a get is lost.
 fn send<S: Store>(alloc: Global, store: &mut Flaky<S>, request: Request) -> Reply
     ensures sent { IsSentCall (asked_view request) (told_view result) (puts_sent store.old) (puts_sent store.new) }
     ensures store { store.new.store ≡ store.old.store }
@@ -59,7 +60,7 @@ fn send<S: Store>(alloc: Global, store: &mut Flaky<S>, request: Request) -> Repl
     }
 }
 
-// What is told of a put that went in flight, or for which memory ran out.
+/// What is told of a put that went in flight, or for which memory ran out.
 fn sent(answer: Result<Put, StoreFault>) -> Reply
     ensures { told_view result ≡ sent_told answer }
 {

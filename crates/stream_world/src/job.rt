@@ -8,20 +8,28 @@ use source_core::Offset;
 /// A table that is to be created. The moment is in milliseconds since 1970-01-01.
 #[derive(Drop)]
 pub struct Creation {
+    /// The table's id.
     pub id: String,
+    /// The moment.
     pub at: u64,
+    /// The text of its schema.
     pub schema: String,
     pub ghost timely: { at < 2 ^ 63 },
 }
 
-/// What is to be done to an application's stream, at a moment in milliseconds since 1970-01-01. So many versions are tried
-/// at most.
+/// What is to be done to an application's stream, at a moment in milliseconds since 1970-01-01. So many versions are
+/// tried at most.
 #[derive(Drop)]
 pub struct StreamJob {
+    /// The application's id.
     pub application: String,
+    /// What is to be done.
     pub task: SinkTask<'static>,
+    /// The moment.
     pub at: u64,
+    /// How many versions are tried at most.
     pub tries: u64,
+    /// Whether the log is read by its checkpoints.
     pub use_checkpoints: bool,
     pub ghost timely: { at < 2 ^ 63 },
     pub ghost some: { 1 ≤ tries },

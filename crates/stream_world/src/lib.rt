@@ -1,7 +1,8 @@
-//! A world in code: actors, each with a session, that act on one store, event by event; and what was told by a list of events.
+//! A world in code: actors, each with a session, that act on one store, event by event; and what was told by a list of
+//! events.
 //!
-//! Over a store that loses no call it does just what `stream_model` says may happen in a world. So what is so of every world is so of
-//! one that began with nothing.
+//! Over a store that loses no call it does just what `stream_model` says may happen in a world. So what is so of every
+//! world is so of one that began with nothing.
 #![tactic(auto)]
 
 mod acting;

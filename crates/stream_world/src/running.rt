@@ -19,12 +19,14 @@ pub struct Ran<S> {
     pub told: Vec<Option<Outcome>>,
 }
 
-/// Lets events happen one after the other, over a store in which nobody acts yet. Fails where memory runs out in a beginning, in a landing
-/// or for what is told; the store is dropped then. Where it runs out in a call, the session is told so, and the events go on.
+/// Lets events happen one after the other, over a store in which nobody acts yet. Fails where memory runs out in a
+/// beginning, in a landing or for what is told; the store is dropped then. Where it runs out in a call, the session is
+/// told so, and the events go on.
 ///
-/// Over an empty store that loses no call, what is left is sound, and what was told is so: each batch that was acknowledged stands in the log
-/// once, every batch at most once and as submitted, each application's in rising number and none after its close; and what a reader was
-/// handed that resumes at its last offset is exactly the log's rows up to that offset, once each, in log order.
+/// Over an empty store that loses no call, what is left is sound, and what was told is so: each batch that was
+/// acknowledged stands in the log once, every batch at most once and as submitted, each application's in rising number
+/// and none after its close; and what a reader was handed that resumes at its last offset is exactly the log's rows up
+/// to that offset, once each, in log order.
 pub fn run<S: Store + Drop>(
     alloc: Global,
     store: S,

@@ -15,8 +15,9 @@ use std::alloc::{AllocError, Global};
 use std::collections::BTreeMap;
 use store_core::{Flaky, Put, Store, StoreFault};
 
-/// Actors that act on one store, which keeps the puts in flight. An actor that waits takes no time. An event takes the time of the
-/// step or the call that it is, with what it drops or copies, and the logarithm of how many actors there were.
+/// Actors that act on one store, which keeps the puts in flight. An actor that waits takes no time. An event takes the
+/// time of the step or the call that it is, with what it drops or copies, and the logarithm of how many actors there
+/// were.
 #[derive(Drop)]
 pub struct World<S> {
     pub(crate) alloc: Global,
@@ -44,9 +45,9 @@ impl<S: Store> World<S> {
         }
     }
 
-    /// Lets an event happen, and returns what a session told that ended by it. An event that doesn't fit changes nothing. Fails where
-    /// memory runs out in a beginning or a landing, and then nothing has happened; in a call that is made, the session is told so.
-    /// A landing that the store loses tells nothing.
+    /// Lets an event happen, and returns what a session told that ended by it. An event that doesn't fit changes
+    /// nothing. Fails where memory runs out in a beginning or a landing, and then nothing has happened; in a call that
+    /// is made, the session is told so. A landing that the store loses tells nothing.
     pub fn step(&mut self, event: Event) -> Result<Option<Outcome>, AllocError>
         ensures happens { S.is_reliable self.old.store.store → (w : worlds.World) → WorldStands S.objects self.old w → StepsTo S.objects w (event_view event) result self.new }
         ensures reliable { S.is_reliable self.old.store.store → S.is_reliable self.new.store.store }
@@ -74,8 +75,8 @@ impl<S: Store> World<S> {
         }
     }
 
-    /// An actor begins a session, in place of an older one; nothing is asked for yet. Fails where memory runs out, and then nothing has
-    /// happened.
+    /// An actor begins a session, in place of an older one; nothing is asked for yet. Fails where memory runs out, and
+    /// then nothing has happened.
     pub fn begin(&mut self, actor: u64, job: Job) -> Result<(), AllocError>
         ensures happens { (w : worlds.World) → WorldStands S.objects self.old w → BeginsAs S.objects w (begin actor (job_view job)) result self.new }
         // Every job of the code can begin.
@@ -114,8 +115,8 @@ impl<S: Store> World<S> {
         }
     }
 
-    /// An actor's session makes its first step, or takes the answer that waits, or that the call was lost in place of it. Returns what it
-    /// tells where it ends.
+    /// An actor's session makes its first step, or takes the answer that waits, or that the call was lost in place of
+    /// it. Returns what it tells where it ends.
     pub fn go_on(&mut self, actor: u64, is_lost: bool) -> Option<Outcome>
         ensures happens { (w : worlds.World) → WorldStands S.objects self.old w → HasHappened S.objects w (taking actor is_lost) result self.new }
         ensures store { self.new.store ≡ self.old.store }
@@ -128,9 +129,9 @@ impl<S: Store> World<S> {
         }
     }
 
-    /// The put in flight of a number, from 0 in the order in which they were sent, takes effect: `Created` where its name was absent,
-    /// `Exists` where it stood. It stays in flight. `None` where none of that number is. Fails where memory runs out, and then nothing has
-    /// happened, or where the store loses the put.
+    /// The put in flight of a number, from 0 in the order in which they were sent, takes effect: `Created` where its
+    /// name was absent, `Exists` where it stood. It stays in flight. `None` where none of that number is. Fails where
+    /// memory runs out, and then nothing has happened, or where the store loses the put.
     pub fn land(&mut self, place: usize) -> Result<Option<Put>, StoreFault>
         ensures happens { S.is_reliable self.old.store.store → (w : worlds.World) → WorldStands S.objects self.old w → LandsAs S.objects w place result self.new }
         ensures reliable { S.is_reliable self.old.store.store → S.is_reliable self.new.store.store }

@@ -1,9 +1,8 @@
 //! Whether the objects of a store, or of whatever else is read as one, are sound.
 
 ghost use Rattle.std.specs.Prelude.{◌≡◌, ℕ, suc, List, Some, map, IfOk, IfSome, IfNone, IsErrOf, string_bytes};
-ghost use Rattle.table_check.specs.SoundStores.{IsSoundStore};
 ghost use Rattle.store_core.specs.Objects.{object_at};
-ghost use Rattle.table_check.specs.Below.{IsFirstUnsound, IsSoundBelow};
+ghost use Rattle.table_check.specs.Below.{IsSoundBelow};
 ghost use Rattle.table_log.specs.Restoring.{IsSoundCheckpoint, checkpoint_version};
 ghost use Rattle.table_audit.specs.Verdicts.{IsVerdictOf};
 ghost use Rattle.table_audit.specs.Walks.{IsWalk, IsWalkOver};
@@ -17,32 +16,17 @@ use crate::verdict::Verdict;
 use crate::walk::{Beginning, Reached, Walk, begin, ended, walk_on};
 use delta_actions::{GREATEST_VERSION, commit_name};
 use std::alloc::Global;
-use store_core::Store;
-
-/// The least version whose commit, file or checkpoint breaks a store, and why; `None` where its objects are sound. It
-/// is [`audit`] of a store.
-pub fn first_unsound<S: Store>(alloc: Global, store: &mut S) -> Result<Option<Unsound>, AuditError>
-    ensures sound { IfOk result (λ o. IfNone o (IsSoundStore (S.objects store.old))) }
-    ensures unsound { IfOk result (λ o. IfSome o (λ u. IsFirstUnsound (S.objects store.old) u.version)) }
-    ensures untouched { S.objects store.new ≡ S.objects store.old }
-    ensures reliable { S.is_reliable store.old → S.is_reliable store.new }
-    ensures never_lost { S.is_reliable store.old → IsErrOf result AuditError.Lost → ⊥ }
-{
-    match audit(alloc, store)? {
-        Verdict::Sound { versions: _ } => Ok(None),
-        Verdict::Unsound(unsound) => Ok(Some(unsound)),
-    }
-}
 
 /// Whether objects are sound: their log is lawful, each batch's file stands and is one of the table's, no commit stands
 /// past the log's end, and whatever has the name of a checkpoint is the one of its version (Delta PROTOCOL.md, "Delta
 /// Log Entries" and "Checkpoints"). Tells how many versions they have, or the least version whose commit, file or
 /// checkpoint breaks them, and why.
 ///
-/// The names are listed once, and each commit, checkpoint and file of a batch is read once at most, one at a time, up to
-/// the first unsound version. The time is linear in what is read and in the names, but for logarithms: of a snapshot's
-/// places, of the applications of one commit, and of the order of checkpoints' lines and names. `Lost` comes where a call was lost, `Memory` where memory runs out.
-/// `TooLarge` comes where a data file is larger than what is read of one: nothing is told then.
+/// The names are listed once, and each commit, checkpoint and file of a batch is read once at most, one at a time, up
+/// to the first unsound version. The time is linear in what is read and in the names, but for logarithms: of a
+/// snapshot's places, of the applications of one commit, and of the order of checkpoints' lines and names. `Lost` comes
+/// where a call was lost, `Memory` where memory runs out. `TooLarge` comes where a data file is larger than what is
+/// read of one: nothing is told then.
 pub fn audit<R: ObjectReader>(alloc: Global, reader: &mut R) -> Result<Verdict, AuditError>
     ensures told { R.is_steady reader.old → IfOk result (λ verdict. IsVerdictOf (R.objects reader.old) verdict) }
     ensures untouched { R.is_steady reader.old → R.objects reader.new ≡ R.objects reader.old }
@@ -112,10 +96,15 @@ fn wrong_checkpoint<R: ObjectReader>(
     let Some(bytes) = reader.read(&checkpoint.name)? else {
         return Ok(None);
     };
-    let name = checkpoint.name.clone()?;
     match checkpoint_found(alloc, &walk.snapshot, checkpoint.version, &bytes)? {
         Found::Same => Ok(None),
-        Found::Other => Ok(Some(Reason::OtherCheckpoint { name })),
-        Found::Bad(fault) => Ok(Some(Reason::BadCheckpoint { name, fault })),
+        Found::Other => {
+            let name = checkpoint.name.clone()?;
+            Ok(Some(Reason::OtherCheckpoint { name }))
+        }
+        Found::Bad(fault) => {
+            let name = checkpoint.name.clone()?;
+            Ok(Some(Reason::BadCheckpoint { name, fault }))
+        }
     }
 }

@@ -20,9 +20,9 @@ use table_log::{Version, commit_version, version_of};
 /// The names that stand beside the table, in the order of their bytes: of no commit and no checkpoint of a version, and
 /// of no data file that a commit that can be read adds.
 ///
-/// The names are listed once, and each commit is read once, one at a time. The time is linear in what is read and in the
-/// names, but for a logarithm of how many files are added. Fails as [`audit`](crate::audit) does, but never as a file is
-/// too large: no file is read.
+/// The names are listed once, and each commit is read once, one at a time. The time is linear in what is read and in
+/// the names, but for a logarithm of how many files are added. Fails as [`audit`](crate::audit) does, but never as a
+/// file is too large: no file is read.
 pub fn unnamed<R: ObjectReader>(alloc: Global, reader: &mut R) -> Result<Vec<String>, AuditError>
     ensures told { R.is_steady reader.old → IfOk result (λ names. map string_bytes names.items ≡ filter (is_unnamed (R.objects reader.old)) (names_of (R.objects reader.old))) }
     ensures untouched { R.is_steady reader.old → R.objects reader.new ≡ R.objects reader.old }

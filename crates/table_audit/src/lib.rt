@@ -17,7 +17,7 @@ mod reason;
 mod verdict;
 mod walk;
 
-pub use auditing::{audit, first_unsound};
+pub use auditing::audit;
 pub use beside::unnamed;
 pub use fault::AuditError;
 pub use reader::ObjectReader;

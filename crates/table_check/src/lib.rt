@@ -1,5 +1,5 @@
-//! Laws of the versions below which a store is sound, of a walk over its log that finds none that breaks, and of where a
-//! walk can't go on: there the store is unsound.
+//! Laws of the versions below which a store is sound, of a walk over its log that finds none that breaks, and of where
+//! a walk can't go on: there the store is unsound.
 #![tactic(auto)]
 
 mod laws;

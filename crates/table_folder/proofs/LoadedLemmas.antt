@@ -1,17 +1,15 @@
 -- Which of a folder's files are loaded: what is found of them, their names and their order.
-use Rattle.std.proofs.Common.{◌≡◌, ◌++◌, ◌∷◌, [], ℕ, Bool, true, false, cond, List, Option, None, Some, refl, sym, ◌∙◌, ap, subst}
+use Rattle.std.proofs.Common.{◌≡◌, ◌∷◌, [], ℕ, Bool, true, false, cond, List, Option, None, Some, refl, sym, ◌∙◌, ap, subst}
 use Rattle.std.specs.Prelude.{◌&&◌, ◌||◌, is_some, if◌then◌else◌, filter, bytes_eq}
-use Rattle.std.specs.List.{list_any}
 use Rattle.std.specs.List.Sorted.{IsStrictlySortedBy}
 use Rattle.std.proofs.lemmas.List.Kept.{IsStrictlySortedBy-filter}
-use Rattle.std.proofs.lemmas.List.Folds.{list_any-append}
 use Rattle.std.proofs.lemmas.Slice.Eq.{bytes_eq-Decides}
 use Rattle.store_core.specs.Objects.{Objects, IsInOrder, name_order, object_at, names_of}
 use Rattle.store_core.specs.ObjectLaws.{same_objects}
 use Rattle.table_folder.specs.Copies.{with_copies}
 use Rattle.table_folder.specs.Loads.{is_loaded, is_of_log, loaded}
 use Rattle.table_folder.specs.Orders.{IsInOrder-none}
-use Rattle.table_folder.proofs.CopyLemmas.{first_of, first_of-twice, IsInOrder-with_copies, list_any-filter, list_any-names, object_at-with_copies}
+use Rattle.table_folder.proofs.CopyLemmas.{IsInOrder-with_copies, list_any-filter, list_any-names, object_at-with_copies}
 
 -- the objects whose names pass a test
 abbrev passing : (List ℕ → Bool) → Objects → Objects
@@ -77,21 +75,3 @@ log_copied objects h =
     (list_any-filter is_of_log (names_of objects) name ∙ ap (λ b. is_of_log name && b) (list_any-names objects name))
     ∙ log_found (is_of_log name) (object_at objects name)
     ∙ sym (object_at-loaded [] objects name))
-
--- one of three tests, grouped either way
-or_assoc : (a b c : Bool) → ((a || b) || c) ≡ (a || (b || c))
-or_assoc true b c = refl
-or_assoc false b c = refl
-
--- more files copied to where some are loaded
-pub files_copied : (files names : List (List ℕ)) (objects : Objects) → IsInOrder objects → with_copies objects (loaded files objects) names ≡ loaded (files ++ names) objects
-files_copied files names objects h =
-    same_objects (with_copies objects (loaded files objects) names) (loaded (files ++ names) objects)
-    (IsInOrder-with_copies objects (loaded files objects) names (IsInOrder-loaded files objects h)) (IsInOrder-loaded (files ++ names) objects h)
-    (λ name. object_at-with_copies objects (loaded files objects) names name
-    ∙ ap (λ found. first_of found (cond (list_any (bytes_eq name) names) (object_at objects name) None)) (object_at-loaded files objects name)
-    ∙ first_of-twice (is_loaded files name) (list_any (bytes_eq name) names) None (object_at objects name)
-    ∙ ap (λ b. cond b (object_at objects name) None)
-    (or_assoc (is_of_log name) (list_any (bytes_eq name) files) (list_any (bytes_eq name) names)
-    ∙ ap (λ b. is_of_log name || b) (sym (list_any-append (bytes_eq name) files names)))
-    ∙ sym (object_at-loaded (files ++ names) objects name))

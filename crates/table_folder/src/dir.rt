@@ -1,6 +1,6 @@
 //! A table's folder on a disk.
-ghost use Rattle.std.specs.Prelude.{◌≡◌, IfOk};
-ghost use Rattle.table_folder.specs.Calls.{CountsFailure};
+ghost use Rattle.std.specs.Prelude.{◌≡◌, IfErr, IfOk, IsErr, Ok, string_bytes};
+ghost use Rattle.table_folder.specs.Calls.{CountsFailure, FailsAt};
 
 use crate::disk::{DiskFault, file_bytes, leftover_names, make_file, make_folder, table_names};
 use crate::naming::{LOG, is_table_name};
@@ -9,12 +9,12 @@ use std::alloc::AllocError;
 use std::rt::Files;
 use store_core::Put;
 
-/// A table's folder on a disk: its plain files and those of `_delta_log` in it. Links, other folders and names that begin
-/// with `.` are passed over. Another name that isn't text fails, also a folder's, and so does a file over 1 GiB.
+/// A table's folder on a disk: its plain files and those of `_delta_log` in it. Links, other folders and names that
+/// begin with `.` are passed over. Another name that isn't text fails, also a folder's, and so does a file over 1 GiB.
 ///
-/// It needs hard links: a file is written and synced as `.new-N`, and a link then gives it its name where that is absent.
-/// A create that fails removes its `.new-N`; a run that is killed may leave one, and each of those costs later creates a
-/// call. `leftovers` tells them. Removing them is safe only while no other process writes to the table.
+/// It needs hard links: a file is written and synced as `.new-N`, and a link then gives it its name where that is
+/// absent. A create that fails removes its `.new-N`; a run that is killed may leave one, and each of those costs later
+/// creates a call. `leftovers` tells them. Removing them is safe only while no other process writes to the table.
 ///
 /// Of the disk nothing is claimed: this folder is never steady.
 #[derive(Drop)]
@@ -38,7 +38,7 @@ impl<R: Files + AllocGlobal + Clone + Drop> DirFolder<R> {
         })
     }
 
-    // An answer, counted where it is a failure.
+    /// An answer, counted where it is a failure.
     fn counted<T>(&mut self, answer: Result<T, FolderFault>) -> Result<T, FolderFault>
         ensures answer { result ≡ answer }
         ensures counted { CountsFailure result self.old.faults self.new.faults }
@@ -49,20 +49,16 @@ impl<R: Files + AllocGlobal + Clone + Drop> DirFolder<R> {
         answer
     }
 
-    // The path of a name's folder, with a slash at its end, and of the name.
-    fn paths(&self, name: &str) -> Result<(String, String), AllocError> {
-        let folder = if name.starts_with(LOG) {
-            format!(in self.rt.alloc(); "{}/{LOG}", self.path)?
-        } else {
-            format!(in self.rt.alloc(); "{}/", self.path)?
-        };
-        let path = format!(in self.rt.alloc(); "{}/{name}", self.path)?;
-        Ok((folder, path))
+    /// The path of what has that name in the folder. That of no name is the folder's own, with a slash at its end.
+    fn path_of(&self, name: &str) -> Result<String, AllocError> {
+        format!(in self.rt.alloc(); "{}/{name}", self.path)
     }
 
     fn made(&self, name: &str, bytes: &[u8]) -> Result<Put, DiskFault> {
-        let (folder, path) = self.paths(name)?;
-        if name.starts_with(LOG) {
+        let is_of_log = name.starts_with(LOG);
+        let folder = self.path_of(if is_of_log { LOG } else { "" })?;
+        let path = self.path_of(name)?;
+        if is_of_log {
             make_folder(&self.rt, self.path.as_str(), folder.as_str())?;
         }
         make_file(&self.rt, folder.as_str(), path.as_str(), bytes)
@@ -70,8 +66,8 @@ impl<R: Files + AllocGlobal + Clone + Drop> DirFolder<R> {
 }
 
 impl<R: Files + AllocGlobal + Clone + Drop> Folder for DirFolder<R> {
-    ghost use Rattle.std.specs.Prelude.{[], All, IsTrue, map, string_bytes};
-    ghost use Rattle.table_folder.specs.Calls.{FailsAt, IsFailed};
+    ghost use Rattle.std.specs.Prelude.{[], All, IsTrue, map};
+    ghost use Rattle.table_folder.specs.Calls.{IsFailed};
     ghost use Rattle.table_folder.specs.Names.{is_leftover, is_table_name};
     ghost use Rattle.table_folder.specs.Orders.{IsInOrder-none};
 
@@ -116,16 +112,9 @@ impl<R: Files + AllocGlobal + Clone + Drop> Folder for DirFolder<R> {
             return Ok(None);
         }
         let refused = String::from_str(self.rt.alloc(), name)?;
-        let (_, path) = self.paths(name)?;
-        let bytes = match file_bytes(&self.rt, path.as_str()) {
-            Ok(bytes) => Ok(bytes),
-            Err(DiskFault::Failed(reason)) => Err(FolderFault::Failed {
-                name: refused,
-                reason,
-            }),
-            Err(DiskFault::Memory) => Err(FolderFault::Memory),
-        };
-        self.counted(bytes)
+        let path = self.path_of(name)?;
+        let found = told_at(refused, file_bytes(&self.rt, path.as_str()));
+        self.counted(found)
     }
 
     /// Writes the file and syncs it and its folder. A name that is no table file's fails.
@@ -137,14 +126,7 @@ impl<R: Files + AllocGlobal + Clone + Drop> Folder for DirFolder<R> {
                 reason: Reason::Other,
             }));
         }
-        let put = match self.made(name, bytes.as_slice()) {
-            Ok(put) => Ok(put),
-            Err(DiskFault::Failed(reason)) => Err(FolderFault::Failed {
-                name: refused,
-                reason,
-            }),
-            Err(DiskFault::Memory) => Err(FolderFault::Memory),
-        };
+        let put = told_at(refused, self.made(name, bytes.as_slice()));
         self.counted(put)
     }
 
@@ -164,4 +146,17 @@ impl<R: Files + AllocGlobal + Clone + Drop> Folder for DirFolder<R> {
     }
 
     ghost in_order = { λ _. IsInOrder-none };
+}
+
+/// What a call of the disk told at the file of that name.
+fn told_at<T>(name: String, told: Result<T, DiskFault>) -> Result<T, FolderFault>
+    ensures answer { IfOk told (λ value. result ≡ Ok value) }
+    ensures failed { IfErr told (λ _. IsErr result) }
+    ensures named { FailsAt (string_bytes name) result }
+{
+    match told {
+        Ok(value) => Ok(value),
+        Err(DiskFault::Failed(reason)) => Err(FolderFault::Failed { name, reason }),
+        Err(DiskFault::Memory) => Err(FolderFault::Memory),
+    }
 }

@@ -42,11 +42,11 @@ impl From<AllocError> for DiskFault {
 }
 
 /// The names of the plain files of a folder and of its log's folder, in the order of their bytes. Links, other folders
-/// and names that begin with `.` are passed over; the log's folder may be absent. The log is listed first, so a commit of
-/// another writer comes with the data files that were made before it.
-/// Both folders are synced before the names are told, so that what a killed run has named lasts before anything is built
-/// on it. A listing isn't a moment: while another writer puts commits it may miss one and have the next. So a folder whose
-/// commits have a gap is listed again, a few times at most.
+/// and names that begin with `.` are passed over; the log's folder may be absent. The log is listed first, so a commit
+/// of another writer comes with the data files that were made before it. Both folders are synced before the names are
+/// told, so that what a killed run has named lasts before anything is built on it. A listing isn't a moment: while
+/// another writer puts commits it may miss one and have the next. So a folder whose commits have a gap is listed again,
+/// a few times at most.
 pub(crate) fn table_names<R: Files + AllocGlobal + Clone + Drop>(
     rt: &R,
     folder: &str,
@@ -73,7 +73,7 @@ pub(crate) fn leftover_names<R: Files + AllocGlobal + Clone + Drop>(
     listed_names(rt, Listed::Leftovers, folder)
 }
 
-// The names that one listing tells.
+/// The names that one listing tells.
 fn listed_names<R: Files + AllocGlobal + Clone + Drop>(
     rt: &R,
     listed: Listed,
@@ -93,13 +93,13 @@ fn listed_names<R: Files + AllocGlobal + Clone + Drop>(
     Ok(names)
 }
 
-// Whether anything has that path.
+/// Whether anything has that path.
 fn is_there<R: Files + AllocGlobal>(rt: &R, path: &str) -> Result<bool, FolderFault> {
     fs::exists(rt, path).map_err(|e| fault_at(rt.alloc(), path, e))
 }
 
-// Adds the names of a folder's plain files that are listed, each behind the prefix. A folder of which the table's files are
-// listed is synced.
+/// Adds the names of a folder's plain files that are listed, each behind the prefix. A folder of which the table's
+/// files are listed is synced.
 fn add_names<R: Files + AllocGlobal>(
     rt: &R,
     listed: Listed,
@@ -123,16 +123,17 @@ fn add_names<R: Files + AllocGlobal>(
     }
 }
 
-// The names in a folder, as the disk tells them. `fs::read_dir` fails at one that isn't text, and doesn't say how it begins.
-// The slash at the end has a link to a folder followed.
+/// The names in a folder, as the disk tells them. `fs::read_dir` fails at one that isn't text, and doesn't say how it
+/// begins. The slash at the end has a link to a folder followed.
 fn open_names<R: Files + AllocGlobal>(rt: &R, path: &str) -> io::Result<Split<BufReader<R::Dir>>> {
     let path = format!(in rt.alloc(); "{path}/")?;
     let names = BufReader::new(rt.alloc(), rt.open_dir(path.as_str())?)?;
     Ok(names.split(rt.alloc(), 0))
 }
 
-// The name of a folder's file behind the prefix, where it is listed and a plain file's. Where the table's files are listed,
-// a name that isn't text is a fault unless it begins with `.`, also a folder's: the disk can't be asked of what it is.
+/// The name of a folder's file behind the prefix, where it is listed and a plain file's. Where the table's files are
+/// listed, a name that isn't text is a fault unless it begins with `.`, also a folder's: the disk can't be asked of
+/// what it is.
 fn plain_name<R: Files + AllocGlobal>(
     rt: &R,
     listed: Listed,
@@ -165,8 +166,8 @@ fn plain_name<R: Files + AllocGlobal>(
     }
 }
 
-// Syncs a folder's names. A file system that can't be written to or can't sync a folder, which it may say by
-// `InvalidInput`, has nothing to wait for.
+/// Syncs a folder's names. A file system that can't be written to or can't sync a folder, which it may say by
+/// `InvalidInput`, has nothing to wait for.
 fn settle<R: Files + AllocGlobal>(rt: &R, path: &str) -> Result<(), FolderFault> {
     let Err(error) = sync_folder(rt, path) else {
         return Ok(());
@@ -180,7 +181,7 @@ fn settle<R: Files + AllocGlobal>(rt: &R, path: &str) -> Result<(), FolderFault>
     }
 }
 
-// The fault of a call of the disk that failed there.
+/// The fault of a call of the disk that failed there.
 fn fault_at(alloc: Global, place: &str, error: Error) -> FolderFault {
     if error.kind() == ErrorKind::OutOfMemory {
         return FolderFault::Memory;
@@ -188,7 +189,7 @@ fn fault_at(alloc: Global, place: &str, error: Error) -> FolderFault {
     fault_for(alloc, place, reason_of(error.kind()))
 }
 
-// The fault of a call that failed there, for that reason.
+/// The fault of a call that failed there, for that reason.
 fn fault_for(alloc: Global, place: &str, reason: Reason) -> FolderFault {
     match String::from_str(alloc, place) {
         Ok(name) => FolderFault::Failed { name, reason },
@@ -221,7 +222,7 @@ pub(crate) fn file_bytes<R: Files + AllocGlobal>(
     Ok(Some(bytes))
 }
 
-// Whether an error tells that nothing stands under a name. `InvalidInput` doesn't: a disk may say it of what stands.
+/// Whether an error tells that nothing stands under a name. `InvalidInput` doesn't: a disk may say it of what stands.
 fn is_absent(kind: ErrorKind) -> bool {
     matches!(kind, ErrorKind::NotFound | ErrorKind::InvalidFilename)
 }
@@ -256,7 +257,7 @@ pub(crate) fn make_file<R: Files + AllocGlobal>(
     Ok(Put::Created)
 }
 
-// Why a file wasn't linked: a file system without hard links says so by `Unsupported` or `PermissionDenied`.
+/// Why a file wasn't linked: a file system without hard links says so by `Unsupported` or `PermissionDenied`.
 fn link_fault(error: Error) -> DiskFault {
     match error.kind() {
         ErrorKind::Unsupported | ErrorKind::PermissionDenied => DiskFault::Failed(Reason::NoLinks),
@@ -264,8 +265,9 @@ fn link_fault(error: Error) -> DiskFault {
     }
 }
 
-// Writes and syncs the bytes under a new name that begins with `.`, and tells its path: the first of `.new-0`, `.new-1`, ..
-// that is free, which takes a call for each that killed runs have left. Where that fails, the file is removed.
+/// Writes and syncs the bytes under a new name that begins with `.`, and tells its path: the first of `.new-0`,
+/// `.new-1`, .. that is free, which takes a call for each that killed runs have left. Where that fails, the file is
+/// removed.
 fn write_hidden<R: Files + AllocGlobal>(rt: &R, folder: &str, bytes: &[u8]) -> io::Result<String> {
     for number in 0..u64::MAX {
         let path = format!(in rt.alloc(); "{folder}.new-{number}")?;
@@ -300,7 +302,7 @@ pub(crate) fn make_folder<R: Files>(rt: &R, parent: &str, path: &str) -> io::Res
     sync_folder(rt, parent)
 }
 
-// Syncs a folder's names.
+/// Syncs a folder's names.
 fn sync_folder<R: Files>(rt: &R, path: &str) -> io::Result<()> {
     File::open(rt, path)?.sync_all()
 }

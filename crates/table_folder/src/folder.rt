@@ -31,8 +31,8 @@ pub trait Folder {
     /// No call fails.
     ghost is_reliable: { Self → Type 0 };
 
-    /// All names that stand, in the order of their bytes, each once. Where it fails, the fault tells the folder's path or
-    /// a name that stands.
+    /// All names that stand, in the order of their bytes, each once. Where it fails, the fault tells the folder's path
+    /// or a name that stands.
     fn names(&mut self) -> Result<Vec<String>, FolderFault>
         ensures names { is_steady self.old
             → IfOk result (λ names. map string_bytes names.items ≡ names_of (objects self.old)) }
@@ -86,8 +86,8 @@ pub trait Folder {
         ensures never_fails { is_reliable self.old → IsFailed result → ⊥ }
         ensures stays_reliable { is_reliable self.old → is_reliable self.new };
 
-    /// The names of files that killed runs have left while they wrote: `.new-N`, alone or behind `_delta_log/`, in the order
-    /// of their bytes. They are no part of the table. Of which there are nothing is claimed.
+    /// The names of files that killed runs have left while they wrote: `.new-N`, alone or behind `_delta_log/`, in the
+    /// order of their bytes. They are no part of the table. Of which there are nothing is claimed.
     fn leftovers(&mut self) -> Result<Vec<String>, FolderFault>
         ensures untouched { is_steady self.old → objects self.new ≡ objects self.old }
         ensures steady { is_steady self.old → is_steady self.new }

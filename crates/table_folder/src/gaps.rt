@@ -1,8 +1,9 @@
 //! Whether commits are missing from a listing of a folder, which is then listed again. No clause stands on it.
 use store_core::{has_version, is_commit};
 
-/// Whether a version lacks its commit between the first commit and the last commit or checkpoint of names in the order of
-/// their bytes. Versions past 2^64 - 1, which no commit has, aren't looked at. Takes time linear in the count of names.
+/// Whether a version lacks its commit between the first commit and the last commit or checkpoint of names in the order
+/// of their bytes. Versions past 2^64 - 1, which no commit has, aren't looked at. Takes time linear in the count of
+/// names.
 pub(crate) fn has_gap(names: &[String]) -> bool {
     let mut first = None;
     let mut last: u64 = 0;
@@ -19,7 +20,7 @@ pub(crate) fn has_gap(names: &[String]) -> bool {
     first.is_some_and(|first| last.saturating_sub(first) >= commits)
 }
 
-// The version in the name of a commit or a checkpoint.
+/// The version in the name of a commit or a checkpoint.
 fn version_in(name: &str) -> Option<u64> {
     if !has_version(name.as_bytes()) {
         return None;

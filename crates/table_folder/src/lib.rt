@@ -1,9 +1,9 @@
 //! A table in a folder: its objects as files, loaded into a store, and a store's new objects saved as files.
 //!
-//! `Folder` is what a table's folder is to the code above it. `DirFolder` is one on a disk, `MemoryFolder` one in memory
-//! that can be made to stop. [`load`] makes a store of a folder's files, [`load_log`] and [`load_files`] one of those of the
-//! log and of some data files, and [`save`] puts the objects that weren't loaded into the folder: new data files are made
-//! before new commits, and these in rising order.
+//! `Folder` is what a table's folder is to the code above it. `DirFolder` is one on a disk, `MemoryFolder` one in
+//! memory that can be made to stop. [`load`] makes a store of a folder's files, [`load_log`] one of those of the log,
+//! and [`save`] puts the objects that weren't loaded into the folder: new data files are made before new commits, and
+//! these in rising order.
 #![tactic(auto)]
 
 mod dir;
@@ -21,8 +21,7 @@ mod saving;
 pub use dir::DirFolder;
 pub use fault::{FolderFault, LoadFault, SaveFault};
 pub use folder::Folder;
-pub use kind::{FileKind, kind_of};
-pub use loading::{load, load_files, load_log};
+pub use loading::{load, load_log};
 pub use memory::{CreateTurn, MemoryFolder, Stop};
 pub use naming::is_table_name;
 pub use reason::Reason;

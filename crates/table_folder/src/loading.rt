@@ -1,5 +1,5 @@
-//! Making a store of a folder's files: of all, or of those of its log and some data files.
-ghost use Rattle.std.specs.Prelude.{◌≡◌, ◌∷◌, ◌++◌, [], ℕ, List, IfOk, OnOk, filter, map, string_bytes};
+//! Making a store of a folder's files: of all, or of those of its log.
+ghost use Rattle.std.specs.Prelude.{◌≡◌, ◌∷◌, [], IfOk, OnOk, filter, map, string_bytes};
 ghost use Rattle.store_core.specs.Memory.{stored_objects};
 ghost use Rattle.store_core.specs.Objects.{names_of};
 ghost use Rattle.table_folder.specs.Copies.{with_copies, with_copy};
@@ -47,26 +47,7 @@ pub fn load_log<F: Folder>(alloc: Global, folder: &mut F) -> Result<MemoryStore,
     Ok(store)
 }
 
-/// Adds to a store of the log and of some data files those of these names that stand. What the store has under a name stays.
-pub fn load_files<F: Folder>(
-    folder: &mut F,
-    store: &mut MemoryStore,
-    names: &[String],
-) -> Result<(), LoadFault>
-    ensures loaded { F.is_steady folder.old → (files : List (List ℕ)) → stored_objects store.old ≡ loaded files (F.objects folder.old)
-        → OnOk result (stored_objects store.new ≡ loaded (files ++ map string_bytes names.now) (F.objects folder.old)) }
-    ensures untouched { F.is_steady folder.old → F.objects folder.new ≡ F.objects folder.old }
-    ensures steady { F.is_steady folder.old → F.is_steady folder.new }
-
-    ensures named { LoadFailsAmong (map string_bytes names.now) result }
-    ensures faults { CountsLoad result (F.fault_count folder.old) (F.fault_count folder.new) }
-    ensures never_fails { F.is_reliable folder.old → IsNotLoaded result → ⊥ }
-    ensures stays_reliable { F.is_reliable folder.old → F.is_reliable folder.new }
-{
-    copy_files(folder, store, names)
-}
-
-// The names of the log's files.
+/// The names of the log's files.
 fn log_names(alloc: Global, names: &[String]) -> Result<Vec<String>, AllocError>
     ensures { IfOk result (λ found. map string_bytes found.items ≡ filter is_of_log (map string_bytes names.now)) }
 {
@@ -79,7 +60,7 @@ fn log_names(alloc: Global, names: &[String]) -> Result<Vec<String>, AllocError>
     Ok(found)
 }
 
-// Whether it is the name of a file of the log.
+/// Whether it is the name of a file of the log.
 #[tactic(auto, unfolding(crate::specs::Loads::is_of_log))]
 fn is_of_log(name: &str) -> bool
     ensures { result ≡ is_of_log name.now }
@@ -87,7 +68,7 @@ fn is_of_log(name: &str) -> bool
     name.as_bytes().starts_with(b"_delta_log/")
 }
 
-// Reads the files of these names into the store.
+/// Reads the files of these names into the store.
 fn copy_files<F: Folder>(
     folder: &mut F,
     store: &mut MemoryStore,
@@ -109,7 +90,7 @@ fn copy_files<F: Folder>(
     Ok(())
 }
 
-// Reads one file into the store.
+/// Reads one file into the store.
 fn load_one<F: Folder>(folder: &mut F, store: &mut MemoryStore, name: &str) -> Result<(), LoadFault>
     ensures loaded { F.is_steady folder.old → OnOk result
         (stored_objects store.new ≡ with_copy (F.objects folder.old) (stored_objects store.old) name.now) }

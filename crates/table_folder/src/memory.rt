@@ -58,7 +58,7 @@ impl MemoryFolder {
         }
     }
 
-    // What becomes of the next create.
+    /// What becomes of the next create.
     fn next_turn(&mut self) -> CreateTurn
         ensures turn { result ≡ stop_turn self.old.stop }
         ensures left { self.new ≡ record self.old { stop = later_stop self.old.stop } }
@@ -74,7 +74,7 @@ impl MemoryFolder {
         turn
     }
 
-    // One more create fails. At the greatest number the count stays.
+    /// One more create fails. At the greatest number the count stays.
     fn fail(&mut self)
         ensures kept { self.new ≡ record self.old { faults = self.new.faults } }
         ensures counted { HasRisen self.old.faults self.new.faults }
@@ -170,7 +170,7 @@ impl Folder for MemoryFolder {
     ghost in_order = { λ folder. IsInOrder-stored folder.store };
 }
 
-// Puts an object that is absent.
+/// Puts an object that is absent.
 fn put_in(store: &mut MemoryStore, name: &str, bytes: Vec<u8>) -> Result<Put, FolderFault>
     ensures told { IfOk result (λ put. put ≡ put_told (object_at (stored_objects store.old) name.now)) }
     ensures made { OnOk result (stored_objects store.new ≡ with_object (stored_objects store.old) name.now bytes.items) }

@@ -16,7 +16,7 @@ pub(crate) enum Listed {
     Leftovers,
 }
 
-// Whether a listing of these tells that name.
+/// Whether a listing of these tells that name.
 pub(crate) fn is_listed(listed: Listed, name: &str) -> bool
     ensures { result ≡ is_listed listed name.now }
 {
@@ -43,7 +43,7 @@ pub fn is_table_name(name: &str) -> bool
     is_shown(rest)
 }
 
-// Whether it is a plain file name that doesn't begin with `.`.
+/// Whether it is a plain file name that doesn't begin with `.`.
 #[tactic(auto, unfolding(crate::specs::Names::is_shown))]
 fn is_shown(name: &[u8]) -> bool
     ensures { result ≡ is_shown name.now }
@@ -54,7 +54,7 @@ fn is_shown(name: &[u8]) -> bool
     }
 }
 
-// Whether it is the name of a file that a killed run may have left: `.new-` and digits, alone or behind `_delta_log/`.
+/// Whether it is the name of a file that a killed run may have left: `.new-` and digits, alone or behind `_delta_log/`.
 #[tactic(auto, unfolding(crate::specs::Names::is_leftover))]
 fn is_leftover(name: &str) -> bool
     ensures { result ≡ is_leftover name.now }
@@ -70,7 +70,7 @@ fn is_leftover(name: &str) -> bool
     is_new(rest)
 }
 
-// Whether it is `.new-` and digits.
+/// Whether it is `.new-` and digits.
 #[tactic(auto, unfolding(crate::specs::Names::is_new))]
 fn is_new(name: &[u8]) -> bool
     ensures { result ≡ is_new name.now }

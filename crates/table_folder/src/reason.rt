@@ -28,8 +28,8 @@ pub enum Reason {
     Other,
 }
 
-// What a disk's error tells. That a file is over 1 GiB or gone, a name isn't text, or links are lacking is told by the
-// call.
+/// What a disk's error tells. That a file is over 1 GiB or gone, a name isn't text, or links are lacking is told by the
+/// call.
 pub(crate) fn reason_of(kind: ErrorKind) -> Reason {
     match kind {
         ErrorKind::NotFound => Reason::Missing,

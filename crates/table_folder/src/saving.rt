@@ -8,8 +8,8 @@ ghost use Rattle.table_folder.specs.Copies.{AreAbsent, HasSavedFront, MayHaveSav
 ghost use Rattle.table_folder.specs.Faults.{CountsLost, CountsSave, FailsWhereStood, IsNotSaved, SaveFailsAmong, SaveFailsAt};
 ghost use Rattle.table_folder.specs.Kinds.{is_checkpoint, is_commit, is_data, is_of};
 
-use crate::kind::is_of;
-use crate::{FileKind, Folder, Reason, SaveFault};
+use crate::kind::{FileKind, is_of};
+use crate::{Folder, Reason, SaveFault};
 use std::alloc::{AllocError, Global};
 use std::collections::BTreeSet;
 use store_core::{Put, Store};
@@ -59,7 +59,7 @@ pub fn save<F: Folder, S: Store>(
     Ok(())
 }
 
-// The names of the store that weren't loaded, in the order of saving.
+/// The names of the store that weren't loaded, in the order of saving.
 fn names_to_save<S: Store>(
     alloc: Global,
     store: &mut S,
@@ -77,7 +77,7 @@ fn names_to_save<S: Store>(
     Ok(names_in_order(alloc, &lacking)?)
 }
 
-// Copies one object into the folder, where its name must be absent.
+/// Copies one object into the folder, where its name must be absent.
 fn save_one<F: Folder, S: Store>(
     alloc: Global,
     folder: &mut F,
@@ -116,7 +116,7 @@ fn save_one<F: Folder, S: Store>(
     }
 }
 
-// The names that aren't held.
+/// The names that aren't held.
 fn lacking_names(
     alloc: Global,
     held: &[String],
@@ -129,7 +129,7 @@ fn lacking_names(
     names_outside(alloc, &files, names)
 }
 
-// The names that aren't in the set.
+/// The names that aren't in the set.
 fn names_outside(
     alloc: Global,
     set: &BTreeSet<String>,
@@ -153,7 +153,7 @@ fn is_outside(set: &BTreeSet<String>, name: &str) -> bool
     !set.contains(name)
 }
 
-// These names as a set.
+/// These names as a set.
 fn set_of(alloc: Global, names: &[String]) -> Result<BTreeSet<String>, AllocError>
     ensures { IfOk result (λ set. (name : List ℕ)
         → contains_text set name ≡ list_any (bytes_eq name) (map string_bytes names.now)) }
@@ -165,7 +165,7 @@ fn set_of(alloc: Global, names: &[String]) -> Result<BTreeSet<String>, AllocErro
     Ok(set)
 }
 
-// The names of data files, then those of commits, then those of checkpoints.
+/// The names of data files, then those of commits, then those of checkpoints.
 fn names_in_order(alloc: Global, names: &[String]) -> Result<Vec<String>, AllocError>
     ensures { IfOk result (λ ordered. map string_bytes ordered.items
         ≡ filter is_data (map string_bytes names.now) ++ filter is_commit (map string_bytes names.now)
@@ -178,7 +178,7 @@ fn names_in_order(alloc: Global, names: &[String]) -> Result<Vec<String>, AllocE
     Ok(ordered)
 }
 
-// Adds copies of the names of that kind.
+/// Adds copies of the names of that kind.
 fn add_kind(
     alloc: Global,
     ordered: &mut Vec<String>,

@@ -5,7 +5,8 @@ ghost use Rattle.session_core.specs.Shown.{AllReads};
 ghost use Rattle.session_core.specs.Talks.{Talk, Told, list_names};
 ghost use Rattle.table_log.specs.LoadSessions.{HasListed, LoadAsks, LoadJob};
 
-/// A load only lists the names and gets objects: the names once and first, and then no more objects than names were listed.
+/// A load only lists the names and gets objects: the names once and first, and then no more objects than names were
+/// listed.
 pub fn a_load_asks_for_little()
     ensures reads { (job : LoadJob) (before talk : Talk) → AllAsked (LoadAsks job before) [] talk → AllReads talk }
     ensures few { (job : LoadJob) (before talk : Talk) (names : List (List ℕ)) → AllAsked (LoadAsks job before) [] talk → HasListed talk names → length talk ≤ suc (length names) }

@@ -13,7 +13,8 @@ pub fn a_read_is_a_part()
     ensures ends { (max : ℕ) (offset next : Offset) (entries : List Entry) (out : List Row) → read max offset entries ≡ handed out next → MayEnd false max out next entries }
 {}
 
-/// Where no fault ends them early, two reads from one offset with one limit hand out the same rows and come equally far.
+/// Where no fault ends them early, two reads from one offset with one limit hand out the same rows and come equally
+/// far.
 pub fn a_part_is_the_only_one()
     ensures { (max : ℕ) (offset p q : Offset) (entries : List Entry) (xs ys : List Row) → IsPart max offset xs p entries → MayEnd false max xs p entries
         → IsPart max offset ys q entries → MayEnd false max ys q entries → (xs ≡ ys) × (position p entries ≡ position q entries) }
@@ -41,9 +42,9 @@ pub fn a_part_from_the_beginning_is_a_front()
     ensures all { (max : ℕ) (entries : List Entry) (out : List Row) → IsPart max beginning out (end entries) entries → out ≡ rows entries }
 {}
 
-/// Reads that each go on where the last one ended, while the table grows between them, hand out together one part of the
-/// final table, and from the beginning its first rows: each once, in the order of the log, whichever reader it is and
-/// whatever ends its reads. The reads of the function are such reads.
+/// Reads that each go on where the last one ended, while the table grows between them, hand out together one part of
+/// the final table, and from the beginning its first rows: each once, in the order of the log, whichever reader it is
+/// and whatever ends its reads. The reads of the function are such reads.
 pub fn any_reader_hands_out_the_log()
     ensures final_table { (reads : List (ℕ × List Entry)) (offset : Offset) (entries : List Entry) (all : ResumedReads) → HandOut reads offset entries all → all.final ≡ entries ++ growth reads }
     ensures part { (reads : List (ℕ × List Entry)) (offset : Offset) (entries : List Entry) (all : ResumedReads) → is_offset offset entries ≡ true → HandOut reads offset entries all

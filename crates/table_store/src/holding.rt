@@ -41,8 +41,8 @@ pub fn a_grown_store_holds_a_grown_table()
         → is_offset offset entries ≡ true → (is_offset offset others ≡ true) × (position offset others ≡ position offset entries) }
 {}
 
-/// Where the commit of an entry is put at the next version, which is one that a commit can have, its files stand, and no
-/// commit stands at the version behind it, if there is one, the store holds the table with one entry more.
+/// Where the commit of an entry is put at the next version, which is one that a commit can have, its files stand, and
+/// no commit stands at the version behind it, if there is one, the store holds the table with one entry more.
 pub fn a_commit_is_one_entry_more()
     ensures { (objects : Objects) (schema : Schema) (entries : List Entry) (entry : Entry) (bytes : List ℕ) → Holds objects schema entries → IsCommitOf schema entry bytes → FilesStand objects schema entry
         → EndsAt objects (suc (length entries))
@@ -93,8 +93,8 @@ pub fn a_store_is_lawful_where_its_log_is()
     ensures store { (objects : Objects) → HasLawfulLog objects → IsLawfulStore objects }
 {}
 
-/// A commit that is admissible at a version leaves a sound store sound, whether its name was taken before or not: a name
-/// that is taken keeps its bytes.
+/// A commit that is admissible at a version leaves a sound store sound, whether its name was taken before or not: a
+/// name that is taken keeps its bytes.
 pub fn an_admissible_commit_keeps_a_store_sound()
     ensures { (objects : Objects) (version : ℕ) (bytes : List ℕ) → IsSound objects → IsAdmissible objects version bytes → IsSound (with_object objects (commit_name version) bytes) }
 {}

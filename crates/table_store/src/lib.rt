@@ -1,6 +1,6 @@
 //! Which table a store holds: the one bridge from bytes to the plain table, with its laws. Beside
-//! the definitions stands a plain slow program that finds the table of a small store. The product
-//! calls no code of this crate.
+//! the definitions stands a plain slow program that finds the table of a small store. Of the code of
+//! this crate the product calls only what tells a commit's actions apart.
 #![tactic(auto)]
 
 mod commit;
@@ -9,6 +9,8 @@ mod held;
 mod holding;
 mod schema;
 
+pub use commit::{are_same, closed_by, creation, moment_in, without_commit_info};
+pub use group::{adds_in, are_txns_and_adds, txns_in};
 pub use held::{Held, held_by};
 pub use holding::{
     a_commit_is_one_entry_more, a_data_file_changes_no_table, a_data_file_keeps_a_store_sound,

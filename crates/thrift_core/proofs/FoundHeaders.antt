@@ -124,11 +124,11 @@ binary_found most s t s' fits e =
 
 -- ---- headers
 
-pub record Fitted (size : ℕ) (s : Source) (count : ℕ) (s' : Source) : Type 0 where
+pub record Bounded (size : ℕ) (s : Source) (count : ℕ) (s' : Source) : Type 0 where
   pub same : size ≡ count
   pub stays : s ≡ s'
 
-pub bounded_size_ok : (size : ℕ) (s : Source) (count : ℕ) (s' : Source) → bounded_size size s ≡ Ok (count, s') → Fitted size s count s'
+pub bounded_size_ok : (size : ℕ) (s : Source) (count : ℕ) (s' : Source) → bounded_size size s ≡ Ok (count, s') → Bounded size s count s'
 unfolding bounded_size
 bounded_size_ok size s count s' e =
     let g = guard_ok (ltb (length s.cursor) size) (Bytes faults.Short) (size, s) (count, s') e in
@@ -158,8 +158,8 @@ list_size h s size s' before member took type e =
           took)
     ]
 
-fitted_took : (P : ℕ → List ℕ → Type 0) (size count : ℕ) (before s s' : Source) → Fitted size s count s' → Took (P size) 0 before s → Took (P count) 0 before s'
-fitted_took P size count before s s' f took = subst (λ (n : ℕ). Took (P n) 0 before s') {x = size} f.same (subst (λ (x : Source). Took (P size) 0 before x) {x = s} f.stays took)
+bounded_took : (P : ℕ → List ℕ → Type 0) (size count : ℕ) (before s s' : Source) → Bounded size s count s' → Took (P size) 0 before s → Took (P count) 0 before s'
+bounded_took P size count before s s' f took = subst (λ (n : ℕ). Took (P n) 0 before s') {x = size} f.same (subst (λ (x : Source). Took (P size) 0 before x) {x = s} f.stays took)
 
 list_took : (s : Source) (member member' : WireType) (count count' : ℕ) (after after' : Source) → ◌≡◌ {A = (WireType × ℕ) × Source} ((member, count), after) ((member', count'), after') → Took (ListHeader count member) 0 s after → Took (ListHeader count' member') 0 s after'
 list_took s member member' count count' after after' is took = subst (λ (q : (WireType × ℕ) × Source). Took (ListHeader q.0.1 q.0.0) 0 s q.1) is took
@@ -173,9 +173,9 @@ list_header_found s member count s' fits e =
     let k = bind_ok (announced (h % 16)) (λ member. cond (eqb (h / 16) 15) (varint_ahead mid) (Ok (h / 16, mid)) >>= λ size. bounded_size size.0 size.1 >>= λ count. Ok ((member, count.0), count.1)) ((member, count), s') b.2 in
     let m = bind_ok (cond (eqb (h / 16) 15) (varint_ahead mid) (Ok (h / 16, mid))) (λ size. bounded_size size.0 size.1 >>= λ count. Ok ((k.0, count.0), count.1)) ((member, count), s') k.2 in
     let f = bind_ok (bounded_size m.0.0 m.0.1) (λ count. Ok ((k.0, count.0), count.1)) ((member, count), s') m.2 in
-    let fitted = bounded_size_ok m.0.0 m.0.1 f.0.0 f.0.1 f.1 in
+    let bounded = bounded_size_ok m.0.0 m.0.1 f.0.0 f.0.1 f.1 in
     let took : Took (ListHeader m.0.0 k.0) 0 s m.0.1 = list_size h mid m.0.0 m.0.1 s k.0 (byte_takes s h mid fits b.1) k.1 m.1 in
-    let kept : Took (ListHeader f.0.0 k.0) 0 s f.0.1 = fitted_took (λ n. ListHeader n k.0) m.0.0 f.0.0 s m.0.1 f.0.1 fitted took in
+    let kept : Took (ListHeader f.0.0 k.0) 0 s f.0.1 = bounded_took (λ n. ListHeader n k.0) m.0.0 f.0.0 s m.0.1 f.0.1 bounded took in
     let is = ok_is ((k.0, f.0.0), f.0.1) ((member, count), s') f.2 in
     list_took s k.0 member f.0.0 count f.0.1 s' is kept
 
@@ -190,9 +190,9 @@ map_header_found s key value count s' fits e =
     let f = bind_ok (bounded_size b.0.0 b.0.1) (λ count. cond (eqb count.0 0) (map_done wire.Boolean wire.Boolean 0 count.1) (rest count.0 count.1)) ((key, value, count), s') b.2 in
     let n = f.0.0 in
     let mid = f.0.1 in
-    let fitted = bounded_size_ok b.0.0 b.0.1 n mid f.1 in
+    let bounded = bounded_size_ok b.0.0 b.0.1 n mid f.1 in
     let first : Took (λ front. SpellsNumber front b.0.0) 0 s b.0.1 = varint_takes s b.0.0 b.0.1 fits b.1 in
-    let size : Took (λ front. SpellsNumber front n) 0 s mid = fitted_took (λ n front. SpellsNumber front n) b.0.0 n s b.0.1 mid fitted first in
+    let size : Took (λ front. SpellsNumber front n) 0 s mid = bounded_took (λ n front. SpellsNumber front n) b.0.0 n s b.0.1 mid bounded first in
     elim (chosen (eqb n 0) (map_done wire.Boolean wire.Boolean 0 mid) (rest n mid) (map_done key value count s') f.2) [
       | inl c ↦
           let none : n ≡ 0 = eqb-true n 0 c.0 in

@@ -19,8 +19,9 @@ use std::alloc::{AllocError, Allocator, Global};
 
 /// The bytes of a struct (Thrift compact protocol, "Struct encoding"), with the types that the form names.
 ///
-/// Each form is the shortest: varints without needless bytes, a size below 15 and a rise of an id of 1 to 15 in
-/// their headers; a first id at or below 0 stands behind its header. A boolean in a list or a map is 1 or 2, and its type there 2.
+/// Each form is the shortest: varints without needless bytes, a size below 15 and a rise of an id of 1 to 15 in their
+/// headers; a first id at or below 0 stands behind its header. A boolean in a list or a map is 1 or 2, and its type
+/// there 2.
 ///
 /// The form may name more fields than the tree has, and an id may be 0 or negative. [`crate::is_writable`] tests the
 /// conditions.

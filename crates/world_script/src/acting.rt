@@ -1,4 +1,4 @@
-// How an actor's session is led on.
+//! How an actor's session is led on.
 ghost use Rattle.std.specs.Prelude.{◌≡◌, ◌<◌, ◌≢◌, ◌&&◌, not, None, Some, true, false};
 ghost use Rattle.stream_world.specs.Worlds as worlds;
 ghost use Rattle.stream_world.specs.Jobs.{how_view};
@@ -72,7 +72,7 @@ fn loses_answer(kind: Kind) -> bool
     matches!(kind, Kind::Mute)
 }
 
-// Whether the answer that waits for an actor is that memory ran out.
+/// Whether the answer that waits for an actor is that memory ran out.
 fn ran_short<S: Store>(world: &World<S>, actor: u64) -> bool
     ensures { result ≡ short_in (slot_at world.now actor) }
 {
@@ -82,14 +82,16 @@ fn ran_short<S: Store>(world: &World<S>, actor: u64) -> bool
     }
 }
 
-// Whether the answer that waits for an actor is lost on the way, by the kind that its call was to meet. That memory ran out isn't.
+/// Whether the answer that waits for an actor is lost on the way, by the kind that its call was to meet. That memory
+/// ran out isn't.
 fn is_lost<S: Store>(world: &World<S>, actor: u64, kind: Kind) -> bool
     ensures { result ≡ (loses_answer kind && not (short_in (slot_at world.now actor))) }
 {
     loses_answer(kind) && !ran_short(world, actor)
 }
 
-/// A step of an actor, which has a session: its first one, or its call meets a kind and it goes on. Returns what it tells where it ends.
+/// A step of an actor, which has a session: its first one, or its call meets a kind and it goes on. Returns what it
+/// tells where it ends.
 pub(crate) fn step<S: Store>(world: &mut World<S>, actor: u64, kind: Kind) -> Option<Outcome>
     ensures came { S.is_reliable world.old.store.store → (w : worlds.World) → WorldStands S.objects world.old w → next_at (hand_at w actor) ≢ Next.Nothing
         → CameBy S.objects (Steps actor kind w) result world.new }
@@ -107,8 +109,8 @@ pub(crate) fn step<S: Store>(world: &mut World<S>, actor: u64, kind: Kind) -> Op
     }
 }
 
-/// An actor, which has a session, makes its first step if it has asked for nothing yet, and then its call meets a kind. Returns what it tells where
-/// it ends.
+/// An actor, which has a session, makes its first step if it has asked for nothing yet, and then its call meets a kind.
+/// Returns what it tells where it ends.
 pub(crate) fn meet<S: Store>(world: &mut World<S>, actor: u64, kind: Kind) -> Option<Outcome>
     ensures came { S.is_reliable world.old.store.store → (w : worlds.World) → WorldStands S.objects world.old w → next_at (hand_at w actor) ≢ Next.Nothing
         → CameBy S.objects (Meets actor kind w) result world.new }
@@ -134,7 +136,8 @@ fn goes(halts_at_commit: bool, next: Next) -> bool
     }
 }
 
-/// Leads an actor, which has a session, on to its end, or up to its next commit put where it halts there. Returns what it tells where it ends.
+/// Leads an actor, which has a session, on to its end, or up to its next commit put where it halts there. Returns what
+/// it tells where it ends.
 pub(crate) fn lead<S: Store>(
     world: &mut World<S>,
     actor: u64,

@@ -1,4 +1,4 @@
-// The lines without an actor that are jobs: of an actor of their own, which runs to its end.
+//! The lines without an actor that are jobs: of an actor of their own, which runs to its end.
 ghost use Rattle.std.specs.Prelude.{◌≡◌, ◌≢◌, ◌<◌, ◌^◌, Some};
 ghost use Rattle.lake_script.specs.ReplyView.{reply_text};
 ghost use Rattle.lake_script.specs.Runs.{IsWantOfMemory};
@@ -31,7 +31,7 @@ use stream_world::{Job, Outcome, World};
 /// The number of the actor of lines without one.
 const ALONE: u64 = 0;
 
-// Leads that actor, which has a session, to its end. Its next commit put meets the fault that is set, if there is one.
+/// Leads that actor, which has a session, to its end. Its next commit put meets the fault that is set, if there is one.
 fn lead_through<S: Store>(world: &mut World<S>, fault: &mut Option<Kind>) -> Option<Outcome>
     ensures came { S.is_reliable world.old.store.store → (w : worlds.World) → WorldStands S.objects world.old w → next_at (hand_at w 0) ≢ Nothing
         → CameThrough S.objects fault.old w result fault.new world.new }
@@ -52,7 +52,7 @@ fn lead_through<S: Store>(world: &mut World<S>, fault: &mut Option<Kind>) -> Opt
     }
 }
 
-// Runs a job to its end. Fails where there is no memory to begin it.
+/// Runs a job to its end. Fails where there is no memory to begin it.
 fn run_job<S: Store>(alloc: Global, scene: &mut Scene<S>, job: Job) -> Result<LineReply, AllocError>
     ensures runs { S.is_reliable scene.old.world.store.store → (s : scenes.Scene) → SceneStands S.objects scene.old s → RunsJob S.objects s (job_view job) result scene.new }
     ensures reliable { S.is_reliable scene.old.world.store.store → S.is_reliable scene.new.world.store.store }
@@ -87,7 +87,7 @@ pub(crate) fn create_table<S: Store>(
     }
 }
 
-// What is told of a job for which there is no memory.
+/// What is told of a job for which there is no memory.
 fn no_room(job: &lines::Job<'_>) -> LineReply
     ensures { IsWantOfMemory (task (task_view job.now)) (reply_text result) }
 {

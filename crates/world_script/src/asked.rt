@@ -1,12 +1,12 @@
-// What lines ask for, as jobs of actors.
-ghost use Rattle.std.specs.Prelude.{◌≡◌, ◌<◌, ◌≤◌, ◌^◌, IfOk, Some, option_map};
+//! What lines ask for, as jobs of actors.
+ghost use Rattle.std.specs.Prelude.{◌≡◌, ◌<◌, ◌≤◌, ◌^◌, IfOk, Ok, Some, option_map};
 ghost use Rattle.json_text.specs.Rows.{rows_data};
 ghost use Rattle.script_lines.specs.Lines.{IsTimelyTask, task_view};
 ghost use Rattle.sink_core.specs.SinkSessions as sinks;
 ghost use Rattle.stream_world.specs.Jobs.{job_view, new_load, stream_view};
 ghost use Rattle.world_script.specs.Asked.{job_of_creation, job_of_task};
 
-use json_text::JsonRows;
+use json_text::{ArrayText, JsonRows};
 use script_lines as lines;
 use sink_core::SinkTask;
 use source_core::read_offset;
@@ -98,9 +98,10 @@ fn stream_job(
     })
 }
 
-// Rows that own their text, as those of lines that are read to be kept. Of others it fails.
+/// Rows that own their text, as those of lines that are read to be kept. Of others it fails.
 fn owned_rows(rows: JsonRows<'_>) -> Result<JsonRows<'static>, AllocError>
-    ensures { IfOk result (λ owned. rows_data owned ≡ rows_data rows.entry) }
+    ensures same { IfOk result (λ owned. rows_data owned ≡ rows_data rows.entry) }
+    ensures array { (array : ArrayText) → rows.entry ≡ JsonRows.Array array → result ≡ Ok (JsonRows.Array array) }
 {
     match rows {
         JsonRows::Array(array) => Ok(JsonRows::Array(array)),

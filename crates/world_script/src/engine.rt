@@ -1,4 +1,4 @@
-// The engine of any script: it reads its input to the end, then answers line by line.
+//! The engine of any script: it reads its input to the end, then answers line by line.
 ghost use Rattle.std.specs.Prelude.{◌≡◌, ◌≢◌, ◌+◌, ◌≤◌, ◌^◌, ◌⊎◌, suc, ℕ, List, [], true, false, not, length, ⊤, OnOk, OnErr, IfOk, IfSome};
 ghost use Rattle.std.specs.Io.KnownBytes.{Appends};
 ghost use Rattle.delta_actions.specs.Commit.{lines_of};
@@ -35,13 +35,13 @@ use stream_world::every_world;
 pub struct Ran<S> {
     pub outcome: Outcome,
     pub store: S,
-    /// The bad line at which [`run`](crate::run) ended, without its newline, where there was room to keep it; else `None`, and so
-    /// from [`play`] and [`run_any`](crate::run_any). Of a long line the characters that end by byte 256 are kept, of one that
-    /// isn't UTF-8 at most 256 bytes, from the first on that is no text.
+    /// The bad line at which [`run`](crate::run) ended, without its newline, where there was room to keep it; else
+    /// `None`, and so from [`play`] and [`run_any`](crate::run_any). Of a long line the characters that end by byte 256
+    /// are kept, of one that isn't UTF-8 at most 256 bytes, from the first on that is no text.
     pub bad: Option<Vec<u8>>,
 }
 
-// Answers one line. False where the line is bad. Where a growth was refused, it says so.
+/// Answers one line. False where the line is bad. Where a growth was refused, it says so.
 fn answer<S: Store, W: Write>(
     alloc: Global,
     number: u64,
@@ -78,7 +78,7 @@ fn answer<S: Store, W: Write>(
     }
 }
 
-// Answers the lines of a text, and writes the replies. The result is the number of the bad line that ended it.
+/// Answers the lines of a text, and writes the replies. The result is the number of the bad line that ended it.
 fn answer_all<S: Store, W: Write>(
     alloc: Global,
     text: &[u8],
@@ -110,7 +110,7 @@ fn answer_all<S: Store, W: Write>(
     Ok(None)
 }
 
-// Answers the lines of a text, and writes what waits then.
+/// Answers the lines of a text, and writes what waits then.
 fn answer_and_flush<S: Store, W: Write>(
     alloc: Global,
     text: &[u8],
@@ -134,7 +134,7 @@ fn answer_and_flush<S: Store, W: Write>(
     Ok(bad)
 }
 
-// Answers the lines of a text in a scene of its own, and hands back the store.
+/// Answers the lines of a text in a scene of its own, and hands back the store.
 fn answer_text<S: Store, W: Write>(
     alloc: Global,
     text: &[u8],
@@ -167,10 +167,12 @@ fn answer_text<S: Store, W: Write>(
     }
 }
 
-/// Plays a script with actors that is given as text, of at most 1 GiB, over a store: answers each of its lines, up to the first bad one, and writes what
-/// waits then. It never ends as [`End::NotRead`]. No session knows anything from an earlier one.
+/// Plays a script with actors that is given as text, of at most 1 GiB, over a store: answers each of its lines, up to
+/// the first bad one, and writes what waits then. It never ends as [`End::NotRead`]. No session knows anything from an
+/// earlier one.
 ///
-/// An actor that waits takes no time. A line takes the time of the calls that it makes, and of the steps of the sessions that make them.
+/// An actor that waits takes no time. A line takes the time of the calls that it makes, and of the steps of the
+/// sessions that make them.
 pub fn play<S: Store, W: Write>(
     alloc: Global,
     text: &[u8],
@@ -184,10 +186,10 @@ pub fn play<S: Store, W: Write>(
         (λ written. PlaysText (first_scene (S.objects store) use_checkpoints) text.now written (S.objects result.store))) }
     // However it ends, some first lines did so.
     ensures in_part { S.is_reliable store → PlaysInPart (first_scene (S.objects store) use_checkpoints) text.now (S.objects result.store) }
-    // Where nothing stood, and no line puts another tool's commit, the store that is left is sound, and what sessions told is so of the table that it
-    // holds: each batch that was acknowledged stands in the log once, every batch at most once and as submitted, each application's in rising number and
-    // none after its close; and what a reader was handed that resumes at its last offset is exactly the log's rows up to that offset, once each, in log
-    // order.
+    // Where nothing stood, and no line puts another tool's commit, the store that is left is sound, and what sessions
+    // told is so of the table that it holds: each batch that was acknowledged stands in the log once, every batch at
+    // most once and as submitted, each application's in rising number and none after its close; and what a reader was
+    // handed that resumes at its last offset is exactly the log's rows up to that offset, once each, in log order.
     ensures headline { S.is_reliable store → S.objects store ≡ [] → ArePutHere (lines_of text.now) → Finishes result.outcome.end (λ _. Tells (held W.contents output.old) (W.contents output.new.writer)
         (λ written. PlaysSo (first_scene [] use_checkpoints) text.now written (S.objects result.store))) }
     // The store is sound however it ends.

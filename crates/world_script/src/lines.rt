@@ -1,4 +1,4 @@
-// What each line of a script does to a scene, and its reply.
+//! What each line of a script does to a scene, and its reply.
 ghost use Rattle.std.specs.Prelude.{◌≡◌};
 ghost use Rattle.log_reading.specs.LogCache.{IsCacheOf};
 ghost use Rattle.lake_script.specs.ReplyView.{reply_text};
@@ -17,7 +17,7 @@ use script_lines::Line;
 use std::alloc::Global;
 use store_core::Store;
 
-// A put in flight takes effect.
+/// A put in flight takes effect.
 fn land<S: Store>(scene: &mut Scene<S>, put: u64) -> LineReply
     ensures comes { S.is_reliable scene.old.world.store.store → (s : scenes.Scene) → SceneStands S.objects scene.old s → ComesTo S.objects s (land put) (reply_text result) scene.new }
     ensures reliable { S.is_reliable scene.old.world.store.store → S.is_reliable scene.new.world.store.store }
@@ -29,7 +29,7 @@ fn land<S: Store>(scene: &mut Scene<S>, put: u64) -> LineReply
     }
 }
 
-// A line that tells of the objects that stand, or puts another tool's commit.
+/// A line that tells of the objects that stand, or puts another tool's commit.
 fn tell<S: Store>(alloc: Global, scene: &mut Scene<S>, line: Line<'_>) -> LineReply
     requires { IsTimely (statement_view line) }
     ensures tells { S.is_reliable scene.old.world.store.store → (s : scenes.Scene) → SceneStands S.objects scene.old s

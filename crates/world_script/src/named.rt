@@ -1,4 +1,4 @@
-// The lines that name an actor which was started.
+//! The lines that name an actor which was started.
 ghost use Rattle.std.specs.Prelude.{◌≡◌, ◌≢◌, Some};
 ghost use Rattle.lake_script.specs.ReplyView.{reply_text};
 ghost use Rattle.stream_world.specs.Worlds as worlds;
@@ -34,7 +34,7 @@ pub enum Deed {
     Die,
 }
 
-// Does it to the actor of a number, which has a session.
+/// Does it to the actor of a number, which has a session.
 fn do_deed<S: Store>(world: &mut World<S>, number: u64, deed: Deed) -> Option<Outcome>
     ensures came { S.is_reliable world.old.store.store → (w : worlds.World) → WorldStands S.objects world.old w → next_at (hand_at w number) ≢ Nothing
         → CameBy S.objects (deed_does deed number w) result world.new }
@@ -51,7 +51,7 @@ fn do_deed<S: Store>(world: &mut World<S>, number: u64, deed: Deed) -> Option<Ou
     }
 }
 
-// What is told of an actor whose read was refused when it was started.
+/// What is told of an actor whose read was refused when it was started.
 fn refusal_told(deed: Deed) -> LineReply
     ensures { reply_text result ≡ if_refused deed }
 {

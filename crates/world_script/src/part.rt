@@ -1,4 +1,4 @@
-// The parts of the actors that lines have named.
+//! The parts of the actors that lines have named.
 ghost use Rattle.std.specs.Prelude.{◌≡◌, ℕ, List, OnOk, Some, IfErr};
 ghost use Rattle.std.specs.BTreeMap.{get_by_text};
 

@@ -1,4 +1,4 @@
-// What is printed of what a session told.
+//! What is printed of what a session told.
 ghost use Rattle.lake_script.specs.ReplyView.{reply_text};
 ghost use Rattle.stream_world.specs.Sessions.{outcome_view};
 ghost use Rattle.world_script.specs.Doing.{IsReplyAs};

@@ -1,4 +1,4 @@
-// Any script: read to its end, and then answered in a world where it has actors, and else line by line.
+//! Any script: read to its end, and then answered in a world where it has actors, and else line by line.
 ghost use Rattle.std.specs.Prelude.{◌≡◌, ◌≢◌, ◌+◌, ◌≤◌, ◌<◌, ◌^◌, ◌⊎◌, suc, [], true, false, length, ⊤, IfSome};
 ghost use Rattle.delta_actions.specs.Commit.{lines_of};
 ghost use Rattle.delta_actions.specs.Names.{greatest_version};
@@ -23,8 +23,8 @@ use std::io::{Read, Write};
 use std::str;
 use store_core::Store;
 
-/// Runs a script that is given as text, of at most 1 GiB, over a store: in a world where it has actors ([`play`]), and else as
-/// [`run_text`](lake_script::run_text) does. It never ends as [`End::NotRead`].
+/// Runs a script that is given as text, of at most 1 GiB, over a store: in a world where it has actors ([`play`]), and
+/// else as [`run_text`](lake_script::run_text) does. It never ends as [`End::NotRead`].
 pub fn run_any<S: Store, W: Write>(
     alloc: Global,
     text: &[u8],
@@ -46,8 +46,9 @@ pub fn run_any<S: Store, W: Write>(
         → IsScript state (held W.contents output.old) (W.contents output.new.writer) text.now (S.objects store) (S.objects result.store)) }
     ensures lawful { needs_world text.now ≡ false → (state : State) → S.is_reliable store → HasOnlySoundCheckpoints (S.objects store) → KeepsBeside (S.objects store) state
         → ArePutHere (lines_of text.now) → StaysSound state (length (lines_of text.now)) (S.objects result.store) }
-    // Of one with actors: each line does what it asks for in a world, and is told that; over nothing, and without another tool's commit, what sessions
-    // told is so of the table that the store holds, and the store is sound however the run ends. All of this as `play` has it.
+    // Of one with actors: each line does what it asks for in a world, and is told that; over nothing, and without
+    // another tool's commit, what sessions told is so of the table that the store holds, and the store is sound however
+    // the run ends. All of this as `play` has it.
     ensures plays { needs_world text.now ≡ true → S.is_reliable store → Finishes result.outcome.end (λ _. Tells (held W.contents output.old) (W.contents output.new.writer)
         (λ written. PlaysText (first_scene (S.objects store) use_checkpoints) text.now written (S.objects result.store))) }
     ensures headline { needs_world text.now ≡ true → S.is_reliable store → S.objects store ≡ [] → ArePutHere (lines_of text.now) → Finishes result.outcome.end (λ _. Tells (held W.contents output.old) (W.contents output.new.writer)
@@ -73,10 +74,11 @@ pub fn run_any<S: Store, W: Write>(
     }
 }
 
-// How many bytes of a bad line are kept at most.
+/// How many bytes of a bad line are kept at most.
 const MOST_KEPT: usize = 256;
 
-// The part of a line that is kept: its first characters, or where it isn't UTF-8, the bytes from the first on that is no text.
+/// The part of a line that is kept: its first characters, or where it isn't UTF-8, the bytes from the first on that is
+/// no text.
 fn kept_part(line: &[u8]) -> &[u8]
     ensures { length result.now ≤ 256 }
 {
@@ -89,7 +91,7 @@ fn kept_part(line: &[u8]) -> &[u8]
     }
 }
 
-// What is kept of the bad line at which a run of a text ended.
+/// What is kept of the bad line at which a run of a text ended.
 fn bad_line(alloc: Global, text: &[u8], end: End) -> Option<Vec<u8>>
     ensures { IfSome result (λ kept. length kept.items ≤ 256) }
 {
@@ -101,8 +103,8 @@ fn bad_line(alloc: Global, text: &[u8], end: End) -> Option<Vec<u8>>
     Vec::from_slice(alloc, kept_part(line)).ok()
 }
 
-/// Runs a script over a store, which it hands back: reads its input to the end, then answers each line, up to the first bad one, as
-/// [`run_any`] does.
+/// Runs a script over a store, which it hands back: reads its input to the end, then answers each line, up to the first
+/// bad one, as [`run_any`] does.
 pub fn run<R: Read, W: Write, S: Store>(
     alloc: Global,
     input: &mut Input<R>,

@@ -1,4 +1,4 @@
-// A scene: the world that a script with actors acts on, and what its lines have set.
+//! A scene: the world that a script with actors acts on, and what its lines have set.
 ghost use Rattle.std.specs.Prelude.{◌≡◌, ◌≤◌};
 
 use crate::part::Parts;

@@ -1,4 +1,4 @@
-// The line that starts an actor.
+//! The line that starts an actor.
 ghost use Rattle.std.specs.Prelude.{◌≡◌, ℕ, List, OnOk, IfOk, IfErr, Some};
 ghost use Rattle.std.specs.BTreeMap.{get_by_text};
 ghost use Rattle.lake_script.specs.ReplyView.{reply_text};
@@ -32,7 +32,8 @@ pub(crate) fn start<S: Store>(
     }
 }
 
-// The part of an actor of that name: a new one where it has none yet. Fails where memory runs out, and changes nothing then.
+/// The part of an actor of that name: a new one where it has none yet. Fails where memory runs out, and changes nothing
+/// then.
 fn name_actor(
     alloc: Global,
     parts: &mut Parts,
@@ -59,7 +60,7 @@ fn name_actor(
     Ok(part)
 }
 
-// Names an actor and has it begin the job. Where the offset of a read can't be read, it is told so later.
+/// Names an actor and has it begin the job. Where the offset of a read can't be read, it is told so later.
 fn begin_named<S: Store>(
     alloc: Global,
     scene: &mut Scene<S>,

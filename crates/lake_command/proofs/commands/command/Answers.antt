@@ -12,13 +12,13 @@ returns-in-Ok-Script-clause-script g c = λ command spells fine.
     let ends : status_of end ≢ 1 = λ refused. fine (c.ended.ensures ∙ refused) in
     written_of _ _ _ _
     (λ whole. of_such end _ (λ text. needs_world text ≡ false) _ _ ends (λ text is run. output_of_run end (Some text) _ _ _ _ ends run (search rules))
-    (c.run-ran.ensures.told (search rules) (well_of_empty _ _ (search rules)) (sym c.short.ensures ∙ whole)))
+    (c.run-ran.ensures.told (search rules) (well_of_empty _ _ (search rules)) (sym c.is_short.ensures ∙ whole)))
     (λ whole. of_such end _ (λ text. needs_world text ≡ false) _ _ ends (λ text is run. by_table_of (Some text) _ _ _ _ (script_of_run end (Some text) _ _ _ _ ends run (rw is at c.run-ran.ensures.too_long)))
-    (c.run-ran.ensures.script nothing (search rules) (well_of_empty _ _ (search rules)) (search rules) (sym c.short.ensures ∙ whole)))
+    (c.run-ran.ensures.script nothing (search rules) (well_of_empty _ _ (search rules)) (search rules) (sym c.is_short.ensures ∙ whole)))
     (λ whole. of_such end _ (λ text. needs_world text ≡ false) _ _ ends (λ text is run. over_of (Some text) _ _ _ _ (search rules) (script_of_run end (Some text) _ _ _ _ ends run (rw is at c.run-ran.ensures.too_long)))
-    (c.run-ran.ensures.script nothing (search rules) (well_of_empty _ _ (search rules)) (search rules) (sym c.short.ensures ∙ whole)))
+    (c.run-ran.ensures.script nothing (search rules) (well_of_empty _ _ (search rules)) (search rules) (sym c.is_short.ensures ∙ whole)))
     (λ short. of_such end _ (λ text. needs_world text ≡ false) _ _ ends (λ text is run. short_of_run end (Some text) _ _ _ ends run (search rules))
-    (c.run-ran.ensures.short (search rules) (well_of_empty _ _ (search rules)) (sym c.short.ensures ∙ short)))
+    (c.run-ran.ensures.short (search rules) (well_of_empty _ _ (search rules)) (sym c.is_short.ensures ∙ short)))
     (of_such end _ (λ text. needs_world text ≡ false) _ _ ends (λ text is run. may_of_run end _ _ text _ _ ends (search rules) run)
     (c.run-ran.ensures.tells (search rules) (well_of_empty _ _ (search rules))))
     (of_such end _ (λ text. needs_world text ≡ true) _ _ ends (λ text is run. played_of_run end _ _ text _ _ c.in-Ok-Script.use_checkpoints ends (search rules) run) (c.run-ran.ensures.plays (search rules)))
