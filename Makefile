@@ -35,10 +35,19 @@ folder:
 model:
 	@python3 scripts/model/check_cases.py
 
-# Looks that the table of docs/REFUSALS.md is the one in code, and has just the codes that this document explains, in
-# Python 3.11 without a package.
+# Writes what documents print of the code: ARCHITECTURE's tables, the list of crates/README.md, GATE's counts, the table of
+# REFUSALS, the lines of links. Then it does what documents-check does.
+documents:
+	@python3 scripts/documents.py --write
+
+# Looks that the documents say what the code says: what is printed, links, codes, and the clauses that PROVED names; a
+# second, with Python 3.11, without a package.
+documents-check:
+	@python3 scripts/documents.py
+
+# The same of the refusals alone: the table of docs/REFUSALS.md is the one in code, and explains just its codes.
 refusals:
-	@python3 scripts/refusals.py --check
+	@python3 scripts/documents.py REFUSALS refusal_texts
 
 # Runs the examples of README.md and docs/FORMATS.md with the built program, and compares, in Python 3.11 without a
 # package. Run `make lake` before it.

@@ -1,7 +1,6 @@
 //! What each refusal means, in one line, and whether the same call may be tried again: two tables, of what is told by
 //! itself ([`refusals`]) and of what stands within that ([`faults`]), and the entry of a code or of a reply. It knows
-//! no command and no fault's type: a code is a text here. The table of docs/REFUSALS.md is printed from these files, by
-//! scripts/refusals.py.
+//! no command and no fault's type: a code is a text here. The table of docs/REFUSALS.md is printed from these files.
 #![tactic(auto)]
 
 mod fault_table;
