@@ -37,7 +37,7 @@ def text_of(path):
 
 
 class Crate:
-    """A line of crates.txt with its comments, by the word that each begins with, and those on the use of other crates."""
+    """A line of crates.txt with its comments, by the word that each begins with, and those on what it uses."""
 
     def __init__(self, name, libraries, layer):
         self.name, self.libraries, self.layer = name, libraries, layer
@@ -146,13 +146,16 @@ def in_layers(crates):
 
 
 def table(heads, rows):
-    lines = [heads, ["---"] * len(heads), *rows]
-    return "".join("|".join(["", *(f" {it} " if it else " " for it in line), ""]).replace(" --- ", "---") + "\n" for line in lines)
+    """A table as Markdown."""
+    lines = ["|".join(["", *(f" {it} " if it else " " for it in row), ""]) for row in [heads, *rows]]
+    return "\n".join([lines[0], "|---" * len(heads) + "|", *lines[1:]]) + "\n"
 
 
 def print_layers(crates):
-    parts = ("".join((filled(text.replace("`", "").split(), "", "  "), filled([it.name for it in members], "    ", "    ", "   ")))
-             for text, members in in_layers(crates))
+    parts = []
+    for text, members in in_layers(crates):
+        parts.append(filled(text.replace("`", "").split(), "", "  "))
+        parts.append(filled([it.name for it in members], "    ", "    ", "   "))
     return "```\n" + "".join(parts) + "```\n"
 
 
@@ -161,7 +164,8 @@ def print_list(crates):
     for text, members in in_layers(crates):
         title, _, rest = text.partition(":")
         parts.append(filled(f"**{title}**:{rest}".split(), "", ""))
-        parts.append("".join(filled(f"[`{it.name}`]({it.root()}): {it.head()}".split(), "- ", "  ") for it in members))
+        points = (f"[`{it.name}`]({it.root()}): {it.head()}" for it in members)
+        parts.append("".join(filled(point.split(), "- ", "  ") for point in points))
     return "\n" + "\n".join(parts) + "\n"
 
 
@@ -186,14 +190,29 @@ def print_uses(crates):
 
 def seconds_in(text):
     """The seconds of checks and edits in a table of counts, by crate."""
-    return {name: [check, edits] for name, check, edits in re.findall(r"^\| `(\w+)` (?:\| [\d,]+ ){6}\| (\S+) \| (\S+) \|$", text, re.M)}
+    rows = re.findall(r"^\| `(\w+)` (?:\| [\d,]+ ){6}\| (\S+) \| (\S+) \|$", text, re.M)
+    return {name: [check, edits] for name, check, edits in rows}
+
+
+def longest_chain(crates, seconds):
+    """The seconds of checks on the longest chain of crates that stand on each other, and its crates."""
+    chains = {}
+    for name, crate in crates.items():
+        most, names = max((chains[it] for it in crate.libraries if it in chains), default=(0, []))
+        own = seconds.get(name, ["?"])[0]
+        chains[name] = (most + (int(own) if own.isdigit() else 0), [*names, f"`{name}`"])
+    return max(chains.values(), default=(0, []))
 
 
 def print_counts(crates, seconds=None):
+    """The table of docs/GATE.md; seconds that nobody measured are `?`."""
     seconds = seconds_in(text_of("docs/GATE.md")) if seconds is None else seconds
-    heads = ["crate", "functions", "lines", "definitions", "proofs", "edits", "wrong bodies as text", "check, s", "edits, s"]
-    rows = ([f"`{name}`", *(f"{it:,}" for it in crate.counts()), *seconds.get(name, ["?", "?"])] for name, crate in crates.items())
-    return table(heads, rows)
+    counted = ["functions", "lines", "definitions", "proofs", "edits", "wrong bodies as text"]
+    rows = ([f"`{name}`", *(f"{it:,}" for it in crate.counts()), *seconds.get(name, ["?", "?"])]
+            for name, crate in crates.items())
+    most, chain = longest_chain(crates, seconds)
+    sentence = f"The longest chain takes {most:,} s of the checks: {', '.join(chain)}."
+    return table(["crate", *counted, "check, s", "edits, s"], rows) + "\n" + filled(sentence.split(), "", "")
 
 
 # The tables of refusals in code.
@@ -222,7 +241,8 @@ def entries():
         here = ENTRY.findall(rows)
         if len(here) != int(size):
             sys.exit(f"{name}: {len(here)} entries can be read, of {size}")
-        found += [(code, kind, plain(meaning), f"after {plain(what)}" if what else again.lower()) for code, kind, meaning, again, what in here]
+        for code, kind, meaning, again, what in here:
+            found.append((code, kind, plain(meaning), f"after {plain(what)}" if what else again.lower()))
     return found
 
 
@@ -241,7 +261,7 @@ def faults_of_refusals(_):
         if len(meaning) > LONGEST:
             yield f"refusal_texts: {code}: its meaning has {len(meaning)} characters, of at most {LONGEST}"
         if any(re.search(r"[|\n]|^\s|[\s.]$", text) for text in (meaning, again)):
-            yield f"refusal_texts: {code}: a text fits no line of a table, begins or ends with a space, or ends with a full stop"
+            yield f"refusal_texts: {code}: a text fits no line of a table, or ends with a space or a full stop"
     coded, explained = {entry[:2] for entry in entries()}, set(EXPLAINED.findall(text_of("docs/REFUSALS.md")))
     for code, name in sorted(explained - coded):
         yield f"docs/REFUSALS.md: it explains {code} {name}, which isn't in the code"
@@ -252,15 +272,19 @@ def faults_of_refusals(_):
 # Clauses that docs/PROVED.md names.
 
 
+# What a file of definitions or proofs names: a definition or a lemma, or a field or a constructor below one.
+NAMED = re.compile(r"^(?:(?:abbrev|unfoldable|mutual|pub|data|record) | +(?:pub )?(?=\w+ :))*(\w+)", re.M)
+
+
 class Contracts:
-    """Of a crate the clauses of its contracts, by function and by type, and which other names its code and texts have."""
+    """Of a crate the clauses of its contracts, by function and by type, and which other names its files have."""
 
     def __init__(self, name):
         self.clauses, self.functions, self.names = defaultdict(set), set(), set()
         for file in sorted((ROOT / "crates" / name / "src").rglob("*.rt")):
             self.read_code(file.read_text(encoding="utf-8").splitlines())
         for file in (ROOT / "crates" / name).rglob("*.antt"):
-            self.names |= set(re.findall(r"^\s*(?:(?:abbrev|unfoldable|mutual|pub|data|record) )*(\w+)", file.read_text(encoding="utf-8"), re.M))
+            self.names |= set(NAMED.findall(file.read_text(encoding="utf-8")))
 
     def read_code(self, rows):
         types, function = [], None
@@ -271,7 +295,7 @@ class Contracts:
             if found:
                 function = found[1]
                 self.functions.add(function)
-            self.names |= set(re.findall(r"^\s*ghost (?:fn )?(\w+)", row))
+            self.names |= set(re.findall(r"^\s*(?:pub )?ghost (?:fn )?(\w+)", row))
             for clause in re.findall(r"\bensures (\w+) \{", row):
                 for it in [function, *types]:
                     self.clauses[it].add(clause)
@@ -290,7 +314,7 @@ WORDS = {"requires", "foreign", "hex", "row", "snapshot"}
 
 
 def items_of(text):
-    """The points and paragraphs of a document: the head that each stands under, its first line, and its text as one line."""
+    """The points and paragraphs of a document: the head that each stands under, its first line, and all as one line."""
     head, start, item = "", 1, []
     for number, row in enumerate(text.splitlines() + ["## "], 1):
         begins = re.match(r"## |\d+\. ", row) or not head.startswith("The claims") and re.match(r"\s*- |\s*$", row)
@@ -350,8 +374,8 @@ LINK = re.compile(r"\[([^\]]*)\]\(([^)#\s]+)(?:#L(\d+))?\)")
 
 def line_of(name, path):
     """The line on which a function of this name begins, or none."""
-    rows = path.read_text(encoding="utf-8").splitlines()
-    return next((number for number, row in enumerate(rows, 1) if (found := FUNCTION.match(row)) and found[1] == name), None)
+    rows = enumerate(path.read_text(encoding="utf-8").splitlines(), 1)
+    return next((number for number, row in rows if (found := FUNCTION.match(row)) and found[1] == name), None)
 
 
 def mended(link, document):
@@ -416,7 +440,8 @@ def write_seconds(crates, log):
     """Puts the seconds of a measured table into that of docs/GATE.md."""
     text = text_of("docs/GATE.md")
     seconds = {**seconds_in(text), **seconds_in(Path(log).read_text(encoding="utf-8", errors="replace"))}
-    text = PART.sub(lambda part: part[1] + print_counts(crates, seconds) + part[4] if part[2] == "counts" else part[0], text)
+    front, marks, rest = text.partition("<!-- printed: counts -->\n")
+    text = front + marks + print_counts(crates, seconds) + rest[rest.index("<!-- end -->"):]
     (ROOT / "docs/GATE.md").write_text(text, encoding="utf-8")
 
 
