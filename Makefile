@@ -1,10 +1,13 @@
 PREFIX ?= $(HOME)/.local
+COUNT ?= 10000
+SEEDS ?= 1
 
-.PHONY: bench demo folder inspect install lake model refusals samples schedules test times
+.PHONY: believed bench demo documents documents-check edits folder inspect install lake model paths refusals samples \
+	schedules test times
 
 # Runs the stored script of the program without a proof, and shows each line before its replies.
 demo:
-	@scripts/demo.sh
+	@scripts/program.sh demo
 
 # Proves and builds the program, and says where it lies.
 lake:
@@ -23,10 +26,10 @@ inspect:
 
 # Times the built program on a few scripts and folders; run `make lake` before it.
 bench:
-	@scripts/bench.sh
+	@scripts/program.sh bench
 
-# Tries the built program on folders in a temporary directory, in at most two minutes: kills, calls that fail, and processes
-# that race; with Python 3.11, without a package. Run `make lake` before it.
+# Tries the built program on folders in a temporary directory, in at most two minutes: kills, calls that fail, and
+# processes that race; with Python 3.11, without a package. Run `make lake` before it.
 folder:
 	@python3 scripts/folder/try_folders.py
 
@@ -35,13 +38,13 @@ folder:
 model:
 	@python3 scripts/model/check_cases.py
 
-# Writes what documents print of the code: ARCHITECTURE's tables, the list of crates/README.md, GATE's counts, the table of
-# REFUSALS, the lines of links. Then it does what documents-check does.
+# Writes what documents print of the code: ARCHITECTURE's tables, the list of crates/README.md, GATE's counts, the table
+# of REFUSALS, the lines of links. Then it does what documents-check does.
 documents:
 	@python3 scripts/documents.py --write
 
-# Looks that the documents say what the code says: what is printed, links, codes, and the clauses that PROVED names; a
-# second, with Python 3.11, without a package.
+# Looks that the documents say what the code says: what is printed, links, codes, and the clauses that PROVED names; in
+# a few seconds, with Python 3.11, without a package. `.ci/run` does it first.
 documents-check:
 	@python3 scripts/documents.py
 
@@ -49,20 +52,32 @@ documents-check:
 refusals:
 	@python3 scripts/documents.py REFUSALS refusal_texts
 
+# Prints the definitions that a clause comes to: make believed CLAUSE=stream_model::every_world::headline
+believed:
+	@python3 scripts/believed.py $(CLAUSE)
+
 # Runs the examples of README.md and docs/FORMATS.md with the built program, and compares, in Python 3.11 without a
 # package. Run `make lake` before it.
 samples:
 	@python3 scripts/samples.py
 
 # Runs the built program on random scripts of several actors, and compares what it is told with the model, and with what
-# has to hold of batches and reads. Run `make lake` before it.
+# has to hold of batches and reads: COUNT lines for each of SEEDS. Run `make lake` before it.
 schedules:
-	@scripts/schedules.sh
+	@scripts/program.sh schedules $(COUNT) $(SEEDS)
 
 # The gate: proves everything from nothing, tries the must-fail edits, and runs every program and test.
 test:
 	@rt ci
 
-# Measures the gate crate by crate, for docs/GATE.md. It takes longer than the gate, since it runs one thing at a time.
+# Tries the wrong bodies that are kept as text, of some crates: make edits CRATES="shred sink_core"
+edits:
+	@scripts/edits.sh $(CRATES)
+
+# Measures a run of the gate, and prints GATE's table of it; or CRATES alone, one at a time.
 times:
-	@scripts/times.sh
+	@python3 scripts/cost.py $(CRATES)
+
+# Counts the files that rt reads of the libraries below each crate, where it keeps no sums of them.
+paths:
+	@python3 scripts/cost.py --paths $(CRATES)

@@ -1,28 +1,29 @@
 #!/usr/bin/env python3
-"""Prints the definitions that a clause unfolds to: what has to be read, and believed to say what it should, beside the proof.
+"""Prints the definitions that a clause unfolds to: what has to be read, and believed to say what it should, beside the
+proof: scripts/believed.py CRATE::FUNCTION[::CLAUSE] [--names]
 
-scripts/believed.py CRATE::FUNCTION[::CLAUSE] [--names]
-
-Each definition stands once, behind those that it mentions but where they mention each other, with its file and line. At the end their lines are counted, comments and blank
-lines left out: those of the public standards' formats apart from the rest. What the kit defines is named, and what a type in code declares.
-`--names` leaves the texts out. Of several functions of a name in a crate it takes the first; names are found by their texts, so a few
-definitions may be too many.
+Each definition stands once, behind those that it mentions but where they mention each other, with its file and line. At
+the end their lines are counted, comments and blank lines left out: those of the public standards' formats apart from
+the rest. What the kit defines is named, and what a type in code declares. `--names` leaves the texts out. Of several
+functions of a name in a crate it takes the first; names are found by their texts, so a few definitions may be too many.
 """
 import re
 import sys
 from pathlib import Path
 
+from documents import read_crates
+
 ROOT = Path(__file__).resolve().parent.parent / "crates"
 
-# Crates whose definitions say what the bytes and texts of Parquet, Thrift, JSON, schemas and Delta's actions are.
-FORMATS = {
-    "lake_bytes", "json_text", "json_fields", "thrift_core", "parquet_footer", "page_cells", "parquet_pages", "page_writing", "parquet_schema",
-    "parquet_file", "file_laws", "schema_tree", "row_core", "shred", "delta_actions", "delta_checkpoint",
-}
+# Crates whose definitions say what the bytes and texts of Parquet, Thrift, JSON, schemas and Delta's actions are: those
+# of the layer of formats, and these.
+FORMATS = {"lake_bytes", "json_text", "json_fields", "delta_actions", "delta_checkpoint"}
+FORMATS |= {name for name, crate in read_crates().items() if (crate.layer or "").startswith("Formats:")}
 
 WORD = r"[^\s(){}\[\];,.λ:=→×⊎≡≢≤<+∷|↦\"]+"
 PATH = re.compile(r"(?:%s\.)*%s" % (WORD, WORD))
 HEAD = re.compile(r"^(?:abbrev |unfoldable |mutual |pub )*(?:(data|record) )?(\S+)")
+INNER = re.compile(r"^  (?:abbrev |unfoldable |pub )*((?:data |record )?)(\S+) (?::|\()")
 SKIP = ("use ", "pub use ", "unfoldable pub use ", "mod ", "pub mod ", "infix", "open ", "unfolding ")
 
 
@@ -70,8 +71,8 @@ class Module:
                 if start is not None and row.strip() == "":
                     block.append(row)
                 if row.startswith("--"):
-                    comment = (number, [row]) if comment is None or comment[2] != number - 1 else (comment[0], comment[1] + [row])
-                    comment = (comment[0], comment[1], number)
+                    goes_on = comment is not None and comment[2] == number - 1
+                    comment = (comment[0], comment[1] + [row], number) if goes_on else (number, [row], number)
                 continue
             name = HEAD.match(row)
             name = name.group(2) if name else None
@@ -90,10 +91,11 @@ class Module:
         text = "\n".join(block).rstrip()
         names = {start[1]}
         body = [row for row in block if not row.startswith("--")]
-        # A record's fields are seen by what has its type, so they bring no name. A mutual block brings those inside it and their constructors.
+        # A record's fields are seen by what has its type, so they bring no name. A mutual block brings those inside it
+        # and their constructors.
         depth = "" if re.match(r"^(abbrev |unfoldable |pub )*data ", body[0]) else None
         for row in body[1:]:
-            inner = re.match(r"^  (?:abbrev |unfoldable |pub )*((?:data |record )?)(\S+) (?::|\()", row) if start[1] == "mutual" else None
+            inner = start[1] == "mutual" and INNER.match(row)
             if inner:
                 names.add(inner.group(2))
                 depth = "  " if inner.group(1) == "data " else None
@@ -158,10 +160,11 @@ def mentioned(text):
 
 
 def bound_in(text):
-    """Names that stand for variables: those of binders, and those left of `=` that aren't constructors, which the caller tells apart."""
+    """Names that stand for variables: of binders, and left of `=` (there without constructors: the caller looks)."""
     binders, left = set(), set()
-    for names in re.findall(r"[({]([^(){}:]+) : ", text) + re.findall(r"λ ([^.]+)\.", text) + re.findall(r"let (\S+) ", text):
-        binders.update(names.split())
+    for binder in (r"[({]([^(){}:]+) : ", r"λ ([^.]+)\.", r"let (\S+) "):
+        for names in re.findall(binder, text):
+            binders.update(names.split())
     for row in text.split("\n"):
         clause = re.match(r"^\s*\S+ ([^=:←]*) = ", row + " ")
         if clause and "{" not in clause.group(1):
@@ -195,7 +198,8 @@ def clauses_of(crate, function, clause):
         ends = re.search(r"^\s*\{", contract, re.M)
         contract = contract[: ends.start()] if ends else contract
         pieces = re.split(r"\n\s*(?=(?:ensures|requires)\b)", contract)
-        chosen = [p for p in pieces if p.startswith(("ensures", "requires")) and (clause is None or p.startswith("ensures %s " % clause))]
+        begins = ("ensures", "requires") if clause is None else "ensures %s " % clause
+        chosen = [p for p in pieces if p.startswith(begins)]
         if not chosen:
             sys.exit("believed: %s has no clause%s" % (function, "" if clause is None else " " + clause))
         seen = Module.__new__(Module)
@@ -229,7 +233,8 @@ def main(words):
             print(one.text + "\n")
     print("%s\n%s\n" % (path.relative_to(ROOT.parent), text))
     print("types of code: " + ", ".join(sorted({type_of(name) for name in house.declared})))
-    print("of the kit: " + ", ".join(sorted({name.removeprefix("Rattle.").replace(".specs.", "::") for name in house.kit})))
+    kit = {name.removeprefix("Rattle.").replace(".specs.", "::") for name in house.kit}
+    print("of the kit: " + ", ".join(sorted(kit)))
     print("lines: " + ", ".join("%s %d" % one for one in sorted(counts.items(), key=lambda one: -one[1])))
     formats = sum(lines for name, lines in counts.items() if name in FORMATS)
     print("%d definitions: %d lines, and %d of formats" % (len(order), sum(counts.values()) - formats, formats))

@@ -1,14 +1,14 @@
 #!/usr/bin/env bash
 # Tries the wrong bodies that are kept as text: scripts/edits.sh CRATE..
 #
-# Beside the must-fail edits that the gate tries (must-fail/NAME.edit), each crate has wrong bodies in the same notation that
-# were tried once (must-fail/NAME.md). This makes edits of those of the crates named, on a copy of the checkout, and has the
-# prover try them: to be run when a contract that refuses them changes. The copy has what checks and the gate left in out/: run
-# it where `rt ci` has passed, or the crates below are proved anew first, which takes long.
+# Beside the must-fail edits that the gate tries (must-fail/NAME.edit), each crate has wrong bodies in the same notation
+# that were tried once (must-fail/NAME.md). This makes edits of those of the crates named, on a copy of the checkout,
+# and has the prover try them: to be run when a contract that refuses them changes. The copy has what checks and the
+# gate left in out/: run it where `rt ci` has passed, or the crates below are proved anew first, which takes long.
 #
-# It tells for each one of four things: it is refused; it is refused only because a proof file names what it took away, or by
-# a limit of the prover, which says little of the contract ('shows little'); it is still proved; or it can't be applied or
-# tried. The status is 0 where none is of the last two kinds.
+# It tells for each one of four things: it is refused; it is refused only because a proof file names what it took away,
+# or by a limit of the prover, which says little of the contract ('shows little'); it is still proved; or it can't be
+# applied or tried. The status is 0 where none is of the last two kinds.
 set -euo pipefail
 cd "$(dirname "$0")/.."
 
