@@ -215,6 +215,31 @@ def type_of(name):
     return crate + "::" + rest.split(".TheVariants")[0].split(".")[-1]
 
 
+def unfolded(seen, text):
+    """The house, the definitions that clauses unfold to, in their order, and their lines by crate."""
+    house, order, counts = House(), [], {}
+    gather(house, seen, text, set(), order)
+    for one in order:
+        crate = one.module.path.relative_to(ROOT).parts[0]
+        counts[crate] = counts.get(crate, 0) + one.lines()
+    return house, order, counts
+
+
+def how_much(crate, function, clause):
+    """What docs/HEADLINE.md says of how much has to be believed for its sentence."""
+    _, text, seen = clauses_of(crate, function, clause)
+    _, order, counts = unfolded(seen, text)
+    formats = sum(lines for name, lines in counts.items() if name in FORMATS)
+    own = sum(counts.values()) - formats
+    world, table, bridge = (counts.get(it, 0) for it in ("stream_model", "table_model", "table_store"))
+    return (
+        f"{len(order):,} definitions, as the script finds them by their names (a few may be too many): {own:,} lines "
+        f"of this product's own, and {formats:,} of formats. Of the former {world} are the world and the headline, "
+        f"{table} the table and what stands before an offset, {bridge} the bridge from a store to it, and "
+        f"{own - world - table - bridge:,} what sessions do and how they read a log."
+    )
+
+
 def main(words):
     names_only = "--names" in words
     words = [word for word in words if word != "--names"]
@@ -222,12 +247,9 @@ def main(words):
         sys.exit(__doc__)
     crate, function, *rest = words[0].split("::")
     path, text, seen = clauses_of(crate, function, rest[0] if rest else None)
-    house, order = House(), []
-    gather(house, seen, text, set(), order)
-    counts = {}
+    house, order, counts = unfolded(seen, text)
     for one in order:
         place = one.module.path.relative_to(ROOT.parent)
-        counts[place.parts[1]] = counts.get(place.parts[1], 0) + one.lines()
         print("%s:%d" % (place, one.line) + (" " + one.head if names_only else ""))
         if not names_only:
             print(one.text + "\n")

@@ -3,12 +3,14 @@
 [--seconds LOG] [WORD ..]
 
 - What is printed stands in a document between a line `<!-- printed: NAME -->` and a line `<!-- end -->`. It comes from
-  crates.txt with its comments, the heads of the crates' root files, what lies in their folders, and the tables of
-  `refusal_texts`. The seconds of docs/GATE.md's table are the ones that stand there (`--seconds` says how they change).
+  crates.txt with its comments, the heads of the crates' root files, what lies in their folders, the tables of
+  `refusal_texts`, and scripts/believed.py. The seconds of docs/GATE.md's table are those that stand there (`--seconds`
+  says how they change).
 - Each link leads to a file that stands, and one to a line (`#L12`) to that of the function that it names.
 - Each code of a refusal that docs/REFUSALS.md explains is in the tables in code under the same name, and the other way
   round; each text of these tables fits a line.
-- Each clause that docs/PROVED.md names stands in the code, at what the document speaks of there (`untold`).
+- Each clause that docs/PROVED.md names stands in the code, at what the document speaks of there (`untold`). Each crate
+  with code has a section there, and each with definitions is named in docs/DEFINITIONS.md.
 
 It tells what differs, a line each, and exits with 1 where something does; with further words it tells only of what has
 one of them in its line. With `--write` what is printed and the lines of links are written anew before. With `--seconds
@@ -215,6 +217,12 @@ def print_counts(crates, seconds=None):
     return table(["crate", *counted, "check, s", "edits, s"], rows) + "\n" + filled(sentence.split(), "", "")
 
 
+def print_believed(_):
+    from believed import how_much  # which imports this file
+
+    return filled(how_much("stream_model", "every_world", "headline").split(), "", "")
+
+
 # The tables of refusals in code.
 
 TEXT = r'"((?:[^"\\]|\\.)*)"'
@@ -367,6 +375,18 @@ def untold(crates):
                     yield f"{place}: `{it}` is no clause of what stands there"
 
 
+def unnamed(crates):
+    """The crates that have no section in docs/PROVED.md, or no definition in docs/DEFINITIONS.md."""
+    heads = " ".join(re.findall(r"^## .*", text_of("docs/PROVED.md"), re.M))
+    definitions = text_of("docs/DEFINITIONS.md")
+    for name, crate in crates.items():
+        functions, _, lines, *_ = crate.counts()
+        if functions and f"`{name}`" not in heads:
+            yield f"docs/PROVED.md: no head of a section names `{name}`"
+        if lines and not re.search(rf"\b{name}\b", definitions):
+            yield f"docs/DEFINITIONS.md: it doesn't name `{name}`, which has definitions"
+
+
 # Links.
 
 LINK = re.compile(r"\[([^\]]*)\]\(([^)#\s]+)(?:#L(\d+))?\)")
@@ -401,7 +421,7 @@ def faults_of_links(document, text):
 
 PRINTED = {
     "layers": print_layers, "knows": print_knows, "uses": print_uses, "list": print_list, "counts": print_counts,
-    "refusals": print_refusals,
+    "refusals": print_refusals, "believed": print_believed,
 }
 PART = re.compile(r"(<!-- printed: (\w+) -->\n)(.*?)(<!-- end -->\n)", re.S)
 
@@ -434,6 +454,7 @@ def faults(crates):
         yield from faults_of_links(document, text)
     yield from faults_of_refusals(crates)
     yield from untold(crates)
+    yield from unnamed(crates)
 
 
 def write_seconds(crates, log):
