@@ -8,8 +8,8 @@ scripts/cost.py [--run COMMAND ..]    a run of the gate, by the command or else 
 scripts/cost.py [--no-edits] CRATE ..    the same table of some crates, measured one at a time with one job, each from
     nothing: its check (with its tests, where it has any) and its edits. The libraries below are built before, which
     isn't counted. What was kept in out/ is set aside meanwhile, and comes back where a check fails or is stopped.
-scripts/cost.py --functions CRATE    a check of the crate from nothing with one job: by the clock, what stands between
-    each line `fn ..: proved` that the checker prints and the one before it, most first
+scripts/cost.py --functions CRATE    a check of the crate from nothing with one job: by the clock, what each function
+    took, most first: the time between the line that the checker prints of it (`checked .., 3 of 20`) and the one before
 scripts/cost.py --paths [CRATE ..]    what rt reads, where it keeps no sum of a library within a call: of each library
     it takes one twice, and for that reads all files of each library below on each path of crates.txt that leads there.
     It prints paths and files for each crate, and the files that a run of the gate reads so
@@ -199,11 +199,11 @@ def measure_functions(name):
     folder = ROOT / "crates" / name
     took = []
     with set_aside(folder / "out"):
-        last = time.monotonic()
+        began = last = time.monotonic()
         run = subprocess.Popen(["rt", "check", "--jobs", "1"], cwd=folder, stdin=subprocess.DEVNULL,
                                stdout=subprocess.PIPE, stderr=subprocess.STDOUT, text=True, errors="replace")
         for line in run.stdout:
-            if found := re.match(r"fn (\S+): proved", line):
+            if found := re.match(r"checked (\S+), \d+ of \d+$", line):
                 now = time.monotonic()
                 took.append((now - last, found[1].removeprefix(f"{name}::")))
                 last = now
@@ -211,7 +211,8 @@ def measure_functions(name):
             sys.exit(f"cost: rt check failed in {folder}")
     for seconds, function in sorted(took, reverse=True):
         print(f"{seconds:8.2f} {function}")
-    print(f"{sum(it for it, _ in took):8.2f} s of {len(took)} functions, with the loading in that of the first one")
+    print(f"{time.monotonic() - began:8.2f} s in all, {len(took)} functions; the first one has the loading of libraries, "
+          "too")
 
 
 # What is read for sums of libraries.
