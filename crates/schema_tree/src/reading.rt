@@ -14,7 +14,6 @@ ghost use Rattle.schema_tree.specs.View.{view, field_view, field_views, metadata
 
 use crate::counts::Counts;
 use crate::fault::{ReadError, SchemaFault};
-use crate::metadata::Metadata;
 use crate::node::{Field, Node};
 use crate::primitive::Primitive;
 use serde_json::Value;

@@ -1,8 +1,8 @@
 use Rattle.std.proofs.Common.{◌≡◌, refl, ap, sym, subst, ◌∙◌, codes}
 use Rattle.serde_json.specs.Data.{object, no_members}
 use Rattle.serde_json.proofs.OnLiterals.{serde_json_on_literals}
-use Rattle.schema_tree.specs.Metadata.{IsCompactObject, value_of}
-use Rattle.schema_tree.proofs.metadata.Metadata+Global.none.Goals as goal
+use Rattle.field_metadata.specs.Metadata.{IsCompactObject, value_of}
+use Rattle.field_metadata.proofs.metadata.Metadata+Global.none.Goals as goal
 
 braces : value_of (codes "{}") ≡ object no_members
 unfolding serde_json_on_literals

@@ -6,7 +6,7 @@ ghost use Rattle.serde_json.specs.Find.{as_object};
 ghost use Rattle.serde_json.specs.Read.{max_depth};
 ghost use Rattle.serde_json.specs.View.{view};
 ghost use Rattle.serde_json.specs.Written.{has_float};
-ghost use Rattle.schema_tree.specs.Metadata.{IsCompactObject, value_of};
+ghost use Rattle.field_metadata.specs.Metadata.{IsCompactObject, value_of};
 
 use serde_json::Value;
 use std::alloc::{AllocError, Allocator, Global};
@@ -27,10 +27,10 @@ impl<A: Allocator> Drop for Metadata<A> {
 }
 
 impl Metadata<Global> {
-    ghost use Rattle.schema_tree.specs.View.{metadata_of};
+    ghost use Rattle.field_metadata.specs.View.{metadata_of};
 
     /// The metadata without entries.
-    pub(crate) fn none(alloc: Global) -> Result<Metadata<Global>, AllocError>
+    pub fn none(alloc: Global) -> Result<Metadata<Global>, AllocError>
         ensures { IfOk result (λ m. metadata_of m ≡ object no_members) }
     {
         Ok(Metadata {
@@ -39,7 +39,7 @@ impl Metadata<Global> {
     }
 
     /// The metadata that an object is.
-    pub(crate) fn of_object(alloc: Global, value: &Value) -> Result<Metadata<Global>, AllocError>
+    pub fn of_object(alloc: Global, value: &Value) -> Result<Metadata<Global>, AllocError>
         requires object { is_some (as_object (view value.now)) ≡ true }
         requires shallow { depth (view value.now) ≤ max_depth }
         ensures { IfOk result (λ m. metadata_of m ≡ view value.now) }
@@ -51,7 +51,7 @@ impl Metadata<Global> {
 }
 
 impl<A: Allocator> Metadata<A> {
-    ghost use Rattle.schema_tree.specs.View.{metadata_of};
+    ghost use Rattle.field_metadata.specs.View.{metadata_of, text_of};
 
     /// The JSON text. Where no number has a fraction or an exponent or doesn't fit 64 bits, it has no spaces, and keys
     /// in order of bytes.
@@ -63,7 +63,7 @@ impl<A: Allocator> Metadata<A> {
     }
 
     /// The JSON object.
-    pub(crate) fn value(&self, alloc: Global) -> Result<Value, AllocError>
+    pub fn value(&self, alloc: Global) -> Result<Value, AllocError>
         ensures { IfOk result (λ v. view v ≡ metadata_of self.now) }
     {
         match Value::from_str(alloc, self.text.as_str()) {
@@ -73,8 +73,8 @@ impl<A: Allocator> Metadata<A> {
     }
 
     /// The same metadata in another allocator.
-    pub(crate) fn copy_into<B: Allocator>(&self, alloc: B) -> Result<Metadata<B>, AllocError>
-        ensures { IfOk result (λ m. string_bytes m.text ≡ string_bytes self.now.text) }
+    pub fn copy_into<B: Allocator>(&self, alloc: B) -> Result<Metadata<B>, AllocError>
+        ensures { IfOk result (λ m. text_of m ≡ text_of self.now) }
     {
         Ok(Metadata {
             text: String::from_str(alloc, self.text.as_str())?,
@@ -82,7 +82,7 @@ impl<A: Allocator> Metadata<A> {
     }
 
     /// Whether both are the same metadata. It takes no memory.
-    pub(crate) fn same<B: Allocator>(&self, other: &Metadata<B>) -> bool
+    pub fn same<B: Allocator>(&self, other: &Metadata<B>) -> bool
         ensures sound { IsTrue result → metadata_of self.now ≡ metadata_of other.now }
         ensures complete { has_float (metadata_of self.now) ≡ false
             → metadata_of self.now ≡ metadata_of other.now → IsTrue result }
