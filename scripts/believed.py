@@ -16,8 +16,8 @@ ROOT = Path(__file__).resolve().parent.parent / "crates"
 
 # Crates whose definitions say what the bytes and texts of Parquet, Thrift, JSON, schemas and Delta's actions are.
 FORMATS = {
-    "lake_bytes", "json_text", "json_fields", "thrift_core", "parquet_footer", "page_cells", "parquet_pages", "page_writing", "parquet_schema",
-    "parquet_file", "file_laws", "schema_tree", "row_core", "shred", "delta_actions", "delta_checkpoint",
+    "lake_bytes", "json_text", "json_fields", "thrift_values", "thrift_core", "parquet_footer", "page_cells", "parquet_pages", "page_writing",
+    "parquet_schema", "parquet_file", "file_laws", "schema_tree", "row_core", "shred", "delta_actions", "delta_checkpoint",
 }
 
 WORD = r"[^\s(){}\[\];,.λ:=→×⊎≡≢≤<+∷|↦\"]+"

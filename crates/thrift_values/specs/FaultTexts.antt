@@ -2,10 +2,10 @@
 use Rattle.std.specs.Prelude.{ℕ, List, ◌++◌, codes}
 use Rattle.std.specs.Fmt.{signed_decimal}
 use Rattle.lake_bytes.specs.Texts as numbers
-use Rattle.thrift_core.specs.declared.fault.ThriftFault.{ThriftFault}
-use Rattle.thrift_core.specs.declared.fault.ThriftFault.TheVariants.{Bytes, BadType, TooDeep, TooMany, MissingField}
-use Rattle.thrift_core.specs.declared.fault.ReadError.{ReadError}
-use Rattle.thrift_core.specs.declared.fault.ReadError.TheVariants.{Memory, Fault}
+use Rattle.thrift_values.specs.declared.fault.ThriftFault.{ThriftFault}
+use Rattle.thrift_values.specs.declared.fault.ThriftFault.TheVariants.{Bytes, BadType, TooDeep, TooMany, MissingField}
+use Rattle.thrift_values.specs.declared.fault.ReadError.{ReadError}
+use Rattle.thrift_values.specs.declared.fault.ReadError.TheVariants.{Memory, Fault}
 
 abbrev pub fault_text : ThriftFault → List ℕ
 fault_text (Bytes fault) = numbers.fault_text fault

@@ -1,13 +1,13 @@
 use Rattle.std.proofs.Common.{rules, ◌≡◌, ℤ, Some, ap, sym, refl, ◌∙◌, w16, to_z, of_z}
 use Rattle.std.proofs.lemmas.Int.{to_z-of_z}
-use Rattle.thrift_core.specs.Tree.{trees_of, list, value_of_field}
-use Rattle.thrift_core.specs.View.{view, views}
-use Rattle.thrift_core.specs.declared.value.TValue.{the_lemmas}
-use Rattle.thrift_core.proofs.Views.{view-List}
-use Rattle.thrift_core.specs.Fields.{as_struct}
-use Rattle.thrift_core.proofs.FieldKinds.{all_structs, list_in_field}
-use Rattle.thrift_core.proofs.fields.structs.Goals as goal
-use Rattle.thrift_core.proofs.fields.structs.Goals.{in_default-via-in-Some-List+else-are_structs, in_default-via-in-Some+in_default, in_default-via-in_default}
+use Rattle.thrift_values.specs.Tree.{trees_of, list, value_of_field}
+use Rattle.thrift_values.specs.View.{view, views}
+use Rattle.thrift_values.specs.declared.value.TValue.{the_lemmas}
+use Rattle.thrift_values.proofs.Views.{view-List}
+use Rattle.thrift_values.specs.Fields.{as_struct}
+use Rattle.thrift_values.proofs.FieldKinds.{all_structs, list_in_field}
+use Rattle.thrift_values.proofs.fields.structs.Goals as goal
+use Rattle.thrift_values.proofs.fields.structs.Goals.{in_default-via-in-Some-List+else-are_structs, in_default-via-in-Some+in_default, in_default-via-in_default}
 
 pub returns-in-Some-List : goal.returns-in-Some-List
 returns-in-Some-List g c =

@@ -1,13 +1,13 @@
 use Rattle.std.proofs.Common.{rules, ◌≡◌, ◌++◌, ◌∷◌, [], Some, None, ℤ, ap, sym, refl, ◌∙◌, w16, to_z, of_z}
 use Rattle.std.proofs.lemmas.Int.{to_z-of_z}
 use Rattle.std.proofs.lemmas.List.{map_push}
-use Rattle.thrift_core.specs.Fields.{as_text, all_as}
-use Rattle.thrift_core.specs.Tree.{trees_of, list, value_of_field}
-use Rattle.thrift_core.specs.View.{view, views, texts_view}
-use Rattle.thrift_core.specs.declared.value.TValue.{the_lemmas}
-use Rattle.thrift_core.proofs.FieldKinds.{text_goes_on, text_fails, texts_done, list_in_field}
-use Rattle.thrift_core.proofs.Views.{view-List}
-use Rattle.thrift_core.proofs.fields.texts.Goals as goal
+use Rattle.thrift_values.specs.Fields.{as_text, all_as}
+use Rattle.thrift_values.specs.Tree.{trees_of, list, value_of_field}
+use Rattle.thrift_values.specs.View.{view, views, texts_view}
+use Rattle.thrift_values.specs.declared.value.TValue.{the_lemmas}
+use Rattle.thrift_values.proofs.FieldKinds.{text_goes_on, text_fails, texts_done, list_in_field}
+use Rattle.thrift_values.proofs.Views.{view-List}
+use Rattle.thrift_values.proofs.fields.texts.Goals as goal
 
 pub returns-in_default-as_text : goal.returns-in_default-as_text
 returns-in_default-as_text g c =

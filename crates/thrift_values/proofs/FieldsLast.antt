@@ -4,9 +4,9 @@ use Rattle.std.specs.Ordering.{int_eq}
 use Rattle.std.proofs.lemmas.List.{drop_all}
 use Rattle.std.proofs.lemmas.Bool.Decides.{Decides-int_eq}
 use Rattle.std.proofs.lemmas.Bool.{false_from_ne_true}
-use Rattle.thrift_core.specs.Tree.{Tree, later, last_of, fields_of}
-use Rattle.thrift_core.specs.View.{field_view, field_views}
-use Rattle.thrift_core.specs.declared.value.Field.{Field}
+use Rattle.thrift_values.specs.Tree.{Tree, later, last_of, fields_of}
+use Rattle.thrift_values.specs.View.{field_view, field_views}
+use Rattle.thrift_values.specs.declared.value.Field.{Field}
 
 later_assoc : (a b c : Option Tree) → later (later a b) c ≡ later a (later b c)
 later_assoc (Some v) b c = refl

@@ -1,8 +1,8 @@
 //! The fields of a struct, by their ids.
 
 ghost use Rattle.std.specs.Prelude.{◌≡◌, ◌↔◌, IsTrue, option_map, IfOk, IfErr, Some, None};
-ghost use Rattle.thrift_core.specs.Tree.{value_of_field};
-ghost use Rattle.thrift_core.specs.View.{view, field_view};
+ghost use Rattle.thrift_values.specs.Tree.{value_of_field};
+ghost use Rattle.thrift_values.specs.View.{view, field_view};
 
 use crate::fault::ThriftFault;
 use crate::value::{Field, TValue};

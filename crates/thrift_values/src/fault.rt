@@ -1,9 +1,9 @@
 //! Why bytes could not be read as a tree.
 
 ghost use Rattle.std.specs.Prelude.{◌≡◌, Some};
-ghost use Rattle.thrift_core.specs.FaultTexts.{error_text, fault_text};
-ghost use Rattle.thrift_core.specs.declared.fault.ThriftFault.TheVariants.{Bytes};
-ghost use Rattle.thrift_core.specs.declared.fault.ReadError.TheVariants.{Memory, Fault};
+ghost use Rattle.thrift_values.specs.FaultTexts.{error_text, fault_text};
+ghost use Rattle.thrift_values.specs.declared.fault.ThriftFault.TheVariants.{Bytes};
+ghost use Rattle.thrift_values.specs.declared.fault.ReadError.TheVariants.{Memory, Fault};
 
 use lake_bytes::ByteFault;
 use std::alloc::{AllocError, AllocFailed};

@@ -4,8 +4,8 @@
 ghost use Rattle.std.specs.Prelude.{◌≡◌, is_some, option_map};
 ghost use Rattle.std.specs.List.{list_all};
 ghost use Rattle.lake_bytes.specs.Reading.{IsReading};
-ghost use Rattle.thrift_core.specs.Fields.{as_integer, as_text, as_struct, as_list, optional, needed, natural, count, TreeGives};
-ghost use Rattle.thrift_core.specs.View.{view, views, texts_view};
+ghost use Rattle.thrift_values.specs.Fields.{as_integer, as_text, as_struct, as_list, optional, needed, natural, count, TreeGives};
+ghost use Rattle.thrift_values.specs.View.{view, views, texts_view};
 
 use crate::fault::{ReadError, ThriftFault};
 use crate::value::TValue;

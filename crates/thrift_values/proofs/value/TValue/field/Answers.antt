@@ -2,13 +2,13 @@ use Rattle.std.proofs.Common.{◌≡◌, ◌∷◌, ◌+◌, w16, to_z, of_z, ap
 use Rattle.std.proofs.lemmas.Bool.{false≢true}
 use Rattle.std.proofs.lemmas.List.{drop_more}
 use Rattle.std.proofs.lemmas.Int.{to_z-of_z}
-use Rattle.thrift_core.specs.Tree.{last_of, fields_of, value_of_field}
-use Rattle.thrift_core.specs.View.{view, field_view, field_views}
-use Rattle.thrift_core.specs.declared.value.TValue.{the_lemmas}
-use Rattle.thrift_core.proofs.Views.{view-Struct}
-use Rattle.thrift_core.proofs.FieldsLast.{found_here, not_here, all_seen}
-use Rattle.thrift_core.proofs.value.TValue.field.Goals as goal
-use Rattle.thrift_core.proofs.value.TValue.field.Goals.{then-has_id, else-has_id}
+use Rattle.thrift_values.specs.Tree.{last_of, fields_of, value_of_field}
+use Rattle.thrift_values.specs.View.{view, field_view, field_views}
+use Rattle.thrift_values.specs.declared.value.TValue.{the_lemmas}
+use Rattle.thrift_values.proofs.Views.{view-Struct}
+use Rattle.thrift_values.proofs.FieldsLast.{found_here, not_here, all_seen}
+use Rattle.thrift_values.proofs.value.TValue.field.Goals as goal
+use Rattle.thrift_values.proofs.value.TValue.field.Goals.{then-has_id, else-has_id}
 
 pub loop-field-preserved : goal.loop-field-preserved
 loop-field-preserved g c =

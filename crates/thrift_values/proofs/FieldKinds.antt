@@ -3,11 +3,11 @@ use Rattle.std.proofs.Common.{◌≡◌, ℕ, ◌+◌, ◌<◌, ◌≤◌, ℤ, 
 use Rattle.std.specs.List.{list_all}
 use Rattle.std.proofs.lemmas.List.{append-nil, append_assoc, at_drop_more, drop_all}
 use Rattle.std.proofs.lemmas.List.Folds.{list_all-map}
-use Rattle.thrift_core.specs.Fields.{as_text, as_struct, all_as, as_list, needed, or_missing}
-use Rattle.thrift_core.specs.Tree.{Tree, Trees, boolean, integer, binary, list, struct, skipped, trees_of, value_of_field}
-use Rattle.thrift_core.specs.Tree as trees
-use Rattle.thrift_core.specs.View.{view, views}
-use Rattle.thrift_core.specs.declared.value.TValue.{TValue}
+use Rattle.thrift_values.specs.Fields.{as_text, as_struct, all_as, as_list, needed, or_missing}
+use Rattle.thrift_values.specs.Tree.{Tree, Trees, boolean, integer, binary, list, struct, skipped, trees_of, value_of_field}
+use Rattle.thrift_values.specs.Tree as trees
+use Rattle.thrift_values.specs.View.{view, views}
+use Rattle.thrift_values.specs.declared.value.TValue.{TValue}
 
 -- ---- structs
 

@@ -1,11 +1,11 @@
 -- A value, level by level.
 use Rattle.std.proofs.Common.{◌≡◌, Vec, rules}
-use Rattle.thrift_core.specs.Tree as tree
-use Rattle.thrift_core.specs.View.{view, views, entry_view, entry_views, field_views}
-use Rattle.thrift_core.specs.declared.value.TValue.{TValue, the_lemmas}
-use Rattle.thrift_core.specs.declared.value.TValue as values
-use Rattle.thrift_core.specs.declared.value.MapEntry.{MapEntry, out-MapEntry}
-use Rattle.thrift_core.specs.declared.value.Field.{Field}
+use Rattle.thrift_values.specs.Tree as tree
+use Rattle.thrift_values.specs.View.{view, views, entry_view, entry_views, field_views}
+use Rattle.thrift_values.specs.declared.value.TValue.{TValue, the_lemmas}
+use Rattle.thrift_values.specs.declared.value.TValue as values
+use Rattle.thrift_values.specs.declared.value.MapEntry.{MapEntry, out-MapEntry}
+use Rattle.thrift_values.specs.declared.value.Field.{Field}
 
 pub view-List : {A : Type 0} → (v : Vec (TValue A) A) → view (values.List v) ≡ tree.list (tree.trees_of (views v.items))
 view-List v = search (rules, the_lemmas)

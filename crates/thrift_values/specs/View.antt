@@ -1,11 +1,12 @@
 -- The tree that a `TValue` stands for.
 use Rattle.std.specs.Prelude.{ℕ, List, ℤ, map, Vec}
-use Rattle.thrift_core.specs.Tree as tree
-use Rattle.thrift_core.specs.Tree.{Tree}
-use Rattle.thrift_core.specs.declared.value.TValue.{TValue, fold-TValue}
-use Rattle.thrift_core.specs.declared.value.TValue.TheOpen.{TValue-F, MapEntry-F, Field-F}
-use Rattle.thrift_core.specs.declared.value.MapEntry.{MapEntry, fold-MapEntry}
-use Rattle.thrift_core.specs.declared.value.Field.{Field, fold-Field}
+use Rattle.thrift_values.specs.Tree as tree
+use Rattle.thrift_values.specs.Tree.{Tree}
+pub use Rattle.thrift_values.specs.declared.value.TValue.{TValue}
+use Rattle.thrift_values.specs.declared.value.TValue.{fold-TValue}
+use Rattle.thrift_values.specs.declared.value.TValue.TheOpen.{TValue-F, MapEntry-F, Field-F}
+use Rattle.thrift_values.specs.declared.value.MapEntry.{MapEntry, fold-MapEntry}
+use Rattle.thrift_values.specs.declared.value.Field.{Field, fold-Field}
 
 -- one level, with each value inside already seen as its tree
 abbrev pub view_step : {A : Type 0} → TValue-F A Tree (ℤ × Tree) (Tree × Tree) → Tree

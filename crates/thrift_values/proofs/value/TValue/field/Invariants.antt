@@ -1,7 +1,7 @@
 use Rattle.std.proofs.Common.{◌≡◌, option_map, drop}
-use Rattle.thrift_core.specs.Tree.{later, last_of, fields_of}
-use Rattle.thrift_core.specs.View.{view, field_views}
-use Rattle.thrift_core.proofs.value.TValue.field.Given as goal
+use Rattle.thrift_values.specs.Tree.{later, last_of, fields_of}
+use Rattle.thrift_values.specs.View.{view, field_views}
+use Rattle.thrift_values.proofs.value.TValue.field.Given as goal
 
 -- what the fields behind give, or else what was found, is what all give
 abbrev pub invariant-loop-field : goal.invariant-loop-field

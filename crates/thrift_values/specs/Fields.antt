@@ -3,11 +3,11 @@ use Rattle.std.specs.Prelude.{ℕ, ℤ, pos, negsuc, List, [], ◌∷◌, Option
 use Rattle.outcomes.specs.Outcome as outcomes
 use Rattle.outcomes.specs.Results.{◌>>=◌}
 use Rattle.lake_bytes.specs.declared.fault.ByteFault.TheVariants.{OutOfRange}
-use Rattle.thrift_core.specs.Tree.{Tree, boolean, integer, binary, list, map, struct, skipped, Trees, no_trees, tree, value_of_field}
-use Rattle.thrift_core.specs.declared.fault.ThriftFault.{ThriftFault}
-use Rattle.thrift_core.specs.declared.fault.ThriftFault.TheVariants.{Bytes, MissingField}
-use Rattle.thrift_core.specs.declared.fault.ReadError.{ReadError}
-use Rattle.thrift_core.specs.Reading.{says}
+use Rattle.thrift_values.specs.Tree.{Tree, boolean, integer, binary, list, map, struct, skipped, Trees, no_trees, tree, value_of_field}
+use Rattle.thrift_values.specs.declared.fault.ThriftFault.{ThriftFault}
+use Rattle.thrift_values.specs.declared.fault.ThriftFault.TheVariants.{Bytes, MissingField}
+use Rattle.thrift_values.specs.declared.fault.ReadError.{ReadError}
+use Rattle.thrift_values.specs.Said.{says}
 
 -- a whole number of any width
 abbrev pub as_integer : Tree → Option ℤ

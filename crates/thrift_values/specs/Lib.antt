@@ -1,0 +1,6 @@
+pub mod Tree
+pub mod View
+pub mod Faults
+pub mod Said
+pub mod FaultTexts
+pub mod Fields
