@@ -16,6 +16,7 @@ use crate::counts::Counts;
 use crate::fault::{ReadError, SchemaFault};
 use crate::node::{Field, Node};
 use crate::primitive::Primitive;
+use field_metadata::Metadata;
 use serde_json::Value;
 use std::alloc::Global;
 
