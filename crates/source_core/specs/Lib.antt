@@ -1,9 +1,11 @@
-pub mod Handings
 pub mod SourceSessions
-pub mod TailFaults
-pub mod TailViews
-pub mod Tailing
 pub mod Tails
+pub use Rattle.log_rows.specs.Answers
+pub use Rattle.log_rows.specs.AnswerFaults
+pub use Rattle.log_rows.specs.Handings
+pub use Rattle.log_rows.specs.TailFaults
+pub use Rattle.log_rows.specs.TailViews
+pub use Rattle.log_rows.specs.Tailing
 pub use Rattle.parquet_file.specs.Reading as ParquetReading
 pub use Rattle.parquet_file.specs.File as ParquetFile
 pub use Rattle.commit_core.specs.TableSchema
