@@ -2,12 +2,12 @@
 
 ghost use Rattle.std.specs.Prelude.{◌≡◌, ◌↔◌, ℕ, List, Ok, Err};
 ghost use Rattle.row_core.specs.Rows.{Row};
-ghost use Rattle.row_assembly.specs.Assembly.{assembled, AreEven};
-ghost use Rattle.row_assembly.specs.Faults.{uneven_columns, level_mismatch};
-ghost use Rattle.row_assembly.specs.Mismatch.{FailsFirst, IsMismatch, StopsAt};
 ghost use Rattle.schema_tree.specs.Fault.{Path};
 ghost use Rattle.shred.specs.Columns.{Column, AreColumnsOf};
 ghost use Rattle.shred.specs.Shape.{Shape, HasFields};
+ghost use Rattle.row_assembly.specs.Assembly.{assembled, AreEven};
+ghost use Rattle.row_assembly.specs.Faults.{uneven_columns, level_mismatch};
+ghost use Rattle.row_assembly.specs.Mismatch.{FailsFirst, IsMismatch, StopsAt};
 
 /// Rows that fit, as columns, are assembled to these rows, where each struct has a field.
 pub fn rows_are_assembled_again()
