@@ -1,6 +1,6 @@
 -- The tree that a `Node` stands for.
 use Rattle.std.specs.Prelude.{List, map, string_bytes}
-unfoldable pub use Rattle.field_metadata.specs.View.{metadata_of}
+pub use Rattle.field_metadata.specs.View.{metadata_of}
 use Rattle.schema_tree.specs.Tree as tree
 use Rattle.schema_tree.specs.Tree.{Tree, Column, fields_of}
 use Rattle.schema_tree.specs.declared.node.Node.{Node, fold-Node}
