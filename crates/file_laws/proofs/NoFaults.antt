@@ -10,7 +10,7 @@ use Rattle.std.proofs.lemmas.List.Elements.{All-cons, All-contains, All-nil}
 use Rattle.outcomes.specs.Results.{◌>>=◌, or_refusal, refused_if}
 use Rattle.outcomes.specs.Bytes.{IsBytes}
 use Rattle.thrift_core.specs.Reading.{struct_at}
-use Rattle.thrift_core.specs.Faults.{ThriftFault}
+use Rattle.thrift_values.specs.declared.fault.ThriftFault.{ThriftFault}
 use Rattle.thrift_core.proofs.Callers.{struct_at_again}
 use Rattle.row_core.specs.Conforms.{is_leaf_value}
 use Rattle.row_core.specs.Rows.{Row, text}

@@ -6,7 +6,8 @@ use Rattle.std.specs.Str.{is_utf8}
 use Rattle.lake_bytes.specs.declared.fault.ByteFault.{ByteFault}
 use Rattle.lake_bytes.specs.declared.fault.ByteFault.TheVariants.{Short}
 use Rattle.thrift_core.specs.Tree as thrift
-use Rattle.thrift_core.specs.Faults.{ThriftFault, Bytes}
+use Rattle.thrift_values.specs.declared.fault.ThriftFault.{ThriftFault}
+use Rattle.thrift_values.specs.declared.fault.ThriftFault.TheVariants.{Bytes}
 use Rattle.row_core.specs.Conforms.{is_leaf_value}
 use Rattle.row_core.specs.Rows.{Value, Row, text}
 use Rattle.schema_tree.specs.Tree.{Tree}

@@ -4,7 +4,7 @@ use Rattle.std.specs.Prelude.{◌≡◌, ℕ, ◌-◌, ◌<◌, ◌≤◌, pos, 
 use Rattle.thrift_core.specs.Reading.{struct_at}
 use Rattle.thrift_core.specs.Spelling.{SpellsStruct}
 use Rattle.thrift_core.specs.Tree as thrift
-use Rattle.thrift_core.specs.Faults.{ThriftFault}
+use Rattle.thrift_values.specs.declared.fault.ThriftFault.{ThriftFault}
 use Rattle.schema_tree.specs.Tree.{Tree}
 use Rattle.row_assembly.specs.Columns.{Column}
 use Rattle.row_assembly.specs.Shape.{Shape}

@@ -24,8 +24,8 @@ use Rattle.snapshot_core.specs.declared.fault.SnapshotFault.{SnapshotFault}
 use Rattle.snapshot_core.specs.declared.fault.SnapshotFault.TheVariants as snapshots
 use Rattle.source_core.specs.TailFaults as tails
 use Rattle.source_core.specs.Tailing.{ReadRefusal}
-use Rattle.source_core.specs.Answers.{TailFault}
-use Rattle.source_core.specs.AnswerFaults as tail_faults
+use Rattle.log_rows.specs.declared.tail_fault.TailFault.{TailFault}
+use Rattle.log_rows.specs.declared.tail_fault.TailFault.TheVariants as tail_faults
 use Rattle.lake_script.specs.declared.reply.LineReply.TheVariants as replies
 use Rattle.lake_script.specs.AnyStore.{Looks, TellsCheckpoint, TellsCreation, TellsForeign, TellsSnapshotLine, lost_to_append, lost_to_create, lost_to_read, lost_to_show, lost_to_tell}
 use Rattle.lake_script.specs.ReplyView.{reply_text, says_lost}

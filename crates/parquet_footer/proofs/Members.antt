@@ -8,9 +8,11 @@ use Rattle.outcomes.proofs.Callers.{with_front, regroup}
 use Rattle.thrift_core.specs.Fields.{each}
 use Rattle.thrift_core.specs.Said.{says}
 use Rattle.thrift_core.specs.Tree.{Tree}
-use Rattle.thrift_core.specs.View.{TValue, view, views}
-use Rattle.thrift_core.specs.Faults.{ReadError, ThriftFault}
-use Rattle.thrift_core.specs.Faults as errors
+use Rattle.thrift_core.specs.View.{view, views}
+use Rattle.thrift_values.specs.declared.value.TValue.{TValue}
+use Rattle.thrift_values.specs.declared.fault.ReadError.{ReadError}
+use Rattle.thrift_values.specs.declared.fault.ThriftFault.{ThriftFault}
+use Rattle.thrift_values.specs.declared.fault.ReadError.TheVariants as errors
 use Rattle.parquet_footer.specs.Reading.{claims_within_limit}
 use Rattle.parquet_footer.specs.Views.{group_views}
 use Rattle.parquet_footer.specs.declared.footer.RowGroup.{RowGroup}

@@ -48,8 +48,9 @@ use Rattle.sink_core.specs.SinkSessions.{IsFine, LosesOther, SinkJob, SinkTask, 
 use Rattle.sink_core.specs.declared.sink_state.SinkOutcome.{SinkOutcome}
 use Rattle.sink_core.specs.declared.sink_state.SinkOutcome.TheVariants.{Already, AlreadyClosed, Closed, Committed}
 use Rattle.source_core.specs.SourceSessions.{SourceJob}
-use Rattle.source_core.specs.Answers.{ReadRows, TailFault}
-use Rattle.source_core.specs.AnswerFaults as read_faults
+use Rattle.log_rows.specs.declared.read_state.ReadRows.{ReadRows}
+use Rattle.log_rows.specs.declared.tail_fault.TailFault.{TailFault}
+use Rattle.log_rows.specs.declared.tail_fault.TailFault.TheVariants as read_faults
 use Rattle.read_laws.specs.Readable.{HasReadableFiles}
 use Rattle.read_laws.specs.Readers.{MayTellOfTable}
 use Rattle.session_laws.specs.Sessions.{ends_lost}

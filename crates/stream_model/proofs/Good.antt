@@ -28,7 +28,8 @@ use Rattle.sink_core.specs.declared.sink_state.SinkOutcome.TheVariants.{Already,
 use Rattle.session_laws.specs.Rows.{IsBatchOf, TellsOfBatch}
 use Rattle.log_offsets.specs.Offsets.{offset_view}
 use Rattle.source_core.specs.SourceSessions.{SourceJob}
-use Rattle.source_core.specs.Answers.{ReadRows, TailFault}
+use Rattle.log_rows.specs.declared.read_state.ReadRows.{ReadRows}
+use Rattle.log_rows.specs.declared.tail_fault.TailFault.{TailFault}
 use Rattle.source_core.specs.declared.source_session.ReadEnd.{ReadEnd}
 use Rattle.row_core.specs.Views.{row_views}
 use Rattle.session_laws.specs.Sessions.{Asks, Does, HasAsked, Job, Outcome, read, reads, stream, streams, tells}

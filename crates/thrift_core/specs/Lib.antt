@@ -7,7 +7,6 @@ pub mod Writable
 pub mod SpellsAs
 pub use Rattle.thrift_values.specs.Tree
 pub use Rattle.thrift_values.specs.View
-pub use Rattle.thrift_values.specs.Faults
 pub use Rattle.thrift_values.specs.Said
 pub use Rattle.thrift_values.specs.FaultTexts
 pub use Rattle.thrift_values.specs.Fields

@@ -2,8 +2,7 @@
 use Rattle.std.specs.Prelude.{ℕ, List, ℤ, map, Vec}
 use Rattle.thrift_values.specs.Tree as tree
 use Rattle.thrift_values.specs.Tree.{Tree}
-pub use Rattle.thrift_values.specs.declared.value.TValue.{TValue}
-use Rattle.thrift_values.specs.declared.value.TValue.{fold-TValue}
+use Rattle.thrift_values.specs.declared.value.TValue.{TValue, fold-TValue}
 use Rattle.thrift_values.specs.declared.value.TValue.TheOpen.{TValue-F, MapEntry-F, Field-F}
 use Rattle.thrift_values.specs.declared.value.MapEntry.{MapEntry, fold-MapEntry}
 use Rattle.thrift_values.specs.declared.value.Field.{Field, fold-Field}
