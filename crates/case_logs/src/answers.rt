@@ -2,7 +2,7 @@
 
 use crate::snapshots::{tell_domains, tell_files, tell_numbers, tell_protocol, tell_sizes};
 use case_words::Transcript;
-use delta_actions::GREATEST_VERSION;
+use store_core::GREATEST_VERSION;
 use delta_checkpoint::{checkpoint_name, checkpoint_version, print_checkpoint};
 use delta_replay::{FileAction, Snapshot, SupportError};
 use schema_tree::Schema;

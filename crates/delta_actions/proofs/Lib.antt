@@ -1,5 +1,4 @@
 pub mod Callers
-pub mod Digits
 pub mod Lines
 pub mod Commits
 pub mod Again

@@ -6,7 +6,7 @@ use Rattle.store_core.specs.Calls.{Flight}
 use Rattle.store_core.specs.Objects.{HasObjectsOf, Objects}
 use Rattle.session_core.specs.Talks.{Asked, Bears, IsBorne, Talk, get_object, list_names, put_commit, put_file}
 use Rattle.session_core.proofs.Callers.{bears_grows, borne_grows}
-use Rattle.delta_actions.specs.Names.{commit_name}
+use Rattle.store_core.specs.Names.{commit_name}
 use Rattle.table_model.specs.Appends.{TellsAppend, TellsClose}
 use Rattle.table_model.specs.Lawful.{BeginsWithCreation}
 use Rattle.table_model.specs.Table.{Batch, Entry}

@@ -14,7 +14,7 @@ use crate::reader::ObjectReader;
 use crate::reason::{Reason, Unsound};
 use crate::verdict::Verdict;
 use crate::walk::{Beginning, Reached, Walk, begin, ended, walk_on};
-use delta_actions::{GREATEST_VERSION, commit_name};
+use store_core::{GREATEST_VERSION, commit_name};
 use std::alloc::Global;
 
 /// Whether objects are sound: their log is lawful, each batch's file stands and is one of the table's, no commit stands
