@@ -22,7 +22,7 @@ pub use file_path::FilePath;
 pub use json_fields::TextMap;
 pub use lent::ActionRef;
 pub use names::data_file_name;
-pub use store_core::GREATEST_VERSION;
 pub use printing::{print_commit, print_lent_lines, print_line};
 pub use reading::{read_commit, read_line};
+pub use store_core::GREATEST_VERSION;
 pub use table_format::TableFormat;

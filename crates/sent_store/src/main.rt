@@ -7,10 +7,9 @@ ghost use Rattle.store_core.specs.Memory.{stored_objects};
 ghost use Rattle.store_core.specs.Objects.{object_at};
 
 use std::alloc::Global;
-use std::io;
 use std::process::ExitCode;
-use std::thread;
 use std::thread::Threads;
+use std::{io, thread};
 use store_core::{MemoryStore, Names, Store, StoreFault};
 
 /// The store with an object of no bytes under a name, where none stood there.
