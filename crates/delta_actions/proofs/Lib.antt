@@ -2,6 +2,7 @@ pub mod Callers
 pub mod Lines
 pub mod Commits
 pub mod Again
+pub mod PieceLemmas
 pub mod PrintedLines
 pub mod Readable
 pub mod TextBytes
