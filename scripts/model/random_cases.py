@@ -38,10 +38,14 @@ def case_lines(seed: int, restores: bool) -> list[str]:
     return [f"{name}, read from version 0", ">> replays", ">> entries", *script, ""]
 
 
-def laws(case: ScriptCase, answer: list[str]) -> str:
-    """What an answer says of batches and reads by itself; Broken where that isn't as it has to be."""
-    script = case.script.decode().removesuffix("\n").split("\n")
-    return headline(script, answer[: answer.index("end Done")])
+def script_lines(case: ScriptCase) -> list[str]:
+    """The lines of a case's script."""
+    return case.script.decode().removesuffix("\n").split("\n")
+
+
+def replies_in(answer: list[str]) -> list[str]:
+    """The replies in an answer, behind which it tells how the script ended and which table is left."""
+    return answer[: answer.index("end Done")]
 
 
 def put(name: str, lines: list[str]) -> None:
@@ -61,7 +65,7 @@ def main() -> int:
     answers: list[str] = []
     for case in script_cases(asked):
         answer = script_answer(case)
-        print(f"{case.name}: {laws(case, answer)}")
+        print(f"{case.name}: {headline(script_lines(case), replies_in(answer))}")
         answers += [f"== {case.name}", *answer]
     put("stdin", asked)
     put("stdout", answers)

@@ -4,7 +4,7 @@
 says about how many versions its log gets. `schedules.py --answer SCRIPT` prints the replies of this model.
 `schedules.py --check SCRIPT REPLIES` compares replies with the model's, and then tests by the replies alone
 that batches and reads are as they have to be; it ends with status 1 where one isn't. With `--no-checkpoint`
-each of them is of logs that are read from version 0.
+each of them is of logs that are read from version 0. `random_cases.py` stores a few such scripts as cases.
 """
 
 from pathlib import Path
