@@ -18,6 +18,8 @@ import sys
 from pages import page_lines
 from parquet_reader import ReadFault, read_file
 from parquet_writer import write_file
+from random_cases import is_random, replies_in, script_lines
+from reply_cases import found_in, reply_cases
 from script_cases import script_answer, script_cases
 from session_cases import session_answer, session_cases
 from table import NotModelled, RowFault
@@ -108,6 +110,28 @@ def check_scripts() -> Tally:
         tally.compare(name, partial(script_answer, case), stored.pop(case.name, []))
     if stored:
         raise SystemExit("scripts: a stored answer is left over")
+    return tally
+
+
+def check_random_scripts() -> Tally:
+    """Looks that the stored answers to random scripts keep the laws of batches and reads by themselves.
+
+    None of these scripts may be skipped: the model knows all of their lines.
+    """
+    tally = Tally()
+    stored = stored_scripts(lines_of_kind("scripts", "stdout"))
+    for case in filter(is_random, script_cases(lines_of_kind("scripts", "stdin"))):
+        script_answer(case)
+        script, told = script_lines(case), replies_in(stored[case.name])
+        tally.compare(f"random scripts: {case.name}", partial(found_in, script, told), ["lawful"])
+    return tally
+
+
+def check_replies() -> Tally:
+    """Looks which replies are found to break a law of batches and reads, and which law."""
+    tally = Tally()
+    for case in reply_cases():
+        tally.compare(f"replies: {case.name}", partial(found_in, case.script, case.told), case.found)
     return tally
 
 
@@ -416,6 +440,8 @@ def main() -> int:
     total = Tally()
     checks = {
         "scripts": check_scripts,
+        "random scripts, by themselves": check_random_scripts,
+        "replies that break laws": check_replies,
         "calls": check_sessions,
         "lake_inspect": check_lines,
     }

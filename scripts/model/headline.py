@@ -1,16 +1,19 @@
 """Whether the replies to a script say what they have to of batches and reads, by the replies alone.
 
-The script begins with a creation, and ends with `history` and a `tail` of all rows. No model of stores or sessions stands behind this:
-each acknowledged batch stands in the log once, every batch at most once and with rows that were handed in
-under its number, numbers of an application rise, none stands behind its close, and each read got just the
-rows of the log between its two offsets. Readers that go on where they ended got a front of the rows.
+The script begins with a creation, and ends with `history` and a `tail` of all rows. No model of stores or
+sessions stands behind this: each line gets a reply of its kind, each acknowledged batch stands in the log
+once, every batch at most once and with rows that were handed in under its number, numbers of an application
+rise, none stands behind its close, and each read got just the rows of the log between its two offsets.
+Readers that go on where they ended got a front of the rows.
+
+Replies that break each of these laws, written by hand, stand in `broken_replies.txt`.
 """
 
 from collections import Counter
 from typing import Any, NamedTuple
 import json
 
-from script_lines import Append, Close, Job, Plain, Start, Tail
+from script_lines import Append, BadLine, Checkpoint, Close, Create, Job, Plain, Start, Tail
 from script_lines import line as line_of
 from table import Offset, offset_of
 
@@ -20,6 +23,15 @@ Row = dict[str, Any]
 
 # Refusals that no job is told once a table stands that this product alone writes, and those of memory.
 NEVER = {"S9", "S12", "K7", "K8", "O1", "O3", "O4", "O5", "O6", "O11", "O12", "S6", "O9", "K6", "E4"}
+
+# The first words of what a job may be told at its end, but for refusals.
+ENDS: dict[type, tuple[str, ...]] = {
+    Append: ("Committed", "Already"),
+    Checkpoint: ("Checkpointed",),
+    Close: ("Closed", "AlreadyClosed"),
+    Create: ("Created",),
+    Tail: ("next",),
+}
 
 
 class Broken(Exception):
@@ -41,6 +53,10 @@ class Entry(NamedTuple):
 
     application: str
     number: int | None
+
+    def __str__(self) -> str:
+        word = "the close" if self.number is None else f"batch {self.number}"
+        return f"{word} of {self.application}"
 
 
 def need(holds: bool, text: str) -> None:
@@ -109,7 +125,10 @@ class Talk:
 
     def take(self, text: str) -> None:
         """Takes a line and its reply."""
-        line = line_of(text)
+        try:
+            line = line_of(text)
+        except BadLine as bad:
+            raise Broken(f"{text} is no line") from bad
         if isinstance(line, Start):
             need(self.replies.one() == "ok", f"{text}: not ok")
             self.jobs[line.actor] = line.job
@@ -126,14 +145,18 @@ class Talk:
         """Takes a line that is no job."""
         if line.word == "history":
             self.entries = self.replies.history()
+            need(bool(self.entries), "a history tells no version")
         elif line.word == "die":
             self.jobs.pop(line.arguments[0], None)
             self.replies.one()
         elif line.word in ("until", "step", "finish"):
             actor = line.arguments[0]
             told = self.replies.read()
-            if told != ["ok"] and told != ["refused Q2 NoActor"]:
-                need(actor in self.jobs, f"{actor} has no job, and was told {told[-1]}")
+            if told == ["refused Q2 NoActor"]:
+                need(actor not in self.jobs, f"{actor} has a job, and was told that it has none")
+                return
+            need(actor in self.jobs, f"{actor} has no job, and was told {told[-1]}")
+            if told != ["ok"]:
                 self.end(actor, self.jobs.pop(actor), told)
         elif line.word != "fault":
             self.replies.one()
@@ -146,7 +169,10 @@ class Talk:
                 rows.append(job.values)
 
     def end(self, actor: str, job: Any, told: list[str]) -> None:
-        """Keeps what a job was told at its end."""
+        """Keeps what a job was told at its end, which has to be of its kind."""
+        word = told[-1].split(" ")[0]
+        need(word in ("refused", *ENDS[type(job)]), f"a job of another kind was told {told[-1]}")
+        need(len(told) == 1 or word == "next", f"rows stand in front of {told[-1]}")
         self.outcomes.append((job, told[-1]))
         if not isinstance(job, Tail) or told[-1].startswith("refused O7"):
             return
@@ -164,6 +190,7 @@ class Facts:
     def __init__(self, talk: Talk) -> None:
         self.entries = talk.entries
         self.versions = {entry: version for version, entry in enumerate(talk.entries) if entry}
+        need(bool(talk.reads), "no read was told rows")
         last = talk.reads[-1]
         is_whole = last.start == (0, 0, 0) and last.end == (len(talk.entries), 0, 0)
         need(is_whole, "the last read isn't of all rows")
@@ -172,7 +199,8 @@ class Facts:
         for job, told in talk.outcomes:
             if isinstance(job, Append) and told.startswith(("Committed ", "Already ")):
                 key = job.application, job.number
-                need(self.acknowledged.setdefault(key, job.values) == job.values, f"two batches of {key}")
+                rows = self.acknowledged.setdefault(key, job.values)
+                need(rows == job.values, f"other rows stand as {Entry(*key)}")
         self.starts = self.divided(talk)
 
     def divided(self, talk: Talk) -> list[int]:
@@ -234,7 +262,7 @@ def test_log(facts: Facts) -> None:
     last: dict[str, int] = {}
     closed: set[str] = set()
     for version, entry in enumerate(facts.entries):
-        need((entry is None) == (version == 0), f"version {version} is {entry}")
+        need((entry is None) == (version == 0), f"version {version} is {entry or 'a creation'}")
         if entry is None:
             continue
         need(entry.application not in closed, f"{entry} stands behind its close")
@@ -244,7 +272,7 @@ def test_log(facts: Facts) -> None:
             need(entry.number > last.get(entry.application, -1), f"{entry} doesn't rise")
             last[entry.application] = entry.number
     for key in facts.acknowledged:
-        need(Entry(*key) in facts.versions, f"{key} was acknowledged and doesn't stand")
+        need(Entry(*key) in facts.versions, f"{Entry(*key)} was acknowledged and doesn't stand")
 
 
 def test_outcome(facts: Facts, job: Job, reply: str) -> None:
@@ -267,7 +295,7 @@ def test_outcome(facts: Facts, job: Job, reply: str) -> None:
         "S1": number is not None and number < count and Entry(job.application, count) in facts.versions,
         "S2": own is None and Entry(job.application, None) in facts.versions,
     }
-    need(holds.get(kind, True), f"{job.application} {number}: {reply}")
+    need(holds.get(kind, True), f"{Entry(job.application, number)} isn't so: {reply}")
 
 
 def test_read(facts: Facts, read: Read) -> None:

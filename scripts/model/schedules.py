@@ -4,7 +4,7 @@
 says about how many versions its log gets. `schedules.py --answer SCRIPT` prints the replies of this model.
 `schedules.py --check SCRIPT REPLIES` compares replies with the model's, and then tests by the replies alone
 that batches and reads are as they have to be; it ends with status 1 where one isn't. With `--no-checkpoint`
-each of them is of logs that are read from version 0.
+each of them is of logs that are read from version 0. `random_cases.py` stores a few such scripts as cases.
 """
 
 from pathlib import Path
@@ -18,10 +18,9 @@ from stores import version_of
 from table import Offset, compact, offset_of
 from world import World
 
-TABLE = (
-    'create 00000000-0000-4000-8000-000000000001 0 {"type":"struct","fields":'
-    '[{"name":"x","type":"long","nullable":false,"metadata":{}}]}'
-)
+CREATE = 'create 00000000-0000-4000-8000-000000000001 0 {"type":"struct","fields":['
+TEXT_COLUMN = '{"name":"s","type":"string","nullable":true,"metadata":{}}'
+NUMBER_COLUMN = '{"name":"x","type":"long","nullable":false,"metadata":{}}'
 LOSSES = ("lost", "mute", "late")
 LIVE_STREAMS = 6
 WRITERS = [f"w{number}" for number in range(8)]
@@ -50,6 +49,9 @@ class Schedule:
         self.count = count
         self.versions = versions
         self.world = World({}, restores)
+        self.has_text = self.chance(50)
+        columns = [TEXT_COLUMN, NUMBER_COLUMN] if self.has_text else [NUMBER_COLUMN]
+        self.table = f"{CREATE}{','.join(columns)}]}}"
         self.lines: list[str] = []
         self.named = 0
         self.row = 0
@@ -60,7 +62,7 @@ class Schedule:
 
     def script(self) -> list[str]:
         """The lines of the script."""
-        self.say(TABLE)
+        self.say(self.table)
         events = [self.begin, self.go_on, self.plain, self.read, self.land, self.set, self.stray]
         weights = [20, 42, 9, 18, 6, 3, 2]
         while len(self.lines) < self.count:
@@ -109,7 +111,13 @@ class Schedule:
         """A few rows, none of which was there before."""
         count = self.random.choice([0, 1, 1, 1, 2, 3])
         self.row += count
-        return compact([{"x": number} for number in range(self.row - count, self.row)])
+        return compact([self.row_of(number) for number in range(self.row - count, self.row)])
+
+    def row_of(self, number: int) -> dict[str, str | int | None]:
+        """The row of a number, of which the text may be null."""
+        if not self.has_text:
+            return {"x": number}
+        return {"s": None if self.chance(20) else f"row {number}", "x": number}
 
     def close(self) -> str:
         """The line of a close; another stream begins."""
@@ -158,13 +166,17 @@ class Schedule:
             how = self.random.choices(["finish", "die", *hows], [12, 4, 45, 25, 6, 2, 3, 3])[0]
         is_line = how in ("finish", "die", "until")
         self.say(f"{how} {name}" if is_line else f"step {name} {how}")
+        # Mostly a later commit takes the version first, unless the put lands at once.
+        if how == "late" and self.world.flight and self.chance(60):
+            self.say(f"land {len(self.world.flight) - 1}")
 
     def plain(self) -> None:
         """A line without an actor."""
         if self.chance(20):
             self.say(f"tail {self.random.choice([1, 3, 10])} {self.place().text()}")
         elif self.chance(4):
-            self.say(self.random.choice(["append  0 0 []", "close  0", "append a 1000000000000 0 []"]))
+            numbered = ["append  0 0 []", "close  0", "append a 1000000000000 0 []"]
+            self.say(self.random.choice([*numbered, "tail 1 nothing"]))
         elif self.chance(4):
             self.say(f"append {self.live[0].name} {self.live[0].next + 1} 0 [{{}}]")
         else:
@@ -219,11 +231,17 @@ class Schedule:
         name = self.random.choice(["nobody", *WRITERS, *READERS])
         if name in self.world.actors:
             name = "nobody"
-        lines = [f"until {name}", f"step {name} late", f"finish {name}", f"die {name}", TABLE]
+        lines = [f"until {name}", f"step {name} late", f"finish {name}", f"die {name}", self.table]
+        lines.append(f"start {name} tail 1 nothing")
         if self.chance(80):
             self.say(self.random.choice(lines))
         else:
             self.lines.append(self.random.choice(["", "# nothing"]))
+
+
+def versions_of(count: int) -> int:
+    """About how many versions the log of a script of so many lines gets, unless it is said."""
+    return min(count // 10 + 20, 2_000)
 
 
 def lines_in(path: str) -> list[str]:
@@ -284,7 +302,7 @@ def main() -> int:
         told, _ = World({}, restores).answers("\n".join(lines_in(given.answer)))
         print("\n".join(told))
         return 0
-    versions = given.versions or min(given.count // 10 + 20, 2_000)
+    versions = given.versions or versions_of(given.count)
     print("\n".join(Schedule(given.seed, given.count, versions, restores).script()))
     return 0
 

@@ -135,11 +135,6 @@ impl<'a> Script<'a> {
         }
     }
 
-    /// Logs are read from version 0, as by the directive.
-    pub fn replay(&mut self, told: &mut Transcript) {
-        told.note(self.flags.push("replays"));
-    }
-
     /// Whether a directive was given.
     pub fn has(&self, directive: &str) -> bool {
         for flag in &self.flags {

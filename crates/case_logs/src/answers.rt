@@ -2,11 +2,11 @@
 
 use crate::snapshots::{tell_domains, tell_files, tell_numbers, tell_protocol, tell_sizes};
 use case_words::Transcript;
-use delta_actions::GREATEST_VERSION;
 use delta_checkpoint::{checkpoint_name, checkpoint_version, print_checkpoint};
 use delta_replay::{FileAction, Snapshot, SupportError};
 use schema_tree::Schema;
 use std::alloc::Global;
+use store_core::GREATEST_VERSION;
 
 /// Adds the versions of the protocol, the table's id, all of a list, or how long the lists are.
 pub fn tell_list(snapshot: &Snapshot, word: &str, told: &mut Transcript) {

@@ -8,7 +8,6 @@ pub mod CreationLemmas
 pub mod CreationTalks
 pub mod HistoryLemmas
 pub mod OtherStreams
-pub mod PieceLemmas
 pub mod PutLemmas
 pub mod RaceLaws
 pub mod RaceLemmas

@@ -1,8 +1,8 @@
 pub mod Callers
-pub mod Digits
 pub mod Lines
 pub mod Commits
 pub mod Again
+pub mod PieceLemmas
 pub mod PrintedLines
 pub mod Readable
 pub mod TextBytes

@@ -1,4 +1,3 @@
 pub mod Places
 pub mod Printed
 pub mod Restored
-pub mod TwentyDigits

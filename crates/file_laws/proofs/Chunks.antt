@@ -10,7 +10,7 @@ use Rattle.std.proofs.lemmas.List.Elements.{All-cons, All-contains, All-nil}
 use Rattle.outcomes.specs.Results.{◌>>=◌, or_refusal, refused_if}
 use Rattle.outcomes.specs.Bytes.{IsBytes}
 use Rattle.schema_tree.specs.Tree.{Tree}
-use Rattle.shred.specs.Columns.{Column}
+use Rattle.row_assembly.specs.Columns.{Column}
 use Rattle.parquet_footer.specs.Metadata.{ColumnChunk, RowGroup}
 use Rattle.parquet_footer.specs.declared.fault.FileFault.{FileFault}
 use Rattle.parquet_footer.specs.declared.fault.FileFault.TheVariants.{BadOffset, Codec, SchemaMismatch}

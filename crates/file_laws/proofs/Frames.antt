@@ -10,8 +10,8 @@ use Rattle.outcomes.specs.Results.{◌>>=◌}
 use Rattle.outcomes.specs.Bytes.{IsBytes}
 use Rattle.lake_bytes.specs.declared.fault.ByteFault.TheVariants.{Short}
 use Rattle.thrift_core.specs.Reading.{struct_at}
-use Rattle.thrift_core.specs.declared.fault.ThriftFault.{ThriftFault}
-use Rattle.thrift_core.specs.declared.fault.ThriftFault.TheVariants.{Bytes}
+use Rattle.thrift_values.specs.declared.fault.ThriftFault.{ThriftFault}
+use Rattle.thrift_values.specs.declared.fault.ThriftFault.TheVariants.{Bytes}
 use Rattle.schema_tree.specs.Tree.{Tree}
 use Rattle.parquet_footer.specs.Frame.{FramedAs, footer_length, frame_of, front_of, is_framed, magic}
 use Rattle.parquet_footer.specs.Metadata.{RowGroup, FileMetaData, metadata_of}

@@ -11,10 +11,10 @@ use Rattle.outcomes.specs.Bytes.{IsBytes}
 use Rattle.row_core.specs.Rows.{Row}
 use Rattle.schema_tree.specs.Limits.{IsWithinLimits}
 use Rattle.schema_tree.specs.Tree.{Tree}
-use Rattle.shred.specs.Assembly.{assembled}
-use Rattle.shred.specs.Columns.{Column}
-use Rattle.shred.specs.Shape.{HasFields, Shape}
-use Rattle.shred.proofs.Callers.{assembled_complete}
+use Rattle.row_assembly.specs.Assembly.{assembled}
+use Rattle.row_assembly.specs.Columns.{Column}
+use Rattle.row_assembly.specs.Shape.{HasFields, Shape}
+use Rattle.row_assembly.proofs.Callers.{assembled_complete}
 use Rattle.parquet_footer.specs.Frame.{FramedAs, frame_of}
 use Rattle.parquet_footer.specs.Metadata.{ColumnChunk, RowGroup, FileMetaData}
 use Rattle.parquet_footer.specs.Reading.{metadata_at}

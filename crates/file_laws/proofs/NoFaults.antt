@@ -10,15 +10,15 @@ use Rattle.std.proofs.lemmas.List.Elements.{All-cons, All-contains, All-nil}
 use Rattle.outcomes.specs.Results.{◌>>=◌, or_refusal, refused_if}
 use Rattle.outcomes.specs.Bytes.{IsBytes}
 use Rattle.thrift_core.specs.Reading.{struct_at}
-use Rattle.thrift_core.specs.declared.fault.ThriftFault.{ThriftFault}
+use Rattle.thrift_values.specs.declared.fault.ThriftFault.{ThriftFault}
 use Rattle.thrift_core.proofs.Callers.{struct_at_again}
 use Rattle.row_core.specs.Conforms.{is_leaf_value}
 use Rattle.row_core.specs.Rows.{Row, text}
 use Rattle.schema_tree.specs.Limits.{IsWithinLimits}
 use Rattle.schema_tree.specs.Tree.{Tree}
-use Rattle.shred.specs.Assembly.{assembled}
-use Rattle.shred.specs.Columns.{Column}
-use Rattle.shred.proofs.Callers.{assembled_sound}
+use Rattle.row_assembly.specs.Assembly.{assembled}
+use Rattle.row_assembly.specs.Columns.{Column}
+use Rattle.row_assembly.proofs.Callers.{assembled_sound}
 use Rattle.parquet_footer.specs.Frame.{framed, magic}
 use Rattle.parquet_footer.specs.Metadata.{ColumnChunk, RowGroup, FileMetaData, metadata_of}
 use Rattle.parquet_footer.specs.Reading.{claims_within_limit, within_limits}

@@ -8,7 +8,7 @@ use Rattle.thrift_core.proofs.Callers.{struct_at_again}
 use Rattle.row_core.specs.Conforms.{is_leaf_value}
 use Rattle.row_core.specs.Rows.{Row}
 use Rattle.schema_tree.specs.Tree.{Tree}
-use Rattle.shred.specs.Columns.{Column}
+use Rattle.row_assembly.specs.Columns.{Column}
 use Rattle.parquet_footer.specs.declared.fault.FileFault.{FileFault}
 use Rattle.parquet_footer.specs.declared.fault.FileFault.TheVariants.{CountMismatch, NotUtf8, SchemaMismatch, TooLarge}
 use Rattle.parquet_footer.proofs.Callers.{bind_ok, ok_is}

@@ -3,7 +3,7 @@ use Rattle.std.proofs.Common.{◌≡◌, ℕ, ◌<◌, ◌≤◌, ◌+◌, ◌-�
 use Rattle.std.specs.List.{list_all, list_any}
 use Rattle.std.proofs.lemmas.Bool.{ltb-false, ltb-true, not-false, or_parts}
 use Rattle.outcomes.specs.Results.{◌>>=◌, refused_as, refused_if}
-use Rattle.shred.specs.Columns.{Column}
+use Rattle.row_assembly.specs.Columns.{Column}
 use Rattle.parquet_footer.specs.declared.fault.FileFault.{FileFault}
 use Rattle.parquet_footer.specs.declared.fault.FileFault.TheVariants.{BadOffset, CountMismatch, NotUtf8, SchemaMismatch, TooLarge}
 use Rattle.parquet_footer.proofs.Callers.{bind_ok, ok_is}

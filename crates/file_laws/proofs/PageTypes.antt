@@ -4,7 +4,7 @@ use Rattle.std.specs.Ordering.{int_eq}
 use Rattle.outcomes.specs.Results.{◌>>=◌}
 use Rattle.thrift_core.specs.Fields.{as_integer, as_struct, count, needed}
 use Rattle.thrift_core.specs.Tree.{Tree}
-use Rattle.thrift_core.specs.declared.fault.ThriftFault.{ThriftFault}
+use Rattle.thrift_values.specs.declared.fault.ThriftFault.{ThriftFault}
 use Rattle.parquet_footer.proofs.Callers.{bind_ok, ok_is}
 use Rattle.parquet_pages.specs.Headers.{Content, Header, content_of, data_page, data_page_of, dictionary_page_of, header_of, level_encoding_of, other_page}
 

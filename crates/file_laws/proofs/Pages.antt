@@ -11,7 +11,7 @@ use Rattle.thrift_core.specs.Reading.{struct_at}
 use Rattle.row_core.specs.Conforms.{is_leaf_value}
 use Rattle.row_core.specs.Rows.{Value, text}
 use Rattle.schema_tree.specs.Tree.{Tree}
-use Rattle.shred.specs.Columns.{Column}
+use Rattle.row_assembly.specs.Columns.{Column}
 use Rattle.parquet_footer.specs.declared.fault.FileFault.{FileFault}
 use Rattle.parquet_footer.specs.declared.fault.FileFault.TheVariants.{BadOffset, BadPage, CountMismatch, Encoding, NotUtf8, PageKind, SchemaMismatch, TooLarge}
 use Rattle.parquet_footer.proofs.Callers.{bind_ok, bytes_behind, ok_is}

@@ -10,9 +10,9 @@ use Rattle.outcomes.specs.Results.{◌>>=◌, or_refusal, refused_as, refused_if
 use Rattle.thrift_core.proofs.Callers.{struct_at_again}
 use Rattle.row_core.specs.Rows.{Row}
 use Rattle.schema_tree.specs.Tree.{Tree}
-use Rattle.shred.specs.Assembly.{assembled}
-use Rattle.shred.specs.Columns.{Column}
-use Rattle.shred.specs.Shape.{Shape}
+use Rattle.row_assembly.specs.Assembly.{assembled}
+use Rattle.row_assembly.specs.Columns.{Column}
+use Rattle.row_assembly.specs.Shape.{Shape}
 use Rattle.parquet_footer.specs.Frame.{frame_of}
 use Rattle.parquet_footer.specs.Metadata.{ColumnChunk, RowGroup, FileMetaData}
 use Rattle.parquet_footer.specs.Reading.{claims_within_limit, metadata_at, within_limits}

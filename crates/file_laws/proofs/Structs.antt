@@ -4,7 +4,7 @@ use Rattle.outcomes.specs.Bytes.{IsBytes}
 use Rattle.thrift_core.specs.Reading.{struct_at}
 use Rattle.thrift_core.specs.Spelling.{SpellsFields, SpellsStruct}
 use Rattle.thrift_core.specs.Tree.{Tree, boolean, integer, binary, list, map, struct, skipped, Fields, no_fields, field}
-use Rattle.thrift_core.specs.declared.fault.ThriftFault.{ThriftFault}
+use Rattle.thrift_values.specs.declared.fault.ThriftFault.{ThriftFault}
 use Rattle.thrift_core.proofs.Callers.{struct_at_again, struct_at_found}
 use Rattle.file_laws.specs.Places.{BeginsWithStruct, HasNoStruct}
 use Rattle.file_laws.proofs.Steps.{never}

@@ -10,9 +10,9 @@ use Rattle.row_core.specs.Unsupported.{unsupported}
 use Rattle.schema_tree.specs.Limits.{IsWithinLimits}
 use Rattle.schema_tree.specs.Tree as tree
 use Rattle.schema_tree.specs.Tree.{Tree}
-use Rattle.shred.specs.Columns.{Cell, Column, all_some, cell, column, column_of, columns}
-use Rattle.shred.specs.Shape.{shape_of}
-use Rattle.shred.specs.Ways.{Step, ways}
+use Rattle.row_assembly.specs.Columns.{Cell, Column, all_some, cell, column, column_of, columns}
+use Rattle.row_assembly.specs.Shape.{shape_of}
+use Rattle.row_assembly.specs.Ways.{Step, ways}
 use Rattle.parquet_footer.specs.Frame.{framed}
 use Rattle.parquet_footer.specs.declared.fault.FileFault.{FileFault}
 use Rattle.parquet_footer.specs.declared.fault.FileFault.TheVariants.{SchemaMismatch, TooLarge}

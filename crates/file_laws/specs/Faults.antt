@@ -6,13 +6,13 @@ use Rattle.std.specs.Str.{is_utf8}
 use Rattle.lake_bytes.specs.declared.fault.ByteFault.{ByteFault}
 use Rattle.lake_bytes.specs.declared.fault.ByteFault.TheVariants.{Short}
 use Rattle.thrift_core.specs.Tree as thrift
-use Rattle.thrift_core.specs.declared.fault.ThriftFault.{ThriftFault}
-use Rattle.thrift_core.specs.declared.fault.ThriftFault.TheVariants.{Bytes}
+use Rattle.thrift_values.specs.declared.fault.ThriftFault.{ThriftFault}
+use Rattle.thrift_values.specs.declared.fault.ThriftFault.TheVariants.{Bytes}
 use Rattle.row_core.specs.Conforms.{is_leaf_value}
 use Rattle.row_core.specs.Rows.{Value, Row, text}
 use Rattle.schema_tree.specs.Tree.{Tree}
-use Rattle.shred.specs.Columns.{Column, AreColumnsOf}
-use Rattle.shred.specs.Shape.{Shape}
+use Rattle.row_assembly.specs.Columns.{Column, AreColumnsOf}
+use Rattle.row_assembly.specs.Shape.{Shape}
 use Rattle.parquet_footer.specs.Frame.{FramedAs, footer_length, magic}
 use Rattle.parquet_footer.specs.Metadata.{ColumnChunk, RowGroup, FileMetaData, metadata_of}
 use Rattle.parquet_footer.specs.declared.fault.FileFault.{FileFault}

@@ -4,10 +4,10 @@ use Rattle.std.specs.Prelude.{◌≡◌, ℕ, ◌-◌, ◌<◌, ◌≤◌, pos, 
 use Rattle.thrift_core.specs.Reading.{struct_at}
 use Rattle.thrift_core.specs.Spelling.{SpellsStruct}
 use Rattle.thrift_core.specs.Tree as thrift
-use Rattle.thrift_core.specs.declared.fault.ThriftFault.{ThriftFault}
+use Rattle.thrift_values.specs.declared.fault.ThriftFault.{ThriftFault}
 use Rattle.schema_tree.specs.Tree.{Tree}
-use Rattle.shred.specs.Columns.{Column}
-use Rattle.shred.specs.Shape.{Shape}
+use Rattle.row_assembly.specs.Columns.{Column}
+use Rattle.row_assembly.specs.Shape.{Shape}
 use Rattle.parquet_footer.specs.Footer.{FooterSays}
 use Rattle.parquet_footer.specs.Frame.{FramedAs}
 use Rattle.parquet_footer.specs.Metadata.{ColumnChunk, RowGroup, FileMetaData}

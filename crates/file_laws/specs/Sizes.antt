@@ -6,8 +6,8 @@ use Rattle.thrift_core.specs.Tree.{integer, value_of_field}
 use Rattle.thrift_core.specs.Writing.{written}
 use Rattle.row_core.specs.Rows.{Row}
 use Rattle.schema_tree.specs.Tree.{Tree}
-use Rattle.shred.specs.Columns.{Column, columns}
-use Rattle.shred.specs.Shape.{shape_of}
+use Rattle.row_assembly.specs.Columns.{Column, columns}
+use Rattle.row_assembly.specs.Shape.{shape_of}
 use Rattle.parquet_footer.specs.Frame.{framed}
 use Rattle.page_writing.specs.Writing.{chunk_written}
 use Rattle.parquet_schema.specs.Leaves.{LeafIn, leaves_in}

@@ -11,9 +11,9 @@ ghost use Rattle.table_folder.specs.Faults.{CountsLoad, IsNotLoaded};
 ghost use Rattle.folder_session.specs.Beside.{AreApart, DrivesBeside, with_beside};
 
 use crate::asking::listed_as;
-use session_core::{Reply, Request, Session, Step, a_store_answers_as_any_store_may, commit_name};
+use session_core::{Reply, Request, Session, Step, a_store_answers_as_any_store_may};
 use std::alloc::Global;
-use store_core::{MemoryStore, Names, Put, Store, StoreFault};
+use store_core::{MemoryStore, Names, Put, Store, StoreFault, commit_name};
 use table_folder::{Folder, LoadFault};
 
 /// How a session ended that was driven over a folder, and what it put.

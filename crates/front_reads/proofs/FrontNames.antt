@@ -6,13 +6,12 @@ use Rattle.std.proofs.lemmas.Bool.{lt-ltb, ltb-true}
 use Rattle.std.proofs.lemmas.Map.Entries.{lookup-filter-keys, option_filter}
 use Rattle.std.proofs.lemmas.Slice.Eq.{bytes_eq-Decides}
 use Rattle.store_core.specs.Objects.{Objects, names_of, object_at}
-use Rattle.session_core.specs.Names.{commit_name}
-use Rattle.delta_actions.specs.Names.{greatest_version}
+use Rattle.store_core.specs.Names.{commit_name, commit_version, greatest_version}
+use Rattle.store_core.proofs.Callers.{named, own_version}
 use Rattle.table_log.specs.Counts.{commit_count}
-use Rattle.table_log.specs.Names.{commit_version}
 use Rattle.table_log.specs.Restoring.{checkpoint_at, checkpoint_version, version_below}
 use Rattle.table_log.specs.Versions.{Version, version_at, version_by, versions_from, versions_of}
-use Rattle.table_log.proofs.Callers.{commit_is_none, count_is, named, own_version}
+use Rattle.table_log.proofs.Callers.{commit_is_none, count_is}
 use Rattle.table_log.proofs.CountLaws.{count_most}
 use Rattle.log_reading.specs.FromCheckpoints.{CheckpointSchema, schema_below, schema_by}
 use Rattle.log_reading.specs.Readings.{told_among}

@@ -1,6 +1,6 @@
 -- Checkpoints' names stand in the order of their versions: so the schemas that they tell rise, and none is of a later version than the
 -- newest checkpoint.
-use Rattle.std.proofs.Common.{◌≡◌, ◌∙◌, ◌<◌, ◌≤◌, ◌+◌, ◌++◌, ℕ, suc, List, [], ◌∷◌, length, length-append, map, codes, Option, Some, None, Ordering, refl, sym, ap, subst, arith}
+use Rattle.std.proofs.Common.{◌≡◌, ◌∙◌, ◌<◌, ◌≤◌, ◌++◌, ℕ, suc, List, [], ◌∷◌, length, map, codes, Option, Some, None, Ordering, refl, sym, ap, subst, arith}
 use Rattle.std.specs.declared.cmp.Ordering.TheVariants.{Less, Equal, Greater}
 use Rattle.std.specs.Prelude.{All, min, option_and_then}
 use Rattle.std.specs.Cmp.Lexicographic.{slice_cmp}
@@ -9,16 +9,15 @@ use Rattle.std.specs.List.Sorted.{IsStrictlySortedBy}
 use Rattle.std.specs.Ordering.{MatchOrdering, nat_cmp, ordering_then}
 use Rattle.std.proofs.lemmas.Bool.Decides.{nat_tests}
 use Rattle.std.proofs.lemmas.List.Elements.{All-cons, All-head, All-nil, filter_map-append}
-use Rattle.delta_actions.specs.Names.{greatest_version, twenty_digits}
+use Rattle.store_core.specs.Names.{commit_name, twenty_digits}
+use Rattle.store_core.proofs.Callers.{twenty_digits_long}
 use Rattle.delta_replay.specs.Keys.{last}
 use Rattle.log_reading.specs.FromCheckpoints.{CheckpointSchema, newest_schema, schema_below, schema_by, schema_upto}
 use Rattle.log_reading.specs.Readings.{told_among}
 use Rattle.log_reading.proofs.StartingLemmas.{SchemaParts, fewer_some, schema_parts}
 use Rattle.store_core.specs.Objects.{IsInOrder, Objects, name_order, names_of}
 use Rattle.table_log.specs.Counts.{commit_count}
-use Rattle.table_log.specs.Names.{commit_name}
 use Rattle.table_log.specs.Restoring.{Restored, checkpoint_in, checkpoint_version, restored}
-use Rattle.table_log.proofs.NameLemmas.{name_long}
 use Rattle.table_log.proofs.NameOrder.{names_ordered}
 use Rattle.table_log.proofs.RestoreLemmas.{IsCheckpointFound, checkpoint_named, found_parts}
 
@@ -51,14 +50,6 @@ front_upto Less p m n ranks less = omega (arith, ranks)
 front_upto Equal p m n ranks less = omega (arith, ranks)
 front_upto Greater p m n ranks less = absurd cc
 
--- a version has twenty digits
-digits_long : (version : ℕ) → version ≤ greatest_version → length (twenty_digits version) ≡ 20
-unfolding commit_name
-digits_long version small =
-    let whole : length (twenty_digits version ++ codes ".json") ≡ length (twenty_digits version) + 5 = length-append (twenty_digits version) (codes ".json") in
-    let all : length (commit_name version) ≡ 36 = name_long version small in
-    omega (arith, whole, all)
-
 -- The names of two checkpoints that stand in order are of versions in order: what stands behind the digits counts only where these are
 -- the same, and by the digits alone they stand as commits' names do.
 pub checkpoints_ordered : (a b : List ℕ) (v w : ℕ) → name_order a b ≡ Less → checkpoint_version a ≡ Some v → checkpoint_version b ≡ Some w → v ≤ w
@@ -66,7 +57,7 @@ unfolding commit_name
 checkpoints_ordered a b v w less one another =
     let first = checkpoint_named a v one in
     let second = checkpoint_named b w another in
-    let same : length (twenty_digits v) ≡ length (twenty_digits w) = digits_long v first.small ∙ sym (digits_long w second.small) in
+    let same : length (twenty_digits v) ≡ length (twenty_digits w) = twenty_digits_long v first.small ∙ sym (twenty_digits_long w second.small) in
     let commits : name_order (commit_name v) (commit_name w) ≡ ordering_then (slice_cmp nat_cmp (twenty_digits v) (twenty_digits w)) Equal =
     fronts_decide (twenty_digits v) (twenty_digits w) (codes ".json") (codes ".json") same in
     let ranks = subst (λ (o : Ordering). MatchOrdering o (v < w) (v ≡ w) (w < v)) commits (names_ordered v w first.small second.small) in

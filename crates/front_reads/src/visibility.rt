@@ -4,7 +4,8 @@ ghost use Rattle.std.specs.Prelude.{◌≡◌, IfOk, filter, map, string_bytes};
 ghost use Rattle.front_reads.specs.Fronts.{is_in_front, is_kept, is_visible};
 
 use std::alloc::{AllocError, Global};
-use table_log::{commit_version, version_below};
+use store_core::commit_version;
+use table_log::version_below;
 
 /// Of a version in front of another, or of none.
 fn is_in_front(version: Option<u64>, front: u64) -> bool

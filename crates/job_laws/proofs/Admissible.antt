@@ -3,7 +3,8 @@ use Rattle.std.proofs.Common.{◌≡◌, ℕ, ◌≤◌, Bool, true, false, not,
 use Rattle.std.specs.Prelude.{cond, option_map}
 use Rattle.store_core.specs.Objects.{Objects, object_at}
 use Rattle.store_core.specs.ObjectLaws.{object_at-with_object_kept, object_at-with_object_same}
-use Rattle.delta_actions.specs.Names.{data_file_name, greatest_version}
+use Rattle.store_core.specs.Names.{greatest_version}
+use Rattle.delta_actions.specs.Names.{data_file_name}
 use Rattle.parquet_footer.specs.declared.fault.FileFault.{FileFault}
 use Rattle.parquet_file.specs.Reading.{rows_at}
 use Rattle.parquet_file.proofs.RowsFound.{rows_found}

@@ -11,7 +11,7 @@ use Rattle.commit_core.specs.Commits.{commit_text}
 use Rattle.parquet_file.proofs.Callers.{rows_only}
 use Rattle.row_core.specs.Rows.{Row}
 use Rattle.row_core.proofs.Callers.{same_rows-is}
-use Rattle.table_log.specs.Names.{commit_name}
+use Rattle.store_core.specs.Names.{commit_name}
 use Rattle.batch_core.specs.Committing.{batch_actions, data_file_name}
 use Rattle.batch_core.specs.Requests.{SinkRequest, file_or_refusal, is_same, unless_other, where_same}
 use Rattle.sink_core.specs.Appending.{EncodedBatch, IsWellMade, AppendPlan, puts, stands, batch_of, size_behind, put_plan, is_past, repeated_plan, with_append, with_file}

@@ -14,11 +14,11 @@ use Rattle.store_core.specs.ObjectLaws.{object_at-with_object_other, object_at-w
 use Rattle.delta_actions.specs.Commit.{IsCommit}
 use Rattle.delta_actions.specs.Action as actions
 use Rattle.delta_actions.specs.In.{meta_data_in, protocol_in, txn_in}
-use Rattle.delta_actions.specs.Names.{data_file_name, greatest_version}
+use Rattle.store_core.specs.Names.{commit_name, greatest_version}
+use Rattle.delta_actions.specs.Names.{data_file_name}
 use Rattle.delta_replay.specs.Keys.{Key, the_meta_data, the_protocol, number_of, kept, newest, last_number}
 use Rattle.delta_replay.specs.Support.{Unsupported, feature, has_key_inside, no_protocol, readable_by, writable, writable_protocol}
 use Rattle.table_log.specs.Counts.{commit_count}
-use Rattle.table_log.specs.Names.{commit_name}
 use Rattle.table_log.specs.Restoring.{replayed}
 use Rattle.table_log.specs.Versions.{Version, missing, unreadable, commit, commits_in, commits_of, log_of, version_at, version_by, version_read, versions_from, versions_of}
 use Rattle.table_log.proofs.Callers.{count_is, of_commit as read_commit, stands_below}
@@ -152,7 +152,6 @@ module _ (objects : Objects) (name file bytes : List ℕ) (apart : (version : �
 
   -- what stands at another version is as it was
   other_version : (version : ℕ) → version ≢ next → object_at with_both (commit_name version) ≡ object_at objects (commit_name version)
-  unfolding commit_name
   other_version version differs =
       object_at-with_object_other (with_object objects name file) (commit_name next) bytes (commit_name version) (λ same. differs (sym (commit_name-once next version (omega (arith, small)) (sym same))))
       ∙ object_at-with_object_other objects name file (commit_name version) (apart version)
@@ -219,7 +218,6 @@ module _ (objects : Objects) (name file bytes : List ℕ) (apart : (version : �
 
 -- a batch's file has no commit's name
 pub file_apart : (application : List ℕ) (number : ℕ) (name : List ℕ) → name ≡ data_file_name application number → (version : ℕ) → commit_name version ≢ name
-unfolding commit_name
 file_apart application number name named version same = commit_name-data_file_name version application number (same ∙ named)
 
 module _ (objects : Objects) (application : List ℕ) (number at : ℕ) (batch : EncodedBatch) (well : IsWellMade application number at batch) where

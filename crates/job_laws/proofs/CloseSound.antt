@@ -7,11 +7,10 @@ use Rattle.store_core.specs.Objects.{Objects, with_object}
 use Rattle.schema_tree.specs.Tree.{Tree}
 use Rattle.delta_actions.specs.Action.{Action}
 use Rattle.delta_actions.specs.Commit.{IsCommit}
-use Rattle.delta_actions.specs.Names.{greatest_version}
+use Rattle.store_core.specs.Names.{commit_name, greatest_version}
 use Rattle.delta_replay.specs.Closes as logs
 use Rattle.delta_replay.specs.Support.{writable}
 use Rattle.table_log.specs.Counts.{commit_count}
-use Rattle.table_log.specs.Names.{commit_name}
 use Rattle.table_log.specs.Restoring.{replayed}
 use Rattle.table_log.specs.Versions.{log_of}
 use Rattle.table_model.specs.Appends.{with_close}
@@ -89,7 +88,6 @@ module _ (objects : Objects) (sound : IsSound objects) (application : List ℕ) 
 
   -- whatever the step puts
   whole_sound : (step : Result (Option ℕ) SinkRefusal) → close_plan false objects application ≡ step → ClosesWell application at step → IsSound (closes.with_close objects application at step)
-  unfolding commit_name
   whole_sound (Ok (Some version)) is well = by_version (is_past version) refl
     where
       by_version : (past : Bool) → is_past version ≡ past → IsSound (if past then objects else with_object objects (commit_name version) (close_text application at))

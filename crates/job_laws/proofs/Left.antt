@@ -5,11 +5,11 @@ use Rattle.uuid.specs.Text.{hyphenated_text, lower}
 use Rattle.outcomes.specs.Results.{◌>>=◌, refused_as, refused_if}
 use Rattle.store_core.specs.Objects.{Objects, IsInOrder, with_object}
 use Rattle.delta_actions.specs.Action.{MetaDataAction}
-use Rattle.delta_actions.specs.Names.{data_file_name, twenty_digits}
+use Rattle.store_core.specs.Names.{commit_name, twenty_digits}
+use Rattle.delta_actions.specs.Names.{data_file_name}
 use Rattle.delta_checkpoint.specs.Names.{checkpoint_id, name_with}
 use Rattle.delta_replay.specs.Support.{meta_data_of}
 use Rattle.table_folder.specs.Loads.{is_loaded, loaded}
-use Rattle.table_log.specs.Names.{commit_name}
 use Rattle.commit_core.specs.Creating as creations
 use Rattle.commit_core.specs.Creating.{commit_from, with_creation}
 use Rattle.snapshot_core.specs.Faults.{checked}

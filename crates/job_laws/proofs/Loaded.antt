@@ -5,10 +5,8 @@ use Rattle.std.specs.List.{cons_option, filter_map, list_any}
 use Rattle.std.proofs.lemmas.List.Kept.{IsStrictlySortedBy-filter}
 use Rattle.std.proofs.lemmas.Slice.Eq.{bytes_eq-Decides}
 use Rattle.store_core.specs.Objects.{IsInOrder, Objects, name_order, names_of, object_at}
-use Rattle.delta_actions.specs.Names as names
-use Rattle.delta_actions.specs.Names.{twenty_digits}
+use Rattle.store_core.specs.Names.{commit_name, twenty_digits}
 use Rattle.delta_checkpoint.specs.Names.{IsCheckpointName}
-use Rattle.table_log.specs.Names.{commit_name}
 use Rattle.table_folder.specs.Loads.{is_loaded, is_of_log, loaded}
 
 -- ---- what stands under a name
@@ -88,13 +86,9 @@ pub log_loaded : (files : List (List ℕ)) (rest : List ℕ) → is_loaded files
 log_loaded files rest = ap (λ b. b || list_any (bytes_eq (codes "_delta_log/" ++ rest)) files) (of_log rest)
 
 -- each commit is loaded
-pub own_commit_loaded : (files : List (List ℕ)) (version : ℕ) → is_loaded files (names.commit_name version) ≡ true
-own_commit_loaded files version = log_loaded files (twenty_digits version ++ codes ".json")
-
--- the same under the name that contracts don't look into
 pub commit_loaded : (files : List (List ℕ)) (version : ℕ) → is_loaded files (commit_name version) ≡ true
 unfolding commit_name
-commit_loaded files version = own_commit_loaded files version
+commit_loaded files version = log_loaded files (twenty_digits version ++ codes ".json")
 
 -- each checkpoint is loaded
 pub checkpoint_loaded : (files : List (List ℕ)) (version : ℕ) (name : List ℕ) → IsCheckpointName version name → is_loaded files name ≡ true

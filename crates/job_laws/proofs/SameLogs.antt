@@ -3,10 +3,10 @@ use Rattle.std.proofs.Common.{◌≡◌, ◌∙◌, ◌+◌, ℕ, zero, suc, Boo
 use Rattle.std.specs.Prelude.{filter}
 use Rattle.store_core.specs.Objects.{Objects, names_of}
 use Rattle.table_log.specs.Counts.{commit_count, count_in, count_with, next_behind}
-use Rattle.table_log.specs.Names.{commit_name, commit_version}
+use Rattle.store_core.specs.Names.{commit_name, commit_version}
+use Rattle.store_core.proofs.Callers.{named}
 use Rattle.table_log.specs.Restoring.{IsSoundCheckpoint, RestoresWell, replayed}
 use Rattle.table_log.specs.Versions.{Version, commits_in, commits_of, log_of, version_at, version_by, versions_from, versions_of}
-use Rattle.table_log.proofs.Callers.{named}
 use Rattle.table_folder.specs.Loads.{is_loaded, loaded}
 use Rattle.job_laws.proofs.Loaded.{commit_loaded, loaded_at, loaded_names, stands_of_loaded}
 

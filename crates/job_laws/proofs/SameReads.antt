@@ -9,7 +9,7 @@ use Rattle.delta_actions.specs.Action.{Action}
 use Rattle.delta_actions.specs.Names.{data_file_name as plain_file_name}
 use Rattle.delta_replay.specs.Support.{checkpointable, readable}
 use Rattle.table_log.specs.Counts.{commit_count}
-use Rattle.table_log.specs.Names.{commit_name}
+use Rattle.store_core.specs.Names.{commit_name}
 use Rattle.table_log.specs.Restoring.{replayed}
 use Rattle.log_reading.specs.InForce.{SchemaText}
 use Rattle.table_model.specs.declared.reading.Offset.{Offset}

@@ -5,7 +5,7 @@ use Rattle.outcomes.specs.Results.{◌>>=◌, refused_as, refused_if}
 use Rattle.store_core.specs.Objects.{Objects, object_at}
 use Rattle.delta_actions.specs.Action.{Action}
 use Rattle.delta_replay.specs.Support.{meta_data_of}
-use Rattle.table_log.specs.Names.{commit_name}
+use Rattle.store_core.specs.Names.{commit_name}
 use Rattle.table_folder.specs.Loads.{loaded}
 use Rattle.snapshot_core.specs.Faults as faults
 use Rattle.snapshot_core.specs.Faults.{readable_log}

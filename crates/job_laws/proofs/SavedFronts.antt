@@ -2,12 +2,12 @@
 use Rattle.std.proofs.Common.{◌≡◌, ◌⊎◌, inl, inr, ◌∙◌, ℕ, List, Bool, true, false, if◌then◌else◌, Option, None, Some, Result, Ok, Err, refl, sym, ap, subst}
 use Rattle.std.proofs.lemmas.Bool.{ltb-false}
 use Rattle.store_core.specs.Objects.{Objects, IsInOrder, names_of, with_object}
-use Rattle.delta_actions.specs.Names as names
-use Rattle.delta_actions.specs.Names.{data_file_name, greatest_version}
+use Rattle.store_core.proofs.Callers.{name_of_commit}
+use Rattle.store_core.specs.Names.{commit_name, greatest_version}
+use Rattle.delta_actions.specs.Names.{data_file_name}
 use Rattle.table_folder.specs.Copies.{HasSavedFront, to_save}
-use Rattle.table_folder.specs.Kinds.{is_commit, is_data}
+use Rattle.table_folder.specs.Kinds.{is_data}
 use Rattle.table_folder.specs.Loads.{is_loaded, loaded}
-use Rattle.table_log.specs.Names.{commit_name}
 use Rattle.commit_core.specs.Creating as creations
 use Rattle.commit_core.specs.Creating.{IsPut, commit_from}
 use Rattle.snapshot_core.specs.Taking.{HasPut, PutsCheckpoint}
@@ -18,7 +18,7 @@ use Rattle.lake_script.specs.Growth.{MayPut, MayPutCheckpoint}
 use Rattle.script_lines.specs.Lines.{append, checkpoint, close, Statement, create, task, foreign}
 use Rattle.job_laws.specs.Looking.{LooksWithin}
 use Rattle.job_laws.proofs.Loaded.{checkpoint_loaded, commit_loaded}
-use Rattle.job_laws.proofs.NameKinds.{commit_is_commit, file_is_data}
+use Rattle.job_laws.proofs.NameKinds.{file_is_data}
 use Rattle.job_laws.proofs.OwnSteps.{IsOwn, PutsOwn, own_append_plan}
 use Rattle.job_laws.proofs.SameLogs.{same_count, same_replayed}
 use Rattle.job_laws.proofs.SameReads.{same_append_plan, same_close_plan}
@@ -28,11 +28,6 @@ use Rattle.outcomes.specs.Lines.{with_newline}
 -- a front of what was put over the files that are loaded was saved beside all objects
 abbrev IsSaved : (files : List (List ℕ)) → (objects after new : Objects) → Type 0
 IsSaved files objects after new = HasSavedFront after (to_save (names_of (loaded files objects)) (names_of after)) objects new
-
--- the name of a commit of few digits is a commit's
-own_commit : (version : ℕ) → is_commit (names.commit_name version) ≡ true → is_commit (commit_name version) ≡ true
-unfolding commit_name
-own_commit version is = is
 
 -- ---- creations
 
@@ -70,7 +65,7 @@ module _ (files : List (List ℕ)) (objects after new : Objects) (application : 
       → after ≡ with_object (with_file (loaded files objects) batch) (commit_name batch.version) batch.commit → MayAppend application number at (Ok (puts batch)) objects new
   both_saved batch own well small whole =
       by_case (two_saved files objects after batch.name batch.file (commit_name batch.version) batch.commit order (ap (is_loaded files) own.name ∙ own_file) (commit_loaded files batch.version)
-      (ap is_data own.name ∙ file_is_data application number) (own_commit batch.version (commit_is_commit batch.version (ltb-false greatest_version batch.version small))) whole new front)
+      (ap is_data own.name ∙ file_is_data application number) (name_of_commit batch.version (ltb-false greatest_version batch.version small)) whole new front)
     where
       whole_is : with_append objects (Ok (puts batch)) ≡ with_object (with_file objects batch) (commit_name batch.version) batch.commit
       whole_is = rw small refl

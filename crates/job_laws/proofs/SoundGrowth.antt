@@ -5,8 +5,7 @@ use Rattle.store_core.specs.Objects.{Objects, object_at}
 use Rattle.serde_json.specs.Data.{Items}
 use Rattle.outcomes.specs.Bytes.{IsBytes}
 use Rattle.delta_actions.specs.Names as names
-use Rattle.delta_actions.specs.Names.{greatest_version}
-use Rattle.table_log.specs.Names.{commit_name}
+use Rattle.store_core.specs.Names.{commit_name, greatest_version}
 use Rattle.table_store.specs.Sound.{IsSound}
 use Rattle.table_store.proofs.SoundLemmas.{sound_commit, sound_data_file}
 use Rattle.commit_core.specs.Creating.{CreatesWell, MayCreate, CreateRefusal, commit_from, with_creation}
@@ -20,7 +19,6 @@ use Rattle.job_laws.proofs.Requests.{PutsBatch, puts_batch}
 
 -- what a creation puts leaves a sound store sound
 creation_sound : (objects : Objects) (at : ℕ) (schema : List ℕ) (commit : Result (List ℕ) CreateRefusal) → CreatesWell at schema commit → IsSound objects → IsSound (with_creation objects commit)
-unfolding commit_name
 creation_sound objects at schema (Ok bytes) well sound = sound_commit objects 0 bytes sound (admissible_creation objects at schema bytes well)
 creation_sound objects at schema (Err why) well sound = sound
 
@@ -45,7 +43,6 @@ module _ (objects : Objects) (sound : IsSound objects) (application : List ℕ) 
 
   -- the file with the commit, where a commit can have its version; otherwise the file alone
   batch_sound : (batch : EncodedBatch) → IsWellMade application number at batch → PutsBatch objects application number batch → (past : Bool) → is_past batch.version ≡ past → IsSound (with_append objects (Ok (puts batch)))
-  unfolding commit_name
   batch_sound batch well found true is = rw is (file_sound batch found)
   batch_sound batch well found false is =
       rw is (sound_commit (with_file objects batch) batch.version batch.commit (file_sound batch found) (admissible objects application number at batch well are sound (ltb-false greatest_version batch.version is) found))

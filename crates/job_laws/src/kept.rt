@@ -3,7 +3,7 @@
 
 ghost use Rattle.std.specs.Prelude.{◌≡◌, ◌≢◌, ◌≤◌, ℕ, List, [], length, take, Some};
 ghost use Rattle.store_core.specs.Objects.{Objects};
-ghost use Rattle.delta_actions.specs.Names.{greatest_version};
+ghost use Rattle.store_core.specs.Names.{greatest_version};
 ghost use Rattle.row_core.specs.Rows.{Row};
 ghost use Rattle.table_model.specs.Reads.{position};
 ghost use Rattle.table_model.specs.Resumed.{beginning};

@@ -8,8 +8,7 @@
 //! - `calls`: calls of a store that loses them, which commits conflict with a candidate, how the puts of a commit end,
 //!   and what sessions ask for and tell (`calls.rt`);
 //! - `logs`: logs that grow commit by commit, and what the snapshot of each answers (`tell_logs` of the library
-//!   `case_logs`);
-//! - `schedules`: random scripts of several actors, made by a seed, run and judged (`schedules.rt`).
+//!   `case_logs`).
 #![tactic(auto)]
 
 mod calls;
@@ -17,7 +16,6 @@ mod commands;
 mod contests;
 mod plain;
 mod reads;
-mod schedules;
 mod scripts;
 mod sinks;
 mod tables;
@@ -55,7 +53,6 @@ fn tell_section(rt: &HostRuntime, section: &str, told: &mut Transcript) {
         "scripts" => scripts::tell_scripts(rt, text, told),
         "calls" => calls::tell_calls(text, told),
         "logs" => tell_logs(text, told),
-        "schedules" => schedules::tell_schedules(text, told),
         _ => told.say("no such cases"),
     }
 }

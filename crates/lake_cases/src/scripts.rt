@@ -88,11 +88,7 @@ fn tell_script(script: &mut Script<'_>, told: &mut Transcript) {
 }
 
 /// Runs a script over its store, and adds what it writes.
-pub fn run_script(
-    script: &mut Script<'_>,
-    written: &mut Vec<u8>,
-    told: &mut Transcript,
-) -> Outcome {
+fn run_script(script: &mut Script<'_>, written: &mut Vec<u8>, told: &mut Transcript) -> Outcome {
     let none = CaseStore::new(
         told.alloc,
         MemoryStore::new(told.alloc),

@@ -70,18 +70,11 @@ fn tell_batch(printer: &RowPrinter, batch: &Batch, told: &mut Transcript) {
     told.text(" of ");
     told.text(&batch.application);
     told.text(":");
-    add_rows(printer, &batch.rows, [" ", " "], told);
-    told.text("\n");
-}
-
-/// Adds rows as JSON, the first one behind the one text, and each other one behind the other.
-fn add_rows(printer: &RowPrinter, rows: &[Value], gaps: [&str; 2], told: &mut Transcript) {
-    let [mut gap, next] = gaps;
-    for row in rows {
-        told.text(gap);
+    for row in &batch.rows {
+        told.text(" ");
         add_row(printer, row, told);
-        gap = next;
     }
+    told.text("\n");
 }
 
 /// Adds a row as JSON.
@@ -110,51 +103,5 @@ fn tell_object(store: &mut MemoryStore, name: &str, told: &mut Transcript) {
         Ok(Some(bytes)) => told.tell(name, &bytes.len()),
         Ok(None) => told.tell(name, &0u64),
         Err(_fault) => told.lacks_memory(),
-    }
-}
-
-/// Adds the log that a store holds as the judge of scripts reads it. Whether it is lawful; nothing where there is no
-/// table.
-pub fn add_log(store: &mut MemoryStore, log: &mut Transcript) -> Option<bool> {
-    match held_by(log.alloc, store) {
-        Ok(Some(held)) => {
-            add_entries(&held, log);
-            Some(is_lawful(&held.entries))
-        }
-        Ok(None) => None,
-        Err(_fault) => {
-            log.lacks_memory();
-            None
-        }
-    }
-}
-
-/// Adds the entries of a log whose schema is known.
-fn add_entries(held: &Held, log: &mut Transcript) {
-    if let Some(schema) = &held.schema {
-        let Ok(printer) = RowPrinter::of_schema(log.alloc, schema) else {
-            return log.lacks_memory();
-        };
-        for entry in &held.entries {
-            add_entry(&printer, entry, log);
-        }
-    }
-}
-
-/// Adds an entry. Scripts make groups of one batch alone.
-fn add_entry(printer: &RowPrinter, entry: &Entry, log: &mut Transcript) {
-    match entry {
-        Entry::Creation => log.say("creation"),
-        Entry::Close(application) => log.tell("close", application),
-        Entry::Group(batches) => {
-            for batch in batches {
-                log.text("batch ");
-                log.text(&batch.application);
-                log.with(" ", &batch.number);
-                log.text(" [");
-                add_rows(printer, &batch.rows, ["", ","], log);
-                log.say("]");
-            }
-        }
     }
 }

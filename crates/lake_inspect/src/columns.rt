@@ -10,9 +10,10 @@ use crate::schema::tell_leaf;
 use byte_words::{LineFault, Transcript};
 use json::Scratch;
 use json_text::{Named, Value as Json, member_of, named};
+use row_assembly::assemble;
 use row_core::{RowPrinter, Value, conforms, same_rows};
 use schema_tree::Schema;
-use shred::{Column, Shape, assemble, shred};
+use shred::{Column, Shape, shred};
 use std::alloc::{AllocError, Global};
 
 /// Tells the columns of the rows that the text of a JSON array is, a line for each; and whether they are assembled to

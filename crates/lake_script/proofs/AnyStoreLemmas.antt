@@ -11,7 +11,7 @@ use Rattle.store_core.specs.declared.store.Put.{Put}
 use Rattle.store_core.specs.declared.store.Put.TheVariants as puts
 use Rattle.session_core.specs.Stores.{State, MayAnswerPut}
 use Rattle.session_core.specs.Talks.{told_put}
-use Rattle.table_log.specs.Names.{commit_name}
+use Rattle.store_core.specs.Names.{commit_name}
 use Rattle.commit_core.specs.Creating.{Creates, IsLostCreation}
 use Rattle.commit_core.specs.Texts.{refused}
 use Rattle.commit_core.specs.declared.fault.CreateFault.{CreateFault}
@@ -24,8 +24,8 @@ use Rattle.snapshot_core.specs.declared.fault.SnapshotFault.{SnapshotFault}
 use Rattle.snapshot_core.specs.declared.fault.SnapshotFault.TheVariants as snapshots
 use Rattle.source_core.specs.TailFaults as tails
 use Rattle.source_core.specs.Tailing.{ReadRefusal}
-use Rattle.source_core.specs.declared.tail_fault.TailFault.{TailFault}
-use Rattle.source_core.specs.declared.tail_fault.TailFault.TheVariants as tail_faults
+use Rattle.log_rows.specs.declared.tail_fault.TailFault.{TailFault}
+use Rattle.log_rows.specs.declared.tail_fault.TailFault.TheVariants as tail_faults
 use Rattle.lake_script.specs.declared.reply.LineReply.TheVariants as replies
 use Rattle.lake_script.specs.AnyStore.{Looks, TellsCheckpoint, TellsCreation, TellsForeign, TellsSnapshotLine, lost_to_append, lost_to_create, lost_to_read, lost_to_show, lost_to_tell}
 use Rattle.lake_script.specs.ReplyView.{reply_text, says_lost}

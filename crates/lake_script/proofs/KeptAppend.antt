@@ -13,7 +13,8 @@ use Rattle.source_core.specs.ParquetWriting.{written_file}
 use Rattle.table_model.specs.Appends.{appended, with_batch}
 use Rattle.table_model.specs.declared.table.AppendAnswer.TheVariants.{Committed, Already, Differs, StreamClosed}
 use Rattle.table_model.specs.Lawful.{IsLawful}
-use Rattle.delta_actions.specs.Names.{data_file_name as plain_file_name, greatest_version}
+use Rattle.store_core.specs.Names.{greatest_version}
+use Rattle.delta_actions.specs.Names.{data_file_name as plain_file_name}
 use Rattle.row_core.specs.Rows.{Row, same_rows}
 use Rattle.delta_replay.specs.Support.{has_key_inside}
 use Rattle.table_model.specs.Table as model
@@ -37,7 +38,7 @@ use Rattle.lake_script.specs.Keeps.{HasNoOther, Keeps}
 use Rattle.read_laws.proofs.Callers.{file_read, made_of, are_made, none_behind, count_kept, log_kept}
 use Rattle.lake_script.proofs.KeptFile.{last_stands, last_own, same_either_way}
 use Rattle.lake_script.proofs.KeptHolds.{append_stands}
-use Rattle.lake_script.proofs.KeptNames.{same_name, same_file_name, batch_stands, no_file}
+use Rattle.lake_script.proofs.KeptNames.{same_file_name, batch_stands, no_file}
 use Rattle.lake_script.proofs.KeptPuts.{kept_more, no_other_more}
 use Rattle.lake_script.proofs.KeptRequest.{asked, goes_on, unless_invariant, request_is}
 use Rattle.commit_core.proofs.Callers.{log_of_nothing}
@@ -113,7 +114,7 @@ module _ (objects : Objects) (schema : Tree) (entries : List Entry) (kept : IsKe
       let lawful : IsLawful (entries ++ group (b ∷ []) ∷ []) = rw new at (lawful_after objects schema entries b kept) in
       let more = kept_more objects schema entries b file made.commit kept few lawful free none is_file is_commit in
       let alone = no_other_more objects entries b file made.commit utf8 own in
-      rw (version_fits entries few, same_file_name application number, same_name (length entries), new) (refl, (rw (same_file_name application number) at more, rw (same_file_name application number) at alone))
+      rw (version_fits entries few, same_file_name application number, new) (refl, (rw (same_file_name application number) at more, rw (same_file_name application number) at alone))
 
   -- what is done for a new number
   new_agrees : appended (handed_in application number rows) entries ≡ Committed (length entries) → object_at objects (plain_file_name application number) ≡ None

@@ -5,8 +5,7 @@ use Rattle.std.specs.Str.{IsUtf8}
 use Rattle.std.proofs.lemmas.Bool.{cases_lt, lt-ltb}
 use Rattle.schema_tree.specs.Tree.{Tree}
 use Rattle.store_core.specs.Objects.{Objects, with_object}
-use Rattle.delta_actions.specs.Names.{greatest_version}
-use Rattle.delta_actions.specs.Names as names
+use Rattle.store_core.specs.Names.{commit_name, greatest_version}
 use Rattle.delta_replay.specs.Support.{has_key_inside}
 use Rattle.table_model.specs.Table.{Entry, close, is_closed}
 use Rattle.table_model.specs.declared.table.Closing.TheVariants.{Closed, AlreadyClosed}
@@ -27,7 +26,6 @@ use Rattle.lake_script.specs.Told.{reply_to_statement, left_by_statement, sink_r
 use Rattle.lake_script.proofs.KeptAppend.{version_fits}
 use Rattle.lake_script.proofs.KeptHolds.{close_stands}
 use Rattle.read_laws.proofs.Callers.{made_of, are_made, none_behind, count_kept, log_kept}
-use Rattle.lake_script.proofs.KeptNames.{same_name}
 use Rattle.lake_script.proofs.KeptPlan.{Stays, bare, keeps, files_commit}
 use Rattle.lake_script.proofs.KeptPuts.{kept_close, no_other_close}
 use Rattle.lake_script.proofs.KeptRequest.{asked, close_request_is, unless_invariant}
@@ -77,7 +75,7 @@ table_agrees objects schema entries application at (Ok passed) false kept few ut
     by_close false is well =
         let free = none_behind objects schema entries kept.0 few in
         let is_commit : IsCommitOf schema (close application) (close_text application at) = close_stands schema application at (close_text application at) utf8 well in
-        rw (version_fits entries few, same_name (length entries))
+        rw (version_fits entries few)
         (refl, (kept_close objects schema entries application (close_text application at) kept.0 few is free is_commit, no_other_close objects entries application (close_text application at) kept.1))
 
 -- no stream is closed where nothing stands
@@ -121,12 +119,12 @@ close_goes_on objects schema entries kept files most up application at utf8 well
     by_close false is well =
         let bytes = close_text application at in
         let is_commit : IsCommitOf schema (close application) bytes = close_stands schema application at bytes utf8 well in
-        let whole : length entries ≤ greatest_version → Stays (suc most) (with_object objects (names.commit_name (length entries)) bytes) =
+        let whole : length entries ≤ greatest_version → Stays (suc most) (with_object objects (commit_name (length entries)) bytes) =
         λ few. keeps schema (entries ++ close application ∷ []) (kept_close objects schema entries application bytes kept few is (none_behind objects schema entries kept few) is_commit)
         (files_commit objects schema (length entries) bytes files) (omega (arith, up, length-append entries (close application ∷ []))) in
         elim (cases_lt greatest_version (length entries)) [
           | inl past ↦ rw (lt-ltb greatest_version (length entries) past) unchanged
-          | inr few ↦ rw (version_fits entries few, same_name (length entries)) (whole few)
+          | inr few ↦ rw (version_fits entries few) (whole few)
         ]
 
     by_tests : (fine : Result (Unit {0}) SinkRefusal) (barred : Bool) → ClosesWell application at (close_step schema entries application fine barred) → Stays (suc most) (with_close objects application at (close_step schema entries application fine barred))

@@ -8,11 +8,11 @@ use Rattle.schema_tree.specs.Tree.{Tree}
 use Rattle.store_core.specs.Objects.{Objects, object_at, with_object}
 use Rattle.store_core.specs.ObjectLaws.{with_object_stands, with_object_absent}
 use Rattle.delta_actions.specs.Names as names
+use Rattle.store_core.specs.Names.{commit_name}
 use Rattle.table_model.specs.Table.{Entry, creation}
 use Rattle.table_model.proofs.Callers.{new_is_lawful}
 use Rattle.commit_core.proofs.Callers.{commit_name-data_file_name, commit_name-once}
 use Rattle.commit_core.specs.Commits.{commit_text, creation as created}
-use Rattle.table_log.specs.Names.{commit_name}
 use Rattle.commit_core.specs.Creating.{CreateRefusal, bad_schema, bad_id, too_large, id_of, described, within, most_bytes, commit_from, unless_there, with_creation}
 use Rattle.script_lines.specs.Lines.{create}
 use Rattle.outcomes.specs.Results.{◌>>=◌, or_refusal, refused_as}
@@ -24,7 +24,7 @@ use Rattle.lake_script.specs.Told.{reply_to_statement, left_by_statement, create
 use Rattle.read_laws.specs.Kept.{IsKept, KeptFrom}
 use Rattle.lake_script.specs.Keeps.{Keeps}
 use Rattle.lake_script.proofs.KeptHolds.{creation_stands}
-use Rattle.lake_script.proofs.KeptNames.{none_unless, same_name}
+use Rattle.lake_script.proofs.KeptNames.{none_unless}
 
 -- ---- what a line describes, and what is put for it
 
@@ -72,24 +72,24 @@ one_object : (name bytes : List ℕ) → object_at ((name, bytes) ∷ []) name �
 one_object name bytes = ap (λ (same : Bool). cond same (Some bytes) None) ((bytes_eq-Decides name name).1 refl)
 
 -- a first commit that is well made is the table of its creation
-pub kept_creation : (name : List ℕ) (at : ℕ) (text : List ℕ) (schema : Tree) (bytes : List ℕ) → name ≡ names.commit_name 0 → schema_of text ≡ Ok schema → IsWellCreated at text bytes
+pub kept_creation : (name : List ℕ) (at : ℕ) (text : List ℕ) (schema : Tree) (bytes : List ℕ) → name ≡ commit_name 0 → schema_of text ≡ Ok schema → IsWellCreated at text bytes
     → IsKept ((name, bytes) ∷ []) schema (creation ∷ [])
 kept_creation name at text schema bytes first is well =
     let same : Ok well.read ≡ Ok schema = sym well.described ∙ is in
-    let stands : object_at ((name, bytes) ∷ []) (names.commit_name 0) ≡ Some bytes = ap (object_at ((name, bytes) ∷ [])) (sym first) ∙ one_object name bytes in
+    let stands : object_at ((name, bytes) ∷ []) (commit_name 0) ≡ Some bytes = ap (object_at ((name, bytes) ∷ [])) (sym first) ∙ one_object name bytes in
     record {
       kept = ((bytes, stands, creation_stands schema well.id at well.text bytes (well.printed.readable ∙ same) well.commit), tt, tt);
       rest = [];
       begins = refl;
       lawful = new_is_lawful;
       fits = omega arith;
-      ends = λ version past small. none_unless (object_at ((name, bytes) ∷ []) (names.commit_name version)) (λ some.
-          let only : names.commit_name version ≡ names.commit_name 0 = one_name name bytes (names.commit_name version) (bytes_eq (names.commit_name version) name) refl some ∙ first in
+      ends = λ version past small. none_unless (object_at ((name, bytes) ∷ []) (commit_name version)) (λ some.
+          let only : commit_name version ≡ commit_name 0 = one_name name bytes (commit_name version) (bytes_eq (commit_name version) name) refl some ∙ first in
           omega (arith, past, commit_name-once version 0 (omega (arith, small)) only));
     }
 
 -- and no data file stands
-pub no_data_file : (name bytes : List ℕ) → name ≡ names.commit_name 0 → (application : List ℕ) (number : ℕ) → IsSome (object_at ((name, bytes) ∷ []) (names.data_file_name application number)) → ⊥
+pub no_data_file : (name bytes : List ℕ) → name ≡ commit_name 0 → (application : List ℕ) (number : ℕ) → IsSome (object_at ((name, bytes) ∷ []) (names.data_file_name application number)) → ⊥
 no_data_file name bytes first application number some =
     let file = names.data_file_name application number in
     commit_name-data_file_name 0 application number (sym first ∙ sym (one_name name bytes file (bytes_eq file name) refl some))
@@ -98,7 +98,7 @@ no_data_file name bytes first application number some =
 pub first_commit : (objects : Objects) (schema : Tree) (entries : List Entry) → IsKept objects schema entries → is_some (object_at objects (commit_name 0)) ≡ true
 first_commit objects schema entries kept =
     let all : KeptFrom objects schema 0 (creation ∷ kept.rest) = subst (KeptFrom objects schema 0) kept.begins kept.kept in
-    ap (λ (name : List ℕ). is_some (object_at objects name)) (same_name 0) ∙ ap is_some all.0.1
+    ap is_some all.0.1
 
 -- ---- a line that creates a table
 
@@ -109,7 +109,7 @@ told_nothing at text found put (refuses why f p) well = rw (f, p) (refl, refl)
 told_nothing at text found put (puts schema bytes f p is) well =
     let made : IsWellCreated at text bytes = rw p at well in
     let one : with_object [] (commit_name 0) bytes ≡ (commit_name 0, bytes) ∷ [] = with_object_absent [] (commit_name 0) bytes refl in
-    rw (f, p, one) (refl, (kept_creation (commit_name 0) at text schema bytes (same_name 0) is made, λ application number utf8 small some. absurd (no_data_file (commit_name 0) bytes (same_name 0) application number some)))
+    rw (f, p, one) (refl, (kept_creation (commit_name 0) at text schema bytes refl is made, λ application number utf8 small some. absurd (no_data_file (commit_name 0) bytes refl application number some)))
 
 -- where a table stands, no other is created
 told_table : (text : List ℕ) (old : Tree) (entries : List Entry) (there : Option (List ℕ)) (found : Result Tree CreateRefusal) (put : Result (List ℕ) CreateRefusal)

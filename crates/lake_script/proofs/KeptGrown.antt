@@ -14,7 +14,7 @@ use Rattle.commit_core.proofs.Callers.{lawful_log}
 use Rattle.batch_core.specs.Requests.{checked, named}
 use Rattle.sink_core.specs.Appending.{append_plan, with_append, with_file_alone}
 use Rattle.sink_core.specs.Closes.{close_plan, with_close, MayClose}
-use Rattle.table_log.specs.Names.{commit_name}
+use Rattle.store_core.specs.Names.{commit_name}
 use Rattle.commit_core.specs.Creating as creations
 use Rattle.commit_core.specs.Creating.{commit_from, with_creation}
 use Rattle.sink_core.specs.Appending.{MayAppend}
@@ -31,7 +31,6 @@ use Rattle.lake_script.proofs.KeptAppend.{step_of_nothing, nothing_is}
 use Rattle.lake_script.proofs.KeptClose.{close_goes_on, close_nothing_is, close_over_nothing}
 use Rattle.lake_script.proofs.KeptCreate.{kept_creation, no_data_file, first_commit, left_table}
 use Rattle.lake_script.proofs.KeptHolds.{kept_sound}
-use Rattle.lake_script.proofs.KeptNames.{same_name}
 use Rattle.lake_script.proofs.KeptPuts.{kept_checkpoint, same_files}
 use Rattle.lake_script.specs.Keeps.{KeepsBeside}
 use Rattle.lake_script.specs.Scripts.{StaysSound}
@@ -54,8 +53,8 @@ created_over_nothing most at text (Err fault) well = bare refl
 created_over_nothing most at text (Ok bytes) well =
     let name = commit_name 0 in
     let one : with_object [] name bytes ≡ (name, bytes) ∷ [] = with_object_absent [] name bytes refl in
-    rw one (keeps well.read (creation ∷ []) (kept_creation name at text well.read bytes (same_name 0) well.described well)
-    (λ application number found utf8 small stands. absurd (no_data_file name bytes (same_name 0) application number (ap is_some stands))) (omega arith))
+    rw one (keeps well.read (creation ∷ []) (kept_creation name at text well.read bytes refl well.described well)
+    (λ application number found utf8 small stands. absurd (no_data_file name bytes refl application number (ap is_some stands))) (omega arith))
 
 -- a creation
 created_stays : (most : ℕ) (objects : Objects) (at : ℕ) (text : List ℕ) (commit : Result (List ℕ) creations.CreateRefusal) → CreatesWell at text commit → Stays most objects → Stays (suc most) (with_creation objects commit)

@@ -7,21 +7,15 @@ use Rattle.std.proofs.lemmas.Slice.Eq.{bytes_eq-Decides}
 use Rattle.schema_tree.specs.Tree.{Tree}
 use Rattle.store_core.specs.Objects.{Objects, object_at}
 use Rattle.delta_actions.specs.Names.{data_file_name as plain_file_name}
-use Rattle.delta_actions.specs.Names as names
+use Rattle.store_core.specs.Names.{commit_name}
 use Rattle.table_model.specs.Lawful.{Rises}
 use Rattle.table_model.specs.Table.{Batch, Entry, batches_of, batches, numbers_by, last, last_batch}
 use Rattle.table_model.proofs.Callers.{IsAbove, last_none, last_number, numbers_in}
 use Rattle.batch_core.specs.Committing.{data_file_name, greatest_number}
-use Rattle.table_log.specs.Names.{commit_name}
 use Rattle.read_laws.specs.Kept.{IsKept, KeptFrom, FileKept}
 use Rattle.lake_script.specs.Keeps.{IsOwn, HasNoOther}
 
 -- ---- the names that contracts don't look into
-
--- the name of a commit is the model's
-pub same_name : (version : ℕ) → commit_name version ≡ names.commit_name version
-unfolding commit_name
-same_name version = refl
 
 -- the name of a batch's file is the model's
 pub same_file_name : (application : List ℕ) (number : ℕ) → data_file_name application number ≡ plain_file_name application number

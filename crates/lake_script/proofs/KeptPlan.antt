@@ -15,8 +15,8 @@ use Rattle.source_core.specs.ParquetWriting.{written_file}
 use Rattle.table_model.specs.Appends.{appended}
 use Rattle.table_model.specs.declared.table.AppendAnswer.TheVariants.{Committed, StreamClosed}
 use Rattle.table_model.specs.Lawful.{IsLawful}
-use Rattle.delta_actions.specs.Names.{data_file_name as plain_file_name, greatest_version}
-use Rattle.delta_actions.specs.Names as names
+use Rattle.delta_actions.specs.Names.{data_file_name as plain_file_name}
+use Rattle.store_core.specs.Names.{commit_name, greatest_version}
 use Rattle.delta_replay.specs.Support.{has_key_inside}
 use Rattle.row_core.specs.Rows.{Row}
 use Rattle.row_core.proofs.Callers.{same_rows-is}
@@ -34,7 +34,7 @@ use Rattle.lake_script.specs.Keeps.{AreFiles, HasNoOther, Keeps, KeepsBeside}
 use Rattle.lake_script.specs.Tables.{State, nothing, table, entries_of}
 use Rattle.lake_script.proofs.KeptAppend.{small_number, lawful_after, version_fits, made_with, handed_in, file_made, commit_made, step_with, step_behind, step_is}
 use Rattle.read_laws.proofs.Callers.{file_read, none_behind}
-use Rattle.lake_script.proofs.KeptNames.{batch_stands, same_name, same_file_name}
+use Rattle.lake_script.proofs.KeptNames.{batch_stands, same_file_name}
 use Rattle.lake_script.proofs.KeptRequest.{asked, goes_on}
 use Rattle.lake_script.proofs.KeptPuts.{Stands-put, put_stands, kept_file, kept_commit}
 
@@ -94,9 +94,9 @@ files_put objects schema name b bytes files is application number found utf8 sma
     ]
 
 -- and any commit
-pub files_commit : (objects : Objects) (schema : Tree) (version : ℕ) (bytes : List ℕ) → AreFiles objects schema → AreFiles (with_object objects (names.commit_name version) bytes) schema
+pub files_commit : (objects : Objects) (schema : Tree) (version : ℕ) (bytes : List ℕ) → AreFiles objects schema → AreFiles (with_object objects (commit_name version) bytes) schema
 files_commit objects schema version bytes files application number found utf8 small there =
-    elim (stood_or_put objects (names.commit_name version) bytes (plain_file_name application number) found there) [
+    elim (stood_or_put objects (commit_name version) bytes (plain_file_name application number) found there) [
       | inl before ↦ files application number found utf8 small before
       | inr put ↦ absurd (commit_name-data_file_name version application number (sym put.0))
     ]
@@ -152,7 +152,7 @@ module _ (objects : Objects) (schema : Tree) (entries : List Entry) (kept : IsKe
   put_goes_on file new free well =
       let b = handed_in application number rows in
       let name = plain_file_name application number in
-      let next = names.commit_name (length entries) in
+      let next = commit_name (length entries) in
       let filed : Objects = with_object objects name file in
       let is_file = file_made schema (length entries) rows application number at (size file) file well in
       let is_commit = commit_made schema (length entries) rows application number at (size file) file well in
@@ -167,7 +167,7 @@ module _ (objects : Objects) (schema : Tree) (entries : List Entry) (kept : IsKe
       λ few. keeps schema (entries ++ group (b ∷ []) ∷ []) (more few) (files_commit filed schema (length entries) (made file).commit filed_files) (omega (arith, up, length-append entries (group (b ∷ []) ∷ []))) in
       elim (cases_lt greatest_version (length entries)) [
         | inl past ↦ rw (lt-ltb greatest_version (length entries) past, same_file_name application number) (alone, alone)
-        | inr few ↦ rw (version_fits entries few, same_file_name application number, same_name (length entries)) (alone, rw (same_file_name application number) at (whole few))
+        | inr few ↦ rw (version_fits entries few, same_file_name application number) (alone, rw (same_file_name application number) at (whole few))
       ]
 
   -- what is done for a new number

@@ -8,7 +8,8 @@ use Rattle.std.proofs.lemmas.Slice.Eq.{bytes_eq-Decides}
 use Rattle.schema_tree.specs.Tree.{Tree}
 use Rattle.store_core.specs.Objects.{Objects, object_at, with_object}
 use Rattle.store_core.specs.ObjectLaws.{object_at-with_object_same, object_at-with_object_other, object_at-with_object_kept}
-use Rattle.delta_actions.specs.Names.{commit_name, data_file_name, greatest_version}
+use Rattle.store_core.specs.Names.{commit_name, greatest_version}
+use Rattle.delta_actions.specs.Names.{data_file_name}
 use Rattle.delta_checkpoint.specs.Names.{IsCheckpointName}
 use Rattle.commit_core.specs.TableCommits.{IsCommitOf}
 use Rattle.commit_core.specs.Holds.{Stands}

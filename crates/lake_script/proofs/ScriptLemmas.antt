@@ -8,7 +8,7 @@ use Rattle.lake_script.specs.Scripts.{HoldsState, IsScript, ReadsOut}
 use Rattle.lake_script.specs.Sound.{AreSoundLines, IsScriptRun}
 use Rattle.lake_script.specs.Tables as tables
 use Rattle.delta_actions.specs.Commit.{lines_of}
-use Rattle.delta_actions.specs.Names.{greatest_version}
+use Rattle.store_core.specs.Names.{greatest_version}
 use Rattle.lake_script.specs.Keeps.{Keeps}
 use Rattle.lake_script.specs.Tables.{State, entries_of}
 use Rattle.lake_script.specs.Told.{expected_from, ArePrintedLines}

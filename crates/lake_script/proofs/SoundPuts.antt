@@ -2,7 +2,7 @@
 use Rattle.std.proofs.Common.{◌≡◌, inl, inr, ℕ, List, Option, None, Some, Bool, true, false, Result, Ok, Err, refl, sym, ap, subst, ◌∙◌, if◌then◌else◌}
 use Rattle.outcomes.specs.Results.{◌>>=◌}
 use Rattle.store_core.specs.Objects.{Objects, object_at, with_object}
-use Rattle.table_log.specs.Names.{commit_name}
+use Rattle.store_core.specs.Names.{commit_name}
 use Rattle.table_log.specs.Restoring.{AreCheckpointsSound, checkpoint_version}
 use Rattle.commit_core.specs.Creating as creations
 use Rattle.commit_core.specs.Creating.{with_creation, commit_from}

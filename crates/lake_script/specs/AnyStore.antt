@@ -10,7 +10,7 @@ use Rattle.store_core.specs.declared.store.Put.{Put}
 use Rattle.store_core.specs.declared.store.Put.TheVariants as puts
 use Rattle.session_core.specs.Stores.{State, MayAnswerPut}
 use Rattle.session_core.specs.Talks.{told_put}
-use Rattle.table_log.specs.Names.{commit_name}
+use Rattle.store_core.specs.Names.{commit_name}
 use Rattle.table_log.specs.declared.loading.Loaded.{Loaded}
 use Rattle.commit_core.specs.Creating.{Creates, IsLostCreation}
 use Rattle.commit_core.specs.Histories.{history_of, unanswered}

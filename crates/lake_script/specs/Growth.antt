@@ -5,7 +5,7 @@ use Rattle.store_core.specs.Objects.{Objects, with_object}
 use Rattle.sink_core.specs.Appending.{append_plan, MayAppend}
 use Rattle.sink_core.specs.Closes.{close_plan, MayClose}
 use Rattle.commit_core.specs.Creating.{MayCreate}
-use Rattle.table_log.specs.Names.{commit_name}
+use Rattle.store_core.specs.Names.{commit_name}
 use Rattle.snapshot_core.specs.Taking.{HasPut}
 use Rattle.script_lines.specs.Lines.{Statement, append, close, checkpoint, tail, create, task, snapshot, history, show, hex, tries, fault, start, until, step, finish, die, land, foreign}
 use Rattle.outcomes.specs.Lines.{with_newline}

@@ -7,7 +7,7 @@ use Rattle.commit_core.specs.declared.fault.CreateFault.TheVariants as creating
 use Rattle.lake_script.specs.declared.reply.LineReply.{LineReply}
 use Rattle.batch_core.specs.declared.fault.SinkFault.TheVariants as sink
 use Rattle.lake_script.specs.declared.reply.LineReply.TheVariants.{Created, NotCreated, SinkTold, SinkRefused, NotTailed, Checkpointed, NoSnapshot, NoHistory, Put, Refused, Unanswered, Bytes, Digits, Noted}
-use Rattle.source_core.specs.declared.tail_fault.TailFault.TheVariants as tailing
+use Rattle.log_rows.specs.declared.tail_fault.TailFault.TheVariants as tailing
 use Rattle.snapshot_core.specs.FaultTexts as snapshots
 use Rattle.snapshot_core.specs.declared.fault.SnapshotFault.TheVariants as snapshot_faults
 use Rattle.lake_script.specs.Checkpoints.{checkpointed_at}

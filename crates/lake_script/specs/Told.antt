@@ -12,7 +12,7 @@ use Rattle.lake_script.specs.declared.faults.Fault.TheVariants.{NotYet, NoSuchNa
 use Rattle.sink_core.specs.Appending.{appended_by, append_plan, with_append}
 use Rattle.sink_core.specs.declared.sink_state.SinkOutcome.{SinkOutcome}
 use Rattle.sink_core.specs.Closes.{close_plan, closed_by, with_close}
-use Rattle.table_log.specs.Names.{commit_name}
+use Rattle.store_core.specs.Names.{commit_name}
 use Rattle.commit_core.specs.Creating as creations
 use Rattle.commit_core.specs.Creating.{commit_from, created_by, with_creation, IsPrintedFor}
 use Rattle.commit_core.specs.Histories.{history_of}

@@ -10,7 +10,7 @@ ghost use Rattle.lake_script.specs.Sound.{IsAnsweredLine, IsScriptRun, IsRunInPa
 ghost use Rattle.lake_script.specs.Streams.{held, waiting, write_failed, unread, read_failed, StandsIn};
 ghost use Rattle.lake_script.specs.Tables.{State, entries_of};
 ghost use Rattle.delta_actions.specs.Commit.{lines_of};
-ghost use Rattle.delta_actions.specs.Names.{greatest_version};
+ghost use Rattle.store_core.specs.Names.{greatest_version};
 ghost use Rattle.log_reading.specs.LogCache.{IsCacheOf};
 ghost use Rattle.table_log.specs.Restoring.{AreCheckpointsSound, HasOnlySoundCheckpoints, RestoresWell};
 ghost use Rattle.lake_script.specs.Told.{ArePutHere, is_bad, first_bad, Finishes, fell_short};

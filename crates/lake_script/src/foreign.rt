@@ -5,11 +5,10 @@ ghost use Rattle.store_core.specs.Calls.{CountsFault, MayHaveLanded, put_told};
 ghost use Rattle.session_core.specs.Stores.{MayAnswerPut};
 ghost use Rattle.session_core.specs.Talks.{told_put};
 ghost use Rattle.store_core.specs.Objects.{object_at, with_object};
-ghost use Rattle.table_log.specs.Names.{commit_name};
+ghost use Rattle.store_core.specs.Names.{commit_name};
 
-use session_core::commit_name;
 use std::alloc::{AllocError, Global};
-use store_core::{Put, Store, StoreFault};
+use store_core::{Put, Store, StoreFault, commit_name};
 
 /// The bytes of a line, with the newline that ends it.
 fn line_bytes(alloc: Global, text: &str) -> Result<Vec<u8>, AllocError>

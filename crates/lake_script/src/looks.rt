@@ -3,7 +3,7 @@ ghost use Rattle.std.specs.Prelude.{◌≡◌, false, true};
 ghost use Rattle.store_core.specs.Calls.{HasRisen};
 ghost use Rattle.store_core.specs.Objects.{object_at};
 ghost use Rattle.log_reading.specs.LogCache.{IsCacheOf};
-ghost use Rattle.table_log.specs.Names.{commit_name};
+ghost use Rattle.store_core.specs.Names.{commit_name};
 ghost use Rattle.table_log.specs.Restoring.{RestoresWell};
 ghost use Rattle.commit_core.specs.Histories.{history_of};
 ghost use Rattle.script_lines.specs.Lines.{hex, history, show, snapshot};

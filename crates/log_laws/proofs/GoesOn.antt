@@ -8,7 +8,8 @@ use Rattle.delta_actions.specs.Action as actions
 use Rattle.delta_actions.specs.Action.{TxnAction}
 use Rattle.delta_actions.specs.In.{protocol_in, txn_in}
 use Rattle.delta_actions.specs.Commit.{IsCommit}
-use Rattle.delta_actions.specs.Names.{commit_name, greatest_version, stream_domain}
+use Rattle.store_core.specs.Names.{commit_name, greatest_version}
+use Rattle.delta_actions.specs.Names.{stream_domain}
 use Rattle.table_model.specs.Lawful.{BeginsWithCreation, IsLawful}
 use Rattle.table_model.specs.Table.{Entry, creation, group, close, batches_of, closes_of}
 use Rattle.table_model.proofs.Callers.{AreApart, applications_in, lawful-between, lawful-front}

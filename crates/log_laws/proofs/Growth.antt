@@ -5,7 +5,7 @@ use Rattle.std.specs.Prelude.{option_map}
 use Rattle.std.proofs.lemmas.List.Concat.{flat_map-append}
 use Rattle.std.proofs.lemmas.List.Folds.{list_any-append}
 use Rattle.store_core.specs.Objects.{Objects, HasObjectsOf}
-use Rattle.delta_actions.specs.Names.{commit_name}
+use Rattle.store_core.specs.Names.{commit_name}
 use Rattle.table_model.specs.Lawful.{IsLawful, Rises}
 use Rattle.table_model.specs.Table.{Batch, Entry, closes_of, is_closed, last_batch, numbers_by}
 use Rattle.table_model.proofs.Callers.{Rises-back, below_later, last_batch-append, last_number, last_some, numbers_by-append}

@@ -8,7 +8,7 @@ use Rattle.delta_replay.specs.Closes as logs
 use Rattle.delta_replay.specs.Keys.{Key, at, last_number}
 use Rattle.delta_replay.specs.Support.{readable, writable}
 use Rattle.table_log.specs.Counts.{commit_count}
-use Rattle.table_log.specs.Names.{commit_name}
+use Rattle.store_core.specs.Names.{commit_name}
 use Rattle.table_log.specs.Restoring.{AreAlike, RestoresWell, replayed}
 use Rattle.table_log.specs.Versions.{commit, commits_of, log_of, versions_from, versions_of}
 use Rattle.table_log.proofs.Callers.{of_commit, same_values, replayed_alike, well_sound}
@@ -30,7 +30,7 @@ use Rattle.log_laws.proofs.LogSchema.{log_readable, one_writable}
 
 -- the commits of a log are what the versions have
 log_stands : (objects : Objects) (version : ℕ) (commits : List (List actions.Action)) → LogFrom objects version commits → versions_from (length commits) version objects ≡ map commit commits
-unfolding versions_from commit_name
+unfolding versions_from
 log_stands objects version [] log = refl
 log_stands objects version (made ∷ commits) log =
     let more : versions_from (length commits) (suc version) objects ≡ map commit commits = log_stands objects (suc version) commits log.1 in

@@ -10,18 +10,17 @@ use Rattle.session_core.specs.Talks.{Asked, Bears, Talk, Told, get_object, told_
 use Rattle.session_core.proofs.Callers.{bears_more}
 use Rattle.delta_actions.specs.Action.{Action}
 use Rattle.delta_actions.specs.Commit.{IsCommit}
-use Rattle.delta_actions.specs.Names as names
-use Rattle.delta_actions.specs.Names.{greatest_version}
+use Rattle.store_core.specs.Names.{commit_name, commit_version, greatest_version}
+use Rattle.store_core.proofs.Callers.{named}
 use Rattle.delta_replay.specs.Keys.{Key, at}
 use Rattle.delta_replay.specs.Snapshots.{IsSnapshotOf}
 use Rattle.delta_replay.specs.declared.kept.Snapshot.{Snapshot}
 use Rattle.table_log.specs.Counts.{count_in, next_behind}
 use Rattle.table_log.specs.LoadSessions.{GotNoCommit, HasGap, IsListedCheckpoint, IsNextCommit, IsNoCommit, LoadAsks, LoadJob}
 use Rattle.table_log.specs.Loads.{IsFrom, replayed_below}
-use Rattle.table_log.specs.Names.{commit_name, commit_version}
 use Rattle.table_log.specs.Restoring.{Restored}
 use Rattle.table_log.specs.Versions.{commit_of, commits_in, versions_from}
-use Rattle.table_log.proofs.Callers.{commit_is, found_parts, named, of_commit, read_parts, same_values}
+use Rattle.table_log.proofs.Callers.{commit_is, found_parts, of_commit, read_parts, same_values}
 use Rattle.table_model.specs.Table.{Entry}
 use Rattle.table_store.specs.Holds.{HoldsFrom}
 use Rattle.table_store.specs.Schema.{Schema}
@@ -79,7 +78,7 @@ count_few (name ∷ listed) = next_few (commit_version name) (count_in listed) (
 
 -- what stands under a version's name, of those that hold entries
 commit_at : (objects : Objects) (schema : Schema) (version wanted : ℕ) (entries : List Entry) → HoldsFrom objects schema version entries → version ≤ wanted → wanted < version + length entries
-    → (bytes : List ℕ) × (actions : List Action) × (object_at objects (names.commit_name wanted) ≡ Some bytes) × IsCommit bytes actions
+    → (bytes : List ℕ) × (actions : List Action) × (object_at objects (commit_name wanted) ≡ Some bytes) × IsCommit bytes actions
 commit_at objects schema version wanted [] holds low high = absurd (omega arith)
 commit_at objects schema version wanted (entry ∷ entries) holds low high =
     elim (cases_eq wanted version) [
@@ -93,7 +92,6 @@ never_none bytes actions is none = let wrong : ◌≡◌ {A = Option (List Actio
 
 -- in a sound store whatever stands under a commit's name is one
 pub commit_stands : (objects : Objects) → IsSound objects → (version : ℕ) (bytes : List ℕ) → version ≤ greatest_version → object_at objects (commit_name version) ≡ Some bytes → commit_of bytes ≡ None → ⊥
-unfolding commit_name
 commit_stands objects sound version bytes small stands none =
     elim (cases_lt version (length sound.entries)) [
       | inl low ↦

@@ -3,10 +3,8 @@ use Rattle.std.proofs.Common.{◌≡◌, ℕ, suc, ◌+◌, ◌<◌, ◌≤◌, 
 use Rattle.std.proofs.lemmas.Bool.{cases_eq, cases_lt}
 use Rattle.store_core.specs.Objects.{Objects, object_at}
 use Rattle.delta_actions.specs.Action as actions
-use Rattle.delta_actions.specs.Names as names
-use Rattle.delta_actions.specs.Names.{greatest_version}
+use Rattle.store_core.specs.Names.{commit_name, greatest_version}
 use Rattle.table_log.specs.Counts.{commit_count}
-use Rattle.table_log.specs.Names.{commit_name}
 use Rattle.table_log.specs.Versions.{commit, versions_from, versions_of, commits_in, commits_of, log_of}
 use Rattle.table_log.proofs.Callers.{count_is, of_commit, stands_below}
 use Rattle.table_model.specs.Lawful.{BeginsWithCreation}
@@ -21,7 +19,7 @@ use Rattle.table_store.proofs.LawfulLogLemmas.{AreMadeFor}
 
 -- each commit from a version on stands
 stands_at : (objects : Objects) (schema : Schema) (version wanted : ℕ) (entries : List Entry) → HoldsFrom objects schema version entries → version ≤ wanted → wanted < version + length entries
-    → IsSome (object_at objects (names.commit_name wanted))
+    → IsSome (object_at objects (commit_name wanted))
 stands_at objects schema version wanted [] holds low high = absurd (omega arith)
 stands_at objects schema version wanted (entry ∷ entries) holds low high =
     elim (cases_eq wanted version) [
@@ -36,29 +34,27 @@ module _ (objects : Objects) (sound : IsSound objects) where
 
   -- there are as many entries as versions, or fewer
   few_entries : length sound.entries ≤ commit_count objects
-  unfolding commit_name
   few_entries =
       elim (cases_lt (commit_count objects) (length sound.entries)) [
         | inr few ↦ few
         | inl many ↦
-            let there : IsSome (object_at objects (names.commit_name (commit_count objects))) = stands_at objects sound.schema 0 (commit_count objects) sound.entries sound.holds (omega arith) (omega (arith, many)) in
+            let there : IsSome (object_at objects (commit_name (commit_count objects))) = stands_at objects sound.schema 0 (commit_count objects) sound.entries sound.holds (omega arith) (omega (arith, many)) in
             let below : commit_count objects < commit_count objects = stands_below objects (commit_count objects) (omega (arith, many, entries_fit)) there in
             absurd (omega (arith, below))
       ]
 
   -- A sound store has as many versions as its table has entries.
   pub sound_count : commit_count objects ≡ length sound.entries
-  unfolding commit_name
   sound_count = count_is objects (length sound.entries) entries_fit below stands
     where
-      below : (version : ℕ) → version ≤ greatest_version → IsSome (object_at objects (names.commit_name version)) → version < length sound.entries
+      below : (version : ℕ) → version ≤ greatest_version → IsSome (object_at objects (commit_name version)) → version < length sound.entries
       below version fits there =
           elim (cases_lt version (length sound.entries)) [
             | inl low ↦ low
             | inr past ↦ let none : false ≡ true = rw (sound.ends version past fits) at there in absurd cc
           ]
 
-      stands : (version : ℕ) → suc version ≡ length sound.entries → IsSome (object_at objects (names.commit_name version))
+      stands : (version : ℕ) → suc version ≡ length sound.entries → IsSome (object_at objects (commit_name version))
       stands version is = stands_at objects sound.schema 0 version sound.entries sound.holds (omega arith) (omega (arith, is))
 
 -- ---- what stands at each
@@ -81,7 +77,7 @@ module _ (objects : Objects) (schema : Schema) where
 
   -- they are what the versions have
   pub commits_stand : (version : ℕ) (entries : List Entry) (stand : HoldsFirst objects schema version entries) → versions_from (length entries) version objects ≡ map commit (made_of version entries stand)
-  unfolding versions_from commit_name
+  unfolding versions_from
   commits_stand version [] stand = refl
   commits_stand version (entry ∷ entries) stand =
       let more : versions_from (length entries) (suc version) objects ≡ map commit (made_of (suc version) entries stand.2) = commits_stand (suc version) entries stand.2 in

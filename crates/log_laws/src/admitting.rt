@@ -4,7 +4,7 @@ ghost use Rattle.std.specs.Prelude.{◌≡◌, ◌≤◌, ℕ, suc, List, [], �
 ghost use Rattle.store_core.specs.Objects.{Objects, object_at};
 ghost use Rattle.delta_actions.specs.Action.{Action};
 ghost use Rattle.delta_actions.specs.Commit.{IsCommit};
-ghost use Rattle.delta_actions.specs.Names.{commit_name, greatest_version};
+ghost use Rattle.store_core.specs.Names.{commit_name, greatest_version};
 ghost use Rattle.table_model.specs.Appends.{appended};
 ghost use Rattle.table_model.specs.Lawful.{IsLawful};
 ghost use Rattle.table_model.specs.Table.{Batch, Entry, creation, group, close, is_closed};

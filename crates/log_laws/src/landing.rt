@@ -2,8 +2,8 @@
 
 ghost use Rattle.std.specs.Prelude.{◌≡◌, ℕ, List, None, Some};
 ghost use Rattle.store_core.specs.Objects.{Objects, with_object, HasObjectsOf};
-ghost use Rattle.delta_actions.specs.Names.{commit_name, data_file_name};
-ghost use Rattle.table_log.specs.Names.{commit_version};
+ghost use Rattle.store_core.specs.Names.{commit_name, commit_version};
+ghost use Rattle.delta_actions.specs.Names.{data_file_name};
 ghost use Rattle.table_log.specs.Restoring.{IsSoundCheckpoint, checkpoint_version};
 ghost use Rattle.table_store.specs.Sound.{IsAdmissible};
 ghost use Rattle.log_laws.specs.Sound.{IsSoundStore};

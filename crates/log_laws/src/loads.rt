@@ -10,7 +10,7 @@ ghost use Rattle.delta_actions.specs.Action.{Action};
 ghost use Rattle.delta_replay.specs.Snapshots.{IsSnapshotOf};
 ghost use Rattle.table_log.specs.Counts.{commit_count, count_in};
 ghost use Rattle.table_log.specs.LoadSessions.{HasGap, HasListed, LoadAsks, LoadEnds, LoadJob};
-ghost use Rattle.table_log.specs.Names.{commit_name};
+ghost use Rattle.store_core.specs.Names.{commit_name};
 ghost use Rattle.table_log.specs.Versions.{commits_in, log_of, versions_from};
 ghost use Rattle.table_log.specs.declared.fault.LogFault.TheVariants.{BadLog};
 ghost use Rattle.table_log.specs.declared.loading.Loaded.{Loaded};

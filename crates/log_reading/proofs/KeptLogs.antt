@@ -1,7 +1,7 @@
 -- What is known of a log, and a file that is kept, stay so while their store grows.
 use Rattle.std.proofs.Common.{◌≡◌, ◌∙◌, ℕ, List, [], ◌∷◌, Option, Some, None, string_bytes, refl, sym, ap}
 use Rattle.store_core.specs.Objects.{Objects, HasObjectsOf, object_at}
-use Rattle.session_core.specs.Names.{commit_name}
+use Rattle.store_core.specs.Names.{commit_name}
 use Rattle.table_log.specs.Versions.{Version, missing, version_by}
 use Rattle.log_reading.specs.LogCache.{HoldsFile}
 use Rattle.log_reading.specs.Logs.{IsPast, StandThere, standing_views}

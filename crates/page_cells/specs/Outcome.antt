@@ -9,7 +9,7 @@ use Rattle.lake_bytes.specs.Hybrid.{values_of}
 use Rattle.lake_bytes.specs.declared.run.HybridError.{HybridError}
 use Rattle.lake_bytes.specs.declared.run.HybridError.TheVariants as numbers
 use Rattle.lake_bytes.specs.declared.run.Run.{Run}
-use Rattle.thrift_core.specs.declared.fault.ThriftFault.TheVariants.{Bytes}
+use Rattle.thrift_values.specs.declared.fault.ThriftFault.TheVariants.{Bytes}
 use Rattle.parquet_footer.specs.declared.fault.FileFault.{FileFault}
 use Rattle.parquet_footer.specs.declared.fault.FileError.{FileError}
 use Rattle.parquet_footer.specs.declared.fault.FileError.TheVariants as errors

@@ -6,7 +6,7 @@ ghost use Rattle.parquet_footer.specs.declared.fault.FileFault.TheVariants.{BadP
 
 use lake_bytes::ByteFault;
 use parquet_footer::{FileError, FileFault};
-use thrift_core::ThriftFault;
+use thrift_values::ThriftFault;
 
 /// A fault of a page's header or of what it holds.
 pub fn bad_page(fault: ThriftFault) -> FileFault

@@ -15,7 +15,8 @@ use Rattle.shred.specs.Fits.{FitFields, FitsField, FitsShape, is_plain}
 use Rattle.shred.specs.Shape as shapes
 use Rattle.shred.specs.Shape.{HasFields, Shape}
 use Rattle.shred.specs.Ways.{Step, level_inside, ways}
-use Rattle.shred.proofs.Callers.{cells_length, cells_of, cells_of_fields, has_way}
+use Rattle.shred.proofs.Callers.{cells_length, cells_of, cells_of_fields}
+use Rattle.row_assembly.proofs.Callers.{has_way}
 use Rattle.page_cells.specs.Texts.{is_proper}
 use Rattle.parquet_pages.specs.Pages.{may_stand}
 use Rattle.page_cells.specs.Types.{leaf_type, primitive_of}

@@ -9,10 +9,10 @@ use Rattle.outcomes.specs.Bytes.{IsBytes}
 use Rattle.outcomes.proofs.Callers.{said_too, with_front}
 use Rattle.row_core.specs.Rows.{Row}
 use Rattle.schema_tree.specs.Tree.{Tree}
-use Rattle.shred.specs.Assembly.{assembled, cells_of_columns, heads, row_count, row_made, rows_made}
 use Rattle.shred.specs.Columns.{Cell, Column}
 use Rattle.shred.specs.Shape.{Shape}
 use Rattle.shred.specs.Ways.{ways, highest}
+use Rattle.row_assembly.specs.Assembly.{assembled, cells_of_columns, heads, row_count, row_made, rows_made}
 use Rattle.parquet_footer.specs.Metadata.{ColumnChunk, RowGroup, FileMetaData}
 use Rattle.parquet_footer.specs.declared.fault.FileFault.{FileFault}
 use Rattle.parquet_footer.specs.declared.fault.FileFault.TheVariants.{Codec, CountMismatch, SchemaMismatch}

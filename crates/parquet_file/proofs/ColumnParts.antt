@@ -4,12 +4,13 @@ use Rattle.std.specs.List.{AllZip, list_all}
 use Rattle.std.proofs.lemmas.Bool.{and_parts, eqb-true}
 use Rattle.std.proofs.lemmas.List.Elements.{All-cons, All-nil}
 use Rattle.row_core.specs.declared.value.Value.{Value}
-use Rattle.shred.specs.Assembly.{IsWhole}
 use Rattle.shred.specs.Columns.{Column}
-use Rattle.shred.specs.Parts.{parts_of, ArePlain}
+use Rattle.shred.specs.Parts.{ArePlain}
 use Rattle.shred.specs.Views.{part_views}
 use Rattle.shred.specs.Ways.{Step, highest}
 use Rattle.shred.specs.declared.columns.ColumnPart.{ColumnPart}
+use Rattle.row_assembly.specs.Assembly.{IsWhole}
+use Rattle.row_assembly.specs.Parts.{parts_of}
 use Rattle.parquet_pages.specs.declared.reader.ColumnReader.{ColumnReader}
 use Rattle.parquet_pages.proofs.Callers.{left_full}
 use Rattle.parquet_schema.specs.Leaves.{LeafIn}

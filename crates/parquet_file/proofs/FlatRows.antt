@@ -5,12 +5,12 @@ use Rattle.std.proofs.lemmas.Bool.{eq-eqb}
 use Rattle.std.proofs.lemmas.List.Elements.{All-head, All-tail}
 use Rattle.std.proofs.lemmas.List.Sums.{sum_by-append}
 use Rattle.row_core.specs.Rows.{Row, Value, null, structure, values_of}
-use Rattle.shred.specs.Assembly.{assembled, cells_in, cells_of_columns, field_made, heads, made, made_fields, passed, row_count, rows_made, AreEven, IsWhole}
 use Rattle.shred.specs.Columns.{Cell, Column}
 use Rattle.shred.specs.Fits.{is_plain}
-use Rattle.shred.specs.Mismatch.{cells_of_ways}
 use Rattle.shred.specs.Shape.{Shape, leaf, struct, Fields, no_fields, field}
 use Rattle.shred.specs.Ways.{Step, highest, level_inside, ways, ways_from}
+use Rattle.row_assembly.specs.Assembly.{assembled, cells_in, cells_of_columns, field_made, heads, made, made_fields, passed, row_count, rows_made, AreEven, IsWhole}
+use Rattle.row_assembly.specs.Mismatch.{cells_of_ways}
 use Rattle.parquet_file.specs.Internal.{are_leaves, is_flat, AreSoundColumns}
 
 -- ---- cells that give a value

@@ -14,10 +14,10 @@ use Rattle.row_core.specs.Conforms.{Conforms}
 use Rattle.row_core.specs.Rows.{Row}
 use Rattle.schema_tree.specs.Limits.{is_sound}
 use Rattle.schema_tree.specs.Tree.{Tree}
-use Rattle.shred.specs.Assembly.{assembled}
 use Rattle.shred.specs.Columns.{Column}
 use Rattle.shred.specs.Shape.{Shape}
-use Rattle.shred.proofs.Callers.{assembled_complete, assembled_sound}
+use Rattle.row_assembly.specs.Assembly.{assembled}
+use Rattle.row_assembly.proofs.Callers.{assembled_complete, assembled_sound}
 use Rattle.parquet_footer.specs.Metadata.{ColumnChunk, RowGroup}
 use Rattle.parquet_footer.specs.declared.fault.FileFault.{FileFault}
 use Rattle.parquet_footer.specs.declared.fault.FileFault.TheVariants.{Codec, CountMismatch, SchemaMismatch}

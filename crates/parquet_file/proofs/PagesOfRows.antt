@@ -10,7 +10,7 @@ use Rattle.shred.specs.Columns.{Cell, Column, all_some, cell, column, column_of}
 use Rattle.shred.specs.Views.{borrowed_column}
 use Rattle.shred.specs.Ways.{Step, highest}
 use Rattle.shred.specs.declared.columns.Column.{Column as CodeColumn}
-use Rattle.shred.proofs.Callers.{way_tells}
+use Rattle.row_assembly.proofs.Callers.{way_tells}
 use Rattle.page_cells.specs.Levels.{present}
 use Rattle.page_writing.specs.Writing.{first_page, other_pages}
 use Rattle.page_writing.proofs.Callers.{some_left}

@@ -5,8 +5,9 @@ use Rattle.outcomes.specs.Outcome.{Said, IsSaid}
 use Rattle.outcomes.specs.Results.{refused_as}
 use Rattle.outcomes.proofs.Callers.{with_front, regroup, said_too}
 use Rattle.row_core.specs.Rows.{Row}
-use Rattle.shred.specs.Faults.{Fault}
-use Rattle.shred.specs.Parts.{part_of, rows_part}
+use Rattle.shred.specs.Parts.{part_of}
+use Rattle.row_assembly.specs.Faults.{Fault}
+use Rattle.row_assembly.specs.Parts.{rows_part}
 use Rattle.parquet_footer.proofs.Callers.{ok_is}
 use Rattle.parquet_file.specs.Reading.{RowsPart, part_among, part_read}
 use Rattle.parquet_file.proofs.PartLists.{part_behind, part_of_none, part_whole}

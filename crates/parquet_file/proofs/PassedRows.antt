@@ -5,12 +5,13 @@ use Rattle.std.proofs.Math.Seq.{take-nil}
 use Rattle.std.proofs.lemmas.List.{drop_all}
 use Rattle.outcomes.proofs.Callers.{said_too, with_front}
 use Rattle.row_core.specs.Rows.{Row}
-use Rattle.shred.specs.Assembly.{assembled, row_count, AreEven, IsWhole}
 use Rattle.shred.specs.Columns.{Column}
-use Rattle.shred.specs.Parts.{fronts, part_of, rests}
+use Rattle.shred.specs.Parts.{part_of}
 use Rattle.shred.specs.Shape.{Shape}
 use Rattle.shred.specs.Ways.{highest, ways}
-use Rattle.shred.proofs.Callers.{assembled_twice, fronts_count, fronts_even}
+use Rattle.row_assembly.specs.Assembly.{assembled, row_count, AreEven, IsWhole}
+use Rattle.row_assembly.specs.Parts.{fronts, rests}
+use Rattle.row_assembly.proofs.Callers.{assembled_twice, fronts_count, fronts_even}
 use Rattle.parquet_footer.specs.Outcome.{says}
 use Rattle.parquet_footer.specs.declared.fault.FileError.{FileError}
 use Rattle.parquet_footer.specs.declared.fault.FileFault.{FileFault}

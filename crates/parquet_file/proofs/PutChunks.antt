@@ -7,7 +7,7 @@ use Rattle.outcomes.specs.Results.{◌>>=◌}
 use Rattle.outcomes.proofs.Callers.{said_too}
 use Rattle.thrift_core.specs.Tree.{Tree}
 use Rattle.thrift_core.specs.View.{view, views}
-use Rattle.thrift_core.specs.declared.value.TValue.{TValue}
+use Rattle.thrift_values.specs.declared.value.TValue.{TValue}
 use Rattle.row_core.specs.Rows.{Row}
 use Rattle.shred.specs.Columns.{Column, column}
 use Rattle.shred.specs.Views.{way_views}

@@ -4,7 +4,7 @@ use Rattle.std.proofs.lemmas.List.{append-nil, drop_all, map_push}
 use denote.Param.Weighed.{most}
 use Rattle.thrift_core.specs.Tree as thrift
 use Rattle.thrift_core.specs.View.{view, views}
-use Rattle.thrift_core.specs.declared.value.TValue.{TValue}
+use Rattle.thrift_values.specs.declared.value.TValue.{TValue}
 use Rattle.schema_tree.specs.Tree as tree
 use Rattle.schema_tree.specs.Tree.{fields_of as tree_fields}
 use Rattle.schema_tree.specs.View.{view as type_view, field_view as column_view, field_views as column_views}

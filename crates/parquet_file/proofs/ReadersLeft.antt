@@ -7,8 +7,9 @@ use Rattle.outcomes.specs.Results.{◌>>=◌}
 use Rattle.thrift_core.specs.Fields.{each}
 use Rattle.row_core.specs.declared.value.Value.{Value}
 use Rattle.shred.specs.Columns.{Column}
-use Rattle.shred.specs.Parts.{cut_off, fronts, rests}
+use Rattle.shred.specs.Parts.{cut_off}
 use Rattle.shred.specs.declared.columns.ColumnPart.{ColumnPart}
+use Rattle.row_assembly.specs.Parts.{fronts, rests}
 use Rattle.parquet_footer.specs.declared.fault.FileError.{FileError}
 use Rattle.parquet_footer.specs.declared.fault.FileError.TheVariants as errors
 use Rattle.parquet_footer.specs.declared.fault.FileFault.{FileFault}

@@ -9,15 +9,16 @@ use Rattle.outcomes.specs.Results.{refused_as}
 use Rattle.outcomes.proofs.Callers.{with_front}
 use Rattle.row_core.specs.Rows.{Row}
 use Rattle.row_core.specs.declared.value.Value.{Value}
-use Rattle.shred.specs.Assembly.{assembled, cells_in, cells_of_columns, row_count, AreEven, IsWhole}
 use Rattle.shred.specs.Columns.{Cell, Column}
-use Rattle.shred.specs.Faults.{Fault}
-use Rattle.shred.specs.Parts.{fronts, part_of, parts_of, rests, ArePlain}
+use Rattle.shred.specs.Parts.{part_of, ArePlain}
 use Rattle.shred.specs.Shape.{Shape}
 use Rattle.shred.specs.Views.{part_views}
 use Rattle.shred.specs.Ways.{Step, highest, ways}
 use Rattle.shred.specs.declared.columns.ColumnPart.{ColumnPart}
-use Rattle.shred.proofs.Callers.{assembled_twice, both, front_even, fronts_count, rests_even}
+use Rattle.row_assembly.specs.Assembly.{assembled, cells_in, cells_of_columns, row_count, AreEven, IsWhole}
+use Rattle.row_assembly.specs.Faults.{Fault}
+use Rattle.row_assembly.specs.Parts.{fronts, parts_of, rests}
+use Rattle.row_assembly.proofs.Callers.{assembled_twice, both, front_even, fronts_count, rests_even}
 use Rattle.parquet_footer.specs.declared.fault.FileFault.{FileFault}
 use Rattle.parquet_footer.specs.declared.fault.FileFault.TheVariants.{SchemaMismatch}
 use Rattle.parquet_pages.specs.declared.reader.ColumnReader.{ColumnReader}

@@ -10,11 +10,12 @@ use Rattle.outcomes.specs.Results.{◌>>=◌, or_refusal, refused_if}
 use Rattle.outcomes.specs.Bytes.{IsBytes}
 use Rattle.outcomes.proofs.Callers.{regroup, said_too, with_front}
 use Rattle.thrift_core.specs.Fields.{each}
-use Rattle.shred.specs.Assembly.{IsWhole}
 use Rattle.shred.specs.Columns.{Column}
 use Rattle.shred.specs.Fits.{is_plain}
-use Rattle.shred.specs.Parts.{cut_off, cut_out, fronts, highest_in, part_of, rests, ArePlain}
+use Rattle.shred.specs.Parts.{cut_off, cut_out, highest_in, part_of, ArePlain}
 use Rattle.shred.specs.Ways.{Step, highest}
+use Rattle.row_assembly.specs.Assembly.{IsWhole}
+use Rattle.row_assembly.specs.Parts.{fronts, rests}
 use Rattle.parquet_footer.specs.Metadata.{ColumnChunk}
 use Rattle.parquet_footer.specs.declared.fault.FileFault.{FileFault}
 use Rattle.parquet_footer.specs.declared.fault.FileFault.TheVariants.{Codec, SchemaMismatch}

@@ -6,10 +6,10 @@ use Rattle.outcomes.specs.Results.{◌>>=◌, or_refusal, refused_as, refused_if
 use Rattle.thrift_core.specs.Fields.{each}
 use Rattle.row_core.specs.Rows.{Row}
 use Rattle.schema_tree.specs.Tree.{Tree}
-use Rattle.shred.specs.Assembly.{assembled}
 use Rattle.shred.specs.Columns.{Column}
 use Rattle.shred.specs.Parts.{part_of}
 use Rattle.shred.specs.Shape.{Shape}
+use Rattle.row_assembly.specs.Assembly.{assembled}
 use Rattle.parquet_footer.specs.Frame.{frame_of}
 use Rattle.parquet_footer.specs.Metadata.{ColumnChunk, RowGroup, FileMetaData}
 use Rattle.parquet_footer.specs.Reading.{metadata_at}

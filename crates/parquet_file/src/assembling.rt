@@ -4,11 +4,12 @@ ghost use Rattle.std.specs.Prelude.{◌≡◌, ◌≢◌, ◌≤◌, ◌<◌, �
 ghost use Rattle.std.specs.List.{list_all};
 ghost use Rattle.row_core.specs.Views.{row_views};
 ghost use Rattle.outcomes.specs.Results.{refused_as};
-ghost use Rattle.shred.specs.Assembly.{assembled, row_count, AreEven};
 ghost use Rattle.shred.specs.Columns as columns;
-ghost use Rattle.shred.specs.Parts.{fronts, parts_of, rests, rows_part, ArePlain};
+ghost use Rattle.shred.specs.Parts.{ArePlain};
 ghost use Rattle.shred.specs.Views.{part_views, shape_view};
 ghost use Rattle.shred.specs.Ways.{highest, ways};
+ghost use Rattle.row_assembly.specs.Assembly.{assembled, row_count, AreEven};
+ghost use Rattle.row_assembly.specs.Parts.{fronts, parts_of, rests, rows_part};
 ghost use Rattle.parquet_footer.specs.Outcome.{FileGives};
 ghost use Rattle.parquet_footer.specs.declared.fault.FileFault.TheVariants.{SchemaMismatch};
 ghost use Rattle.page_cells.specs.Outcome.{FindsWhere};
@@ -20,8 +21,9 @@ ghost use Rattle.parquet_file.specs.Reading.{has_rows};
 use crate::flat::is_flat;
 use parquet_footer::{FileError, FileFault};
 use parquet_pages::ColumnReader;
+use row_assembly::{ShredError, assemble_part};
 use row_core::Value;
-use shred::{ColumnPart, Shape, ShredError, assemble_part};
+use shred::{ColumnPart, Shape};
 use std::alloc::Global;
 
 /// How many rows are made at a time at most, so that what is made of a page doesn't grow with it.

@@ -2,7 +2,8 @@
 
 ghost use Rattle.std.specs.Prelude.{◌≡◌, map, option_map, string_bytes};
 ghost use Rattle.lake_bytes.specs.Reading.{IsReading};
-ghost use Rattle.shred.specs.Parts.{cut_off, rests};
+ghost use Rattle.shred.specs.Parts.{cut_off};
+ghost use Rattle.row_assembly.specs.Parts.{rests};
 ghost use Rattle.parquet_footer.specs.Views.{chunk_view, chunk_views, group_view};
 ghost use Rattle.parquet_pages.specs.Held.{AreLeft};
 ghost use Rattle.parquet_pages.specs.Outcome.{GivesWhere};

@@ -8,7 +8,7 @@ use Rattle.std.proofs.lemmas.Nat.{le_bytes_4}
 use Rattle.std.proofs.lemmas.Slice.Eq.{bytes_eq-Decides}
 use Rattle.outcomes.specs.Bytes.{IsBytes}
 use Rattle.lake_bytes.specs.declared.fault.ByteFault.TheVariants.{Short}
-use Rattle.thrift_core.specs.declared.fault.ThriftFault.TheVariants.{Bytes}
+use Rattle.thrift_values.specs.declared.fault.ThriftFault.TheVariants.{Bytes}
 use Rattle.parquet_footer.specs.Frame.{magic, framed, is_framed, front_of, footer_length, frame_of}
 use Rattle.parquet_footer.specs.declared.fault.FileFault.TheVariants.{BadMagic, BadFooter, TooLarge}
 use Rattle.parquet_footer.proofs.FoundSteps.{ok_is, passed, bytes_before, bytes_behind, four_below}

@@ -3,7 +3,7 @@ use Rattle.std.proofs.Common.{◌≡◌, ◌^◌, ◌<◌, Bool, true, false, co
 use Rattle.std.specs.Int.{w32, from_le_bytes}
 use Rattle.outcomes.specs.Results.{◌>>=◌}
 use Rattle.outcomes.specs.Bytes.{IsBytes}
-use Rattle.thrift_core.specs.declared.fault.ThriftFault.{ThriftFault}
+use Rattle.thrift_values.specs.declared.fault.ThriftFault.{ThriftFault}
 use Rattle.parquet_footer.specs.declared.fault.FileFault.{FileFault}
 use Rattle.parquet_footer.specs.Reading.{told_as}
 

@@ -6,13 +6,13 @@ use Rattle.outcomes.specs.Outcome.{IsSaid}
 use Rattle.outcomes.specs.Results.{◌>>=◌}
 use Rattle.outcomes.proofs.Callers.{with_front, regroup}
 use Rattle.thrift_core.specs.Fields.{each}
-use Rattle.thrift_core.specs.Reading.{says}
+use Rattle.thrift_core.specs.Said.{says}
 use Rattle.thrift_core.specs.Tree.{Tree}
 use Rattle.thrift_core.specs.View.{view, views}
-use Rattle.thrift_core.specs.declared.fault.ReadError.{ReadError}
-use Rattle.thrift_core.specs.declared.fault.ReadError.TheVariants as errors
-use Rattle.thrift_core.specs.declared.fault.ThriftFault.{ThriftFault}
-use Rattle.thrift_core.specs.declared.value.TValue.{TValue}
+use Rattle.thrift_values.specs.declared.value.TValue.{TValue}
+use Rattle.thrift_values.specs.declared.fault.ReadError.{ReadError}
+use Rattle.thrift_values.specs.declared.fault.ThriftFault.{ThriftFault}
+use Rattle.thrift_values.specs.declared.fault.ReadError.TheVariants as errors
 use Rattle.parquet_footer.specs.Reading.{claims_within_limit}
 use Rattle.parquet_footer.specs.Views.{group_views}
 use Rattle.parquet_footer.specs.declared.footer.RowGroup.{RowGroup}

@@ -3,7 +3,7 @@ use Rattle.std.specs.Prelude.{ℕ, ℤ, pos, List, [], ◌∷◌, Option, Some, 
 use Rattle.std.specs.Ordering.{int_eq}
 use Rattle.outcomes.specs.Results.{◌>>=◌}
 use Rattle.thrift_core.specs.Tree.{Tree}
-use Rattle.thrift_core.specs.declared.fault.ThriftFault.{ThriftFault}
+use Rattle.thrift_values.specs.declared.fault.ThriftFault.{ThriftFault}
 use Rattle.thrift_core.specs.Fields.{as_integer, as_text, as_struct, as_list, optional, needed, natural, count, each}
 
 -- A node of the schema, which is a list of its nodes depth first, each with its count of children (SchemaElement).

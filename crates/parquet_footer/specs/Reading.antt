@@ -3,7 +3,7 @@ use Rattle.std.specs.Prelude.{ℕ, List, [], ◌∷◌, Bool, true, not, ◌&&�
 use Rattle.outcomes.specs.Results.{◌>>=◌}
 use Rattle.thrift_core.specs.Tree.{Tree}
 use Rattle.thrift_core.specs.Reading.{struct_at}
-use Rattle.thrift_core.specs.declared.fault.ThriftFault.{ThriftFault}
+use Rattle.thrift_values.specs.declared.fault.ThriftFault.{ThriftFault}
 use Rattle.parquet_footer.specs.Frame.{frame_of}
 use Rattle.parquet_footer.specs.Metadata.{RowGroup, FileMetaData, metadata_of}
 use Rattle.parquet_footer.specs.declared.fault.FileFault.{FileFault}

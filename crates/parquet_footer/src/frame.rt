@@ -5,7 +5,7 @@ ghost use Rattle.lake_bytes.specs.Reading.{IsReading};
 ghost use Rattle.lake_bytes.specs.declared.fault.ByteFault.TheVariants.{Short};
 ghost use Rattle.parquet_footer.specs.Frame.{FramedAs, frame_of, is_framed, footer_length};
 ghost use Rattle.parquet_footer.specs.declared.fault.FileFault.TheVariants.{BadFooter};
-ghost use Rattle.thrift_core.specs.declared.fault.ThriftFault.TheVariants.{Bytes};
+ghost use Rattle.thrift_values.specs.declared.fault.ThriftFault.TheVariants.{Bytes};
 
 use crate::fault::FileFault;
 use lake_bytes::ByteFault;

@@ -9,7 +9,7 @@ use Rattle.thrift_core.specs.Fields.{as_integer, as_struct, needed, count}
 use Rattle.thrift_core.specs.Reading.{struct_at}
 use Rattle.thrift_core.specs.Spelling.{SpellsStruct}
 use Rattle.thrift_core.specs.Tree.{Tree}
-use Rattle.thrift_core.specs.declared.fault.ThriftFault.{ThriftFault}
+use Rattle.thrift_values.specs.declared.fault.ThriftFault.{ThriftFault}
 use Rattle.thrift_core.proofs.Callers.{struct_at_found}
 use Rattle.parquet_pages.specs.Headers.{Content, Header, content_of, data_page, data_page_of, dictionary_page, dictionary_page_of, header_of, level_encoding_of, other_page}
 use Rattle.parquet_pages.specs.Pages.{Leaf, has_levels, plain_header, rle_where}

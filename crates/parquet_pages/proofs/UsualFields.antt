@@ -5,7 +5,7 @@ use Rattle.thrift_core.specs.Reading.{struct_at}
 use Rattle.thrift_core.specs.Spelling.{SpellsFields, apart, id_rises}
 use Rattle.thrift_core.specs.Tree.{Fields, no_fields, field, integer, struct}
 use Rattle.thrift_core.specs.Wire.{announced}
-use Rattle.thrift_core.specs.declared.fault.ThriftFault.{ThriftFault}
+use Rattle.thrift_values.specs.declared.fault.ThriftFault.{ThriftFault}
 use Rattle.thrift_core.specs.declared.wire.WireType.TheVariants as wire
 use Rattle.thrift_core.proofs.Callers.{struct_at_again}
 use Rattle.parquet_footer.specs.declared.fault.FileFault.TheVariants.{BadPage}

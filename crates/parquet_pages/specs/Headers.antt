@@ -3,7 +3,7 @@ use Rattle.std.specs.Prelude.{ℕ, ℤ, pos, Bool, true, false, Option, Some, No
 use Rattle.std.specs.Ordering.{int_eq}
 use Rattle.outcomes.specs.Results.{◌>>=◌}
 use Rattle.thrift_core.specs.Tree.{Tree}
-use Rattle.thrift_core.specs.declared.fault.ThriftFault.{ThriftFault}
+use Rattle.thrift_values.specs.declared.fault.ThriftFault.{ThriftFault}
 use Rattle.thrift_core.specs.Fields.{as_integer, as_struct, needed, count}
 
 -- The header of a page by its type. Of a data page: how many values it has, nulls among them, their encoding, and where

@@ -3,11 +3,9 @@ use Rattle.std.proofs.Common.{◌≡◌, ℕ, suc, ◌+◌, ◌<◌, ◌≤◌, 
 use Rattle.std.proofs.lemmas.Bool.{cases_lt}
 use Rattle.schema_tree.specs.Tree.{Tree}
 use Rattle.store_core.specs.Objects.{Objects, object_at}
-use Rattle.delta_actions.specs.Names as names
-use Rattle.delta_actions.specs.Names.{greatest_version}
+use Rattle.store_core.specs.Names.{commit_name, greatest_version}
 use Rattle.table_model.specs.Table.{Entry}
 use Rattle.table_log.specs.Counts.{commit_count}
-use Rattle.table_log.specs.Names.{commit_name}
 use Rattle.table_log.specs.Versions.{commit, versions_from, versions_of, log_of}
 use Rattle.table_log.proofs.Callers.{count_is, of_commit}
 use Rattle.source_core.proofs.Callers.{made_length, some_commits}
@@ -17,7 +15,7 @@ use Rattle.read_laws.proofs.KeptLog.{made_of, are_made}
 -- ---- how many versions there are
 
 -- the commit of the last version stands
-last_stands : (objects : Objects) (schema : Tree) (version end : ℕ) (entries : List Entry) → KeptFrom objects schema version entries → version ≤ end → suc end ≡ version + length entries → IsSome (object_at objects (names.commit_name end))
+last_stands : (objects : Objects) (schema : Tree) (version end : ℕ) (entries : List Entry) → KeptFrom objects schema version entries → version ≤ end → suc end ≡ version + length entries → IsSome (object_at objects (commit_name end))
 last_stands objects schema version end [] kept low is = absurd (omega arith)
 last_stands objects schema version end (entry ∷ []) kept low is =
     let here : end ≡ version = omega arith in
@@ -26,17 +24,16 @@ last_stands objects schema version end (entry ∷ other ∷ entries) kept low is
 
 -- A store that keeps a table has as many versions as the table has entries.
 pub count_kept : (objects : Objects) (schema : Tree) (entries : List Entry) → IsKept objects schema entries → commit_count objects ≡ length entries
-unfolding commit_name
 count_kept objects schema entries kept = count_is objects (length entries) kept.fits below stands
   where
-    below : (version : ℕ) → version ≤ greatest_version → IsSome (object_at objects (names.commit_name version)) → version < length entries
+    below : (version : ℕ) → version ≤ greatest_version → IsSome (object_at objects (commit_name version)) → version < length entries
     below version small there =
         elim (cases_lt version (length entries)) [
           | inl low ↦ low
           | inr past ↦ let none : false ≡ true = rw (kept.ends version past small) at there in absurd cc
         ]
 
-    stands : (version : ℕ) → suc version ≡ length entries → IsSome (object_at objects (names.commit_name version))
+    stands : (version : ℕ) → suc version ≡ length entries → IsSome (object_at objects (commit_name version))
     stands version is = last_stands objects schema 0 version entries kept.kept (omega arith) (omega (arith, is))
 
 -- ---- what stands at each
@@ -44,7 +41,7 @@ count_kept objects schema entries kept = count_is objects (length entries) kept.
 -- from a version on, the commits of the entries
 commits_stand : (objects : Objects) (schema : Tree) (version : ℕ) (entries : List Entry) (kept : KeptFrom objects schema version entries)
     → versions_from (length entries) version objects ≡ map commit (made_of objects schema version entries kept)
-unfolding versions_from commit_name
+unfolding versions_from
 commits_stand objects schema version [] kept = refl
 commits_stand objects schema version (entry ∷ entries) kept =
     let more : versions_from (length entries) (suc version) objects ≡ map commit (made_of objects schema (suc version) entries kept.2) = commits_stand objects schema (suc version) entries kept.2 in

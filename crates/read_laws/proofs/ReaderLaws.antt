@@ -18,8 +18,8 @@ use Rattle.source_core.specs.TailFaults.{ReadGives, refusal_view, says}
 use Rattle.source_core.specs.TailViews.{handed_view}
 use Rattle.source_core.specs.Tailing as tails
 use Rattle.source_core.specs.Tailing.{ReadRefusal, ReadRows, handed_by, read_by, schema_at, versions_at}
-use Rattle.source_core.specs.declared.read_state.ReadRows as code
-use Rattle.source_core.specs.declared.tail_fault.TailFault.{TailFault}
+use Rattle.log_rows.specs.declared.read_state.ReadRows as code
+use Rattle.log_rows.specs.declared.tail_fault.TailFault.{TailFault}
 use Rattle.source_core.proofs.Callers.{read_alike}
 use Rattle.log_reading.specs.InForce.{SchemaText}
 use Rattle.read_laws.proofs.KeptTails.{IsRead, kept_reads}

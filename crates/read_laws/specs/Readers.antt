@@ -15,9 +15,9 @@ use Rattle.log_offsets.specs.Offsets.{offset_view}
 use Rattle.source_core.specs.SourceSessions.{SourceEnds, SourceJob}
 use Rattle.source_core.specs.TailFaults.{refusal_view}
 use Rattle.source_core.specs.Tailing.{ReadRefusal, bad_place, beyond_log, lost, memory}
-use Rattle.source_core.specs.declared.read_state.ReadRows as code
+use Rattle.log_rows.specs.declared.read_state.ReadRows as code
 use Rattle.source_core.specs.declared.source_session.ReadEnd.{ReadEnd}
-use Rattle.source_core.specs.declared.tail_fault.TailFault.{TailFault}
+use Rattle.log_rows.specs.declared.tail_fault.TailFault.{TailFault}
 use Rattle.read_laws.specs.Kept.{IsKept}
 
 -- One read that has ended: how many rows it was to hand out at most, whether it went by checkpoints, the versions that it knew before and

@@ -5,7 +5,6 @@ pub mod Limits
 pub mod Fault
 pub mod FaultTexts
 pub mod Reading
-pub mod Metadata
 pub mod View
 pub mod Leaves
 pub mod Sameness

@@ -1,17 +1,11 @@
--- The tree that a `Node` stands for, and what a `Metadata` stands for.
+-- The tree that a `Node` stands for.
 use Rattle.std.specs.Prelude.{List, map, string_bytes}
-use Rattle.serde_json.specs.Data.{Data}
+pub use Rattle.field_metadata.specs.View.{metadata_of}
 use Rattle.schema_tree.specs.Tree as tree
 use Rattle.schema_tree.specs.Tree.{Tree, Column, fields_of}
-use Rattle.schema_tree.specs.Metadata.{value_of}
-use Rattle.schema_tree.specs.declared.metadata.Metadata.{Metadata}
 use Rattle.schema_tree.specs.declared.node.Node.{Node, fold-Node}
 use Rattle.schema_tree.specs.declared.node.Node.TheOpen.{Node-F, Field-F}
 use Rattle.schema_tree.specs.declared.node.Field.{Field, fold-Field}
-
--- the JSON object that a field's metadata is
-abbrev pub metadata_of : {A : Type 0} → Metadata A → Data
-metadata_of m = value_of (string_bytes m.text)
 
 -- one level, with each type inside already seen as its tree
 abbrev pub view_step : {A : Type 0} → Node-F A Tree Column → Tree

@@ -7,7 +7,6 @@ mod counts;
 mod fault;
 mod fractions;
 mod laws;
-mod metadata;
 mod node;
 mod paths;
 mod primitive;
@@ -18,8 +17,8 @@ mod schema;
 mod steps;
 
 pub use fault::{ReadError, SchemaFault};
+pub use field_metadata::Metadata;
 pub use laws::{what_is_printed_reads_again, what_is_read_keeps_the_limits};
-pub use metadata::Metadata;
 pub use node::{Field, Node};
 pub use paths::ColumnPath;
 pub use primitive::Primitive;

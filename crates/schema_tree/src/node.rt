@@ -1,7 +1,7 @@
 //! Types, as a tree that owns what is in it.
 
-use crate::metadata::Metadata;
 use crate::primitive::Primitive;
+use field_metadata::Metadata;
 use std::alloc::Allocator;
 
 /// A type (Delta PROTOCOL.md, "Schema Serialization Format").

@@ -14,9 +14,9 @@ ghost use Rattle.schema_tree.specs.View.{view, field_view, field_views, metadata
 
 use crate::counts::Counts;
 use crate::fault::{ReadError, SchemaFault};
-use crate::metadata::Metadata;
 use crate::node::{Field, Node};
 use crate::primitive::Primitive;
+use field_metadata::Metadata;
 use serde_json::Value;
 use std::alloc::Global;
 

@@ -6,7 +6,7 @@ use Rattle.store_core.specs.Objects.{Objects, HasObjectsOf, names_of, object_at,
 use Rattle.store_core.specs.ObjectLaws.{object_at-with_object_kept, listed_iff_stands}
 use Rattle.store_core.specs.declared.store.Put.{Put}
 use Rattle.store_core.specs.declared.store.Put.TheVariants.{Created, Exists}
-use Rattle.session_core.specs.Names.{commit_name}
+use Rattle.store_core.specs.Names.{commit_name}
 use Rattle.session_core.specs.Stores.{State, MayAnswer, MayAnswerAmid, MayAnswerPut, Talked}
 use Rattle.session_core.specs.Talks.{Asked, list_names, get_object, put_file, put_commit, Told, told_names, told_object, told_put, told_lost, told_memory, Talk, Bears, IsBorne}
 

@@ -1,4 +1,3 @@
-pub mod Names
 pub mod Sessions
 pub mod Shown
 pub mod Stores

@@ -3,7 +3,7 @@ use Rattle.std.specs.Prelude.{◌≡◌, ℕ, List, [], ◌∷◌, Contains, Opt
 use Rattle.store_core.specs.Calls.{Flight, HasLanded, IsUntouched, MayHaveLanded, StandsAfter, put_told}
 use Rattle.store_core.specs.Objects.{Objects, HasObjectsOf, names_of, object_at}
 use Rattle.store_core.specs.declared.store.Put.TheVariants.{Created}
-use Rattle.session_core.specs.Names.{commit_name}
+use Rattle.store_core.specs.Names.{commit_name}
 use Rattle.session_core.specs.Talks.{Asked, list_names, get_object, put_file, put_commit, Told, told_names, told_object, told_put, told_lost, told_memory, Talk}
 
 -- what of a store counts: its objects, and the puts that may take effect later

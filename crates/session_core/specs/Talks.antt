@@ -7,7 +7,7 @@ use Rattle.store_core.specs.Objects.{Objects, object_at}
 use Rattle.store_core.specs.declared.fault.StoreFault.{StoreFault}
 use Rattle.store_core.specs.declared.fault.StoreFault.TheVariants as faults
 use Rattle.store_core.specs.declared.store.Put.{Put}
-use Rattle.session_core.specs.Names.{commit_name}
+use Rattle.store_core.specs.Names.{commit_name}
 use Rattle.session_core.specs.declared.asking.Reply.{Reply}
 use Rattle.session_core.specs.declared.asking.Reply.TheVariants as replies
 use Rattle.session_core.specs.declared.asking.Request.{Request}

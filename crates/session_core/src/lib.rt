@@ -9,7 +9,6 @@
 mod asking;
 mod driving;
 mod laws;
-mod naming;
 mod session;
 
 pub use asking::{Reply, Request, ask};
@@ -19,5 +18,4 @@ pub use laws::{
     what_grows_is_shown_as_it_was_listed, what_is_borne_stays_borne,
     what_is_borne_twice_is_borne_at_once, what_is_read_is_shown,
 };
-pub use naming::commit_name;
 pub use session::{Session, Step};

@@ -6,7 +6,7 @@ use Rattle.std.proofs.lemmas.List.Elements.{Contains-append_cases, Contains-push
 use Rattle.store_core.specs.Objects.{Objects, object_at}
 use Rattle.delta_actions.specs.Action as actions
 use Rattle.delta_actions.specs.Commit.{IsCommit}
-use Rattle.delta_actions.specs.Names.{commit_name, greatest_version}
+use Rattle.store_core.specs.Names.{commit_name, greatest_version}
 use Rattle.table_model.specs.Table.{Batch, Entry, batches, batches_of}
 use Rattle.table_store.specs.Commits.{IsCommitOf, StandFor, without_commit_info}
 use Rattle.table_store.specs.Holds.{FileStands, FilesStand, Holds, HoldsFrom, HoldsFirst, Stands}

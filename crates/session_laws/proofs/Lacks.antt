@@ -4,10 +4,9 @@ use Rattle.store_core.specs.Objects.{Objects}
 use Rattle.session_core.specs.Shown.{AllGets}
 use Rattle.session_core.specs.Talks.{Bears, Talk, get_object, list_names, told_names, told_object}
 use Rattle.session_core.proofs.Callers.{bears_more}
-use Rattle.delta_actions.specs.Names.{greatest_version}
+use Rattle.store_core.specs.Names.{commit_name, greatest_version}
 use Rattle.table_log.specs.Counts.{count_in}
 use Rattle.table_log.specs.LoadSessions.{HasGap, HasListed, IsBadBehind, IsListedCheckpoint, IsNextCommit, IsNoCommit, LoadAsks, LoadJob, GotNoCommit}
-use Rattle.table_log.specs.Names.{commit_name}
 use Rattle.commit_core.specs.SoundStores.{IsSoundStore}
 use Rattle.commit_core.proofs.Callers.{commit_stands, sought_commit}
 use Rattle.session_laws.specs.Rows.{LacksCommit, got_none, next_version, none_listed, not_listed}

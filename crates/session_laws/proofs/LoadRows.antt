@@ -13,7 +13,7 @@ use Rattle.table_log.specs.Counts.{count_in}
 use Rattle.table_log.specs.Versions.{commits_in, versions_from}
 use Rattle.snapshot_core.proofs.Callers.{all_same, checkpoint_same, known_same}
 use Rattle.table_log.specs.LoadSessions.{HasListed, IsLoadBehind, LoadAsks, LoadEnds, LoadJob, is_lost_load}
-use Rattle.table_log.specs.Names.{commit_name}
+use Rattle.store_core.specs.Names.{commit_name}
 use Rattle.table_log.specs.declared.fault.LogFault.{LogFault}
 use Rattle.table_log.specs.declared.fault.LogFault.TheVariants as load_faults
 use Rattle.table_log.specs.declared.loading.Loaded.{Loaded}

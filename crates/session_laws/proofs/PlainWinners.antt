@@ -5,9 +5,8 @@ use Rattle.store_core.specs.Objects.{Objects, object_at}
 use Rattle.delta_actions.specs.Action as actions
 use Rattle.delta_actions.specs.Action.{Action, add, checkpoint_metadata, commit_info, domain_metadata, meta_data, other, protocol, remove, sidecar, txn, DomainMetadataAction}
 use Rattle.delta_actions.specs.Commit.{IsCommit}
-use Rattle.delta_actions.specs.Names.{greatest_version}
+use Rattle.store_core.specs.Names.{commit_name, greatest_version}
 use Rattle.delta_replay.specs.Keys.{is_of, the_meta_data}
-use Rattle.table_log.specs.Names.{commit_name}
 use Rattle.table_log.specs.Versions.{Version, commit, commit_of, missing, unreadable, version_at, version_by, version_read}
 use Rattle.table_log.proofs.CommitBytes.{commit_is}
 use Rattle.table_model.specs.Lawful.{BeginsWithCreation, NoCreation}
@@ -95,7 +94,6 @@ commit_there (Some bytes) made is = by_read (commit_of bytes) refl is
 module _ (objects : Objects) (sound : IsSound objects) where
   -- a commit behind the first one
   plain_commit : (version : ℕ) (made : List Action) → 0 < version → version ≤ greatest_version → version_at objects version ≡ commit made → has_metadata made ≡ false
-  unfolding commit_name
   plain_commit version made some small is =
       let there = commit_there (object_at objects (commit_name version)) made is in
       let from : 0 + version ≡ version = omega arith in

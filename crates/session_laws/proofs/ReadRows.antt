@@ -21,10 +21,10 @@ use Rattle.log_reading.specs.FromCheckpoints.{Start, first_read, from_version, l
 use Rattle.source_core.specs.SourceSessions.{SourceAsks, SourceEnds, SourceJob, is_lost_read, loses, read_told, read_view}
 use Rattle.source_core.specs.TailFaults.{ReadGives}
 use Rattle.source_core.specs.Tailing.{ReadRefusal, ReadRows, bad_log, handed_by, schema_for, versions_at}
-use Rattle.source_core.specs.declared.read_state.ReadRows as code
+use Rattle.log_rows.specs.declared.read_state.ReadRows as code
 use Rattle.source_core.specs.declared.source_session.ReadEnd.{ReadEnd}
-use Rattle.source_core.specs.declared.tail_fault.TailFault.{TailFault}
-use Rattle.source_core.specs.declared.tail_fault.TailFault.TheVariants as faults
+use Rattle.log_rows.specs.declared.tail_fault.TailFault.{TailFault}
+use Rattle.log_rows.specs.declared.tail_fault.TailFault.TheVariants as faults
 use Rattle.read_laws.specs.Kept.{IsKept}
 use Rattle.read_laws.proofs.Callers.{read_may, sound_kept}
 use Rattle.session_laws.specs.May.{MayAsk}

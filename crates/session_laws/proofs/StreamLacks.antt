@@ -6,10 +6,9 @@ use Rattle.store_core.specs.declared.store.Put.TheVariants.{Exists}
 use Rattle.session_core.specs.Sessions.{AllAsked}
 use Rattle.session_core.specs.Talks.{Asked, Bears, Talk, get_object, put_commit, told_object, told_put}
 use Rattle.session_core.specs.Shown.{AllGets}
-use Rattle.delta_actions.specs.Names.{greatest_version}
 use Rattle.delta_actions.specs.Names as names
+use Rattle.store_core.specs.Names.{commit_name, greatest_version}
 use Rattle.table_log.specs.LoadSessions.{HasListed, LoadAsks}
-use Rattle.table_log.specs.Names.{commit_name}
 use Rattle.table_model.specs.Table.{Entry}
 use Rattle.table_store.specs.Holds.{Holds}
 use Rattle.table_store.specs.Schema.{Schema}
@@ -57,7 +56,6 @@ load_no_put talk (call ∷ front) more names version bytes listed is =
 
 -- no commit has the name of a batch's file
 other_name : (version : ℕ) (application : List ℕ) (number : ℕ) → commit_name version ≡ names.data_file_name application number → ⊥
-unfolding commit_name
 other_name version application number is = commit_name-data_file_name version application number is
 
 module _ (job : SinkJob) (before : Talk) where

@@ -6,7 +6,8 @@ use Rattle.store_core.specs.Objects.{AreBytes, Objects}
 use Rattle.session_core.specs.Talks.{Bears, Talk, put_commit, put_file}
 use Rattle.delta_actions.specs.Action.{Action}
 use Rattle.delta_actions.specs.Commit.{IsCommit}
-use Rattle.delta_actions.specs.Names.{greatest_version, stream_domain}
+use Rattle.store_core.specs.Names.{greatest_version}
+use Rattle.delta_actions.specs.Names.{stream_domain}
 use Rattle.delta_replay.specs.Support.{writable}
 use Rattle.table_log.specs.declared.loading.Loaded.{Loaded}
 use Rattle.table_model.specs.Appends.{appended}

@@ -5,13 +5,13 @@ use Rattle.serde_json.specs.Data.{Items}
 use Rattle.outcomes.specs.Results.{◌>>=◌, refused_as}
 use Rattle.store_core.specs.Objects.{Objects, object_at}
 use Rattle.store_core.specs.declared.store.Put.TheVariants.{Exists}
-use Rattle.session_core.specs.Names.{commit_name}
+use Rattle.store_core.specs.Names.{commit_name, greatest_version}
 use Rattle.session_core.specs.Talks.{Bears, Talk, get_object, put_commit, put_file, told_lost, told_object, told_put}
 use Rattle.session_core.proofs.Callers.{bears_more}
 use Rattle.schema_tree.specs.Tree.{Tree}
 use Rattle.source_core.specs.ParquetFile.{KeepsLimits}
 use Rattle.delta_actions.specs.Action.{Action}
-use Rattle.delta_actions.specs.Names.{data_file_name, greatest_version}
+use Rattle.delta_actions.specs.Names.{data_file_name}
 use Rattle.delta_replay.specs.Closes.{is_closed}
 use Rattle.delta_replay.specs.Support.{Unsupported, writable}
 use Rattle.table_log.specs.Versions.{commits_in, versions_from}

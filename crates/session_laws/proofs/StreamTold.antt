@@ -3,12 +3,12 @@ use Rattle.std.proofs.Common.{◌≡◌, ◌∙◌, ◌≤◌, ℕ, List, [], �
 use Rattle.std.specs.Str.{IsUtf8}
 use Rattle.store_core.specs.Objects.{AreBytes, Objects, object_at}
 use Rattle.store_core.specs.declared.store.Put.TheVariants.{Created}
-use Rattle.session_core.specs.Names as sessions
+use Rattle.store_core.specs.Names.{commit_name, greatest_version}
 use Rattle.session_core.specs.Sessions.{AllAsked}
 use Rattle.session_core.specs.Talks.{Bears, Talk, get_object, put_commit, told_object, told_put}
 use Rattle.row_core.specs.Rows.{Row}
 use Rattle.delta_actions.specs.Commit.{IsCommit}
-use Rattle.delta_actions.specs.Names.{commit_name, data_file_name, greatest_version}
+use Rattle.delta_actions.specs.Names.{data_file_name}
 use Rattle.delta_actions.specs.declared.action.Action.{Action as CodeAction}
 use Rattle.table_model.specs.Appends.{TellsClose}
 use Rattle.table_model.specs.Table.{Batch, Entry, batches, close, group, last_batch}
@@ -38,11 +38,6 @@ use Rattle.session_laws.proofs.Fronts.{IsFrontOf, reached_front}
 use Rattle.session_laws.proofs.Ready.{batch_by, file_named, ready_batch, ruled_batch}
 use Rattle.session_laws.proofs.StreamPuts.{batch_commit, batch_made, close_commit, close_made}
 use Rattle.session_laws.proofs.TableAnswers.{again_answer, close_answer}
-
--- the commit of a version has one name
-one_name : (version : ℕ) → sessions.commit_name version ≡ commit_name version
-unfolding sessions.commit_name
-one_name version = refl
 
 -- of batches with the same names, whose files stand, the rows are the same
 same_rows_stand : (objects : Objects) (schema : Schema) (b c : Batch) → b.application ≡ c.application → b.number ≡ c.number → FileStands objects schema b → FileStands objects schema c → b ≡ c
@@ -74,7 +69,7 @@ module _ (objects : Objects) (schema : Schema) (entries : List Entry) (sound : I
   put_stands : (version : ℕ) (r : IsPut version) → object_at objects (commit_name version) ≡ Some (commit_text (actions_of job r.readied))
   put_stands version r =
       let own = bears_end objects r.front r.race (subst (Bears objects) r.talked borne) in
-      ap (object_at objects) (sym (one_name version)) ∙ (tells (race_of job r.readied r.known.next r.tries) r.race (Ok (outcomes.Committed version r.holds.0)) own r.holds.1).2
+      (tells (race_of job r.readied r.known.next r.tries) r.race (Ok (outcomes.Committed version r.holds.0)) own r.holds.1).2
 
   front_borne : (version : ℕ) (r : IsPut version) → Bears objects r.front
   front_borne version r = bears_front objects r.front r.race (subst (Bears objects) r.talked borne)

@@ -4,13 +4,13 @@ use Rattle.std.specs.Prelude.{◌≡◌, ◌⊎◌, ℕ, suc, ◌<◌, List, [],
 use Rattle.serde_json.specs.Data.{Items}
 use Rattle.store_core.specs.Objects.{HasObjectsOf, Objects, names_of, object_at}
 use Rattle.store_core.specs.declared.store.Put.TheVariants.{Exists}
-use Rattle.session_core.specs.Names.{commit_name}
+use Rattle.store_core.specs.Names.{commit_name, greatest_version}
 use Rattle.session_core.specs.Shown.{Shows}
 use Rattle.session_core.specs.Talks.{Bears, Talk, list_names, get_object, put_commit, told_lost, told_names, told_object, told_put}
 use Rattle.source_core.specs.ParquetFile.{KeepsLimits}
 use Rattle.delta_actions.specs.Action.{Action}
 use Rattle.delta_actions.specs.Commit.{IsCommit}
-use Rattle.delta_actions.specs.Names.{data_file_name, greatest_version}
+use Rattle.delta_actions.specs.Names.{data_file_name}
 use Rattle.delta_checkpoint.specs.Names.{checkpoint_name}
 use Rattle.delta_replay.specs.Snapshots.{IsSnapshotOf}
 use Rattle.delta_replay.specs.Support.{checkpointable, fault_of}
@@ -48,9 +48,9 @@ use Rattle.sink_core.specs.SinkSessions.{IsFine, LosesOther, SinkJob, SinkTask, 
 use Rattle.sink_core.specs.declared.sink_state.SinkOutcome.{SinkOutcome}
 use Rattle.sink_core.specs.declared.sink_state.SinkOutcome.TheVariants.{Already, AlreadyClosed, Closed, Committed}
 use Rattle.source_core.specs.SourceSessions.{SourceJob}
-use Rattle.source_core.specs.declared.read_state.ReadRows.{ReadRows}
-use Rattle.source_core.specs.declared.tail_fault.TailFault.{TailFault}
-use Rattle.source_core.specs.declared.tail_fault.TailFault.TheVariants as read_faults
+use Rattle.log_rows.specs.declared.read_state.ReadRows.{ReadRows}
+use Rattle.log_rows.specs.declared.tail_fault.TailFault.{TailFault}
+use Rattle.log_rows.specs.declared.tail_fault.TailFault.TheVariants as read_faults
 use Rattle.read_laws.specs.Readable.{HasReadableFiles}
 use Rattle.read_laws.specs.Readers.{MayTellOfTable}
 use Rattle.session_laws.specs.Sessions.{ends_lost}

@@ -45,9 +45,3 @@ pub all_made : {X Y Z : Type 0} (f : X → Z) (g : Y → Z) (xs : List X) (ys : 
 all_made f g xs ys i total h so_far =
     let end : map f xs ++ map g (drop i ys) ≡ map f xs = rw (drop_all i ys h) (append-nil (map f xs)) in
     sym end ∙ so_far
-
--- all are put into a list
-pub all_listed : {Y Z : Type 0} (g : Y → Z) (zs : List Z) (ys : List Y) (i : ℕ) (total : List Z) → length ys ≤ i → zs ++ map g (drop i ys) ≡ total → zs ≡ total
-all_listed g zs ys i total h so_far =
-    let end : zs ++ map g (drop i ys) ≡ zs = rw (drop_all i ys h) (append-nil zs) in
-    sym end ∙ so_far

@@ -2,9 +2,5 @@ pub mod Shape
 pub mod Fits
 pub mod Ways
 pub mod Columns
-pub mod Faults
-pub mod Assembly
-pub mod Mismatch
-pub mod Views
 pub mod Parts
-pub mod Levels
+pub mod Views

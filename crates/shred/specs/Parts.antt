@@ -1,9 +1,6 @@
--- Columns of which only the values of some rows that follow one another are kept.
-use Rattle.std.specs.Prelude.{◌≡◌, ℕ, List, [], ◌∷◌, take, drop, count_by, ◌==◌, All, true, Result, Ok}
-use Rattle.outcomes.specs.Results.{◌>>=◌}
-use Rattle.row_core.specs.Rows.{Row}
+-- A column of which only the values of some rows that follow one another are kept.
+use Rattle.std.specs.Prelude.{◌≡◌, ℕ, List, take, drop, count_by, ◌==◌, All, true}
 use Rattle.shred.specs.Columns.{Column}
-use Rattle.shred.specs.Faults.{Fault}
 use Rattle.shred.specs.Fits.{is_plain}
 
 -- how many levels are the highest
@@ -22,31 +19,11 @@ cut_out first most top c = record { levels = part_of first most c.levels; values
 abbrev pub cut_off : (rows top : ℕ) → Column → Column
 cut_off rows top c = record { levels = drop rows c.levels; values = drop (highest_in top (take rows c.levels)) c.values }
 
--- of each column, one for each highest level, that of the first rows
-abbrev pub fronts : (rows : ℕ) → List ℕ → List Column → List Column
-fronts rows (top ∷ tops) (c ∷ cs) = cut_out 0 rows top c ∷ fronts rows tops cs
-fronts rows _ _ = []
-
--- and that of the rows behind them
-abbrev pub rests : (rows : ℕ) → List ℕ → List Column → List Column
-rests rows (top ∷ tops) (c ∷ cs) = cut_off rows top c ∷ rests rows tops cs
-rests rows _ _ = []
-
 -- the levels of all rows, and the column of some of them
 pub record Part : Type 0 where
   pub levels : List ℕ
   pub kept : Column
 
--- what is kept of each column, one for each highest level
-abbrev pub parts_of : (first most : ℕ) → List ℕ → List Column → List Part
-parts_of first most [] cs = []
-parts_of first most tops [] = []
-parts_of first most (top ∷ tops) (c ∷ cs) = record { levels = c.levels; kept = cut_out first most top c } ∷ parts_of first most tops cs
-
 -- no value is null or a struct
 abbrev pub ArePlain : Column → Type 0
 ArePlain c = All (λ v. is_plain v ≡ true) c.values
-
--- some of the rows, where there are rows
-abbrev pub rows_part : (first most : ℕ) → Result (List Row) Fault → Result (List Row) Fault
-rows_part first most made = made >>= λ rows. Ok (part_of first most rows)

@@ -1,5 +1,5 @@
 -- What the types of the code stand for.
-use Rattle.std.specs.Prelude.{List, map, ◌++◌, replicate, option_map, string_bytes, Vec}
+use Rattle.std.specs.Prelude.{List, map, option_map, string_bytes, Vec}
 use Rattle.std.specs.Borrow.{Bor}
 use Rattle.std.specs.declared.alloc.Global.{Global}
 use Rattle.row_core.specs.Rows as rows
@@ -9,12 +9,8 @@ use Rattle.shred.specs.Shape as shapes
 use Rattle.shred.specs.Shape.{fields_of, Field}
 use Rattle.shred.specs.Ways as specs
 use Rattle.shred.specs.Columns as columns
-use Rattle.shred.specs.Assembly.{cells_in}
 use Rattle.shred.specs.Parts.{Part}
-use Rattle.shred.specs.Levels.{test_cells}
 use Rattle.lake_bytes.specs.Hybrid.{values_of}
-use Rattle.shred.specs.declared.cells.Reader.{Reader}
-use Rattle.shred.specs.declared.parts.LevelReader.{LevelReader}
 use Rattle.shred.specs.declared.shapes.Shape.{Shape, fold-Shape}
 use Rattle.shred.specs.declared.shapes.Shape.TheOpen.{Shape-F, ShapeField-F}
 use Rattle.shred.specs.declared.shapes.ShapeField.{ShapeField, fold-ShapeField}
@@ -68,20 +64,6 @@ part_view p = record { levels = values_of p.levels.items; kept = column_view p.k
 
 abbrev pub part_views : List (ColumnPart Value) → List Part
 part_views ps = map part_view ps
-
--- the cells that are left of a column
-abbrev pub reader_view : Reader → List columns.Cell
-reader_view r = cells_in r.top r.levels.items (row_views r.values.items)
-
-abbrev pub reader_views : List Reader → List (List columns.Cell)
-reader_views rs = map reader_view rs
-
--- the cells of the levels that are left of a column
-abbrev pub level_view : LevelReader → List columns.Cell
-level_view r = test_cells r.top (replicate r.count r.level ++ values_of r.rest.items)
-
-abbrev pub level_views : List LevelReader → List (List columns.Cell)
-level_views rs = map level_view rs
 
 -- ---- values that are borrowed
 

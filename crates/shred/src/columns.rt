@@ -24,7 +24,7 @@ pub struct ColumnPart<V> {
 
 /// What a column has of one row: a level, and the value where nothing on the way is null.
 #[derive(Debug, Drop)]
-pub(crate) struct Cell<V> {
-    pub(crate) level: u64,
-    pub(crate) value: Option<V>,
+pub struct Cell<V> {
+    pub level: u64,
+    pub value: Option<V>,
 }

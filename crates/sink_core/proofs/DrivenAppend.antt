@@ -16,12 +16,11 @@ use Rattle.session_core.proofs.Callers.{talked_last}
 use Rattle.batch_core.specs.ParquetWriting.{written_file}
 use Rattle.delta_actions.specs.Action.{Action}
 use Rattle.delta_actions.specs.declared.action.Action as actions
-use Rattle.delta_actions.specs.Names.{greatest_version}
+use Rattle.store_core.specs.Names.{commit_name, greatest_version}
 use Rattle.delta_actions.specs.Commit.{IsCommit}
 use Rattle.table_log.specs.Counts.{commit_count}
 use Rattle.table_log.specs.Loads.{IsLoaded}
 use Rattle.table_log.specs.LoadSessions.{IsBadBehind}
-use Rattle.table_log.specs.Names.{commit_name}
 use Rattle.table_log.specs.Restoring.{replayed}
 use Rattle.table_log.specs.declared.loading.Loaded.{Loaded}
 use Rattle.commit_core.specs.Commits.{commit_text}

@@ -10,14 +10,13 @@ use Rattle.session_core.specs.Talks.{Talk, Bears}
 use Rattle.schema_tree.specs.Tree.{Tree}
 use Rattle.delta_actions.specs.Action.{Action}
 use Rattle.delta_actions.specs.declared.action.Action as actions
-use Rattle.delta_actions.specs.Names.{greatest_version}
+use Rattle.store_core.specs.Names.{commit_name, greatest_version}
 use Rattle.delta_actions.specs.Commit.{IsCommit}
 use Rattle.delta_replay.specs.Closes.{is_closed}
 use Rattle.delta_replay.specs.Support.{writable}
 use Rattle.table_log.specs.Counts.{commit_count}
 use Rattle.table_log.specs.Loads.{IsLoaded}
 use Rattle.table_log.specs.LoadSessions.{IsBadBehind}
-use Rattle.table_log.specs.Names.{commit_name}
 use Rattle.table_log.specs.Restoring.{replayed}
 use Rattle.table_log.specs.declared.loading.Loaded.{Loaded}
 use Rattle.commit_core.specs.CommitSessions.{CommitEnds}

@@ -11,11 +11,10 @@ use Rattle.store_core.specs.declared.store.Put.TheVariants.{Created, Exists}
 use Rattle.row_core.specs.Rows.{Row}
 use Rattle.schema_tree.specs.Tree.{Tree}
 use Rattle.delta_actions.specs.Action.{Action}
-use Rattle.delta_actions.specs.Names.{greatest_version}
+use Rattle.store_core.specs.Names.{commit_name, greatest_version}
 use Rattle.delta_replay.specs.Closes.{is_closed}
 use Rattle.delta_replay.specs.Keys.{last_number}
 use Rattle.delta_replay.specs.Support.{writable}
-use Rattle.table_log.specs.Names.{commit_name}
 use Rattle.batch_core.specs.Committing.{greatest_number}
 use Rattle.batch_core.specs.Refusals.{SinkRefusal, SinkGives, differs, read_only, refusal_view, says, stream_closed, too_large}
 use Rattle.batch_core.specs.Requests.{SinkRequest, checked, has_same, is_repeat, named, request_behind, unless_other, where_same}

@@ -4,7 +4,7 @@ use Rattle.std.proofs.Common.{◌≡◌, ◌≢◌, ◌⊎◌, ◌≤◌, ◌<�
 use Rattle.std.proofs.lemmas.Bool.{cases_lt}
 use Rattle.std.proofs.lemmas.List.{length-map}
 use Rattle.outcomes.specs.Results.{refused_if}
-use Rattle.session_core.specs.Names.{commit_name}
+use Rattle.store_core.specs.Names.{commit_name, greatest_version}
 use Rattle.session_core.specs.Sessions.{AllAsked}
 use Rattle.session_core.specs.Shown.{AllReads, IsRead}
 use Rattle.session_core.specs.Stores.{State, Answers, AnswersPut, MayAnswer, Talked}
@@ -16,7 +16,6 @@ use Rattle.store_core.specs.ObjectLaws.{object_at-with_object_other, with_object
 use Rattle.store_core.specs.declared.store.Put.TheVariants.{Created, Exists}
 use Rattle.delta_actions.specs.Action.{Action}
 use Rattle.delta_actions.specs.Commit.{IsCommit}
-use Rattle.delta_actions.specs.Names.{greatest_version}
 use Rattle.delta_actions.specs.declared.action.Action as actions
 use Rattle.table_log.specs.Counts.{commit_count}
 use Rattle.table_log.specs.Loads.{IsLoaded}
@@ -265,7 +264,7 @@ module _ (put : CommitJob) (before race : Talk) (mid new : State) (some : 1 ≤ 
 
 -- no commit is named as a batch's file
 commit_apart : (version : ℕ) (application : List ℕ) (number : ℕ) → commit_name version ≢ data_file_name application number
-unfolding commit_name data_file_name
+unfolding data_file_name
 commit_apart version application number = commit_name-data_file_name version application number
 
 -- no commit stands besides a batch's file where none stood

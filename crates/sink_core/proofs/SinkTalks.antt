@@ -4,7 +4,7 @@ use Rattle.std.proofs.Common.{◌≡◌, ◌∙◌, ◌⊎◌, ℕ, suc, List, [
 use Rattle.serde_json.specs.Data.{Items}
 use Rattle.store_core.specs.Objects.{Objects, object_at}
 use Rattle.store_core.specs.declared.store.Put.TheVariants.{Created, Exists}
-use Rattle.session_core.specs.Names.{commit_name}
+use Rattle.store_core.specs.Names.{commit_name}
 use Rattle.session_core.specs.Talks.{Asked, Bears, Told, Talk, list_names, get_object, put_file, put_commit, told_object, told_put, told_lost}
 use Rattle.delta_actions.specs.Action.{Action}
 use Rattle.delta_actions.specs.declared.action.Action.{Action as CodeAction}

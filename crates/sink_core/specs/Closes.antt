@@ -8,7 +8,7 @@ use Rattle.batch_core.specs.Refusals.{SinkRefusal, bad_log, too_large}
 use Rattle.batch_core.specs.Requests.{SinkRequest, close_behind, named}
 use Rattle.outcomes.specs.Results.{◌>>=◌, refused_if, refused_as}
 use Rattle.table_log.specs.Counts.{commit_count}
-use Rattle.table_log.specs.Names.{commit_name}
+use Rattle.store_core.specs.Names.{commit_name}
 use Rattle.table_log.specs.Restoring.{replayed}
 use Rattle.sink_core.specs.Appending.{is_past}
 use Rattle.sink_core.specs.declared.sink_state.SinkOutcome.{SinkOutcome}

@@ -3,7 +3,7 @@ use Rattle.std.specs.Prelude.{◌≡◌, ◌≤◌, ℕ, suc, List, [], ◌∷�
 use Rattle.serde_json.specs.Data.{Items}
 use Rattle.store_core.specs.Objects.{Objects, object_at}
 use Rattle.store_core.specs.declared.store.Put.TheVariants.{Exists}
-use Rattle.session_core.specs.Names.{commit_name}
+use Rattle.store_core.specs.Names.{commit_name}
 use Rattle.session_core.specs.Talks.{Talk, put_commit, told_put}
 use Rattle.row_core.specs.Rows.{Row}
 use Rattle.schema_tree.specs.Tree.{Tree}

@@ -12,9 +12,9 @@ use Rattle.schema_tree.specs.Tree.{Tree}
 use Rattle.table_model.specs.Table.{Entry, files_of}
 use Rattle.table_model.specs.Reads.{placed_rows, placed_files, placed_from, is_before}
 use Rattle.table_model.specs.declared.reading.Offset.{Offset}
-use Rattle.commit_core.specs.Groups.{new_files}
-use Rattle.source_core.specs.Tailing as tails
-use Rattle.source_core.specs.Tailing.{LogFile, file_rows, numbered}
+use Rattle.delta_actions.specs.In.{new_files}
+use Rattle.log_rows.specs.Tailing as tails
+use Rattle.log_rows.specs.Tailing.{LogFile, file_rows, numbered}
 use Rattle.source_core.proofs.LogFiles.{files_from}
 use Rattle.source_core.proofs.KeptTailWalk.{Found, file_of, rows_in, AreFound}
 

@@ -13,8 +13,8 @@ use Rattle.schema_tree.specs.Tree.{Tree}
 use Rattle.table_model.specs.Table.{Entry, files_of}
 use Rattle.table_model.specs.Reads.{placed_rows, placed_files, placed_from, is_in_files, is_offset_from}
 use Rattle.table_model.specs.declared.reading.Offset.{Offset}
-use Rattle.commit_core.specs.Groups.{new_files}
-use Rattle.source_core.specs.Tailing.{LogFile, ReadRefusal, file_rows, numbered, unless_no_file, bad_place}
+use Rattle.delta_actions.specs.In.{new_files}
+use Rattle.log_rows.specs.Tailing.{LogFile, ReadRefusal, file_rows, numbered, unless_no_file, bad_place}
 use Rattle.source_core.proofs.LogFiles.{files_from, commit_at}
 use Rattle.source_core.proofs.KeptTailWalk.{Found, file_of, rows_in, AreFound, AreWithin, within_none}
 use Rattle.source_core.proofs.KeptTailPlace.{AreFilesFound, AreEntriesFound, is_ahead, stands_before, Behind, files_behind, log_behind, Passed, file_passed, version_passed, file_here, rows_before}

@@ -14,7 +14,7 @@ use Rattle.table_model.specs.Reads as reads
 use Rattle.table_model.specs.Table.{last}
 use Rattle.table_model.specs.declared.reading.Offset.{Offset}
 use Rattle.table_model.proofs.Callers.{past}
-use Rattle.source_core.specs.Tailing.{LogFile, ReadRefusal, ReadRows, data_file, file_rows, bad_place, offset_behind_rows, is_done, hand}
+use Rattle.log_rows.specs.Tailing.{LogFile, ReadRefusal, ReadRows, data_file, file_rows, bad_place, offset_behind_rows, is_done, hand}
 
 -- ---- rows with their places
 

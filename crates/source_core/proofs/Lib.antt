@@ -1,6 +1,4 @@
 pub mod Callers
-pub mod HandLemmas
-pub mod ItemLemmas
 pub mod KeptTailPlace
 pub mod KeptTailSpot
 pub mod KeptTailWalk
@@ -8,10 +6,8 @@ pub mod KnownCommits
 pub mod LogFiles
 pub mod LookedReads
 pub mod LookedSchemas
-pub mod PlaceLemmas
 pub mod RestoredReads
 pub mod SourceFiles
 pub mod SourceLaws
 pub mod SourceSteps
 pub mod SourceTalks
-pub mod TurnLemmas

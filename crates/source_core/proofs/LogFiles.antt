@@ -17,9 +17,9 @@ use Rattle.log_reading.specs.InForce.{SchemaText, in_force, schema_text_at}
 use Rattle.log_reading.specs.Reads.{first_from, first_standing, front, removes_rows}
 use Rattle.table_log.specs.Versions.{commit}
 use Rattle.table_model.specs.declared.reading.Offset.{Offset}
-use Rattle.commit_core.specs.Groups.{new_files}
+use Rattle.delta_actions.specs.In.{new_files}
 use Rattle.outcomes.specs.Results.{refused_if, ◌>>=◌}
-use Rattle.source_core.specs.Tailing.{LogFile, Item, data_file, numbered, fault_of, items_from, is_before, item_before, items_at, unless_beyond, unless_gone, unless_no_file, actions_in, bad_place, hand, handed_by, is_start, schema_for}
+use Rattle.log_rows.specs.Tailing.{LogFile, Item, data_file, numbered, fault_of, items_from, is_before, item_before, items_at, unless_beyond, unless_gone, unless_no_file, actions_in, bad_place, hand, handed_by, is_start, schema_for}
 
 -- ---- its files
 

@@ -10,9 +10,9 @@ use Rattle.log_reading.specs.Reads.{first_from}
 use Rattle.table_log.specs.Versions.{Version, missing, unreadable, commit}
 use Rattle.log_reading.proofs.Callers.{length-from_version}
 use Rattle.table_model.specs.declared.reading.Offset.{Offset}
-use Rattle.source_core.specs.Tailing.{Item, ReadRefusal, data_file, fault_of, found_at, handed_by, is_start, items_from, items_in, numbered, paths_in, unless_gone}
-use Rattle.source_core.specs.Handings.{kept}
-use Rattle.source_core.proofs.ItemLemmas.{fault_passed, kept_both}
+use Rattle.log_rows.specs.Tailing.{Item, ReadRefusal, data_file, fault_of, found_at, handed_by, is_start, items_from, items_in, numbered, paths_in, unless_gone}
+use Rattle.log_rows.specs.Handings.{kept}
+use Rattle.log_rows.proofs.Callers.{fault_passed, kept_both}
 
 -- what stands at a place's version
 got_alike : (n at : ℕ) (versions : List Version) → n ≤ at → slice_get (from_version n versions) at ≡ slice_get versions at

@@ -18,7 +18,7 @@ use Rattle.table_log.specs.Restoring.{Restored}
 use Rattle.table_log.specs.Versions.{Version, missing, commit}
 use Rattle.log_reading.proofs.Callers.{last_told, meta_data_in_one, newest_is, or_none, or_regroup}
 use Rattle.table_log.proofs.Callers.{same_behind, same_values}
-use Rattle.source_core.specs.Tailing.{unless_none}
+use Rattle.log_rows.specs.Tailing.{unless_none}
 
 -- ---- versions before one count as missing
 

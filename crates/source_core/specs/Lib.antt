@@ -1,14 +1,14 @@
-pub mod Handings
 pub mod SourceSessions
-pub mod TailFaults
-pub mod TailViews
-pub mod Tailing
 pub mod Tails
-pub use Rattle.parquet_file.specs.Reading as ParquetReading
-pub use Rattle.parquet_file.specs.File as ParquetFile
-pub use Rattle.commit_core.specs.TableSchema
-pub use Rattle.commit_core.specs.SoundTables
-pub use Rattle.commit_core.specs.TableCommits
-pub use Rattle.commit_core.specs.Groups
-pub use Rattle.commit_core.specs.Holds
-pub use Rattle.parquet_file.specs.Writing as ParquetWriting
+pub use Rattle.log_rows.specs.Handings
+pub use Rattle.log_rows.specs.TailFaults
+pub use Rattle.log_rows.specs.TailViews
+pub use Rattle.log_rows.specs.Tailing
+pub use Rattle.log_rows.specs.ParquetReading
+pub use Rattle.log_rows.specs.ParquetFile
+pub use Rattle.log_laws.specs.TableSchema
+pub use Rattle.log_laws.specs.SoundTables
+pub use Rattle.log_laws.specs.TableCommits
+pub use Rattle.log_laws.specs.Groups
+pub use Rattle.log_laws.specs.Holds
+pub use Rattle.log_rows.specs.ParquetWriting

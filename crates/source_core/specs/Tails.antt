@@ -7,7 +7,7 @@ use Rattle.table_model.specs.Resumed.{beginning}
 use Rattle.row_core.specs.Rows.{Row}
 use Rattle.table_model.specs.Table.{Entry, rows}
 use Rattle.table_model.specs.declared.reading.Offset.{Offset}
-use Rattle.source_core.specs.Tailing.{ReadRefusal, ReadRows, read_by}
+use Rattle.log_rows.specs.Tailing.{ReadRefusal, ReadRows, read_by}
 
 -- the rows of an answer: a read that is refused hands out none
 abbrev pub rows_handed : Result ReadRows ReadRefusal → List Row

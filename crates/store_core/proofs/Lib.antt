@@ -1,6 +1,8 @@
 mod Answers
 pub mod Callers
+pub mod CommitNames
 mod FlightLemmas
 mod NameLemmas
 pub mod Placing
 mod Trees
+pub mod TwentyDigits

@@ -24,5 +24,7 @@ pub use laws::{
 };
 pub use memory::MemoryStore;
 pub use names::Names;
-pub use naming::{has_version, is_commit};
+pub use naming::{
+    GREATEST_VERSION, commit_name, commit_version, has_version, is_commit, version_in,
+};
 pub use store::{Put, Store};

@@ -7,7 +7,7 @@ ghost use Rattle.store_core.specs.Objects.{name_order};
 
 use crate::names::Names;
 use std::alloc::{AllocError, Global};
-use std::rc::Rc;
+use std::sync::Arc;
 
 impl Clone for Names {
     ghost is_clone = { λ names copy. listed copy ≡ listed names };
@@ -26,7 +26,7 @@ impl Names {
         requires { IsStrictlySortedBy name_order (map string_bytes names.items) }
         ensures { IfOk result (λ shared. listed shared ≡ map string_bytes names.items) }
     {
-        match Rc::new(alloc, names) {
+        match Arc::new(alloc, names) {
             Ok(shared) => Ok(Names { shared }),
             Err(_refused) => Err(AllocError),
         }
@@ -48,14 +48,14 @@ impl Names {
     pub fn as_slice(&self) -> &[String]
         ensures { map string_bytes result.now ≡ listed self.now }
     {
-        self.shared.as_ref().as_slice()
+        self.shared.as_slice()
     }
 
     /// A copy of the names, in time linear in their bytes. Fails where memory runs out.
     pub fn to_vec(&self) -> Result<Vec<String>, AllocError>
         ensures { IfOk result (λ names. map string_bytes names.items ≡ listed self.now) }
     {
-        self.shared.as_ref().clone()
+        (*self.shared).clone()
     }
 }
 

@@ -13,7 +13,7 @@ use crate::{Names, Put, Store, StoreFault};
 use std::alloc::Global;
 use std::collections::BTreeMap;
 use std::marker::Model;
-use std::rc::Rc;
+use std::sync::Arc;
 
 /// A store in memory, seen as the finite map from names to bytes that stands. No call is lost.
 #[derive(Drop)]
@@ -125,7 +125,7 @@ fn list_in(
 fn with_name(alloc: Global, names: Names, name: &str) -> Option<Names>
     ensures { IfSome result (λ later. listed later ≡ insert_key name_order (listed names) name.now) }
 {
-    let Ok(mut list) = Rc::try_unwrap(names.shared) else {
+    let Ok(mut list) = Arc::try_unwrap(names.shared) else {
         return None;
     };
     let Ok(name) = String::from_str(alloc, name) else {

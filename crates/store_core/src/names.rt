@@ -4,13 +4,13 @@ ghost use Rattle.std.specs.List.Sorted.{IsStrictlySortedBy, IsStrictlySortedBy-p
 ghost use Rattle.std.specs.String.{string_bytes};
 ghost use Rattle.store_core.specs.Objects.{name_order};
 
-use std::rc::Rc;
+use std::sync::Arc;
 
 /// The names that stood in a store when they were listed: they rise by their bytes, and each is there once. They are
 /// shared: to clone them takes constant time and no memory, however many they are. It fails only where they are shared
-/// 2^64 - 1 times.
+/// 2^63 - 1 times.
 #[derive(Drop)]
 pub struct Names {
-    pub shared: Rc<Vec<String>>,
+    pub shared: Arc<Vec<String>>,
     pub ghost rising: { IsStrictlySortedBy name_order (map string_bytes shared.value.items) } by { IsStrictlySortedBy-prop name_order (map string_bytes shared.value.items) },
 }

@@ -6,10 +6,9 @@ use Rattle.serde_json.specs.Data.{Items}
 use Rattle.store_core.specs.Calls.{StandsAfter, put_told}
 use Rattle.store_core.specs.Objects.{Objects, object_at, with_object}
 use Rattle.store_core.specs.ObjectLaws.{listed_iff_stands, object_at-with_object_kept, object_at-with_object_same}
-use Rattle.session_core.specs.Names as sessions
+use Rattle.store_core.specs.Names.{commit_name}
 use Rattle.session_core.specs.Talks.{Asked, Bears, IsBorne, Talk, Told, get_object, list_names, put_commit, put_file, told_lost, told_memory, told_object}
 use Rattle.delta_actions.specs.Commit.{IsCommit}
-use Rattle.delta_actions.specs.Names.{commit_name}
 use Rattle.table_model.specs.Table.{Entry}
 use Rattle.table_store.specs.Holds.{Holds}
 use Rattle.table_store.specs.Schema.{Schema}
@@ -120,7 +119,6 @@ got_borne objects name (Some bytes) is = is
 
 -- What a call that takes effect tells is borne by what it leaves.
 pub told_borne : (objects : Objects) (asked : Asked) → IsBorne (left_by objects asked) asked (told_by objects asked)
-unfolding sessions.commit_name
 told_borne objects list_names = λ name has. (listed_iff_stands objects name).0 has
 told_borne objects (get_object name) = got_borne objects name (object_at objects name) refl
 told_borne objects (put_file name bytes) = put_borne objects name bytes

@@ -6,7 +6,7 @@ use Rattle.store_core.specs.Calls.{Flight}
 use Rattle.store_core.specs.Objects.{HasObjectsOf, Objects}
 use Rattle.session_core.specs.Talks.{Asked, Bears, IsBorne, Talk, get_object, list_names, put_commit, put_file}
 use Rattle.session_core.proofs.Callers.{bears_grows, borne_grows}
-use Rattle.delta_actions.specs.Names.{commit_name}
+use Rattle.store_core.specs.Names.{commit_name}
 use Rattle.table_model.specs.Appends.{TellsAppend, TellsClose}
 use Rattle.table_model.specs.Lawful.{BeginsWithCreation}
 use Rattle.table_model.specs.Table.{Batch, Entry}
@@ -28,9 +28,9 @@ use Rattle.sink_core.specs.declared.sink_state.SinkOutcome.TheVariants.{Already,
 use Rattle.session_laws.specs.Rows.{IsBatchOf, TellsOfBatch}
 use Rattle.log_offsets.specs.Offsets.{offset_view}
 use Rattle.source_core.specs.SourceSessions.{SourceJob}
-use Rattle.source_core.specs.declared.read_state.ReadRows.{ReadRows}
+use Rattle.log_rows.specs.declared.read_state.ReadRows.{ReadRows}
+use Rattle.log_rows.specs.declared.tail_fault.TailFault.{TailFault}
 use Rattle.source_core.specs.declared.source_session.ReadEnd.{ReadEnd}
-use Rattle.source_core.specs.declared.tail_fault.TailFault.{TailFault}
 use Rattle.row_core.specs.Views.{row_views}
 use Rattle.session_laws.specs.Sessions.{Asks, Does, HasAsked, Job, Outcome, read, reads, stream, streams, tells}
 use Rattle.stream_model.specs.Events.{Event}

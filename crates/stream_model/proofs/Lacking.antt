@@ -3,12 +3,10 @@ use Rattle.std.proofs.Common.{length, ◌≡◌, ◌∙◌, ◌+◌, ◌<◌, �
 use Rattle.store_core.specs.Objects.{Objects, names_of, object_at}
 use Rattle.store_core.specs.ObjectLaws.{listed_iff_stands}
 use Rattle.store_core.specs.declared.store.Put.TheVariants.{Created, Exists}
-use Rattle.session_core.specs.Names as sessions
+use Rattle.store_core.specs.Names.{commit_name, greatest_version}
 use Rattle.session_core.specs.Talks.{Asked, Bears, Talk, Told, get_object, list_names, put_commit, put_file, told_lost, told_memory, told_names, told_object, told_put}
-use Rattle.delta_actions.specs.Names.{commit_name, greatest_version}
 use Rattle.table_log.specs.Counts.{count_in}
 use Rattle.table_log.specs.LoadSessions.{HasGap}
-use Rattle.table_log.specs.Names as table_names
 use Rattle.table_log.proofs.CountNames.{newest_named}
 use Rattle.table_model.specs.Table.{Entry}
 use Rattle.table_store.specs.Holds.{Holds}
@@ -76,7 +74,6 @@ module _ (objects : Objects) (sound : IsSound objects) where
 
   -- so does each below the newest that is listed
   listed_stand : (names : List (List ℕ)) → ((name : List ℕ) → Contains names name → IsSome (object_at objects name)) → (version : ℕ) → version < count_in names → IsSome (object_at objects (commit_name version))
-  unfolding table_names.commit_name
   listed_stand names stand version below = by_count (count_in names) refl below
     where
       by_count : (count : ℕ) → count_in names ≡ count → version < count → IsSome (object_at objects (commit_name version))
@@ -85,7 +82,6 @@ module _ (objects : Objects) (sound : IsSound objects) where
 
   -- and each below the one that comes next by a talk that is borne
   next_stand : (talk : Talk) (first : Talk) (next : ℕ) → ((version : ℕ) → version < next → IsSome (object_at objects (commit_name version))) → AllTold first talk → Bears objects talk → (version : ℕ) → version < next_after next talk → IsSome (object_at objects (commit_name version))
-  unfolding sessions.commit_name
   next_stand [] first next stand all borne = stand
   next_stand ((list_names, told_names names) ∷ talk) first next stand all borne = next_stand talk (first ++ (list_names, told_names names) ∷ []) (count_in names) (listed_stand names borne.0) all.2 borne.1
   next_stand ((list_names, told_object found) ∷ talk) first next stand all borne = next_stand talk (first ++ (list_names, told_object found) ∷ []) next stand all.2 borne.1
@@ -140,7 +136,6 @@ module _ (objects : Objects) (sound : IsSound objects) where
 
   -- no version is missing among the names that it lists
   no_gap : (names : List (List ℕ)) → names ≡ names_of objects → HasGap names → ⊥
-  unfolding table_names.commit_name
   no_gap names is gap = gap (λ version below.
       let stands = listed_stand names (λ name has. (listed_iff_stands objects name).0 (subst (λ (ns : List (List ℕ)). Contains ns name) is has)) version below in
       subst (λ (ns : List (List ℕ)). Contains ns (commit_name version)) (sym is) ((listed_iff_stands objects (commit_name version)).1 stands))
@@ -156,19 +151,18 @@ same_names talk names others one two = sym (ap listed_first one.1) ∙ ap listed
 
 -- Behind a list that had a commit none is lacked.
 pub none_lacked : (talk : Talk) → AllTold [] talk → ListsCommit talk → (version : ℕ) → LacksCommit talk version → ⊥
-unfolding sessions.commit_name
 none_lacked talk all listed version (none_listed names lists none first) = let same = same_names talk names listed.0 lists listed.1 in omega (arith, none, listed.2, ap count_in same)
-none_lacked talk all listed version (got_none below (front, last)) = by_past (told_at [] front (get_object (sessions.commit_name version)) (told_object None) [] own)
+none_lacked talk all listed version (got_none below (front, last)) = by_past (told_at [] front (get_object (commit_name version)) (told_object None) [] own)
   where
-    own : AllTold [] (front ++ (get_object (sessions.commit_name version), told_object None) ∷ [])
+    own : AllTold [] (front ++ (get_object (commit_name version), told_object None) ∷ [])
     own = subst (λ (t : Talk). AllTold [] t) last all
 
     low : version < next_version front
-    low = subst (λ (n : ℕ). version < n) (ap next_version last ∙ get_next front (sessions.commit_name version) (told_object None)) below
+    low = subst (λ (n : ℕ). version < n) (ap next_version last ∙ get_next front (commit_name version) (told_object None)) below
 
-    by_past : WasTold front (get_object (sessions.commit_name version)) (told_object None) → ⊥
+    by_past : WasTold front (get_object (commit_name version)) (told_object None) → ⊥
     by_past (past, sound, borne, told) =
-        let stands = next_stand past sound.table front [] 0 (λ v none. absurd (omega (arith, none))) (told_front [] front ((get_object (sessions.commit_name version), told_object None) ∷ []) own) borne version low in
+        let stands = next_stand past sound.table front [] 0 (λ v none. absurd (omega (arith, none))) (told_front [] front ((get_object (commit_name version), told_object None) ∷ []) own) borne version low in
         let nothing : object_at past (commit_name version) ≡ None = cc in
         let none : IsSome {T = List ℕ} None = subst IsSome nothing stands in
         absurd cc

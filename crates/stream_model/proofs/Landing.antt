@@ -8,9 +8,9 @@ use Rattle.outcomes.specs.Bytes.{IsBytes}
 use Rattle.store_core.specs.Objects.{AreBytes, HasObjectsOf, Objects, object_at, with_object}
 use Rattle.store_core.specs.ObjectLaws.{object_at-with_object_kept, object_at-with_object_other, object_at-with_object_same, with_object_stands}
 use Rattle.delta_actions.specs.Action as actions
-use Rattle.delta_actions.specs.Names.{commit_name, data_file_name}
+use Rattle.delta_actions.specs.Names.{data_file_name}
 use Rattle.table_log.specs.Restoring.{IsSoundCheckpoint, checkpoint_version}
-use Rattle.table_log.specs.Names as table_names
+use Rattle.store_core.specs.Names.{commit_name}
 use Rattle.table_log.proofs.Callers.{commit_is_none, data_file_is_none}
 use Rattle.table_model.specs.Lawful.{BeginsWithCreation}
 use Rattle.table_model.specs.Table.{Batch, Entry, batches, batches_of, close, creation, group}
@@ -244,7 +244,6 @@ pub record IsGoodStore (events : List Event) (objects : Objects) : Type 0 where
 
 -- a checkpoint has neither a commit's name nor a data file's
 checkpoint_apart : (name : List ℕ) (other : ℕ) → checkpoint_version name ≡ Some other → (version : ℕ) → commit_name version ≢ name
-unfolding table_names.commit_name
 checkpoint_apart name other is version same = let none : ◌≡◌ {A = Option ℕ} None (Some other) = sym (commit_is_none version) ∙ ap checkpoint_version same ∙ is in absurd cc
 
 checkpoint_no_file : (name : List ℕ) (other : ℕ) → checkpoint_version name ≡ Some other → (application : List ℕ) (number : ℕ) → data_file_name application number ≡ name → ⊥

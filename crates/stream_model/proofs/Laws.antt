@@ -2,7 +2,8 @@
 use Rattle.std.proofs.Common.{◌≡◌, ◌+◌, ℕ, List, [], ◌++◌, Some, take, true}
 use Rattle.store_core.specs.Objects.{HasObjectsOf, Objects, with_object}
 use Rattle.session_core.specs.Talks.{Bears, Talk}
-use Rattle.delta_actions.specs.Names.{commit_name, data_file_name}
+use Rattle.store_core.specs.Names.{commit_name}
+use Rattle.delta_actions.specs.Names.{data_file_name}
 use Rattle.table_log.specs.Restoring.{IsSoundCheckpoint, checkpoint_version}
 use Rattle.row_core.specs.Rows.{Row}
 use Rattle.table_model.specs.Reads.{IsPart, is_offset, position}

@@ -16,9 +16,9 @@ use Rattle.table_model.specs.declared.reading.Offset.{Offset}
 use Rattle.log_offsets.specs.Offsets.{offset_view}
 use Rattle.source_core.specs.SourceSessions.{SourceEnds, SourceJob, read_told, read_view}
 use Rattle.source_core.specs.TailFaults.{ReadGives}
-use Rattle.source_core.specs.declared.read_state.ReadRows.{ReadRows}
+use Rattle.log_rows.specs.declared.read_state.ReadRows.{ReadRows}
+use Rattle.log_rows.specs.declared.tail_fault.TailFault.{TailFault}
 use Rattle.source_core.specs.declared.source_session.ReadEnd.{ReadEnd}
-use Rattle.source_core.specs.declared.tail_fault.TailFault.{TailFault}
 use Rattle.session_laws.specs.Readers.{next_told, rows_told}
 use Rattle.session_laws.specs.Rows.{Lists, MayTellOfRead, TellsOfListed, WasListed, next_version}
 use Rattle.session_laws.specs.Sessions.{HasAsked, Job, Outcome, read, reads}

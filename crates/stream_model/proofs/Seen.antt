@@ -4,7 +4,7 @@ use Rattle.std.specs.Prelude.{slice_get}
 use Rattle.store_core.specs.Objects.{HasObjectsOf, Objects, names_of, object_at, with_object}
 use Rattle.session_core.specs.Shown.{Shows}
 use Rattle.session_core.specs.Talks.{Asked, Talk, Told, get_object, list_names, put_commit, put_file, told_lost, told_memory, told_names, told_object}
-use Rattle.delta_actions.specs.Names.{commit_name}
+use Rattle.store_core.specs.Names.{commit_name}
 use Rattle.table_log.specs.Counts.{commit_count}
 use Rattle.table_log.specs.Versions.{Version, commit}
 use Rattle.table_model.specs.Lawful.{BeginsWithCreation}

@@ -24,10 +24,10 @@ use Rattle.sink_core.specs.declared.sink_state.SinkOutcome.{SinkOutcome}
 use Rattle.sink_core.specs.declared.sink_state.SinkOutcome.TheVariants.{Already, AlreadyClosed, Closed, Committed}
 use Rattle.log_offsets.specs.Offsets.{offset_view}
 use Rattle.source_core.specs.SourceSessions.{SourceJob}
-use Rattle.source_core.specs.declared.read_state.ReadRows.{ReadRows}
+use Rattle.log_rows.specs.declared.read_state.ReadRows.{ReadRows}
+use Rattle.log_rows.specs.declared.tail_fault.TailFault.{TailFault}
 use Rattle.source_core.specs.declared.source_session.ReadEnd.{ReadEnd}
-use Rattle.source_core.specs.declared.tail_fault.TailFault.{TailFault}
-use Rattle.source_core.specs.declared.tail_fault.TailFault.TheVariants as read_faults
+use Rattle.log_rows.specs.declared.tail_fault.TailFault.TheVariants as read_faults
 use Rattle.session_laws.specs.Readers.{next_told, rows_told}
 use Rattle.session_laws.specs.Rows.{IsBatchOf, Lists, TellsOfBatch, TellsOfListed}
 use Rattle.session_laws.specs.Sessions.{Job, Outcome, checkpoint, ends_lost, load, read, reads, stream, streams}

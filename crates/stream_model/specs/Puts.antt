@@ -1,7 +1,7 @@
 -- Which puts are good in a store: they leave it sound, and a data file is one of a batch that was handed in.
 use Rattle.std.specs.Prelude.{◌≡◌, ℕ, List, [], ◌∷◌, Contains, Some}
 use Rattle.store_core.specs.Objects.{Objects}
-use Rattle.delta_actions.specs.Names.{commit_name}
+use Rattle.store_core.specs.Names.{commit_name}
 use Rattle.table_log.specs.Restoring.{IsSoundCheckpoint, checkpoint_version}
 use Rattle.table_model.specs.Table.{Batch, Entry, close, group}
 use Rattle.table_store.specs.Commits.{IsCommitOf}

@@ -8,19 +8,13 @@ use Rattle.store_core.specs.declared.fault.StoreFault.{StoreFault}
 use Rattle.store_core.specs.declared.fault.StoreFault.TheVariants.{Lost, Memory}
 use Rattle.store_core.specs.declared.store.Put.{Put}
 use Rattle.store_core.specs.declared.store.Put.TheVariants.{Exists}
-use Rattle.session_core.specs.Names.{commit_name}
 use Rattle.session_core.specs.Stores.{Answers, State}
 use Rattle.session_core.specs.Talks.{Asked, Told, get_object, list_names, put_commit, put_file, told_lost, told_memory, told_names, told_object, told_put}
-use Rattle.delta_actions.specs.Names as actions
+use Rattle.store_core.specs.Names.{commit_name}
 use Rattle.stream_model.specs.Worlds.{How, left_by, once, short, told_by, twice}
 use Rattle.stream_world.specs.Calling.{IsSentCall, again, sent_told}
 use Rattle.stream_world.specs.Jobs.{IsMetIn}
 use Rattle.stream_world.specs.Standing.{Meets}
-
--- the two names of a commit are one
-one_name : (version : ℕ) → commit_name version ≡ actions.commit_name version
-unfolding commit_name
-one_name version = refl
 
 -- What a store answers that loses no call takes effect, or memory ran out.
 data IsAnswered (old : Objects) (call : Asked) (told : Told) (new : Objects) : Type 0 where
@@ -28,7 +22,6 @@ data IsAnswered (old : Objects) (call : Asked) (told : Told) (new : Objects) : T
   effect : told ≡ told_by old call → new ≡ left_by old call → IsAnswered old call told new
 
 answered : (old new : State) (call : Asked) (told : Told) → Answers old call told new → IsAnswered old.0 call told new.0
-unfolding commit_name
 answered old new list_names (told_names names) is = effect (ap told_names is.0) is.1.0
 answered old new list_names told_memory is = memory refl is.0
 answered old new list_names (told_object found) is = absurd is
@@ -73,13 +66,13 @@ told_again : (objects : Objects) (call : Asked) → again (told_by objects call)
 told_again objects list_names = refl
 told_again objects (get_object name) = refl
 told_again objects (put_file name bytes) = sym (ap told_put (put_again objects name bytes))
-told_again objects (put_commit version bytes) = sym (ap told_put (put_again objects (actions.commit_name version) bytes))
+told_again objects (put_commit version bytes) = sym (ap told_put (put_again objects (commit_name version) bytes))
 
 left_again : (objects : Objects) (call : Asked) → left_by (left_by objects call) call ≡ left_by objects call
 left_again objects list_names = refl
 left_again objects (get_object name) = refl
 left_again objects (put_file name bytes) = kept_again objects name bytes
-left_again objects (put_commit version bytes) = kept_again objects (actions.commit_name version) bytes
+left_again objects (put_commit version bytes) = kept_again objects (commit_name version) bytes
 
 pub twice_met : (call : Asked) (told second : Told) (old new : State) (flight : Flight) → Answers old call told new → second ≡ again told → Meets twice call second old.0 flight new.0 flight
 twice_met call told second old new flight is second_is = by_cases (answered old new call told is)
@@ -97,5 +90,5 @@ commit_sent version name bytes answer told old new named told_so is = subst (λ 
   where
     by_answer : (a : Result Put StoreFault) → SendsLate name bytes a old new → IsSentCall (put_commit version bytes) (sent_told a) old new
     by_answer (Ok put) so = absurd so
-    by_answer (Err Lost) so = so ∙ ap (λ (n : List ℕ). old ++ (n, bytes) ∷ []) (named ∙ one_name version)
+    by_answer (Err Lost) so = so ∙ ap (λ (n : List ℕ). old ++ (n, bytes) ∷ []) named
     by_answer (Err Memory) so = so

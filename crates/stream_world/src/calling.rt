@@ -8,9 +8,9 @@ ghost use Rattle.stream_world.specs.Jobs.{how_view};
 ghost use Rattle.stream_world.specs.Standing.{Meets};
 
 use crate::event::How;
-use session_core::{Reply, Request, ask, commit_name};
+use session_core::{Reply, Request, ask};
 use std::alloc::Global;
-use store_core::{Flaky, Put, Store, StoreFault};
+use store_core::{Flaky, Put, Store, StoreFault, commit_name};
 
 /// Answers a call in this way, or finds no memory for it. Where it takes effect, the store below is asked, and no turn
 /// is met.

@@ -1,6 +1,6 @@
 -- What is told where a walk is over.
 use Rattle.std.proofs.Common.{◌≡◌, ℕ, suc, ◌≤◌, List, ◌∷◌, None, Some, sym, subst, ◌∙◌, arith}
-use Rattle.delta_actions.specs.Names.{commit_name, greatest_version}
+use Rattle.store_core.specs.Names.{commit_name, greatest_version}
 use Rattle.delta_checkpoint.specs.Checkpoints.{IsCheckpoint}
 use Rattle.schema_tree.specs.Schema.{tree_of}
 use Rattle.store_core.specs.Objects.{Objects, names_of, object_at}

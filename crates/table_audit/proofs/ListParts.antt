@@ -8,12 +8,12 @@ use Rattle.std.proofs.lemmas.List.{drop_more, map-append, map_more, take-append-
 use Rattle.std.proofs.lemmas.List.Elements.{filter_map-append}
 use Rattle.std.proofs.lemmas.List.Sorted.{Contains-permutation, IsPermutation-sym}
 use Rattle.std.specs.declared.alloc.AllocError.{AllocError}
-use Rattle.delta_actions.specs.Names.{greatest_version}
+use Rattle.store_core.specs.Names.{commit_version, greatest_version}
+use Rattle.store_core.proofs.Callers.{named}
 use Rattle.delta_checkpoint.specs.Names.{IsCheckpointName}
 use Rattle.store_core.specs.Objects.{Objects, names_of, object_at}
-use Rattle.table_log.specs.Names.{commit_version}
 use Rattle.table_log.specs.Restoring.{IsSoundCheckpoint, checkpoint_version}
-use Rattle.table_log.proofs.Callers.{checkpoint_named, named, version_found}
+use Rattle.table_log.proofs.Callers.{checkpoint_named, version_found}
 use Rattle.table_check.specs.Below.{AreCheckpointsSoundBelow}
 use Rattle.table_check.specs.Named.{least_named, or_checkpoint, unless_before, version_named}
 use Rattle.table_check.proofs.Counts.{Among, all_from, among_from, among_to, each_among}

@@ -6,7 +6,7 @@ use Rattle.delta_actions.specs.Action.{Action}
 use Rattle.delta_actions.specs.In.{add_in}
 use Rattle.store_core.specs.Objects.{Objects, names_of, object_at}
 use Rattle.table_check.specs.Named.{version_named}
-use Rattle.table_log.specs.Names.{commit_version}
+use Rattle.store_core.specs.Names.{commit_version}
 use Rattle.table_log.specs.Versions.{Version, missing, unreadable, commit, version_by}
 
 -- an action adds the file of a name

@@ -14,8 +14,8 @@ use crate::reader::ObjectReader;
 use crate::reason::{Reason, Unsound};
 use crate::verdict::Verdict;
 use crate::walk::{Beginning, Reached, Walk, begin, ended, walk_on};
-use delta_actions::{GREATEST_VERSION, commit_name};
 use std::alloc::Global;
+use store_core::{GREATEST_VERSION, commit_name};
 
 /// Whether objects are sound: their log is lawful, each batch's file stands and is one of the table's, no commit stands
 /// past the log's end, and whatever has the name of a checkpoint is the one of its version (Delta PROTOCOL.md, "Delta

@@ -15,7 +15,8 @@ use crate::reader::ObjectReader;
 use delta_actions::{Action, FilePath};
 use std::alloc::{AllocError, Global};
 use std::collections::BTreeSet;
-use table_log::{Version, commit_version, version_of};
+use store_core::commit_version;
+use table_log::{Version, version_of};
 
 /// The names that stand beside the table, in the order of their bytes: of no commit and no checkpoint of a version, and
 /// of no data file that a commit that can be read adds.

@@ -1,6 +1,6 @@
 -- An unsound store has a first unsound version.
 use Rattle.std.proofs.Common.{ℕ, zero, suc}
-use Rattle.delta_actions.specs.Names.{greatest_version}
+use Rattle.store_core.specs.Names.{greatest_version}
 use Rattle.log_laws.specs.Sound.{IsSoundStore}
 use Rattle.store_core.specs.Objects.{Objects}
 use Rattle.table_check.specs.Below.{IsFirstUnsound, IsSoundBelow}

@@ -2,15 +2,14 @@
 use Rattle.std.proofs.Common.{◌≡◌, ℕ, suc, ◌<◌, ◌≤◌, List, [], ◌∷◌, ◌++◌, length, take, drop, Option, None, Some, IsSome, refl, sym, ap, subst, ◌∙◌, arith, inl, inr}
 use Rattle.std.proofs.lemmas.Bool.{cases_lt}
 use Rattle.std.proofs.lemmas.List.{length-take-le, take-append-drop}
-use Rattle.delta_actions.specs.Names as names
-use Rattle.delta_actions.specs.Names.{greatest_version}
+use Rattle.store_core.specs.Names.{commit_name, commit_version, greatest_version}
+use Rattle.store_core.proofs.Callers.{named, own_version}
 use Rattle.store_core.specs.Objects.{Objects, names_of, object_at}
 use Rattle.store_core.specs.ObjectLaws.{listed_iff_stands}
 use Rattle.log_laws.specs.Sound.{IsSoundStore}
 use Rattle.log_laws.proofs.Callers.{held_first}
-use Rattle.table_log.specs.Names.{commit_name, commit_version}
 use Rattle.table_log.specs.Restoring.{IsSoundCheckpoint, checkpoint_version}
-use Rattle.table_log.proofs.Callers.{checkpoint_named, commit_is_none, named, own_version}
+use Rattle.table_log.proofs.Callers.{checkpoint_named, commit_is_none}
 use Rattle.table_model.specs.Lawful.{IsLawful}
 use Rattle.table_model.specs.Table.{Entry}
 use Rattle.table_model.proofs.Callers.{lawful-front}
@@ -25,9 +24,8 @@ use Rattle.table_check.proofs.NameLists.{least_is, least_low}
 -- ---- what names tell
 
 -- a commit's name tells its version
-commit_told : (version : ℕ) → version ≤ greatest_version → version_named (names.commit_name version) ≡ Some version
-unfolding commit_name
-commit_told version fits = ap (λ (o : Option ℕ). or_checkpoint o (names.commit_name version)) (own_version version fits)
+commit_told : (version : ℕ) → version ≤ greatest_version → version_named (commit_name version) ≡ Some version
+commit_told version fits = ap (λ (o : Option ℕ). or_checkpoint o (commit_name version)) (own_version version fits)
 
 -- a checkpoint's name is no commit's
 no_commit : (name : List ℕ) (version : ℕ) → checkpoint_version name ≡ Some version → (found : Option ℕ) → commit_version name ≡ found → found ≡ None
@@ -46,9 +44,9 @@ module _ (objects : Objects) where
 
   module _ (from : ℕ) where
     -- what stands isn't behind the least that is told
-    pub told_commit : (version : ℕ) (bytes : List ℕ) → version ≤ greatest_version → object_at objects (names.commit_name version) ≡ Some bytes → from ≤ version
+    pub told_commit : (version : ℕ) (bytes : List ℕ) → version ≤ greatest_version → object_at objects (commit_name version) ≡ Some bytes → from ≤ version
         → (least : ℕ) × (least_named from (names_of objects) ≡ Some least) × (least ≤ version)
-    told_commit version bytes fits there low = least_is from (names_of objects) (names.commit_name version) version (listed (names.commit_name version) bytes there) (commit_told version fits) low
+    told_commit version bytes fits there low = least_is from (names_of objects) (commit_name version) version (listed (commit_name version) bytes there) (commit_told version fits) low
 
     told_checkpoint : (name : List ℕ) (version : ℕ) (bytes : List ℕ) → checkpoint_version name ≡ Some version → object_at objects name ≡ Some bytes → from ≤ version
         → (least : ℕ) × (least_named from (names_of objects) ≡ Some least) × (least ≤ version)
@@ -56,7 +54,7 @@ module _ (objects : Objects) where
 
     module _ (schema : Schema) (entries : List Entry) (stand : HoldsFirst objects schema 0 entries) (lawful : IsLawful entries) (long : length entries ≡ from) (below : AreCheckpointsSoundBelow objects from) where
       -- where nothing is told behind their end, nothing stands there
-      no_later : least_named from (names_of objects) ≡ None → (later : ℕ) → from ≤ later → later ≤ greatest_version → (found : Option (List ℕ)) → object_at objects (names.commit_name later) ≡ found → found ≡ None
+      no_later : least_named from (names_of objects) ≡ None → (later : ℕ) → from ≤ later → later ≤ greatest_version → (found : Option (List ℕ)) → object_at objects (commit_name later) ≡ found → found ≡ None
       no_later none later low fits None is = refl
       no_later none later low fits (Some bytes) is = let told = told_commit later bytes fits is low in let wrong : None ≡ Some told.0 = sym none ∙ told.1 in absurd cc
 
@@ -73,14 +71,14 @@ module _ (objects : Objects) where
         table = record {
           schema = schema;
           entries = entries;
-          holds = HoldsFirst-end objects schema 0 from entries (omega (arith, long)) stand (fits, λ few. no_later none from (omega arith) few (object_at objects (names.commit_name from)) refl);
+          holds = HoldsFirst-end objects schema 0 from entries (omega (arith, long)) stand (fits, λ few. no_later none from (omega arith) few (object_at objects (commit_name from)) refl);
           lawful = lawful;
-          ends = λ later behind few. no_later none later (omega (arith, long, behind)) few (object_at objects (names.commit_name later)) refl;
+          ends = λ later behind few. no_later none later (omega (arith, long, behind)) few (object_at objects (commit_name later)) refl;
         };
         checkpoints = λ name version bytes told there every. checkpoints_all none name version bytes told there;
       }
 
-      none_between : (least : ℕ) → least_named from (names_of objects) ≡ Some least → (later : ℕ) → from ≤ later → later < least → later ≤ greatest_version → (found : Option (List ℕ)) → object_at objects (names.commit_name later) ≡ found → found ≡ None
+      none_between : (least : ℕ) → least_named from (names_of objects) ≡ Some least → (later : ℕ) → from ≤ later → later < least → later ≤ greatest_version → (found : Option (List ℕ)) → object_at objects (commit_name later) ≡ found → found ≡ None
       none_between least is later low before fits None there = refl
       none_between least is later low before fits (Some bytes) there =
           let told = told_commit later bytes fits there low in
@@ -107,7 +105,7 @@ module _ (objects : Objects) where
         stand = stand;
         lawful = lawful;
         few = omega (arith, long, least_low from (names_of objects) least is);
-        ends = λ later behind before fits. none_between least is later (omega (arith, long, behind)) before fits (object_at objects (names.commit_name later)) refl;
+        ends = λ later behind before fits. none_between least is later (omega (arith, long, behind)) before fits (object_at objects (commit_name later)) refl;
         checkpoints = checkpoints_before least is;
       }
 

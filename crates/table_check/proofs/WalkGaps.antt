@@ -5,16 +5,15 @@ use Rattle.std.specs.List.{Contains}
 use Rattle.std.proofs.lemmas.Bool.{cases_Bool, cases_eq, cases_lt}
 use Rattle.outcomes.specs.Results.{◌>>=◌}
 use Rattle.delta_actions.specs.Action.{Action}
-use Rattle.delta_actions.specs.Names as names
+use Rattle.store_core.specs.Names.{commit_name, commit_version}
+use Rattle.store_core.proofs.Callers.{named}
 use Rattle.delta_checkpoint.specs.Checkpoints.{IsCheckpoint}
 use Rattle.schema_tree.specs.Tree.{struct, no_fields}
 use Rattle.store_core.specs.Objects.{Objects, names_of, object_at}
 use Rattle.store_core.specs.ObjectLaws.{listed_iff_stands}
 use Rattle.log_laws.specs.Sound.{IsSoundStore}
-use Rattle.table_log.specs.Names.{commit_name, commit_version}
 use Rattle.table_log.specs.Restoring.{checkpoint_version}
 use Rattle.table_log.specs.Versions.{Version, commit_of, commits_in, version_by, version_read, versions_from}
-use Rattle.table_log.proofs.Callers.{named}
 use Rattle.table_model.specs.Lawful.{IsLawful}
 use Rattle.table_model.specs.Table.{Entry, closes_of, numbers_by}
 use Rattle.table_store.specs.Holds.{HoldsFirst}
@@ -70,33 +69,33 @@ module _ (objects : Objects) where
   first_read (Some bytes) version later commits is = (refl, behind_first version later commits (commit_of bytes) is)
 
   none_missing : (count version wanted : ℕ) (commits : List (List Action)) → commits_in version (versions_from count version objects) ≡ Ok commits → version ≤ wanted → wanted < version + count
-      → object_at objects (names.commit_name wanted) ≡ None → ⊥
-  unfolding versions_from commit_name
+      → object_at objects (commit_name wanted) ≡ None → ⊥
+  unfolding versions_from
   none_missing zero version wanted commits read low high none = absurd (omega (arith, low, high))
   none_missing (suc count) version wanted commits read low high none =
-      let first = first_read (object_at objects (names.commit_name version)) version (versions_from count (version + 1) objects) commits read in
+      let first = first_read (object_at objects (commit_name version)) version (versions_from count (version + 1) objects) commits read in
       elim (cases_eq wanted version) [
         | inl here ↦
-            let absent : object_at objects (names.commit_name version) ≡ None = subst (λ (v : ℕ). object_at objects (names.commit_name v) ≡ None) here none in
+            let absent : object_at objects (commit_name version) ≡ None = subst (λ (v : ℕ). object_at objects (commit_name v) ≡ None) here none in
             let no : false ≡ true = rw absent at first.0 in absurd cc
         | inr other ↦
             none_missing count (suc version) wanted first.1.0 (subst (λ (v : ℕ). commits_in (suc version) (versions_from count v objects) ≡ Ok first.1.0) (add-one version) first.1.1) (omega (arith, low, other)) (omega (arith, high)) none
       ]
 
   -- so do those of entries
-  pub none_first : (schema : Schema) (version wanted : ℕ) (entries : List Entry) → HoldsFirst objects schema version entries → version ≤ wanted → wanted < version + length entries → object_at objects (names.commit_name wanted) ≡ None → ⊥
+  pub none_first : (schema : Schema) (version wanted : ℕ) (entries : List Entry) → HoldsFirst objects schema version entries → version ≤ wanted → wanted < version + length entries → object_at objects (commit_name wanted) ≡ None → ⊥
   none_first schema version wanted [] stand low high none = omega (arith, low, high)
   none_first schema version wanted (entry ∷ entries) stand low high none =
       elim (cases_eq wanted version) [
         | inl here ↦
-            let absent : object_at objects (names.commit_name version) ≡ None = subst (λ (v : ℕ). object_at objects (names.commit_name v) ≡ None) here none in
+            let absent : object_at objects (commit_name version) ≡ None = subst (λ (v : ℕ). object_at objects (commit_name v) ≡ None) here none in
             let wrong : None ≡ Some stand.0.0 = sym absent ∙ stand.0.1 in absurd cc
         | inr other ↦ none_first schema (suc version) wanted entries stand.2 (omega (arith, low, other)) (omega (arith, high)) none
       ]
 
   -- ---- what stands behind a gap
 
-  module _ (from least : ℕ) (none : object_at objects (names.commit_name from) ≡ None) (low : from ≤ least) (sound : IsSoundBelow objects (suc least)) where
+  module _ (from least : ℕ) (none : object_at objects (commit_name from) ≡ None) (low : from ≤ least) (sound : IsSoundBelow objects (suc least)) where
     few : length sound.entries ≤ from
     few = elim (cases_lt from (length sound.entries)) [
       | inl long ↦ absurd (none_first sound.schema 0 from sound.entries sound.stand (omega arith) (omega (arith, long)) none)
@@ -104,18 +103,17 @@ module _ (objects : Objects) where
     ]
 
     by_name : (name bytes : List ℕ) → object_at objects name ≡ Some bytes → (told : Option ℕ) → commit_version name ≡ told → or_checkpoint told name ≡ Some least → ⊥
-    unfolding commit_name
     by_name name bytes there (Some version) is same =
         let one : version ≡ least = cc in
         let own = named name version is in
-        let absent : object_at objects (names.commit_name version) ≡ None = sound.ends version (omega (arith, few, low, one)) (omega (arith, one)) own.1 in
+        let absent : object_at objects (commit_name version) ≡ None = sound.ends version (omega (arith, few, low, one)) (omega (arith, one)) own.1 in
         let wrong : None ≡ Some bytes = sym absent ∙ (ap (object_at objects) own.0 ∙ there) in absurd cc
     by_name name bytes there None is told =
         let checkpoint = sound.checkpoints name least bytes told (omega arith) there in
         none_missing (suc least) 0 from checkpoint.commits checkpoint.stand (omega arith) (omega (arith, low)) none
 
   -- Where a version has no commit, and the least of the versions from there on that names tell is this one, the store isn't sound up to it.
-  pub gap_unsound : (from least : ℕ) → object_at objects (names.commit_name from) ≡ None → least_named from (names_of objects) ≡ Some least → IsSoundBelow objects (suc least) → ⊥
+  pub gap_unsound : (from least : ℕ) → object_at objects (commit_name from) ≡ None → least_named from (names_of objects) ≡ Some least → IsSoundBelow objects (suc least) → ⊥
   gap_unsound from least none is sound =
       let found = least_name from (names_of objects) least is in
       let there = stands found.0 found.1 in

@@ -5,12 +5,11 @@ use Rattle.std.proofs.lemmas.Bool.{cases_lt}
 use Rattle.std.proofs.lemmas.Simd.{map-map}
 use Rattle.delta_actions.specs.Action.{Action}
 use Rattle.delta_actions.specs.Commit.{IsCommit}
-use Rattle.delta_actions.specs.Names as names
+use Rattle.store_core.specs.Names.{commit_name}
 use Rattle.delta_actions.specs.Printing.{IsPrintable}
 use Rattle.delta_checkpoint.specs.Checkpoints.{IsCheckpoint}
 use Rattle.delta_replay.specs.Keys.{last_number}
 use Rattle.store_core.specs.Objects.{Objects, object_at}
-use Rattle.table_log.specs.Names.{commit_name}
 use Rattle.table_log.specs.Restoring.{IsSoundCheckpoint, checkpoint_version}
 use Rattle.table_log.specs.Versions.{commits_in, versions_from}
 use Rattle.table_log.proofs.Callers.{front_behind, of_commit}
@@ -36,12 +35,12 @@ named b = (b.application, b.number)
 
 module _ (objects : Objects) where
   -- one commit more is read
-  one_read : (version : ℕ) (bytes : List ℕ) (made : List Action) → object_at objects (names.commit_name version) ≡ Some bytes → IsCommit bytes made → commits_in version (versions_from 1 version objects) ≡ Ok (made ∷ [])
-  unfolding versions_from commit_name
+  one_read : (version : ℕ) (bytes : List ℕ) (made : List Action) → object_at objects (commit_name version) ≡ Some bytes → IsCommit bytes made → commits_in version (versions_from 1 version objects) ≡ Ok (made ∷ [])
+  unfolding versions_from
   one_read version bytes made there lines = rw (there, of_commit bytes made lines) refl
 
   -- The first commit is walked over.
-  pub first_walked : (schema : Schema) (bytes : List ℕ) (made : List Action) → object_at objects (names.commit_name 0) ≡ Some bytes → IsCommitOf schema creation bytes → IsCommit bytes made → AllByRecursion IsPrintable made
+  pub first_walked : (schema : Schema) (bytes : List ℕ) (made : List Action) → object_at objects (commit_name 0) ≡ Some bytes → IsCommitOf schema creation bytes → IsCommit bytes made → AllByRecursion IsPrintable made
       → IsWalked objects schema 1 (made ∷ [])
   first_walked schema bytes made there commit lines printable = record {
     later = [];
@@ -80,7 +79,7 @@ module _ (objects : Objects) where
     lawful_with (close application) may = close_kept application walked.later walked.lawful
 
     -- A commit more is walked over.
-    pub more_walked : (entry : Entry) (bytes : List ℕ) (made : List Action) → object_at objects (names.commit_name version) ≡ Some bytes → IsCommitOf schema entry bytes → IsCommit bytes made
+    pub more_walked : (entry : Entry) (bytes : List ℕ) (made : List Action) → object_at objects (commit_name version) ≡ Some bytes → IsCommitOf schema entry bytes → IsCommit bytes made
         → AllByRecursion IsPrintable made → FilesStand objects schema entry → MayFollow log entry → IsWalked objects schema (suc version) (log ++ made ∷ [])
     more_walked entry bytes made there commit lines printable files may = record {
       later = walked.later ++ entry ∷ [];

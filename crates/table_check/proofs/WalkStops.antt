@@ -6,8 +6,7 @@ use Rattle.std.proofs.lemmas.Bool.{cases_lt}
 use Rattle.std.proofs.lemmas.Simd.{map-map}
 use Rattle.delta_actions.specs.Action.{Action}
 use Rattle.delta_actions.specs.Commit.{IsCommit}
-use Rattle.delta_actions.specs.Names as names
-use Rattle.delta_actions.specs.Names.{greatest_version}
+use Rattle.store_core.specs.Names.{commit_name, greatest_version}
 use Rattle.delta_replay.specs.Keys.{last_number}
 use Rattle.store_core.specs.Objects.{Objects, object_at}
 use Rattle.table_model.specs.Lawful.{IsLawful}
@@ -36,7 +35,7 @@ module _ (objects : Objects) (schema : Schema) where
   front_is version [] others p q long = (others, refl)
   front_is version (entry ∷ entries) [] p q long = absurd (omega (arith, long))
   front_is version (entry ∷ entries) (found ∷ others) p q long =
-      let bytes : p.0.0 ≡ q.0.0 = one_object objects (names.commit_name version) (names.commit_name version) _ _ p.0 q.0 refl in
+      let bytes : p.0.0 ≡ q.0.0 = one_object objects (commit_name version) (commit_name version) _ _ p.0 q.0 refl in
       let lists = one_list p.0.0 q.0.0 schema schema entry found bytes p.0.2 q.0.2 in
       let stand : StandFor schema entry (without_commit_info q.0.2.actions) = subst (λ (actions : List Action). StandFor schema entry (without_commit_info actions)) lists p.0.2.stand in
       let first : entry ≡ found = one_entry objects schema entry found (without_commit_info q.0.2.actions) stand q.0.2.stand p.1 q.1 in
@@ -45,10 +44,10 @@ module _ (objects : Objects) (schema : Schema) where
 
   -- the last of several entries stands
   last_of : (version next : ℕ) (entries : List Entry) (entry : Entry) → next ≡ version + length entries → HoldsFirst objects schema version (entries ++ entry ∷ [])
-      → Stands objects (names.commit_name next) (IsCommitOf schema entry) × FilesStand objects schema entry
+      → Stands objects (commit_name next) (IsCommitOf schema entry) × FilesStand objects schema entry
   last_of version next [] entry at stand =
       let here : version ≡ next = omega (arith, at) in
-      (subst (λ (v : ℕ). Stands objects (names.commit_name v) (IsCommitOf schema entry)) here stand.0, stand.1)
+      (subst (λ (v : ℕ). Stands objects (commit_name v) (IsCommitOf schema entry)) here stand.0, stand.1)
   last_of version next (first ∷ entries) entry at stand = last_of (suc version) next entries entry (omega (arith, at)) stand.2
 
   -- An entry whose commit has these bytes, and which stands behind others in a lawful table.
@@ -58,7 +57,7 @@ module _ (objects : Objects) (schema : Schema) where
     pub files : FilesStand objects schema entry
     pub lawful : IsLawful (entries ++ entry ∷ [])
 
-  next_by : (version : ℕ) (entries all rest : List Entry) (bytes : List ℕ) → version ≡ length entries → object_at objects (names.commit_name version) ≡ Some bytes → HoldsFirst objects schema 0 all → IsLawful all
+  next_by : (version : ℕ) (entries all rest : List Entry) (bytes : List ℕ) → version ≡ length entries → object_at objects (commit_name version) ≡ Some bytes → HoldsFirst objects schema 0 all → IsLawful all
       → all ≡ entries ++ rest → length rest ≡ 1 → Next entries bytes
   next_by version entries all [] bytes at there stand lawful is one = absurd (omega (arith, one))
   next_by version entries all (entry ∷ []) bytes at there stand lawful is one =
@@ -74,7 +73,7 @@ module _ (objects : Objects) (schema : Schema) where
 
 -- ---- a store that is sound below a version has as many entries, where its commit stands
 
-module _ (objects : Objects) (version : ℕ) (bytes : List ℕ) (there : object_at objects (names.commit_name version) ≡ Some bytes) (fits : version ≤ greatest_version) (sound : IsSoundBelow objects (suc version)) where
+module _ (objects : Objects) (version : ℕ) (bytes : List ℕ) (there : object_at objects (commit_name version) ≡ Some bytes) (fits : version ≤ greatest_version) (sound : IsSoundBelow objects (suc version)) where
   long_enough : length sound.entries ≡ suc version
   long_enough =
       elim (cases_lt version (length sound.entries)) [
@@ -85,7 +84,7 @@ module _ (objects : Objects) (version : ℕ) (bytes : List ℕ) (there : object_
       ]
 
 -- a lawful table of one entry at least begins with the creation
-first_created : (objects : Objects) (bytes : List ℕ) (schema : Schema) (entries : List Entry) → object_at objects (names.commit_name 0) ≡ Some bytes → HoldsFirst objects schema 0 entries → IsLawful entries → 0 < length entries
+first_created : (objects : Objects) (bytes : List ℕ) (schema : Schema) (entries : List Entry) → object_at objects (commit_name 0) ≡ Some bytes → HoldsFirst objects schema 0 entries → IsLawful entries → 0 < length entries
     → IsCommitOf schema creation bytes
 first_created objects bytes schema [] there stand lawful some = absurd (omega (arith, some))
 first_created objects bytes schema (creation ∷ entries) there stand lawful some = subst (IsCommitOf schema creation) (some_is stand.0.0 bytes (sym stand.0.1 ∙ there)) stand.0.2
@@ -93,7 +92,7 @@ first_created objects bytes schema (group bs ∷ entries) there stand lawful som
 first_created objects bytes schema (close application ∷ entries) there stand lawful some = absurd lawful.begins
 
 -- Where the first commit is no creation's, the store isn't sound.
-pub not_created : (objects : Objects) (bytes : List ℕ) → object_at objects (names.commit_name 0) ≡ Some bytes → ((schema : Schema) → IsCommitOf schema creation bytes → ⊥) → IsSoundBelow objects 1 → ⊥
+pub not_created : (objects : Objects) (bytes : List ℕ) → object_at objects (commit_name 0) ≡ Some bytes → ((schema : Schema) → IsCommitOf schema creation bytes → ⊥) → IsSoundBelow objects 1 → ⊥
 not_created objects bytes there none sound =
     none sound.schema (first_created objects bytes sound.schema sound.entries there sound.stand sound.lawful (omega (arith, long_enough objects 0 bytes there (omega arith) sound)))
 
@@ -102,10 +101,10 @@ module _ (objects : Objects) (schema : Schema) (version : ℕ) (log : List (List
   same_schema : (second : Schema) (others : List Entry) → 0 < length others → HoldsFirst objects second 0 others → schema ≡ second
   same_schema second [] some stand = absurd (omega (arith, some))
   same_schema second (found ∷ others) some stand =
-      let bytes = one_object objects (names.commit_name 0) (names.commit_name 0) _ _ walked.stand.0 stand.0 refl in
+      let bytes = one_object objects (commit_name 0) (commit_name 0) _ _ walked.stand.0 stand.0 refl in
       one_creation_of walked.stand.0.0 stand.0.0 schema second found bytes walked.stand.0.2 stand.0.2
 
-  next : (bytes : List ℕ) → object_at objects (names.commit_name version) ≡ Some bytes → version ≤ greatest_version → IsSoundBelow objects (suc version) → Next objects schema (creation ∷ walked.later) bytes
+  next : (bytes : List ℕ) → object_at objects (commit_name version) ≡ Some bytes → version ≤ greatest_version → IsSoundBelow objects (suc version) → Next objects schema (creation ∷ walked.later) bytes
   next bytes there fits sound =
       let long = long_enough objects version bytes there fits sound in
       let same : schema ≡ sound.schema = same_schema sound.schema sound.entries (omega (arith, long)) sound.stand in
@@ -143,7 +142,7 @@ module _ (objects : Objects) (schema : Schema) (version : ℕ) (log : List (List
   texts_of (close application) beside stand texts = tt
 
   -- Where the next version's commit stands, and is of no entry that may follow, the store isn't sound.
-  pub not_followed : (bytes : List ℕ) (made : List Action) → version ≤ greatest_version → object_at objects (names.commit_name version) ≡ Some bytes → IsCommit bytes made → AllByRecursion (λ n. IsUtf8 n.0) (numbers (without_commit_info made))
+  pub not_followed : (bytes : List ℕ) (made : List Action) → version ≤ greatest_version → object_at objects (commit_name version) ≡ Some bytes → IsCommit bytes made → AllByRecursion (λ n. IsUtf8 n.0) (numbers (without_commit_info made))
       → ((entry : Entry) → StandFor schema entry (without_commit_info made) → FilesStand objects schema entry → MayFollow log entry → ⊥) → IsSoundBelow objects (suc version) → ⊥
   not_followed bytes made fits there lines texts none sound =
       let n = next bytes there fits sound in
@@ -152,5 +151,5 @@ module _ (objects : Objects) (schema : Schema) (version : ℕ) (log : List (List
       none n.entry stand n.files (may_follow n.entry (texts_of n.entry (without_commit_info made) stand texts) n.lawful)
 
   -- So it is where it is no commit.
-  pub not_read : (bytes : List ℕ) → version ≤ greatest_version → object_at objects (names.commit_name version) ≡ Some bytes → ((made : List Action) → IsCommit bytes made → ⊥) → IsSoundBelow objects (suc version) → ⊥
+  pub not_read : (bytes : List ℕ) → version ≤ greatest_version → object_at objects (commit_name version) ≡ Some bytes → ((made : List Action) → IsCommit bytes made → ⊥) → IsSoundBelow objects (suc version) → ⊥
   not_read bytes fits there none sound = let n = next bytes there fits sound in none n.commit.actions n.commit.commit

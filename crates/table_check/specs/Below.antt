@@ -1,6 +1,6 @@
 -- Up to which version the objects of a store are sound.
 use Rattle.std.specs.Prelude.{◌≡◌, ◌<◌, ◌≤◌, ℕ, suc, List, length, Some, None}
-use Rattle.delta_actions.specs.Names.{commit_name, greatest_version}
+use Rattle.store_core.specs.Names.{commit_name, greatest_version}
 use Rattle.store_core.specs.Objects.{Objects, object_at}
 use Rattle.table_log.specs.Restoring.{IsSoundCheckpoint, checkpoint_version}
 use Rattle.table_model.specs.Lawful.{IsLawful}

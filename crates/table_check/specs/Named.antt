@@ -1,6 +1,6 @@
 -- The versions that names of a log tell.
 use Rattle.std.specs.Prelude.{ℕ, List, [], ◌∷◌, nat_le, Option, Some, None, if◌then◌else◌}
-use Rattle.table_log.specs.Names.{commit_version}
+use Rattle.store_core.specs.Names.{commit_version}
 use Rattle.table_log.specs.Restoring.{checkpoint_version}
 
 -- a commit's version, or else that of a checkpoint's name

@@ -9,7 +9,7 @@ ghost use Rattle.std.specs.Ordering.{nat_cmp};
 ghost use Rattle.std.specs.Str.{IsUtf8};
 ghost use Rattle.delta_actions.specs.Action.{Action};
 ghost use Rattle.delta_actions.specs.Commit.{IsCommit};
-ghost use Rattle.delta_actions.specs.Names.{commit_name, greatest_version};
+ghost use Rattle.store_core.specs.Names.{commit_name, greatest_version};
 ghost use Rattle.delta_actions.specs.Printing.{IsPrintable};
 ghost use Rattle.delta_checkpoint.specs.Checkpoints.{IsCheckpoint};
 ghost use Rattle.log_laws.specs.Sound.{IsSoundStore};

@@ -1,5 +1,5 @@
 //! Whether commits are missing from a listing of a folder, which is then listed again. No clause stands on it.
-use store_core::{has_version, is_commit};
+use store_core::{is_commit, version_in};
 
 /// Whether a version lacks its commit between the first commit and the last commit or checkpoint of names in the order
 /// of their bytes. Versions past 2^64 - 1, which no commit has, aren't looked at. Takes time linear in the count of
@@ -9,7 +9,7 @@ pub(crate) fn has_gap(names: &[String]) -> bool {
     let mut last: u64 = 0;
     let mut commits: u64 = 0;
     for name in names {
-        if let Some(version) = version_in(name.as_str()) {
+        if let Some(version) = version_in(name.as_bytes()) {
             last = version;
             if is_commit(name.as_bytes()) {
                 first = Some(first.unwrap_or(version));
@@ -18,12 +18,4 @@ pub(crate) fn has_gap(names: &[String]) -> bool {
         }
     }
     first.is_some_and(|first| last.saturating_sub(first) >= commits)
-}
-
-/// The version in the name of a commit or a checkpoint.
-fn version_in(name: &str) -> Option<u64> {
-    if !has_version(name.as_bytes()) {
-        return None;
-    }
-    name.get(11..31)?.parse::<u64>().ok()
 }

@@ -5,12 +5,11 @@ use Rattle.std.proofs.lemmas.Bool.{le-leb, le-ltb, lt-ltb, ltb-true}
 use Rattle.std.proofs.lemmas.List.Elements.{Contains-append_left, Contains-append_right, Contains-push}
 use Rattle.std.proofs.lemmas.Map.Made.{Contains-tail}
 use Rattle.std.proofs.lemmas.Slice.Eq.{bytes_eq-Decides}
-use Rattle.delta_actions.specs.Names.{greatest_version}
+use Rattle.store_core.specs.Names.{commit_name, commit_version, greatest_version}
+use Rattle.store_core.proofs.Callers.{named, own_version}
 use Rattle.table_log.specs.Counts.{count_in, next_behind}
 use Rattle.table_log.specs.LoadSessions.{checkpoints_in}
-use Rattle.table_log.specs.Names.{commit_name, commit_version}
 use Rattle.table_log.specs.Restoring.{checkpoint_version}
-use Rattle.table_log.proofs.NameLemmas.{named, own_version}
 use Rattle.table_log.proofs.SoundKept.{commit_is_none}
 
 -- ---- names in lists

@@ -2,7 +2,7 @@
 use Rattle.std.proofs.Common.{◌≡◌, ℕ, suc, true, List, [], ◌∷◌, ◌++◌, refl, sym, ap₂, subst, arith}
 use Rattle.store_core.specs.Objects.{Objects, HasObjectsOf}
 use Rattle.delta_actions.specs.Action as actions
-use Rattle.delta_actions.specs.Names.{commit_name}
+use Rattle.store_core.specs.Names.{commit_name}
 use Rattle.table_store.specs.Schema.{Schema}
 use Rattle.table_store.specs.Commits.{without_commit_info, StandFor}
 use Rattle.table_store.specs.Holds.{HoldsFrom, Holds}

@@ -11,7 +11,8 @@ use Rattle.delta_actions.specs.In.{add_in, txn_in}
 use Rattle.delta_actions.specs.Kinds.{Path}
 use Rattle.delta_actions.specs.Commit.{IsCommit}
 use Rattle.row_core.specs.Rows.{Row}
-use Rattle.delta_actions.specs.Names.{commit_name, data_file_name}
+use Rattle.store_core.specs.Names.{commit_name}
+use Rattle.delta_actions.specs.Names.{data_file_name}
 use Rattle.table_store.specs.Schema.{Schema, IsFileOf}
 use Rattle.table_store.specs.Commits.{without_commit_info, StandFor}
 use Rattle.table_store.specs.Holds.{Stands, FileStands, FilesStand, HoldsFrom, Holds}

@@ -2,7 +2,8 @@
 use Rattle.std.proofs.Common.{◌≡◌, ◌≢◌, ℕ, suc, ◌+◌, List, [], ◌∷◌, ◌++◌, length, None, Some, sym, subst, ◌∙◌, refl, arith}
 use Rattle.store_core.specs.Objects.{Objects, object_at, with_object, HasObjectsOf}
 use Rattle.store_core.specs.ObjectLaws.{object_at-with_object_same, object_at-with_object_other, object_at-with_object_kept}
-use Rattle.delta_actions.specs.Names.{commit_name, data_file_name}
+use Rattle.store_core.specs.Names.{commit_name}
+use Rattle.delta_actions.specs.Names.{data_file_name}
 use Rattle.table_store.specs.Schema.{Schema}
 use Rattle.table_store.specs.Commits.{IsCommitOf}
 use Rattle.table_store.specs.Holds.{EndsAt, Stands, FilesStand, HoldsFrom}

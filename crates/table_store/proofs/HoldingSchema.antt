@@ -3,7 +3,7 @@ use Rattle.std.proofs.Common.{◌≡◌, ℕ, List, [], ◌∷◌, refl, sym, ap
 use Rattle.store_core.specs.Objects.{Objects}
 use Rattle.delta_actions.specs.Action as actions
 use Rattle.delta_actions.specs.Action.{protocol, meta_data, MetaDataAction}
-use Rattle.delta_actions.specs.Names.{commit_name}
+use Rattle.store_core.specs.Names.{commit_name}
 use Rattle.schema_tree.specs.Reading.{schema_of}
 use Rattle.table_store.specs.Schema.{Schema}
 use Rattle.table_store.specs.Commits.{table_protocol, without_commit_info, IsCommitOf, IsCreation, StandFor}

@@ -8,7 +8,7 @@ use Rattle.std.proofs.lemmas.Slice.Eq.{bytes_eq-Decides}
 use Rattle.store_core.specs.Objects.{Objects}
 use Rattle.delta_actions.specs.Action as actions
 use Rattle.delta_actions.specs.Commit.{IsCommit}
-use Rattle.delta_actions.specs.Names.{commit_name}
+use Rattle.store_core.specs.Names.{commit_name}
 use Rattle.table_store.specs.Schema.{Schema}
 use Rattle.table_store.specs.Commits.{without_commit_info, IsClose, StandFor}
 use Rattle.table_store.specs.Holds.{FilesStand, HoldsFrom, IsLawfulStore}

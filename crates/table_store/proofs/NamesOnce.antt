@@ -10,7 +10,8 @@ use Rattle.std.proofs.lemmas.Fmt.{decimal_is_IsNumeral_wide, length-decimal-le_w
 use Rattle.std.proofs.lemmas.List.{append_cancel_left, append_cancel_right, length-replicate}
 use Rattle.hex.specs.Hex.{IsBytes, encode_lower, encode_with, lower_digits, hex_digit_value, decode_of}
 use Rattle.hex.proofs.HexLemmas.{IsDigits-lower_digits, decode_of-encode_lower}
-use Rattle.delta_actions.specs.Names.{twenty_digits, commit_name, data_file_name}
+use Rattle.store_core.specs.Names.{commit_name, twenty_digits}
+use Rattle.delta_actions.specs.Names.{data_file_name}
 use Rattle.delta_actions.proofs.Callers.{IsBytes-text}
 
 -- ---- a number in 20 digits
@@ -56,6 +57,7 @@ twenty_digits-once n m small same =
 
 -- a version's commit has a name that no other version's has
 pub commit_name-once : (v w : ℕ) → v < 10 ^ 63 → commit_name v ≡ commit_name w → v ≡ w
+unfolding commit_name
 commit_name-once v w small same =
     let ended = append_cancel_left (codes "_delta_log/") (twenty_digits v ++ codes ".json") (twenty_digits w ++ codes ".json") same in
     twenty_digits-once v w small (append_cancel_right (twenty_digits v) (twenty_digits w) (codes ".json") ended)

@@ -2,7 +2,8 @@
 use Rattle.std.proofs.Common.{◌≡◌, ◌≢◌, ℕ, suc, ◌<◌, ◌≤◌, List, [], ◌∷◌, ◌++◌, length, Option, None, Some, refl, sym, ap, subst, ◌∙◌, arith, length-append}
 use Rattle.store_core.specs.Objects.{Objects, object_at, with_object}
 use Rattle.store_core.specs.ObjectLaws.{object_at-with_object_other, with_object_stands}
-use Rattle.delta_actions.specs.Names.{commit_name, data_file_name, greatest_version}
+use Rattle.store_core.specs.Names.{commit_name, greatest_version}
+use Rattle.delta_actions.specs.Names.{data_file_name}
 use Rattle.table_store.specs.Holds.{EndsAt, Holds}
 use Rattle.table_store.specs.Sound.{IsSound, IsAdmissible}
 use Rattle.table_store.proofs.HeldLemmas.{HoldsFirst-end}

@@ -6,7 +6,8 @@ use Rattle.store_core.specs.Objects.{Objects}
 use Rattle.delta_actions.specs.Action as actions
 use Rattle.delta_actions.specs.Kinds.{Path}
 use Rattle.delta_actions.specs.Commit.{IsCommit}
-use Rattle.delta_actions.specs.Names.{commit_name, data_file_name}
+use Rattle.store_core.specs.Names.{commit_name}
+use Rattle.delta_actions.specs.Names.{data_file_name}
 use Rattle.row_core.specs.Rows.{Row}
 use Rattle.table_store.specs.Schema.{Schema, IsFileOf}
 use Rattle.table_store.specs.Groups.{numbers, new_files}

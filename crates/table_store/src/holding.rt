@@ -3,7 +3,8 @@
 ghost use Rattle.std.specs.Prelude.{◌≡◌, ◌≢◌, ◌<◌, ◌^◌, ℕ, suc, List, [], ◌∷◌, ◌++◌, length, true, IsUtf8};
 ghost use Rattle.store_core.specs.Objects.{Objects, with_object, HasObjectsOf};
 ghost use Rattle.delta_actions.specs.Action as actions;
-ghost use Rattle.delta_actions.specs.Names.{commit_name, data_file_name};
+ghost use Rattle.store_core.specs.Names.{commit_name};
+ghost use Rattle.delta_actions.specs.Names.{data_file_name};
 ghost use Rattle.table_store.specs.Schema.{Schema};
 ghost use Rattle.table_store.specs.Commits.{IsCommitOf};
 ghost use Rattle.table_store.specs.Holds.{EndsAt, Holds, FilesStand, IsLawfulStore};

@@ -2,11 +2,11 @@
 use Rattle.std.proofs.Common.{◌≡◌, ◌≢◌, ℕ, zero, suc, ◌+◌, ◌-◌, ◌<◌, ◌≤◌, ℤ, pos, Bool, true, false, cond, eqb, List, [], ◌∷◌, ◌++◌, length, Result, Ok, refl, sym, ap, subst, ◌∙◌, append_assoc, arith, zero-add, length-append}
 use Rattle.std.proofs.lemmas.Bool.{ne_eqb}
 use Rattle.outcomes.specs.Results.{◌>>=◌}
-use Rattle.thrift_core.specs.Tree.{Tree, boolean, integer, binary, list, map, struct, skipped, Trees, no_trees, tree, Entries, no_entries, entry, Fields, no_fields, field, trees_of, entries_of, fields_of, count_of_trees, count_of_entries, depth, depth_of_trees, depth_of_entries, depth_of_fields, nodes, nodes_of_trees, nodes_of_entries, nodes_of_fields}
+use Rattle.thrift_values.specs.Tree.{Tree, boolean, integer, binary, list, map, struct, skipped, Trees, no_trees, tree, Entries, no_entries, entry, Fields, no_fields, field, trees_of, entries_of, fields_of, count_of_trees, count_of_entries, depth, depth_of_trees, depth_of_entries, depth_of_fields, nodes, nodes_of_trees, nodes_of_entries, nodes_of_fields}
 use Rattle.thrift_core.specs.Wire.{announced}
 use Rattle.thrift_core.specs.Spelling.{InTurn, one, two, none, ListHeader, small_size, size_behind, MapHeader, empty_map, filled_map, FieldHeader, id_rises, id_behind, FieldValue, is_true, is_false, apart, SpellsInteger, Spells, SpellsMembers, SpellsEntries, SpellsFields, SpellsStruct}
 use Rattle.thrift_core.specs.Reading.{counted, repeated, entry_ahead, flag_ahead, field_ahead, fields_ahead, list_ahead, map_ahead, struct_ahead, content_ahead, value_ahead, struct_at}
-use Rattle.thrift_core.specs.declared.fault.ThriftFault.{ThriftFault}
+use Rattle.thrift_values.specs.declared.fault.ThriftFault.{ThriftFault}
 use Rattle.thrift_core.specs.declared.source.Source.{Source}
 use Rattle.thrift_core.specs.declared.wire.WireType.{WireType}
 use Rattle.thrift_core.specs.declared.wire.WireType.TheVariants as wire

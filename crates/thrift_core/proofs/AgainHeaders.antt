@@ -7,7 +7,7 @@ use Rattle.lake_bytes.specs.Varint.{SpellsNumber}
 use Rattle.lake_bytes.specs.Zigzag.{SpellsSigned}
 use Rattle.lake_bytes.proofs.Callers.{varint_stands}
 use Rattle.lake_bytes.proofs.Callers.{signed_stands}
-use Rattle.thrift_core.specs.Tree.{boolean, integer, binary, skipped}
+use Rattle.thrift_values.specs.Tree.{boolean, integer, binary, skipped}
 use Rattle.thrift_core.specs.Wire.{Announces}
 use Rattle.thrift_core.specs.Spelling.{InTurn, SpellsBoolean, one, two, none, SpellsByte, SpellsBinary, ListHeader, small_size, size_behind, FieldHeader, id_rises, id_behind}
 use Rattle.thrift_core.specs.Reading.{of_bytes, varint_ahead, signed_ahead, bytes_ahead, bounded_size, boolean_ahead, byte_number_ahead, integer_ahead, double_ahead, binary_ahead, list_header_ahead, map_header_ahead, id_ahead}

@@ -1,6 +1,6 @@
 -- A spelling with the types that a form names is a spelling.
 use Rattle.std.proofs.Common.{ℕ, ℤ, pos, List, ap}
-use Rattle.thrift_core.specs.Tree.{Tree, boolean, integer, binary, list, map, struct, skipped, Trees, no_trees, tree, Entries, no_entries, entry, Fields, no_fields, field}
+use Rattle.thrift_values.specs.Tree.{Tree, boolean, integer, binary, list, map, struct, skipped, Trees, no_trees, tree, Entries, no_entries, entry, Fields, no_fields, field}
 use Rattle.thrift_core.specs.Wire.{Announces}
 use Rattle.thrift_core.specs.Form.{Form, Forms}
 use Rattle.thrift_core.specs.Spelling.{FieldValue, is_true, is_false, apart, Spells, SpellsMembers, SpellsEntries, SpellsFields}

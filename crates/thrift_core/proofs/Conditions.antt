@@ -1,6 +1,6 @@
 -- The four conditions of writing, taken together down the tree, and each of them alone.
 use Rattle.std.proofs.Common.{ℤ, negsuc}
-use Rattle.thrift_core.specs.Tree.{Tree, boolean, integer, binary, list, map, struct, skipped, Trees, no_trees, tree, Entries, no_entries, entry, Fields, no_fields, field}
+use Rattle.thrift_values.specs.Tree.{Tree, boolean, integer, binary, list, map, struct, skipped, Trees, no_trees, tree, Entries, no_entries, entry, Fields, no_fields, field}
 use Rattle.thrift_core.specs.Form.{Form, Forms}
 use Rattle.thrift_core.specs.Writable.{EachValue, EachMember, EachEntry, EachField, Rise, IdsRise, SizeFits, IsKept, HasTypes, MembersHaveTypes, EntriesHaveTypes, FieldsHaveTypes}
 use Rattle.thrift_core.specs.Writing.{HasForm, MembersHaveForm, EntriesHaveForm, FieldsHaveForm}

@@ -3,12 +3,12 @@ use Rattle.std.proofs.Common.{◌≡◌, ◌≢◌, ℕ, zero, suc, ◌+◌, ◌
 use Rattle.std.proofs.lemmas.Bool.{eqb-true, eqb-false}
 use Rattle.outcomes.specs.Results.{◌>>=◌}
 use Rattle.outcomes.specs.Bytes.{IsBytes}
-use Rattle.thrift_core.specs.Tree.{Tree, boolean, list, map, struct, trees_of, entries_of, fields_of, count_of_trees, count_of_entries, depth, depth_of_trees, depth_of_entries, depth_of_fields, nodes, nodes_of_trees, nodes_of_entries, nodes_of_fields}
+use Rattle.thrift_values.specs.Tree.{Tree, boolean, list, map, struct, trees_of, entries_of, fields_of, count_of_trees, count_of_entries, depth, depth_of_trees, depth_of_entries, depth_of_fields, nodes, nodes_of_trees, nodes_of_entries, nodes_of_fields}
 use Rattle.thrift_core.specs.Wire.{announced}
 use Rattle.thrift_core.specs.Spelling.{InTurn, ListHeader, MapHeader, FieldHeader, FieldValue, is_true, is_false, apart, Spells, SpellsMembers, SpellsEntries, SpellsFields, SpellsStruct}
 use Rattle.thrift_core.specs.Reading.{byte_ahead, counted, repeated, entry_ahead, flag_ahead, id_ahead, field_ahead, fields_ahead, list_header_ahead, map_header_ahead, list_ahead, map_ahead, struct_ahead, content_ahead, value_ahead, struct_at}
-use Rattle.thrift_core.specs.declared.fault.ThriftFault.{ThriftFault}
-use Rattle.thrift_core.specs.declared.fault.ThriftFault.TheVariants.{TooMany}
+use Rattle.thrift_values.specs.declared.fault.ThriftFault.{ThriftFault}
+use Rattle.thrift_values.specs.declared.fault.ThriftFault.TheVariants.{TooMany}
 use Rattle.thrift_core.specs.declared.source.Source.{Source}
 use Rattle.thrift_core.specs.declared.wire.WireType.{WireType}
 use Rattle.thrift_core.specs.declared.wire.WireType.TheVariants as wire

@@ -9,12 +9,12 @@ use Rattle.outcomes.specs.Bytes.{IsBytes}
 use Rattle.lake_bytes.specs.Varint.{SpellsNumber}
 use Rattle.lake_bytes.specs.Zigzag.{SpellsSigned}
 use Rattle.lake_bytes.specs.declared.fault.ByteFault.TheVariants as faults
-use Rattle.thrift_core.specs.Tree.{Tree, boolean, integer, binary, skipped, depth, nodes}
+use Rattle.thrift_values.specs.Tree.{Tree, boolean, integer, binary, skipped, depth, nodes}
 use Rattle.thrift_core.specs.Wire.{announced, Announces}
 use Rattle.thrift_core.specs.Spelling.{InTurn, one, two, none, ListHeader, small_size, size_behind, MapHeader, empty_map, filled_map, FieldHeader, id_rises, id_behind, Spells}
 use Rattle.thrift_core.specs.Reading.{byte_ahead, varint_ahead, signed_ahead, bytes_ahead, bounded_size, boolean_ahead, byte_number_ahead, integer_ahead, double_ahead, binary_ahead, list_header_ahead, map_header_ahead, id_ahead}
-use Rattle.thrift_core.specs.declared.fault.ThriftFault.{ThriftFault}
-use Rattle.thrift_core.specs.declared.fault.ThriftFault.TheVariants.{Bytes, BadType}
+use Rattle.thrift_values.specs.declared.fault.ThriftFault.{ThriftFault}
+use Rattle.thrift_values.specs.declared.fault.ThriftFault.TheVariants.{Bytes, BadType}
 use Rattle.thrift_core.specs.declared.source.Source.{Source}
 use Rattle.thrift_core.specs.declared.wire.WireType.{WireType}
 use Rattle.thrift_core.specs.declared.wire.WireType.TheVariants as wire

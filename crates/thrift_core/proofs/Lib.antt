@@ -1,12 +1,10 @@
 pub mod Loop
-pub mod Views
 pub mod Takes
 pub mod FoundHeaders
 pub mod Found
 pub mod AgainHeaders
 pub mod Again
 pub mod Told
-pub mod FieldsLast
 pub mod FormsFound
 pub mod Written
 pub mod AsSpells
@@ -14,5 +12,4 @@ pub mod WrittenSpells
 pub mod Shortest
 pub mod Conditions
 pub mod Tested
-pub mod FieldKinds
 pub mod Callers

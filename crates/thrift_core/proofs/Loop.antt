@@ -5,15 +5,16 @@ use Rattle.std.proofs.lemmas.Bool.{ne_eqb}
 use Rattle.outcomes.specs.Outcome.{IsSaid}
 use Rattle.outcomes.proofs.Callers.{with_front_beside, regroup_beside}
 use Rattle.lake_bytes.specs.declared.fault.ByteFault.TheVariants.{Short}
-use Rattle.thrift_core.specs.Tree.{Tree}
-use Rattle.thrift_core.specs.declared.fault.ThriftFault.{ThriftFault}
-use Rattle.thrift_core.specs.declared.fault.ThriftFault.TheVariants.{Bytes, TooDeep}
-use Rattle.thrift_core.specs.declared.fault.ReadError.{ReadError}
-use Rattle.thrift_core.specs.declared.fault.ReadError.TheVariants as errors
+use Rattle.thrift_values.specs.Tree.{Tree}
+use Rattle.thrift_values.specs.declared.fault.ThriftFault.{ThriftFault}
+use Rattle.thrift_values.specs.declared.fault.ThriftFault.TheVariants.{Bytes, TooDeep}
+use Rattle.thrift_values.specs.declared.fault.ReadError.{ReadError}
+use Rattle.thrift_values.specs.declared.fault.ReadError.TheVariants as errors
 use Rattle.thrift_core.specs.declared.source.Source.{Source}
 use Rattle.thrift_core.specs.declared.wire.WireType.{WireType}
 use Rattle.thrift_core.specs.declared.wire.WireType.TheVariants as wire
-use Rattle.thrift_core.specs.Reading.{says, byte_ahead, counted, repeated, field_ahead, fields_ahead, list_ahead, map_ahead, struct_ahead, content_ahead, value_ahead}
+use Rattle.thrift_values.specs.Said.{says}
+use Rattle.thrift_core.specs.Reading.{byte_ahead, counted, repeated, field_ahead, fields_ahead, list_ahead, map_ahead, struct_ahead, content_ahead, value_ahead}
 
 pub goes_on : {A : Type 0} (read : Source → Result (A × Source) ThriftFault) (front : List A) (count i : ℕ) (source : Source) (x : A) (after : Source) (total : Result (List A × Source) ThriftFault) → i < count → read source ≡ Ok (x, after)
     → with_front_beside front (repeated read (count - i) source) ≡ total → with_front_beside (front ++ x ∷ []) (repeated read (count - (i + 1)) after) ≡ total

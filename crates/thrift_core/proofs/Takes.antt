@@ -13,7 +13,7 @@ use Rattle.lake_bytes.proofs.Callers.{varint_found}
 use Rattle.lake_bytes.proofs.Callers.{signed_found}
 use Rattle.thrift_core.specs.Spelling.{InTurn}
 use Rattle.thrift_core.specs.Reading.{of_bytes, byte_ahead, varint_ahead, signed_ahead, bytes_ahead}
-use Rattle.thrift_core.specs.declared.fault.ThriftFault.{ThriftFault}
+use Rattle.thrift_values.specs.declared.fault.ThriftFault.{ThriftFault}
 use Rattle.thrift_core.specs.declared.source.Source.{Source}
 
 -- the value of a step that did not fail

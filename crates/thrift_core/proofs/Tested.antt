@@ -4,12 +4,12 @@ use Rattle.std.specs.Int.Signed.{lt_z, le_z}
 use Rattle.std.proofs.lemmas.Bool.{and_parts, and_right, ltb-true, lt-ltb}
 use Rattle.std.proofs.lemmas.Int.{ints}
 use Rattle.std.proofs.lemmas.List.{at_drop_more}
-use Rattle.thrift_core.specs.Tree.{Tree, boolean, integer, binary, list, map, struct, skipped, Trees, no_trees, tree, Entries, no_entries, entry, Fields, no_fields, field, count_of_trees, count_of_entries, trees_of, entries_of}
-use Rattle.thrift_core.specs.View.{views, entry_views}
+use Rattle.thrift_values.specs.Tree.{Tree, boolean, integer, binary, list, map, struct, skipped, Trees, no_trees, tree, Entries, no_entries, entry, Fields, no_fields, field, count_of_trees, count_of_entries, trees_of, entries_of}
+use Rattle.thrift_values.specs.View.{views, entry_views}
 use Rattle.thrift_core.specs.Form.{Form, boolean_form, byte_form, int16_form, int32_form, int64_form, binary_form, list_form, map_form, struct_form, Forms, member_form, entry_forms, forms_of, form_at}
 use Rattle.thrift_core.specs.Writable.{for_some, is_boolean_form, is_binary_form, is_between, integer_fits, is_writable, are_writable, entries_are_writable, fields_are_writable}
-use Rattle.thrift_core.specs.declared.value.TValue.{TValue}
-use Rattle.thrift_core.specs.declared.value.MapEntry.{MapEntry}
+use Rattle.thrift_values.specs.declared.value.TValue.{TValue}
+use Rattle.thrift_values.specs.declared.value.MapEntry.{MapEntry}
 use Rattle.thrift_core.proofs.Written.{count-views, count-entry_views}
 use Rattle.thrift_core.specs.Writing.{IntegerHasForm, HasForm, MembersHaveForm, EntriesHaveForm, FieldsHaveForm}
 

@@ -3,13 +3,13 @@ use Rattle.std.proofs.Common.{◌≡◌, ℕ, ◌+◌, max, List, ◌++◌, Resu
 use Rattle.std.proofs.lemmas.List.{append_cancel_right}
 use Rattle.lake_bytes.specs.Reading.{ReadsFront}
 use Rattle.outcomes.specs.Bytes.{IsBytes}
-use Rattle.thrift_core.specs.Tree.{Tree, depth, nodes}
+use Rattle.thrift_values.specs.Tree.{Tree, depth, nodes}
 use Rattle.thrift_core.specs.Spelling.{Spells, SpellsStruct}
 use Rattle.thrift_core.specs.Reading.{ThriftGives, value_ahead, struct_at}
-use Rattle.thrift_core.specs.View.{view}
-use Rattle.thrift_core.specs.declared.fault.ReadError.{ReadError}
+use Rattle.thrift_values.specs.View.{view}
+use Rattle.thrift_values.specs.declared.fault.ReadError.{ReadError}
 use Rattle.thrift_core.specs.declared.source.Source.{Source}
-use Rattle.thrift_core.specs.declared.value.TValue.{TValue}
+use Rattle.thrift_values.specs.declared.value.TValue.{TValue}
 use Rattle.thrift_core.specs.declared.wire.WireType.{WireType}
 use Rattle.thrift_core.proofs.Takes.{ok_is}
 use Rattle.thrift_core.proofs.Found.{struct_at_found}

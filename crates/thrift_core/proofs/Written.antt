@@ -2,11 +2,11 @@
 use Rattle.std.proofs.Common.{◌≡◌, ℕ, suc, ◌+◌, ◌<◌, List, [], ◌∷◌, ◌++◌, length, drop, get_or, Some, refl, sym, ap, ◌∙◌}
 use Rattle.std.proofs.lemmas.List.{append_assoc, at_drop_more}
 use Rattle.thrift_core.specs.Form.{Form, number_of, member_form, entry_forms}
-use Rattle.thrift_core.specs.Tree.{Tree, list, map, trees_of, entries_of, count_of_trees, count_of_entries}
-use Rattle.thrift_core.specs.View.{views, entry_views}
+use Rattle.thrift_values.specs.Tree.{Tree, list, map, trees_of, entries_of, count_of_trees, count_of_entries}
+use Rattle.thrift_values.specs.View.{views, entry_views}
 use Rattle.thrift_core.specs.Writing.{list_header_bytes, map_header_bytes, written, written_members, written_entries}
-use Rattle.thrift_core.specs.declared.value.TValue.{TValue}
-use Rattle.thrift_core.specs.declared.value.MapEntry.{MapEntry}
+use Rattle.thrift_values.specs.declared.value.TValue.{TValue}
+use Rattle.thrift_values.specs.declared.value.MapEntry.{MapEntry}
 
 pub count-views : {A : Type 0} (vs : List (TValue A)) → count_of_trees (trees_of (views vs)) ≡ length vs
 count-views [] = refl

@@ -1,11 +1,12 @@
 pub mod Wire
-pub mod Tree
 pub mod Spelling
 pub mod Reading
-pub mod View
 pub mod Form
 pub mod Writing
 pub mod Writable
 pub mod SpellsAs
-pub mod FaultTexts
-pub mod Fields
+pub use Rattle.thrift_values.specs.Tree
+pub use Rattle.thrift_values.specs.View
+pub use Rattle.thrift_values.specs.Said
+pub use Rattle.thrift_values.specs.FaultTexts
+pub use Rattle.thrift_values.specs.Fields

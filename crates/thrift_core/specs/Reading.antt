@@ -3,26 +3,21 @@ use Rattle.std.specs.Prelude.{◌≡◌, ℕ, zero, suc, ◌-◌, ◌/◌, ◌%�
 use Rattle.std.specs.Int.{w8, cast_signed}
 use Rattle.std.specs.Int.Signed.{le_z}
 use Rattle.lake_bytes.specs.Reading.{byte_at, bytes_at}
-use Rattle.outcomes.specs.Outcome.{Said, refuses, says_nothing, IsSaid}
+use Rattle.outcomes.specs.Outcome.{IsSaid}
 use Rattle.outcomes.specs.Results.{◌>>=◌}
 use Rattle.lake_bytes.specs.Varint.{varint_at}
 use Rattle.lake_bytes.specs.Zigzag.{signed_at}
 use Rattle.lake_bytes.specs.declared.fault.ByteFault.{ByteFault}
 use Rattle.lake_bytes.specs.declared.fault.ByteFault.TheVariants.{Short, OutOfRange}
-use Rattle.thrift_core.specs.Tree.{Tree, boolean, integer, binary, list, map, struct, skipped, trees_of, entries_of, fields_of}
+use Rattle.thrift_values.specs.Tree.{Tree, boolean, integer, binary, list, map, struct, skipped, trees_of, entries_of, fields_of}
 use Rattle.thrift_core.specs.Wire.{announced}
-use Rattle.thrift_core.specs.declared.fault.ThriftFault.{ThriftFault}
-use Rattle.thrift_core.specs.declared.fault.ThriftFault.TheVariants.{Bytes, BadType, TooDeep, TooMany}
-use Rattle.thrift_core.specs.declared.fault.ReadError.{ReadError}
-use Rattle.thrift_core.specs.declared.fault.ReadError.TheVariants as errors
+use Rattle.thrift_values.specs.declared.fault.ThriftFault.{ThriftFault}
+use Rattle.thrift_values.specs.declared.fault.ThriftFault.TheVariants.{Bytes, BadType, TooDeep, TooMany}
+use Rattle.thrift_values.specs.declared.fault.ReadError.{ReadError}
+use Rattle.thrift_values.specs.Said.{says}
 use Rattle.thrift_core.specs.declared.source.Source.{Source}
 use Rattle.thrift_core.specs.declared.wire.WireType.{WireType}
 use Rattle.thrift_core.specs.declared.wire.WireType.TheVariants as wire
-
--- what each fault of the code says
-abbrev pub says : ReadError → Said ThriftFault
-says errors.Memory = says_nothing
-says (errors.Fault fault) = refuses fault
 
 -- What a function returned, seen by view, and the source that it left are what reading gives, unless memory ran out.
 abbrev pub Reads : {X A : Type 0} → (X → A) → Result (A × Source) ThriftFault → Result X ReadError → Source → Type 0

@@ -1,6 +1,6 @@
 -- Which bytes spell a tree with the types that a form names.
 use Rattle.std.specs.Prelude.{◌≡◌, ℕ, ℤ, pos, List, [], ◌∷◌, Some}
-use Rattle.thrift_core.specs.Tree.{Tree, boolean, integer, binary, list, map, struct, skipped, Trees, no_trees, tree, Entries, no_entries, entry, Fields, no_fields, field, count_of_trees, count_of_entries}
+use Rattle.thrift_values.specs.Tree.{Tree, boolean, integer, binary, list, map, struct, skipped, Trees, no_trees, tree, Entries, no_entries, entry, Fields, no_fields, field, count_of_trees, count_of_entries}
 use Rattle.thrift_core.specs.Wire.{Announces}
 use Rattle.thrift_core.specs.Form.{Form, list_form, map_form, struct_form, Forms, form_at}
 use Rattle.thrift_core.specs.Spelling.{InTurn, ListHeader, MapHeader, FieldHeader, FieldValue, Spells}

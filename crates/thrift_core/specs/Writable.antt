@@ -1,7 +1,7 @@
 -- When a tree can be written with the types that a form names: four conditions.
 use Rattle.std.specs.Prelude.{◌≡◌, ℕ, ◌<◌, ◌^◌, nat_lt, ℤ, pos, negsuc, ◌<ℤ◌, ◌≤ℤ◌, length, Bool, true, false, ◌&&◌, Option, None, Some}
 use Rattle.std.specs.Int.Signed.{lt_z, le_z}
-use Rattle.thrift_core.specs.Tree.{Tree, boolean, integer, binary, list, map, struct, skipped, Trees, no_trees, tree, Entries, no_entries, entry, Fields, no_fields, field, count_of_trees, count_of_entries}
+use Rattle.thrift_values.specs.Tree.{Tree, boolean, integer, binary, list, map, struct, skipped, Trees, no_trees, tree, Entries, no_entries, entry, Fields, no_fields, field, count_of_trees, count_of_entries}
 use Rattle.thrift_core.specs.Form.{Form, boolean_form, byte_form, int16_form, int32_form, int64_form, binary_form, list_form, map_form, struct_form, Forms, member_form, entry_forms, forms_of, form_at}
 use Rattle.thrift_core.specs.Writing.{IntegerHasForm}
 

@@ -6,7 +6,7 @@ use Rattle.lake_bytes.specs.Varint.{varint_bytes}
 use Rattle.lake_bytes.specs.Zigzag.{zigzag}
 use Rattle.thrift_core.specs.declared.wire.WireType.{WireType}
 use Rattle.thrift_core.specs.declared.wire.WireType.TheVariants as wire
-use Rattle.thrift_core.specs.Tree.{Tree, boolean, integer, binary, list, map, struct, skipped, Trees, no_trees, tree, Entries, no_entries, entry, Fields, no_fields, field, count_of_trees, count_of_entries}
+use Rattle.thrift_values.specs.Tree.{Tree, boolean, integer, binary, list, map, struct, skipped, Trees, no_trees, tree, Entries, no_entries, entry, Fields, no_fields, field, count_of_trees, count_of_entries}
 use Rattle.thrift_core.specs.Form.{Form, boolean_form, byte_form, int16_form, int32_form, int64_form, binary_form, list_form, map_form, struct_form, Forms, number_of, member_form, entry_forms, forms_of, form_at}
 
 -- the bytes for what there is, and none for nothing

@@ -1,7 +1,7 @@
 //! Laws of the spellings, each a function with an empty body whose contract is the law.
 
 ghost use Rattle.std.specs.Prelude.{◌≡◌, ℕ, List, ◌++◌};
-ghost use Rattle.thrift_core.specs.Tree.{Tree};
+ghost use Rattle.thrift_values.specs.Tree.{Tree};
 ghost use Rattle.thrift_core.specs.Spelling.{Spells};
 ghost use Rattle.thrift_core.specs.declared.wire.WireType.{WireType};
 

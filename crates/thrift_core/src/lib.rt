@@ -2,23 +2,18 @@
 //! nothing of what the structs are for.
 #![tactic(auto)]
 
-mod fault;
-mod field;
-pub mod fields;
 mod form;
 mod laws;
 mod reading;
 mod source;
-mod value;
 mod wire;
 mod writable;
 mod writing;
 
-pub use fault::{ReadError, ThriftFault};
 pub use form::{FieldForm, Form};
 pub use laws::one_tree_in_front;
 pub use reading::{MAX_DEPTH, MAX_NODES, read_struct};
-pub use value::{Field, MapEntry, TValue};
+pub use thrift_values::{Field, MapEntry, ReadError, TValue, ThriftFault, fields};
 pub use wire::WireType;
 pub use writable::is_writable;
 pub use writing::write_struct;

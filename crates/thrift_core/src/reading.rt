@@ -3,17 +3,16 @@
 ghost use Rattle.std.specs.Prelude.{◌≡◌, ℕ, ◌+◌, List, ◌++◌, length, pos, Ok, IfOk, IfErr, OnErr};
 ghost use Rattle.lake_bytes.specs.Reading.{ReadsFront};
 ghost use Rattle.outcomes.specs.Bytes.{IsBytes};
-ghost use Rattle.thrift_core.specs.Tree.{Tree};
+ghost use Rattle.thrift_values.specs.Tree.{Tree};
 ghost use Rattle.thrift_core.specs.Spelling.{SpellsStruct};
 ghost use Rattle.thrift_core.specs.Reading.{Reads, ReadsExactly, ThriftGives, struct_at, boolean_ahead, byte_number_ahead, integer_ahead, double_ahead, binary_ahead, flag_ahead, value_ahead, repeated, entry_ahead, field_ahead, fields_ahead, list_ahead, map_ahead, struct_ahead};
-ghost use Rattle.thrift_core.specs.View.{view, views, entry_view, entry_views, field_views};
+ghost use Rattle.thrift_values.specs.View.{view, views, entry_view, entry_views, field_views};
 
-use crate::fault::{ReadError, ThriftFault};
 use crate::source::Source;
-use crate::value::{Field, MapEntry, TValue};
 use crate::wire::WireType;
 use lake_bytes::{ByteFault, Cursor};
 use std::alloc::Allocator;
+use thrift_values::{Field, MapEntry, ReadError, TValue, ThriftFault};
 
 /// The most structs, lists and maps that may stand in one another, the outermost counted.
 pub const MAX_DEPTH: u32 = 32;

@@ -4,9 +4,9 @@ ghost use Rattle.std.specs.Prelude.{◌≡◌, length};
 ghost use Rattle.lake_bytes.specs.Reading.{id};
 ghost use Rattle.thrift_core.specs.Reading.{ReadsExactly, Counts, byte_ahead, varint_ahead, signed_ahead, bytes_ahead, counted, bounded_size, list_header_ahead, map_header_ahead, id_ahead};
 
-use crate::fault::ThriftFault;
 use crate::wire::WireType;
 use lake_bytes::{ByteFault, Cursor};
+use thrift_values::ThriftFault;
 
 /// The bytes that are left, and how many values may still come.
 #[derive(Drop)]

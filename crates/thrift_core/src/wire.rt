@@ -3,7 +3,7 @@
 ghost use Rattle.std.specs.Prelude.{◌≡◌};
 ghost use Rattle.thrift_core.specs.Wire.{announced};
 
-use crate::fault::ThriftFault;
+use thrift_values::ThriftFault;
 
 /// What a type number announces (Thrift compact protocol, "Struct encoding" and "List and Set").
 #[derive(Clone, Copy)]

@@ -2,14 +2,14 @@
 
 ghost use Rattle.std.specs.Prelude.{◌≡◌, ◌≤ℤ◌, ℕ, IsTrue, ◌&&◌, nat_lt, length, negsuc, pos};
 ghost use Rattle.thrift_core.specs.Form.{form_view, field_form_views, form_at};
-ghost use Rattle.thrift_core.specs.Tree.{trees_of, entries_of, fields_of};
-ghost use Rattle.thrift_core.specs.View.{view, views, entry_view, entry_views, field_view, field_views};
+ghost use Rattle.thrift_values.specs.Tree.{trees_of, entries_of, fields_of};
+ghost use Rattle.thrift_values.specs.View.{view, views, entry_view, entry_views, field_view, field_views};
 ghost use Rattle.thrift_core.specs.Writable.{EachValue, IdsRise, SizeFits, IsKept, HasTypes, for_some, integer_fits, is_between, is_writable, are_writable, entries_are_writable, fields_are_writable};
 
 use crate::form::{FieldForm, Form};
-use crate::value::{Field, MapEntry, TValue};
 use crate::writing::find_form;
 use std::alloc::Allocator;
+use thrift_values::{Field, MapEntry, TValue};
 
 /// The sizes of texts, lists and maps that are written are below this.
 const SIZE_END: usize = 1 << 31;

@@ -3,8 +3,8 @@
 ghost use Rattle.std.specs.Prelude.{◌≡◌, ◌↔◌, IsTrue, List, ℕ, length, ◌<◌, ◌≤◌, ◌++◌, Ok, pos, option_map, IfOk, OnOk};
 ghost use Rattle.lake_bytes.specs.Varint.{varint_bytes};
 ghost use Rattle.thrift_core.specs.Form.{form_view, field_form_view, field_form_views, form_at, number_of};
-ghost use Rattle.thrift_core.specs.Tree.{trees_of, entries_of, fields_of, depth, nodes};
-ghost use Rattle.thrift_core.specs.View.{view, views, entry_views, field_view, field_views};
+ghost use Rattle.thrift_values.specs.Tree.{trees_of, entries_of, fields_of, depth, nodes};
+ghost use Rattle.thrift_values.specs.View.{view, views, entry_views, field_view, field_views};
 ghost use Rattle.thrift_core.specs.Writing.{integer_bytes, list_header_bytes, map_header_bytes, field_header_bytes, field_number, written, written_members, written_entries, written_field, written_fields, wire_of};
 ghost use Rattle.thrift_core.specs.Writable.{EachValue, IdsRise, SizeFits, IsKept, HasTypes};
 ghost use Rattle.thrift_core.specs.Reading.{struct_at};
@@ -13,9 +13,9 @@ ghost use Rattle.thrift_core.specs.SpellsAs.{SpellsAs};
 ghost use Rattle.thrift_core.specs.declared.wire.WireType.TheVariants as wire;
 
 use crate::form::{FieldForm, Form};
-use crate::value::{Field, MapEntry, TValue};
 use lake_bytes::{write_varint, write_zigzag};
 use std::alloc::{AllocError, Allocator, Global};
+use thrift_values::{Field, MapEntry, TValue};
 
 /// The bytes of a struct (Thrift compact protocol, "Struct encoding"), with the types that the form names.
 ///

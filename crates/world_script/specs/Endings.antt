@@ -13,8 +13,8 @@ use Rattle.snapshot_core.specs.FaultTexts as snapshots
 use Rattle.source_core.specs.TailFaults as tails
 use Rattle.source_core.specs.TailViews.{handed_view}
 use Rattle.source_core.specs.Tailing.{handed_text}
-use Rattle.source_core.specs.declared.read_state.ReadRows.{ReadRows}
-use Rattle.source_core.specs.declared.tail_fault.TailFault.{TailFault}
+use Rattle.log_rows.specs.declared.read_state.ReadRows.{ReadRows}
+use Rattle.log_rows.specs.declared.tail_fault.TailFault.{TailFault}
 use Rattle.sink_core.specs.declared.sink_state.SinkOutcome.{SinkOutcome}
 use Rattle.batch_core.specs.declared.fault.SinkFault.{SinkFault}
 

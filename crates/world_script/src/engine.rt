@@ -2,7 +2,7 @@
 ghost use Rattle.std.specs.Prelude.{◌≡◌, ◌≢◌, ◌+◌, ◌≤◌, ◌^◌, ◌⊎◌, suc, ℕ, List, [], true, false, not, length, ⊤, OnOk, OnErr, IfOk, IfSome};
 ghost use Rattle.std.specs.Io.KnownBytes.{Appends};
 ghost use Rattle.delta_actions.specs.Commit.{lines_of};
-ghost use Rattle.delta_actions.specs.Names.{greatest_version};
+ghost use Rattle.store_core.specs.Names.{greatest_version};
 ghost use Rattle.lake_script.specs.Keeps.{Keeps, KeepsBeside};
 ghost use Rattle.lake_script.specs.Runs.{FallsShort, Runs, Tells};
 ghost use Rattle.lake_script.specs.Scripts.{IsScript, StaysSound};

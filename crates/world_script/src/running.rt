@@ -1,7 +1,7 @@
 //! Any script: read to its end, and then answered in a world where it has actors, and else line by line.
 ghost use Rattle.std.specs.Prelude.{◌≡◌, ◌≢◌, ◌+◌, ◌≤◌, ◌<◌, ◌^◌, ◌⊎◌, suc, [], true, false, length, ⊤, IfSome};
 ghost use Rattle.delta_actions.specs.Commit.{lines_of};
-ghost use Rattle.delta_actions.specs.Names.{greatest_version};
+ghost use Rattle.store_core.specs.Names.{greatest_version};
 ghost use Rattle.lake_script.specs.Keeps.{Keeps, KeepsBeside};
 ghost use Rattle.lake_script.specs.Runs.{FallsShort, Runs, Tells};
 ghost use Rattle.lake_script.specs.Scripts.{IsScript, StaysSound};

@@ -1,6 +1,6 @@
 use Rattle.std.proofs.Common.{◌≡◌, ◌∙◌, Bool, true, sym, ap}
 use Rattle.std.specs.Prelude.{◌&&◌}
-use Rattle.table_log.specs.Names.{commit_version}
+use Rattle.store_core.specs.Names.{commit_version}
 use Rattle.table_log.specs.Restoring.{checkpoint_version}
 use Rattle.front_reads.specs.Fronts.{is_in_front}
 use Rattle.front_reads.proofs.VisibleNames.{below_all}

@@ -2,8 +2,8 @@ use Rattle.std.proofs.Common.{◌≡◌, ◌≢◌, false, true, List, Result, E
 use Rattle.outcomes.specs.Outcome.{IsSaid}
 use Rattle.source_core.specs.TailFaults.{refusal_view, says}
 use Rattle.source_core.specs.Tailing.{ReadRefusal, tailed}
-use Rattle.source_core.specs.declared.tail_fault.TailFault.{TailFault}
-use Rattle.source_core.specs.declared.tail_fault.TailFault.TheVariants as faults
+use Rattle.log_rows.specs.declared.tail_fault.TailFault.{TailFault}
+use Rattle.log_rows.specs.declared.tail_fault.TailFault.TheVariants as faults
 use Rattle.source_core.proofs.Callers.{tailed_alike}
 use Rattle.lake_script.specs.declared.reply.LineReply.TheVariants.{Bytes, NotTailed}
 use Rattle.lake_script.specs.ReplyView.{is_short, reply_text}

@@ -3,9 +3,9 @@ use Rattle.std.proofs.lemmas.List.{map-append}
 use Rattle.std.proofs.lemmas.Result.{err_from_is_err_and}
 use Rattle.row_core.specs.Rows.{Row}
 use Rattle.row_core.specs.Views.{row_views, value_view}
-use Rattle.shred.specs.Assembly.{assembled}
-use Rattle.shred.specs.Parts.{fronts}
 use Rattle.shred.specs.Views.{shape_view}
+use Rattle.row_assembly.specs.Assembly.{assembled}
+use Rattle.row_assembly.specs.Parts.{fronts}
 use Rattle.parquet_footer.specs.Outcome.{says}
 use Rattle.parquet_footer.specs.declared.fault.FileFault.TheVariants.{SchemaMismatch}
 use Rattle.parquet_file.specs.Internal.{levels_of}

@@ -4,9 +4,9 @@ use Rattle.std.proofs.lemmas.Result.{err_from_is_err_and}
 use Rattle.outcomes.specs.Outcome.{IsSaid}
 use Rattle.outcomes.specs.Bytes.{IsBytes}
 use Rattle.row_core.specs.Views.{row_views}
-use Rattle.shred.specs.Parts.{rests}
 use Rattle.shred.specs.Views.{shape_view}
 use Rattle.shred.specs.Ways.{ways}
+use Rattle.row_assembly.specs.Parts.{rests}
 use Rattle.parquet_footer.specs.Outcome.{says}
 use Rattle.parquet_footer.specs.Views.{group_view}
 use Rattle.parquet_schema.specs.Views.{leaf_views}

@@ -1,6 +1,6 @@
 use Rattle.std.proofs.Common.{◌≡◌, ℕ, List, String, Global, None, Some, map, string_bytes, sym, ap, subst, ◌∙◌}
 use Rattle.std.proofs.lemmas.Result.{IfOk-weaker}
-use Rattle.delta_actions.specs.Names.{commit_name}
+use Rattle.store_core.specs.Names.{commit_name}
 use Rattle.store_core.specs.Objects.{Objects, names_of, object_at}
 use Rattle.table_store.proofs.HeldLemmas.{read_at}
 use Rattle.table_audit.specs.Verdicts.{IsVerdictOf}

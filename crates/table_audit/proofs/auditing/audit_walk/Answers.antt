@@ -1,5 +1,5 @@
 use Rattle.std.proofs.Common.{◌≡◌, suc, map, string_bytes, refl, sym, subst, ◌∙◌, arith}
-use Rattle.delta_actions.specs.Names.{greatest_version}
+use Rattle.store_core.specs.Names.{greatest_version}
 use Rattle.store_core.specs.Objects.{Objects}
 use Rattle.table_check.specs.Below.{AreCheckpointsSoundBelow, IsSoundBelow}
 use Rattle.table_audit.specs.Listed.{listed_view}

@@ -1,6 +1,6 @@
 use Rattle.std.proofs.Common.{◌≡◌, ℕ, ◌≤◌, List, Some, drop, map, string_bytes, suc, take}
 use Rattle.std.specs.List.{AllByRecursion}
-use Rattle.delta_actions.specs.Names.{greatest_version}
+use Rattle.store_core.specs.Names.{greatest_version}
 use Rattle.store_core.specs.Objects.{object_at}
 use Rattle.table_log.specs.Restoring.{IsSoundCheckpoint}
 use Rattle.table_audit.specs.Listed.{listed_view}

@@ -2,14 +2,14 @@ use Rattle.std.proofs.Common.{rules, ◌≡◌, ◌+◌, ◌&&◌, true, false, 
 use Rattle.std.proofs.lemmas.Int.{ints, to_z-of_z}
 use Rattle.std.specs.Int.Signed.{lt_z, le_z}
 use Rattle.thrift_core.specs.Form.{form_view, field_form_views, form_at}
-use Rattle.thrift_core.specs.Tree as tree
-use Rattle.thrift_core.specs.Tree.{trees_of, entries_of, fields_of}
-use Rattle.thrift_core.specs.View.{view, views, entry_view, entry_views, field_view, field_views}
+use Rattle.thrift_values.specs.Tree as tree
+use Rattle.thrift_values.specs.Tree.{trees_of, entries_of, fields_of}
+use Rattle.thrift_values.specs.View.{view, views, entry_view, entry_views, field_view, field_views}
 use Rattle.thrift_core.specs.Writable.{for_some, is_writable, entries_are_writable, fields_are_writable}
-use Rattle.thrift_core.specs.declared.value.Field.{out-Field}
-use Rattle.thrift_core.specs.declared.value.TValue.{the_lemmas}
+use Rattle.thrift_values.specs.declared.value.Field.{out-Field}
+use Rattle.thrift_values.specs.declared.value.TValue.{the_lemmas}
 use Rattle.thrift_core.proofs.Tested.{between_16, falls, first_apart, first_decides, list_tested, map_tested, not_all, others_decide, stands, unfit, wider}
-use Rattle.thrift_core.proofs.Views.{view-List, view-Map}
+use Rattle.thrift_values.proofs.Callers.{view-List, view-Map}
 use Rattle.thrift_core.proofs.writable.+writable.Goals.{are_fields-then-id-last-via-then-id-last, are_fields-then-id-last-via-else-id-last+then-not-is_field}
 use Rattle.thrift_core.proofs.writable.+writable.Goals as goal
 

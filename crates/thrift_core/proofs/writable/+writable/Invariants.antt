@@ -1,7 +1,7 @@
 use Rattle.std.proofs.Common.{◌≡◌, drop, negsuc}
 use Rattle.thrift_core.specs.Form.{form_view, field_form_views}
-use Rattle.thrift_core.specs.Tree.{trees_of, entries_of, fields_of}
-use Rattle.thrift_core.specs.View.{views, entry_views, field_views}
+use Rattle.thrift_values.specs.Tree.{trees_of, entries_of, fields_of}
+use Rattle.thrift_values.specs.View.{views, entry_views, field_views}
 use Rattle.thrift_core.specs.Writable.{are_writable, entries_are_writable, fields_are_writable}
 use Rattle.thrift_core.proofs.writable.+writable.Given as goal
 

@@ -1,6 +1,6 @@
 use Rattle.std.proofs.Common.{sym, ◌∙◌}
 use Rattle.thrift_core.specs.Form.{form_view}
-use Rattle.thrift_core.specs.View.{view}
+use Rattle.thrift_values.specs.View.{view}
 use Rattle.thrift_core.proofs.Conditions.{has_form, conditions}
 use Rattle.thrift_core.proofs.Tested.{tested, passes}
 use Rattle.thrift_core.proofs.writable.is_writable.Goals as goal

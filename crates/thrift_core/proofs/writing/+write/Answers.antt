@@ -1,12 +1,12 @@
 use Rattle.std.proofs.Common.{rules, ◌≡◌, ◌++◌, length, pos, refl, ap, ◌∙◌, w16, to_z, of_z}
 use Rattle.std.proofs.lemmas.List.{append_assoc}
 use Rattle.thrift_core.specs.Form.{form_view, field_form_views, number_of}
-use Rattle.thrift_core.specs.Tree as tree
-use Rattle.thrift_core.specs.View.{view, views, entry_view, entry_views, field_view, field_views}
+use Rattle.thrift_values.specs.Tree as tree
+use Rattle.thrift_values.specs.View.{view, views, entry_view, entry_views, field_view, field_views}
 use Rattle.thrift_core.specs.Writing.{map_header_bytes, written, written_entries, written_field, written_fields}
-use Rattle.thrift_core.specs.declared.value.Field.{out-Field}
-use Rattle.thrift_core.specs.declared.value.TValue.{the_lemmas}
-use Rattle.thrift_core.proofs.Views.{view-List, view-Map, key_seen, value_seen}
+use Rattle.thrift_values.specs.declared.value.Field.{out-Field}
+use Rattle.thrift_values.specs.declared.value.TValue.{the_lemmas}
+use Rattle.thrift_values.proofs.Callers.{view-List, view-Map, key_seen, value_seen}
 use Rattle.thrift_core.proofs.Written.{list_written, map_written, part_written}
 use Rattle.thrift_core.proofs.writing.+write.Goals as goal
 

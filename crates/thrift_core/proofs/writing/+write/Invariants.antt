@@ -1,7 +1,7 @@
 use Rattle.std.proofs.Common.{◌≡◌, ◌++◌, drop, length, pos}
 use Rattle.thrift_core.specs.Form.{form_view, field_form_views, number_of}
-use Rattle.thrift_core.specs.Tree.{trees_of, entries_of, fields_of}
-use Rattle.thrift_core.specs.View.{views, entry_views, field_views}
+use Rattle.thrift_values.specs.Tree.{trees_of, entries_of, fields_of}
+use Rattle.thrift_values.specs.View.{views, entry_views, field_views}
 use Rattle.thrift_core.specs.Writing.{list_header_bytes, map_header_bytes, written_members, written_entries, written_fields}
 use Rattle.thrift_core.proofs.writing.+write.Given as goal
 

@@ -2,7 +2,7 @@ use Rattle.std.proofs.Common.{ℕ, ◌≤◌, List, length, sym, subst}
 use Rattle.std.proofs.lemmas.Result.{IfOk-weaker}
 use Rattle.thrift_core.specs.Form.{form_view}
 use Rattle.thrift_core.specs.SpellsAs.{SpellsAs}
-use Rattle.thrift_core.specs.View.{view}
+use Rattle.thrift_values.specs.View.{view}
 use Rattle.thrift_core.proofs.Again.{struct_at_again}
 use Rattle.thrift_core.proofs.Conditions.{has_form}
 use Rattle.thrift_core.proofs.Shortest.{shortest}

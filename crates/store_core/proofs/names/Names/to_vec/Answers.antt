@@ -6,5 +6,5 @@ use Rattle.store_core.proofs.names.Names.to_vec.Goals as goal
 
 pub returns : goal.returns
 returns c =
-    subst (λ (shared : Vec (String Global) Global). IfOk c.clone.result (λ copies. map string_bytes copies.items ≡ map string_bytes shared.items)) c.as_ref.ensures
-    (made_copies _ _ c.clone.result c.as_ref.result.now c.clone.ensures.cases)
+    subst (λ (shared : Vec (String Global) Global). IfOk c.clone.result (λ copies. map string_bytes copies.items ≡ map string_bytes shared.items)) c.deref.ensures
+    (made_copies _ _ c.clone.result c.deref.result.now c.clone.ensures.cases)

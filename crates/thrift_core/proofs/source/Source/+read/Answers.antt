@@ -3,10 +3,10 @@ use Rattle.std.proofs.lemmas.Int.{to_z-of_z}
 use Rattle.std.proofs.lemmas.Result.{err_from_is_err_and}
 use Rattle.std.proofs.lemmas.List.{map_push}
 use Rattle.thrift_core.specs.Reading.{counted, value_ahead, repeated, entry_ahead, fields_ahead}
-use Rattle.thrift_core.specs.View.{view, views, entry_view, entry_views, field_view, field_views}
-use Rattle.thrift_core.specs.Tree.{Tree}
-use Rattle.thrift_core.specs.declared.value.Field.{roll-Field}
-use Rattle.thrift_core.specs.declared.value.TValue.{the_lemmas}
+use Rattle.thrift_values.specs.View.{view, views, entry_view, entry_views, field_view, field_views}
+use Rattle.thrift_values.specs.Tree.{Tree}
+use Rattle.thrift_values.specs.declared.value.Field.{roll-Field}
+use Rattle.thrift_values.specs.declared.value.TValue.{the_lemmas}
 use Rattle.thrift_core.proofs.Loop.{goes_on, ends, is_done, field_goes_on, header_fails, field_fails, fields_stop, fields_run_out, nested_list, nested_map, nested_struct}
 use Rattle.thrift_core.proofs.source.Source.+read.Goals as goal
 

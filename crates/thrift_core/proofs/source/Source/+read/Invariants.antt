@@ -1,6 +1,6 @@
 use Rattle.std.proofs.Common.{◌≡◌, length, pos, ◌+◌, ◌-◌, ◌*◌}
 use Rattle.thrift_core.specs.Reading.{value_ahead, repeated, entry_ahead, fields_ahead}
-use Rattle.thrift_core.specs.View.{views, entry_views, field_views}
+use Rattle.thrift_values.specs.View.{views, entry_views, field_views}
 use Rattle.outcomes.proofs.Callers.{with_front_beside}
 use Rattle.thrift_core.proofs.source.Source.+read.Given as goal
 

@@ -1,0 +1,5 @@
+pub mod Callers
+pub mod HandLemmas
+pub mod ItemLemmas
+pub mod PlaceLemmas
+pub mod TurnLemmas

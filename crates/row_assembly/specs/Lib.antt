@@ -1,0 +1,9 @@
+pub use Rattle.shred.specs.Columns
+pub use Rattle.shred.specs.Shape
+pub use Rattle.shred.specs.Ways
+pub mod Faults
+pub mod Assembly
+pub mod Mismatch
+pub mod Parts
+pub mod Levels
+pub mod Views

@@ -1,5 +1,0 @@
-use Rattle.shred.proofs.Assembled.{assembled_sound}
-use Rattle.shred.proofs.laws.columns_are_shredded_again.Goals as goal
-
-pub returns : goal.returns
-returns c = assembled_sound

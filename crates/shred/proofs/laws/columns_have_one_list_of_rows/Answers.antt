@@ -1,5 +1,0 @@
-use Rattle.shred.proofs.Assembled.{same_rows_given}
-use Rattle.shred.proofs.laws.columns_have_one_list_of_rows.Goals as goal
-
-pub returns : goal.returns
-returns c = same_rows_given

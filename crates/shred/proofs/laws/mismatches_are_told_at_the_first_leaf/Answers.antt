@@ -1,5 +1,0 @@
-use Rattle.shred.proofs.Mismatched.{refused_at_mismatch}
-use Rattle.shred.proofs.laws.mismatches_are_told_at_the_first_leaf.Goals as goal
-
-pub returns : goal.returns
-returns c = refused_at_mismatch

@@ -1,5 +1,0 @@
-use Rattle.shred.proofs.Assembled.{assembled_complete}
-use Rattle.shred.proofs.laws.rows_are_assembled_again.Goals as goal
-
-pub returns : goal.returns
-returns c = assembled_complete

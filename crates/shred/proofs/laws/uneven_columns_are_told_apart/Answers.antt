@@ -1,5 +1,0 @@
-use Rattle.shred.proofs.Uneven.{refused_where_uneven}
-use Rattle.shred.proofs.laws.uneven_columns_are_told_apart.Goals as goal
-
-pub returns : goal.returns
-returns c = refused_where_uneven

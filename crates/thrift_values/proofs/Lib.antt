@@ -1,0 +1,4 @@
+pub mod Views
+pub mod FieldsLast
+pub mod FieldKinds
+pub mod Callers
