@@ -355,9 +355,8 @@ def untold(crates):
         if not MARKED.search(head) and not head.startswith("The claims"):
             continue
         place = f"docs/PROVED.md, line {number}"
-        for it in set(re.findall(r"crates/(\w+)/", item)) | set(MARKED.findall(head)) - set(crates):
-            if it not in crates:
-                yield f"{place}: `{it}` is no crate"
+        if item.startswith("## "):
+            yield from (f"{place}: `{it}` is no crate" for it in MARKED.findall(head) if it not in crates)
         for names, crate, clauses in LINKED.findall(item):
             for name in MARKED.findall(names):
                 yield from (f"{place}: `{it}` is no clause of `{name}`" for it in MARKED.findall(clauses)
