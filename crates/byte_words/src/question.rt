@@ -72,7 +72,7 @@ pub enum Question {
     Written,
 }
 
-const QUESTIONS: [(&str, Question); 25] = [
+const QUESTIONS: &[(&str, Question)] = &[
     ("varint", Question::Alone(Kind::Varint)),
     ("zigzag16", Question::Alone(Kind::Zig16)),
     ("zigzag32", Question::Alone(Kind::Zig32)),
@@ -103,8 +103,8 @@ const QUESTIONS: [(&str, Question); 25] = [
 /// What a line of this first word asks for.
 pub fn question_named(word: &str) -> Option<Question> {
     for (name, question) in QUESTIONS {
-        if name == word {
-            return Some(question);
+        if *name == word {
+            return Some(*question);
         }
     }
     None

@@ -221,7 +221,7 @@ fn is_refused(reply: &LineReply, job: Job<'_>) -> bool
 fn text_refuses(text: &[u8], job: Job<'_>) -> bool
     ensures { result ≡ (is_refusal text.now || ends_early (work_view job.entry) text.now) }
 {
-    is_refusal(text) || (job == Job::History && has_refusal(text))
+    is_refusal(text) || (matches!(job, Job::History) && has_refusal(text))
 }
 
 /// Whether a text begins with `refused `.

@@ -1,3 +1,4 @@
+pub mod Arguments
 pub mod Asked
 pub mod Words
 pub mod Spelling

@@ -1,7 +1,7 @@
 //! What the program can be asked for.
 
 /// What the program is asked for.
-#[derive(Clone, Copy, Debug, PartialEq, Eq)]
+#[derive(Clone, Copy)]
 pub enum Command<'a> {
     /// Runs the script on standard input. Where `use_checkpoints` is false, tables are replayed from
     /// version 0 and no checkpoint is used.
@@ -15,7 +15,7 @@ pub enum Command<'a> {
 }
 
 /// A job, and the folder of the table that it is done on.
-#[derive(Clone, Copy, Debug, PartialEq, Eq)]
+#[derive(Clone, Copy)]
 pub struct TableCommand<'a> {
     /// The path of the table's folder.
     pub folder: &'a str,
@@ -26,7 +26,7 @@ pub struct TableCommand<'a> {
 }
 
 /// What is to be done on a table. Moments (`at`) are in milliseconds since 1970-01-01, up to 999,999,999,999,999.
-#[derive(Clone, Copy, Debug, PartialEq, Eq)]
+#[derive(Clone, Copy)]
 pub enum Job<'a> {
     /// Creates the table.
     Create {

@@ -6,7 +6,7 @@ use std::fmt;
 use std::fmt::{Display, Formatter};
 
 /// Whether the same call may be tried again, with the same input.
-#[derive(Clone, Copy, Debug, PartialEq, Eq)]
+#[derive(Clone, Copy)]
 pub enum Again {
     /// It may, as it is: nothing has to be done before.
     Always,
@@ -29,7 +29,7 @@ impl Display for Again {
 }
 
 /// A refusal, or a fault that stands within one. It is printed as one line, without a newline.
-#[derive(Clone, Copy, Debug, PartialEq, Eq)]
+#[derive(Clone, Copy)]
 pub struct Refusal {
     /// The code, as `S3`: letters and a number.
     pub code: &'static str,

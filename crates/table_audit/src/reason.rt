@@ -44,7 +44,7 @@ impl Display for ApplicationId {
 }
 
 /// What makes a version unsound.
-#[derive(Debug, Error)]
+#[derive(Debug, Drop, Error)]
 pub enum Reason {
     /// A line of the commit can't be read.
     BadCommit {
@@ -104,43 +104,6 @@ pub enum Reason {
     OtherCheckpoint {
         name: String,
     },
-}
-
-// By hand, so that a drop is one call to prove and not all that it holds (docs/GATE.md).
-impl Drop for Reason {
-    fn drop(self) {
-        match self {
-            Reason::BadCommit {
-                version: _,
-                fault: _,
-            } => {}
-            Reason::NoCreation => {}
-            Reason::NoEntry { version: _ } => {}
-            Reason::Twice {
-                version: _,
-                application: _,
-            } => {}
-            Reason::NotAbove {
-                number: _,
-                application: _,
-                last: _,
-            } => {}
-            Reason::Closed {
-                number: _,
-                application: _,
-            } => {}
-            Reason::OtherFile {
-                number: _,
-                application: _,
-            } => {}
-            Reason::NoFile { name: _ } => {}
-            Reason::BadFile { name: _, fault: _ } => {}
-            Reason::CommitBehindGap { version: _ } => {}
-            Reason::CheckpointBehindGap { name: _ } => {}
-            Reason::BadCheckpoint { name: _, fault: _ } => {}
-            Reason::OtherCheckpoint { name: _ } => {}
-        }
-    }
 }
 
 impl Display for Reason {
