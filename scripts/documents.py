@@ -10,7 +10,8 @@
 - Each code of a refusal that docs/REFUSALS.md explains is in the tables in code under the same name, and the other way
   round; each text of these tables fits a line.
 - Each clause that docs/PROVED.md names stands in the code, at what the document speaks of there (`untold`). Each crate
-  with code has a section there, and each with definitions is named in docs/DEFINITIONS.md.
+  with code has a section there, and each with definitions is named in docs/DEFINITIONS.md. Each crate has an edit for
+  each mistake that docs/GATE.md names of it.
 
 It tells what differs, a line each, and exits with 1 where something does; with further words it tells only of what has
 one of them in its line. With `--write` what is printed and the lines of links are written anew before. With `--seconds
@@ -386,6 +387,15 @@ def unnamed(crates):
             yield f"docs/DEFINITIONS.md: it doesn't name `{name}`, which has definitions"
 
 
+def untried(crates):
+    """The crates that have fewer edits than docs/GATE.md names mistakes of them, each behind a semicolon."""
+    rows = text_of("docs/GATE.md").partition("| the mistake | the crate |\n|---|---|\n")[2].partition("\n\n")[0]
+    for mistakes, name in re.findall(r"^\| (.*) \| `(\w+)` \|$", rows, re.M):
+        edits = crates[name].counts()[4] if name in crates else 0
+        if edits < (named := mistakes.count("; ") + 1):
+            yield f"docs/GATE.md: mistakes of `{name}` that the gate tries: {named} are named, and it has {edits} edits"
+
+
 # Links.
 
 LINK = re.compile(r"\[([^\]]*)\]\(([^)#\s]+)(?:#L(\d+))?\)")
@@ -454,6 +464,7 @@ def faults(crates):
     yield from faults_of_refusals(crates)
     yield from untold(crates)
     yield from unnamed(crates)
+    yield from untried(crates)
 
 
 def write_seconds(crates, log):
