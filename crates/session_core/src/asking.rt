@@ -3,9 +3,8 @@ ghost use Rattle.std.specs.Prelude.{◌≡◌};
 ghost use Rattle.session_core.specs.Stores.{Answers, AnswersPut, MayAnswer, MayAnswerPut};
 ghost use Rattle.session_core.specs.Talks.{CountsTold, IsAnswerOf, asked_view, fault_reply, kind_of, putting, told_view};
 
-use crate::naming::commit_name;
 use std::alloc::Global;
-use store_core::{Names, Put, Store, StoreFault};
+use store_core::{Names, Put, Store, StoreFault, commit_name};
 
 /// A call that a session asks for.
 #[derive(Drop)]
