@@ -236,11 +236,6 @@ EXPLAINED = re.compile(r"`(?:refused\s+)?((?:St|TH|[A-Z])\d+)\s+([A-Z]\w+)")
 LONGEST = 110
 
 
-def plain(text):
-    """What a text in code is."""
-    return re.sub(r"\\(.)", r"\1", text)
-
-
 def entries():
     """The tables' entries, in their order: code, name, meaning, and when the same call may be tried again."""
     found = []
@@ -251,7 +246,8 @@ def entries():
         if len(here) != int(size):
             sys.exit(f"{name}: {len(here)} entries can be read, of {size}")
         for code, kind, meaning, again, what in here:
-            found.append((code, kind, plain(meaning), f"after {plain(what)}" if what else again.lower()))
+            meaning, what = (re.sub(r"\\(.)", r"\1", it) for it in (meaning, what))  # as the code means them
+            found.append((code, kind, meaning, f"after {what}" if what else again.lower()))
     return found
 
 
