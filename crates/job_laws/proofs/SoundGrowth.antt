@@ -5,7 +5,7 @@ use Rattle.store_core.specs.Objects.{Objects, object_at}
 use Rattle.serde_json.specs.Data.{Items}
 use Rattle.outcomes.specs.Bytes.{IsBytes}
 use Rattle.delta_actions.specs.Names as names
-use Rattle.store_core.specs.Names.{commit_name, greatest_version}
+use Rattle.store_core.specs.Names.{greatest_version}
 use Rattle.table_store.specs.Sound.{IsSound}
 use Rattle.table_store.proofs.SoundLemmas.{sound_commit, sound_data_file}
 use Rattle.commit_core.specs.Creating.{CreatesWell, MayCreate, CreateRefusal, commit_from, with_creation}

@@ -7,7 +7,6 @@ use Rattle.std.proofs.lemmas.Slice.Eq.{bytes_eq-Decides}
 use Rattle.schema_tree.specs.Tree.{Tree}
 use Rattle.store_core.specs.Objects.{Objects, object_at}
 use Rattle.delta_actions.specs.Names.{data_file_name as plain_file_name}
-use Rattle.store_core.specs.Names.{commit_name}
 use Rattle.table_model.specs.Lawful.{Rises}
 use Rattle.table_model.specs.Table.{Batch, Entry, batches_of, batches, numbers_by, last, last_batch}
 use Rattle.table_model.proofs.Callers.{IsAbove, last_none, last_number, numbers_in}

@@ -8,7 +8,6 @@ use Rattle.delta_replay.specs.Closes as logs
 use Rattle.delta_replay.specs.Keys.{Key, at, last_number}
 use Rattle.delta_replay.specs.Support.{readable, writable}
 use Rattle.table_log.specs.Counts.{commit_count}
-use Rattle.store_core.specs.Names.{commit_name}
 use Rattle.table_log.specs.Restoring.{AreAlike, RestoresWell, replayed}
 use Rattle.table_log.specs.Versions.{commit, commits_of, log_of, versions_from, versions_of}
 use Rattle.table_log.proofs.Callers.{of_commit, same_values, replayed_alike, well_sound}
