@@ -2,6 +2,7 @@
 ghost use Rattle.std.specs.Prelude.{◌≡◌, IfOk, false};
 ghost use Rattle.clap.specs.Words.{App, app_of, rule_of, with_subcommand};
 ghost use Rattle.clap.specs.declared.builder.command.Command.TheViews.{out-Command as fields_of};
+ghost use Rattle.lake_words.specs.Words as words;
 ghost use Rattle.lake_words.specs.Words.{commands};
 ghost use Rattle.lake_words.specs.Arguments.{app_in, rule_in, with_subcommands};
 
@@ -108,6 +109,13 @@ fn with_subcommands<'a>(
     Ok(more)
 }
 
+/// What the program can be asked for.
+fn subcommands() -> &'static [Subcommand]
+    ensures { with_subcommands words.top result.now ≡ commands }
+{
+    SUBCOMMANDS
+}
+
 /// The program's commands.
 pub(crate) fn parser<'a>(alloc: Global) -> Result<Command<'a>, AllocError>
     ensures { IfOk result (λ parser. app_of parser ≡ commands) }
@@ -117,5 +125,5 @@ pub(crate) fn parser<'a>(alloc: Global) -> Result<Command<'a>, AllocError>
         .after_help(STATUSES)
         .version(VERSION)
         .subcommand_required(true);
-    with_subcommands(alloc, top, SUBCOMMANDS)
+    with_subcommands(alloc, top, subcommands())
 }

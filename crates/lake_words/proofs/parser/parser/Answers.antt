@@ -12,4 +12,4 @@ returns c =
     let help_is : app_of c.after_help.result ≡ new_app (codes "lake") = ap app_of_fields c.after_help.ensures ∙ about_is in
     let version_is = ap app_of_fields c.version.ensures ∙ ap (λ (a : App). record a { top = record a.top { has_version = true } }) help_is in
     let top_is : app_of c.subcommand_required-top.result ≡ words.top = ap app_of_fields c.subcommand_required-top.ensures ∙ ap (λ (a : App). record a { top = record a.top { subcommand_required = true } }) version_is in
-    IfOk-weaker c.with_subcommands.result _ _ (λ parser h. h ∙ ap (λ (a : App). with_subcommands a _) top_is) c.with_subcommands.ensures
+    IfOk-weaker c.with_subcommands.result _ _ (λ parser h. h ∙ ap (λ (a : App). with_subcommands a c.subcommands.result.now) top_is ∙ c.subcommands.ensures) c.with_subcommands.ensures

@@ -1,9 +1,8 @@
-use Rattle.std.proofs.Common.{◌≡◌, ◌+◌, ◌||◌, Bool, ◌∷◌, drop, ap, ap₂, sym, ◌∙◌, arith, codes}
+use Rattle.std.proofs.Common.{◌≡◌, ◌+◌, ◌||◌, Bool, drop, ap, ap₂, sym, ◌∙◌, arith}
 use Rattle.std.proofs.lemmas.List.{drop_more, drop_all}
 use Rattle.clap.specs.Simple.{app_of_fields}
-use Rattle.clap.specs.Words.{App, app_of, new_app, rule_of, with_rule}
+use Rattle.clap.specs.Words.{App, app_of, new_app, with_rule}
 use Rattle.lake_words.specs.Arguments.{with_arguments}
-use Rattle.lake_words.specs.declared.arguments.Argument.{Argument}
 use Rattle.lake_words.proofs.parser.subcommand.Goals as goal
 
 pub loop-one-preserved : goal.loop-one-preserved
@@ -11,12 +10,10 @@ loop-one-preserved c =
     let l = c.loop-one in
     let arguments = c.args.said.now.arguments.now in
     let i = l.one-index in
-    let item = c.one-item.result in
-    let here : drop i arguments ≡ item ∷ drop (i + 1) arguments = drop_more arguments i item (omega arith) ∙ ap (λ (a : Argument). a ∷ drop (i + 1) arguments) (sym c.one-item.is) in
     let added = c.in_ok-command.ensures in
     record {
       app = ap (λ (a : App). with_arguments a (drop (i + 1) arguments)) (added.shape c.argument.ensures.local ∙ ap (with_rule (app_of l.command)) c.argument.ensures.rule)
-          ∙ ap (with_arguments (app_of l.command)) (sym here) ∙ l.invariant.app;
+          ∙ ap (with_arguments (app_of l.command)) (sym (drop_more arguments i _ (omega arith))) ∙ l.invariant.app;
       local = added.globals ∙ ap₂ (λ (a b : Bool). a || b) l.invariant.local c.argument.ensures.local;
     }
 

@@ -1,8 +1,7 @@
-use Rattle.std.proofs.Common.{◌≡◌, ◌+◌, ◌∷◌, drop, ap, sym, ◌∙◌, arith}
+use Rattle.std.proofs.Common.{◌+◌, drop, ap, sym, ◌∙◌, arith}
 use Rattle.std.proofs.lemmas.List.{drop_more, drop_all}
 use Rattle.clap.specs.Words.{App, app_of}
-use Rattle.lake_words.specs.Arguments.{app_in, with_subcommands}
-use Rattle.lake_words.specs.declared.subcommands.Subcommand.{Subcommand}
+use Rattle.lake_words.specs.Arguments.{with_subcommands}
 use Rattle.lake_words.proofs.parser.with_subcommands.Goals as goal
 
 pub loop-said-preserved : goal.loop-said-preserved
@@ -10,11 +9,9 @@ loop-said-preserved c =
     let l = c.loop-said in
     let all = c.args.subcommands.now in
     let i = l.said-index in
-    let item = c.said-item.result in
-    let here : drop i all ≡ item ∷ drop (i + 1) all = drop_more all i item (omega arith) ∙ ap (λ (s : Subcommand). s ∷ drop (i + 1) all) (sym c.said-item.is) in
     record {
-      app = ap (λ (a : App). with_subcommands a (drop (i + 1) all)) (c.in_ok-more.ensures.app (app_in item) c.subcommand.ensures.app)
-          ∙ ap (with_subcommands (app_of l.more)) (sym here) ∙ l.invariant.app;
+      app = ap (λ (a : App). with_subcommands a (drop (i + 1) all)) (c.in_ok-more.ensures.app _ c.subcommand.ensures.app)
+          ∙ ap (with_subcommands (app_of l.more)) (sym (drop_more all i _ (omega arith))) ∙ l.invariant.app;
       local = c.in_ok-more.ensures.local;
     }
 
