@@ -21,17 +21,18 @@ DECODER = json.JSONDecoder()
 Row = dict[str, Any]
 
 
-# Refusals that no job is told once a table stands that this product alone writes, and those of memory.
-NEVER = {"S9", "S12", "K7", "K8", "O1", "O3", "O4", "O5", "O6", "O11", "O12", "S6", "O9", "K6", "E4"}
-
-# The first words of what a job may be told at its end, but for refusals.
-ENDS: dict[type, tuple[str, ...]] = {
-    Append: ("Committed", "Already"),
-    Checkpoint: ("Checkpointed",),
-    Close: ("Closed", "AlreadyClosed"),
-    Create: ("Created",),
-    Tail: ("next",),
+# What a job may be told at its end: the first word, or a refusal's code, over a table that this product alone writes.
+ENDS: dict[type, set[str]] = {
+    Append: {"Committed", "Already", "S1", "S2", "S3", "S4", "S5", "S7", "S8", "S11"},
+    Checkpoint: {"Checkpointed", "K5"},
+    Close: {"Closed", "AlreadyClosed", "S4", "S5", "S11"},
+    Create: {"Created", "E1", "E5"},
+    Tail: {"next", "O2", "O7", "O8", "O10"},
 }
+
+# What the other lines with a reply may be told.
+NO_ACTOR = "refused Q2 NoActor"
+PLAIN = {"land": {"created", "taken", "refused Q1 NoSuchName"}, "tries": {"ok"}}
 
 
 class Broken(Exception):
@@ -55,6 +56,7 @@ class Entry(NamedTuple):
     number: int | None
 
     def __str__(self) -> str:
+        """What it is, in words."""
         word = "the close" if self.number is None else f"batch {self.number}"
         return f"{word} of {self.application}"
 
@@ -146,20 +148,26 @@ class Talk:
         if line.word == "history":
             self.entries = self.replies.history()
             need(bool(self.entries), "a history tells no version")
-        elif line.word == "die":
-            self.jobs.pop(line.arguments[0], None)
-            self.replies.one()
-        elif line.word in ("until", "step", "finish"):
-            actor = line.arguments[0]
-            told = self.replies.read()
-            if told == ["refused Q2 NoActor"]:
-                need(actor not in self.jobs, f"{actor} has a job, and was told that it has none")
-                return
-            need(actor in self.jobs, f"{actor} has no job, and was told {told[-1]}")
-            if told != ["ok"]:
-                self.end(actor, self.jobs.pop(actor), told)
+        elif line.word in ("until", "step", "finish", "die"):
+            self.lead(line.word, line.arguments[0])
         elif line.word != "fault":
-            self.replies.one()
+            reply = self.replies.one()
+            need(reply in PLAIN[line.word], f"`{line.word}` was told {reply}")
+
+    def lead(self, word: str, actor: str) -> None:
+        """Takes what an actor is told that is led on, or dies."""
+        told = self.replies.read()
+        if told == [NO_ACTOR]:
+            need(actor not in self.jobs, f"{actor} has a job, and was told that it has none")
+            return
+        need(actor in self.jobs, f"{actor} has no job, and was told {told[-1]}")
+        if word == "die":
+            need(told == ["ok"], f"{actor} died, and was told {told[-1]}")
+            del self.jobs[actor]
+        elif told != ["ok"]:
+            self.end(actor, self.jobs.pop(actor), told)
+        else:
+            need(word != "finish", f"{actor} is to end its job, and was told ok")
 
     def submit(self, job: Any) -> None:
         """Keeps the rows of a batch that was handed in."""
@@ -170,9 +178,9 @@ class Talk:
 
     def end(self, actor: str, job: Any, told: list[str]) -> None:
         """Keeps what a job was told at its end, which has to be of its kind."""
-        word = told[-1].split(" ")[0]
-        need(word in ("refused", *ENDS[type(job)]), f"a job of another kind was told {told[-1]}")
-        need(len(told) == 1 or word == "next", f"rows stand in front of {told[-1]}")
+        kind = kind_of(told[-1])
+        need(kind in ENDS[type(job)], f"such a job is never told {told[-1]}")
+        need(len(told) == 1 or kind == "next", f"rows stand in front of {told[-1]}")
         self.outcomes.append((job, told[-1]))
         if not isinstance(job, Tail) or told[-1].startswith("refused O7"):
             return
@@ -278,7 +286,6 @@ def test_log(facts: Facts) -> None:
 def test_outcome(facts: Facts, job: Job, reply: str) -> None:
     """Whether the log says what a job was told."""
     kind = kind_of(reply)
-    need(kind not in NEVER, reply)
     last_word = reply.split(" ")[-1]
     count = int(last_word) if last_word.isdigit() else -1
     if kind in ("Checkpointed", "S4"):

@@ -175,8 +175,8 @@ class Schedule:
         if self.chance(20):
             self.say(f"tail {self.random.choice([1, 3, 10])} {self.place().text()}")
         elif self.chance(4):
-            numbered = ["append  0 0 []", "close  0", "append a 1000000000000 0 []"]
-            self.say(self.random.choice([*numbered, "tail 1 nothing"]))
+            jobs = ["append  0 0 []", "close  0", "append a 1000000000000 0 []", "tail 1 nothing"]
+            self.say(self.random.choice(jobs))
         elif self.chance(4):
             self.say(f"append {self.live[0].name} {self.live[0].next + 1} 0 [{{}}]")
         else:

@@ -10,7 +10,7 @@ pub const REFUSED: u8 = 1;
 pub const MISUSED: u8 = 2;
 
 /// How a command ended.
-#[derive(Clone, Copy, Debug, PartialEq, Eq)]
+#[derive(Clone, Copy)]
 pub struct Exit {
     /// The exit status.
     pub status: u8,

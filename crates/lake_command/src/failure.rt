@@ -10,7 +10,7 @@ use table_folder::{LoadFault, SaveFault};
 use thiserror::Error;
 
 /// Why a job on a folder has no reply. Its texts are written by hand, so that contracts know them.
-#[derive(Debug, Drop, Error)]
+#[derive(Debug, Error)]
 pub enum Failure {
     /// The moment is past 999,999,999,999,999. Nothing was run.
     Misused,
@@ -27,6 +27,21 @@ pub enum Failure {
     Loading(LoadFault),
     /// What the job put wasn't saved whole.
     Saving(SaveFault),
+}
+
+// By hand, so that a drop is one call to prove and not all that it holds (docs/GATE.md).
+impl Drop for Failure {
+    fn drop(self) {
+        match self {
+            Failure::Misused => {}
+            Failure::NotRead => {}
+            Failure::BadLine(_, _) => {}
+            Failure::Miscounted { rows: _, found: _ } => {}
+            Failure::Memory => {}
+            Failure::Loading(_) => {}
+            Failure::Saving(_) => {}
+        }
+    }
 }
 
 impl Display for Failure {

@@ -134,8 +134,13 @@ pub fn tell_assembled(
 fn columns_in(alloc: Global, text: &[u8]) -> Result<Vec<Column<Value>>, LineFault> {
     let mut scratch = Scratch::new(alloc);
     let value = json_of(alloc, text, &mut scratch)?;
+    columns_of(alloc, &value)
+}
+
+/// The columns that the items of an array are.
+fn columns_of(alloc: Global, value: &Json<'_>) -> Result<Vec<Column<Value>>, LineFault> {
     let mut columns = Vec::new(alloc);
-    for column in items_of(&value)? {
+    for column in items_of(value)? {
         columns.push(column_of(alloc, column)?)?;
     }
     Ok(columns)

@@ -26,7 +26,7 @@ use std::io::{Read, Write};
 use store_core::Store;
 
 /// How a run ended.
-#[derive(Clone, Copy, Debug, PartialEq, Eq)]
+#[derive(Clone, Copy)]
 pub enum End {
     /// Each line was answered.
     Done,
@@ -40,7 +40,7 @@ pub enum End {
 }
 
 /// What a run tells when it has ended.
-#[derive(Clone, Copy, Debug, PartialEq, Eq)]
+#[derive(Clone, Copy)]
 pub struct Outcome {
     pub end: End,
     is_short: bool,

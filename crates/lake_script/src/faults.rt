@@ -37,7 +37,7 @@ impl Display for Fault {
 }
 
 /// A fault of any crate as it is told: `refused`, a space, and the fault's own text.
-#[derive(Clone, Copy, Debug, PartialEq, Eq)]
+#[derive(Clone, Copy)]
 pub struct RefusalText<D>(pub D);
 
 impl<D: Display> Display for RefusalText<D> {

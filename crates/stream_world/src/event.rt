@@ -3,7 +3,7 @@
 use crate::job::Job;
 
 /// How a call is answered, if there is memory for it: else that memory ran out waits.
-#[derive(Clone, Copy, Debug, PartialEq, Eq)]
+#[derive(Clone, Copy)]
 pub enum How {
     /// It takes effect, and its answer waits.
     Once,

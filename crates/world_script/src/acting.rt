@@ -13,7 +13,7 @@ use store_core::Store;
 use stream_world::{Actor, Hand, How, Outcome, World};
 
 /// What comes next for an actor.
-#[derive(Clone, Copy, Debug, PartialEq, Eq)]
+#[derive(Clone, Copy)]
 pub enum Next {
     /// It has no session, or its session has ended.
     Nothing,

@@ -22,7 +22,7 @@ use store_core::Store;
 use stream_world::{Outcome, World};
 
 /// What a line does to an actor that was started.
-#[derive(Clone, Copy, Debug, PartialEq, Eq)]
+#[derive(Clone, Copy)]
 pub enum Deed {
     /// It is led on until its next call is the put of a commit.
     Until,
