@@ -1,4 +1,4 @@
-//! Delta actions as lines of JSON: a commit's bytes and its actions, and the names of a table's objects.
+//! Delta actions as lines of JSON: a commit's bytes and its actions, and the names of data files.
 #![tactic(auto)]
 
 mod action;

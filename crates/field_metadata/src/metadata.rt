@@ -56,6 +56,7 @@ impl<A: Allocator> Metadata<A> {
     /// The JSON text. Where no number has a fraction or an exponent or doesn't fit 64 bits, it has no spaces, and keys
     /// in order of bytes.
     pub fn as_str(&self) -> &str
+        ensures kept { result.now ≡ text_of self.now }
         ensures object { value_of result.now ≡ metadata_of self.now }
         ensures compact { IsCompactObject result.now }
     {

@@ -10,8 +10,8 @@ use std::fmt::{Display, Formatter};
 use store_core::StoreFault;
 use thiserror::Error;
 
-/// Why a read hands out nothing. The offset stands. Its texts are written by hand, so that contracts
-/// know them.
+/// Why a read hands out nothing. The offset stands. That its text is none, and that a call of the store was lost, only
+/// the sessions above meet. Its texts are written by hand, so that contracts know them.
 #[derive(Debug, Error)]
 pub enum TailFault {
     /// The offset's text is no offset.

@@ -1,6 +1,6 @@
 //! Columns read cell by cell.
 
-ghost use Rattle.std.specs.Prelude.{◌≡◌, drop, map, option_map, IfOk, OnOk};
+ghost use Rattle.std.specs.Prelude.{◌≡◌, drop, map, option_map, OnOk};
 ghost use Rattle.outcomes.specs.Outcome.{Gives};
 ghost use Rattle.shred.specs.Views.{cell_view, cells_view, column_view, column_views};
 ghost use Rattle.row_assembly.specs.Assembly.{cells_of_columns, cells_of_column, first_cell, heads, is_even};

@@ -1,6 +1,6 @@
 //! One row made of its cells.
 
-ghost use Rattle.std.specs.Prelude.{◌≡◌, option_map, map};
+ghost use Rattle.std.specs.Prelude.{◌≡◌, option_map};
 ghost use Rattle.outcomes.specs.Outcome.{Gives};
 ghost use Rattle.row_core.specs.Views.{value_view, row_views};
 ghost use Rattle.shred.specs.Fits.{is_plain};

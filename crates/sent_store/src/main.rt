@@ -1,5 +1,5 @@
-//! A program that sends a store to another thread, which puts an object there, and lists the names here behind it.
-//! What it prints is the same whatever the schedule.
+//! A program that sends a store to another thread, which puts an object; what the store then lists is printed here. What
+//! it prints is the same whatever the schedule.
 #![tactic(auto)]
 
 ghost use Rattle.std.specs.Prelude.{◌≡◌, IfOk, true, is_some};

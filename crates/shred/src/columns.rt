@@ -25,6 +25,8 @@ pub struct ColumnPart<V> {
 /// What a column has of one row: a level, and the value where nothing on the way is null.
 #[derive(Debug, Drop)]
 pub struct Cell<V> {
+    /// The definition level.
     pub level: u64,
+    /// The value, where nothing on the way is null.
     pub value: Option<V>,
 }

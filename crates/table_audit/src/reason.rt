@@ -10,9 +10,10 @@ use serde_json::Value;
 use std::alloc::{AllocError, Global};
 use std::fmt;
 use std::fmt::{Display, Formatter};
+use thiserror::Error;
 
 /// The first unsound version of a store, and why it is unsound.
-#[derive(Drop)]
+#[derive(Debug, Drop)]
 pub struct Unsound {
     /// The least version whose commit, file or checkpoint breaks the store.
     pub version: u64,
@@ -21,7 +22,7 @@ pub struct Unsound {
 }
 
 /// The id of an application. It is printed as a JSON string, so on one line, whatever it contains.
-#[derive(Drop)]
+#[derive(Debug, Drop)]
 pub struct ApplicationId {
     text: Value,
 }
@@ -43,7 +44,7 @@ impl Display for ApplicationId {
 }
 
 /// What makes a version unsound.
-#[derive(Drop)]
+#[derive(Debug, Drop, Error)]
 pub enum Reason {
     /// A line of the commit can't be read.
     BadCommit {

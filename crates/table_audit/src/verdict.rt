@@ -3,7 +3,7 @@
 use crate::reason::Unsound;
 
 /// What an audit finds.
-#[derive(Drop)]
+#[derive(Debug, Drop)]
 pub enum Verdict {
     /// The objects are sound, and so many versions have a commit.
     Sound { versions: u64 },

@@ -1,5 +1,5 @@
 //! The values of the Thrift compact protocol as a tree, and the fields of a struct by their ids, each read as the kind
-//! that its reader needs. It knows no bytes but those of binaries.
+//! that its reader needs; and why bytes can't be read as such a tree. It reads none.
 #![tactic(auto)]
 
 mod fault;
