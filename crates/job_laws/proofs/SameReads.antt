@@ -25,7 +25,8 @@ use Rattle.sink_core.specs.Appending.{EncodedBatch, AppendPlan, appended_by, pla
 use Rattle.batch_core.specs.Refusals.{SinkRefusal, bad_log}
 use Rattle.log_offsets.specs.Offsets.{offset_of}
 use Rattle.lake_script.specs.Tailing as tails
-use Rattle.lake_script.specs.Tailing.{bad_offset, handed_by, handed_text, schema_at, tailed, versions_at}
+use Rattle.lake_script.specs.Tailing.{bad_offset, handed_by, schema_at, versions_at}
+use Rattle.lake_script.specs.TailTexts.{handed_text, tailed}
 use Rattle.job_laws.specs.Looking.{IsReadFrom}
 use Rattle.job_laws.proofs.Loaded.{commit_loaded, loaded_at}
 use Rattle.job_laws.proofs.LoadedItems.{AddsLoaded, handed_alike, schema_alike, versions_alike}

@@ -19,7 +19,7 @@ use Rattle.lake_script.specs.Sound.{IsSoundStatement, IsSoundLine, AreSoundLines
 use Rattle.lake_script.specs.Scripts.{line_over, reply_over, expected_over}
 use Rattle.lake_script.specs.Tables as tables
 use Rattle.lake_script.specs.Tables.{State, nothing, table, entries_of, AsksTable, IsOfTable, AreOfTable}
-use Rattle.source_core.specs.Tailing.{tailed}
+use Rattle.source_core.specs.TailTexts.{tailed}
 use Rattle.lake_script.specs.Told as told
 use Rattle.lake_script.specs.Told.{tailed_reply, is_bad, UnlessBad, ArePrintedLines, IsPutHere, ArePutHere}
 use Rattle.read_laws.specs.Kept.{IsKept}

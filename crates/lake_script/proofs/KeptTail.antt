@@ -10,7 +10,8 @@ use Rattle.table_model.specs.declared.reading.Offset.{Offset}
 use Rattle.log_offsets.specs.Offsets.{offset_of}
 use Rattle.outcomes.specs.Results.{◌>>=◌}
 use Rattle.lake_script.specs.Tables as tables
-use Rattle.source_core.specs.Tailing.{ReadRefusal, ReadRows, handed_by, handed_text, schema_for, tailed}
+use Rattle.source_core.specs.Tailing.{ReadRefusal, ReadRows, handed_by, schema_for}
+use Rattle.source_core.specs.TailTexts.{handed_text, tailed}
 use Rattle.lake_script.specs.Told.{tailed_reply}
 use Rattle.read_laws.specs.Kept.{IsKept}
 use Rattle.read_laws.proofs.Callers.{made_of, are_made, versions_kept, IsPlain, IsTold, handed_told, kept_plain}

@@ -13,7 +13,7 @@ use Rattle.sink_core.specs.Appending.{append_plan}
 use Rattle.sink_core.specs.SinkSessions.{IsDriven, close_job}
 use Rattle.session_core.specs.Stores.{State}
 use Rattle.table_log.specs.declared.loading.Loaded.{Loaded}
-use Rattle.source_core.specs.Tailing.{tailed}
+use Rattle.source_core.specs.TailTexts.{tailed}
 use Rattle.lake_script.specs.declared.reply.LineReply.TheVariants.{NotCreated, SinkRefused}
 use Rattle.script_lines.specs.Lines.{append, close, Statement, create, tail, task, reading_of}
 use Rattle.lake_script.specs.ReplyView.{reply_text, is_short}

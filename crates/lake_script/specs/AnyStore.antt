@@ -29,7 +29,7 @@ use Rattle.snapshot_core.specs.declared.fault.SnapshotFault.{SnapshotFault}
 use Rattle.snapshot_core.specs.declared.fault.SnapshotFault.TheVariants as snapshot_faults
 use Rattle.source_core.specs.TailFaults as tail_texts
 use Rattle.source_core.specs.Tailing as tails
-use Rattle.source_core.specs.Tailing.{tailed}
+use Rattle.source_core.specs.TailTexts.{tailed}
 use Rattle.script_lines.specs.Lines.{Statement, append, close, checkpoint, tail, create, task, snapshot, history, show, hex, tries, fault, start, until, step, finish, die, land, foreign}
 use Rattle.lake_script.specs.Checkpoints.{checkpointed_at, reason_text}
 use Rattle.lake_script.specs.Replies.{created, noted, outcome_text, put_word}

@@ -15,4 +15,5 @@ pub use Rattle.read_laws.specs.Kept
 pub use Rattle.read_laws.specs.Readable
 pub use Rattle.source_core.specs.Tails
 pub use Rattle.source_core.specs.Tailing
+pub use Rattle.source_core.specs.TailTexts
 pub use Rattle.commit_core.specs.SoundStores

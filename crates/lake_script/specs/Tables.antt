@@ -34,6 +34,7 @@ use Rattle.outcomes.specs.Results.{◌>>=◌, refused_if}
 use Rattle.delta_replay.specs.Support.{feature, has_key_inside}
 use Rattle.batch_core.specs.RowsIn.{rows_from, takes_rows}
 use Rattle.source_core.specs.Tailing as tails
+use Rattle.source_core.specs.TailTexts.{next_line, rows_text}
 use Rattle.source_core.specs.TailFaults as tail_texts
 use Rattle.delta_actions.specs.Commit.{lines_of}
 use Rattle.lake_script.specs.Told.{is_bad, not_yet}
@@ -120,7 +121,7 @@ with_closed (table schema entries) application (Err refusal) = table schema entr
 
 -- a row a line, and where the next read begins
 abbrev pub read_text : (schema : Tree) → Answer → List ℕ
-read_text schema (handed rows next) = tails.rows_text schema rows ++ tails.next_line next
+read_text schema (handed rows next) = rows_text schema rows ++ next_line next
 read_text schema (beyond next) = with_newline (refused (tail_texts.refusal_text (tails.beyond_log next)))
 read_text schema (bad_place version) = with_newline (refused (tail_texts.refusal_text (tails.bad_place version)))
 

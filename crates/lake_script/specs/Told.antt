@@ -25,7 +25,7 @@ use Rattle.commit_core.specs.Texts as texts
 use Rattle.commit_core.specs.Texts.{refused}
 use Rattle.source_core.specs.TailFaults as tail_texts
 use Rattle.source_core.specs.Tailing as tails
-use Rattle.source_core.specs.Tailing.{tailed}
+use Rattle.source_core.specs.TailTexts.{tailed}
 use Rattle.outcomes.specs.Lines.{with_newline}
 
 -- the reply to a line that creates a table

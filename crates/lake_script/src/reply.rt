@@ -15,7 +15,8 @@ ghost use Rattle.lake_script.specs.Runs.{Executes, IsShort, no_room_to_read};
 ghost use Rattle.lake_script.specs.Sound.{IsExecuted};
 ghost use Rattle.lake_script.specs.Streams.{held, waiting, write_failed, StandsIn};
 ghost use Rattle.source_core.specs.TailFaults.{ReadGives};
-ghost use Rattle.source_core.specs.Tailing.{ReadRefusal, tailed};
+ghost use Rattle.source_core.specs.Tailing.{ReadRefusal};
+ghost use Rattle.source_core.specs.TailTexts.{tailed};
 ghost use Rattle.lake_script.specs.Told.{tailed_reply};
 ghost use Rattle.lake_script.specs.Tries.{IsLook, SetsTries};
 

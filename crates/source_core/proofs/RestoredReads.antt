@@ -20,7 +20,8 @@ use Rattle.table_log.proofs.Callers.{IsCheckpointFound, commit_is, found_parts, 
 use Rattle.log_reading.proofs.Callers.{SchemaParts, schema_parts}
 use Rattle.table_model.specs.declared.reading.Offset.{Offset}
 use Rattle.log_offsets.specs.Offsets.{offset_of}
-use Rattle.log_rows.specs.Tailing.{ReadRows, ReadRefusal, bad_offset, handed_by, handed_text, read_by, schema_at, schema_for, tailed, versions_at}
+use Rattle.log_rows.specs.Tailing.{ReadRows, ReadRefusal, bad_offset, handed_by, read_by, schema_at, schema_for, versions_at}
+use Rattle.source_core.specs.TailTexts.{handed_text, tailed}
 use Rattle.source_core.proofs.LookedReads.{handed_alike}
 use Rattle.source_core.proofs.LookedSchemas.{force_earlier, force_later, front_alike, none_alike}
 

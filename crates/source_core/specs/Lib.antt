@@ -1,4 +1,5 @@
 pub mod SourceSessions
+pub mod TailTexts
 pub mod Tails
 pub use Rattle.log_rows.specs.Handings
 pub use Rattle.log_rows.specs.TailFaults

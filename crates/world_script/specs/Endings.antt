@@ -12,7 +12,7 @@ use Rattle.stream_world.specs.JobSessions.{Outcome, checkpoint, creation, load, 
 use Rattle.snapshot_core.specs.FaultTexts as snapshots
 use Rattle.source_core.specs.TailFaults as tails
 use Rattle.source_core.specs.TailViews.{handed_view}
-use Rattle.source_core.specs.Tailing.{handed_text}
+use Rattle.source_core.specs.TailTexts.{handed_text}
 use Rattle.log_rows.specs.declared.read_state.ReadRows.{ReadRows}
 use Rattle.log_rows.specs.declared.tail_fault.TailFault.{TailFault}
 use Rattle.sink_core.specs.declared.sink_state.SinkOutcome.{SinkOutcome}

@@ -1,7 +1,8 @@
 use Rattle.std.proofs.Common.{◌≡◌, ◌≢◌, false, true, List, Result, Err, ℕ, inl, ap, refl, sym, ◌∙◌}
 use Rattle.outcomes.specs.Outcome.{IsSaid}
 use Rattle.source_core.specs.TailFaults.{refusal_view, says}
-use Rattle.source_core.specs.Tailing.{ReadRefusal, tailed}
+use Rattle.source_core.specs.Tailing.{ReadRefusal}
+use Rattle.source_core.specs.TailTexts.{tailed}
 use Rattle.log_rows.specs.declared.tail_fault.TailFault.{TailFault}
 use Rattle.log_rows.specs.declared.tail_fault.TailFault.TheVariants as faults
 use Rattle.source_core.proofs.Callers.{tailed_alike}
