@@ -290,6 +290,7 @@ def test_outcome(facts: Facts, job: Job, reply: str) -> None:
     count = int(last_word) if last_word.isdigit() else -1
     if kind in ("Checkpointed", "S4"):
         need(0 <= count < len(facts.entries), f"{reply} of {len(facts.entries)} versions")
+    need(kind != "Created" or reply == "Created 0", f"a creation was told {reply}")
     if not isinstance(job, Append | Close):
         return
     number = job.number if isinstance(job, Append) else None
