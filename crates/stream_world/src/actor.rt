@@ -19,32 +19,10 @@ pub enum Hand {
 }
 
 /// A session that hasn't ended, with what it has at hand.
+#[derive(Drop)]
 pub struct Actor {
     pub session: TableSession,
     pub hand: Hand,
     pub ghost unended: { is_ended session ≡ false },
     pub ghost ready: { is_at_hand (awaited session) hand ≡ true },
-}
-
-// By hand, so that a drop is one call to prove and not all that it holds (docs/GATE.md).
-impl Drop for Actor {
-    fn drop(self) {
-        let Actor {
-            session: _,
-            hand: _,
-        } = self;
-    }
-}
-
-impl Actor {
-    /// The session, and what it has at hand.
-    pub(crate) fn into_parts(self) -> (TableSession, Hand)
-        ensures session { result.0 ≡ self.session }
-        ensures hand { result.1 ≡ self.hand }
-        ensures unended { is_ended result.0 ≡ false }
-        ensures ready { is_at_hand (awaited result.0) result.1 ≡ true }
-    {
-        let Actor { session, hand } = self;
-        (session, hand)
-    }
 }
