@@ -1,6 +1,9 @@
--- Why a folder isn't judged: the texts, and which of the reasons comes of a call of the folder that failed.
+-- Why a folder isn't judged: the texts, which of the reasons comes of a call of the folder that failed, and that a data
+-- file that is told as too large is.
 use Rattle.std.specs.Prelude.{ℕ, List, ◌++◌, codes, string_bytes}
 use Rattle.store_core.specs.Calls.{HasRisen}
+use Rattle.store_core.specs.Objects.{Objects}
+use Rattle.table_audit.specs.LargeFiles.{IsLargeFile}
 use Rattle.table_folder.specs.Texts.{load_text}
 use Rattle.table_folder.specs.declared.fault.LoadFault.TheVariants as loads
 use Rattle.folder_check.specs.declared.fault.CheckFault.{CheckFault}
@@ -15,3 +18,13 @@ check_text (TooLarge name) = codes "P9 TooLarge " ++ string_bytes name
 abbrev pub ComesOfACall : (old new : ℕ) → CheckFault → Type 0
 ComesOfACall old new (Folder (loads.NotLoaded name reason)) = HasRisen old new
 ComesOfACall old new _ = Unit {0}
+
+-- a data file that is told as too large is, as one of the table
+abbrev pub TellsLargeFile : Objects → CheckFault → Type 0
+TellsLargeFile objects (Folder fault) = Unit {0}
+TellsLargeFile objects (TooLarge name) = IsLargeFile objects (string_bytes name)
+
+-- no data file is told as too large
+abbrev pub TellsNoFile : CheckFault → Type 0
+TellsNoFile (Folder fault) = Unit {0}
+TellsNoFile (TooLarge name) = ⊥

@@ -1,5 +1,6 @@
 //! What lies beside a table in its folder, each told in a line.
-ghost use Rattle.std.specs.Prelude.{◌≡◌};
+ghost use Rattle.std.specs.Prelude.{◌≡◌, IfErr};
+ghost use Rattle.folder_check.specs.Faults.{TellsNoFile};
 
 use crate::fault::CheckFault;
 use crate::progress::Progress;
@@ -18,6 +19,7 @@ pub(crate) fn lines_beside<F: Folder, P: Progress>(
 ) -> Result<Vec<String>, CheckFault>
     ensures untouched { F.is_steady reader.old.folder → F.objects reader.new.folder ≡ F.objects reader.old.folder }
     ensures steady { F.is_steady reader.old.folder → F.is_steady reader.new.folder }
+    ensures no_file { IfErr result TellsNoFile }
 {
     let mut lines = Vec::new(alloc);
     for name in &reader.leftovers()? {

@@ -1,8 +1,10 @@
 //! The table in a folder, judged.
 ghost use Rattle.std.specs.Prelude.{◌≡◌, IfOk, IfErr, true};
-ghost use Rattle.table_audit.specs.Verdicts.{IsVerdictOf};
-ghost use Rattle.folder_check.specs.Faults.{ComesOfACall};
 ghost use Rattle.store_core.specs.Calls.{HasRisen};
+ghost use Rattle.store_core.specs.Objects.{Objects};
+ghost use Rattle.table_audit.specs.LargeFiles as audits;
+ghost use Rattle.table_audit.specs.Verdicts.{IsVerdictOf};
+ghost use Rattle.folder_check.specs.Faults.{ComesOfACall, TellsLargeFile, TellsNoFile};
 
 use crate::beside::lines_beside;
 use crate::fault::CheckFault;
@@ -33,6 +35,9 @@ impl<F: Folder, P: Progress> FolderReader<F, P> {
         ensures steady { F.is_steady self.old.folder → F.is_steady self.new.folder }
         // Where a call of the folder is told as failed, one did.
         ensures counted { IfErr result (ComesOfACall (F.fault_count self.old.folder) (F.fault_count self.new.folder)) }
+        // A data file is told as too large only where it is, and in place of a verdict.
+        ensures large { F.is_steady self.old.folder → IfErr result (TellsLargeFile (F.objects self.old.folder)) }
+        ensures beside { IfOk result (λ report. IfErr report.beside TellsNoFile) }
     {
         let before = self.folder.faults();
         let report = match audit(alloc, self) {
@@ -51,6 +56,8 @@ impl<F: Folder, P: Progress> FolderReader<F, P> {
     pub(crate) fn why(&mut self, error: AuditError, before: u64) -> CheckFault
         ensures folder { self.new.folder ≡ self.old.folder }
         ensures counted { ComesOfACall before (F.fault_count self.old.folder) result }
+        ensures large { (objects : Objects) → audits.TellsLargeFile objects error → TellsLargeFile objects result }
+        ensures no_file { audits.TellsNoFile error → TellsNoFile result }
     {
         match error {
             AuditError::Lost => match self.take_failed() {

@@ -1,5 +1,6 @@
 //! A table's folder, as the objects that an audit reads.
-ghost use Rattle.std.specs.Prelude.{◌≡◌, None};
+ghost use Rattle.std.specs.Prelude.{◌≡◌, IfErr, None};
+ghost use Rattle.folder_check.specs.Faults.{TellsNoFile};
 
 use crate::fault::CheckFault;
 use crate::progress::Progress;
@@ -45,6 +46,7 @@ impl<F: Folder, P: Progress> FolderReader<F, P> {
     pub(crate) fn leftovers(&mut self) -> Result<Vec<String>, CheckFault>
         ensures untouched { F.is_steady self.old.folder → F.objects self.new.folder ≡ F.objects self.old.folder }
         ensures steady { F.is_steady self.old.folder → F.is_steady self.new.folder }
+        ensures no_file { IfErr result TellsNoFile }
     {
         match self.folder.leftovers() {
             Ok(names) => Ok(names),

@@ -6,11 +6,11 @@ use Rattle.store_core.specs.Calls.{IsUntouched, put_told}
 use Rattle.store_core.specs.Objects.{Objects, IsInOrder, names_of, object_at, with_object}
 use Rattle.store_core.specs.ObjectLaws.{IsInOrder-with_object, object_at-with_object_other, same_objects, with_object_stands}
 use Rattle.store_core.specs.declared.store.Put.{Put}
-use Rattle.store_core.specs.declared.store.Put.TheVariants.{Exists}
+use Rattle.store_core.specs.declared.store.Put.TheVariants.{Created, Exists}
 use Rattle.session_core.specs.Stores.{State, Answers, AnswersPut, Talked}
-use Rattle.session_core.specs.Talks.{Asked, Told, told_put, Talk}
+use Rattle.session_core.specs.Talks.{Asked, Told, has_lost, is_lost, told_put, Talk}
 use Rattle.table_folder.proofs.Callers.{IsInOrder-with_copies, first_of, found_after_put, list_any-names, object_at-with_copies}
-use Rattle.folder_session.specs.Beside.{AreApart, with_beside}
+use Rattle.folder_session.specs.Beside.{AreApart, put_by, put_named, put_so, with_beside}
 
 -- ---- what is found
 
@@ -106,3 +106,26 @@ put_beside objects old new name bytes put order none told landed = (
 pub answered_more : (old mid new : State) (talk : Talk) (asked : Asked) (told : Told) → Talked Answers old talk mid → Answers mid asked told new → Talked Answers old (talk ++ (asked, told) ∷ []) new
 answered_more old mid new [] asked told is one = (new, subst (λ (s : State). Answers s asked told new) is one, refl)
 answered_more old mid new (call ∷ talk) asked told is one = (is.0, is.1, answered_more is.0 mid new talk asked told is.2 one)
+
+-- what the puts of a talk with one call more created
+pub put_more : (added : Objects) (talk : Talk) (asked : Asked) (told : Told) → put_by added (talk ++ (asked, told) ∷ []) ≡ put_so (put_by added talk) asked told
+put_more added [] asked told = refl
+put_more added (call ∷ talk) asked told = put_more (put_so added call.0 call.1) talk asked told
+
+-- a talk with one call more tells of no lost call, where that one wasn't lost
+pub unlost_more : (talk : Talk) (asked : Asked) (told : Told) → has_lost talk ≡ false → is_lost told ≡ false → has_lost (talk ++ (asked, told) ∷ []) ≡ false
+unlost_more [] asked told unlost other = rw other refl
+unlost_more (call ∷ talk) asked told unlost other = by_first (is_lost call.1) refl (λ rest. unlost_more talk asked told rest other)
+  where
+    by_first : (first : Bool) → is_lost call.1 ≡ first → (has_lost talk ≡ false → has_lost (talk ++ (asked, told) ∷ []) ≡ false) → has_lost ((call ∷ talk) ++ (asked, told) ∷ []) ≡ false
+    by_first true is more = let wrong : true ≡ false = rw is at unlost in cc
+    by_first false is more = rw is (more (rw is at unlost))
+
+-- what a put beside the folder created, by what it was told
+pub put_created : (added new : Objects) (name bytes : List ℕ) (put : Put) → put ≡ put_told (object_at added name) → new ≡ with_object added name bytes → new ≡ put_named added name bytes (told_put put)
+put_created added new name bytes Created told landed = landed
+put_created added new name bytes Exists told landed = by_found (object_at added name) refl
+  where
+    by_found : (found : Option (List ℕ)) → object_at added name ≡ found → new ≡ added
+    by_found None is = let wrong : Exists ≡ Created = told ∙ ap put_told is in absurd cc
+    by_found (Some kept) is = landed ∙ with_object_stands added name bytes (ap is_some is)

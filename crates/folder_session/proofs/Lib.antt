@@ -1,5 +1,5 @@
 mod BesideLemmas
-mod JobLemmas
+mod SnapshotLemmas
 mod Showing
 mod Unspelled
 mod VisibleObjects

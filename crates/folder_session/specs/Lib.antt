@@ -1,3 +1,3 @@
 pub mod Beside
 pub mod Driving
-pub mod Jobs
+pub mod Snapshots

@@ -8,7 +8,7 @@ ghost use Rattle.store_core.specs.Listed.{listed};
 ghost use Rattle.store_core.specs.Memory.{stored_objects};
 ghost use Rattle.store_core.specs.Objects.{Objects, names_of, object_at};
 ghost use Rattle.table_folder.specs.Faults.{CountsLoad, IsNotLoaded};
-ghost use Rattle.folder_session.specs.Beside.{AreApart, DrivesBeside, with_beside};
+ghost use Rattle.folder_session.specs.Beside.{AreApart, DrivesBeside, TalksBeside, put_named, put_so, with_beside};
 
 use crate::asking::listed_as;
 use session_core::{Reply, Request, Session, Step, a_store_answers_as_any_store_may};
@@ -20,7 +20,7 @@ use table_folder::{Folder, LoadFault};
 #[derive(Drop)]
 pub struct Beside<T> {
     pub outcome: T,
-    /// What is to be saved in the folder: none of it stands there.
+    /// What is to be saved in the folder. Over a steady one none of it stands there.
     pub added: MemoryStore,
 }
 
@@ -110,6 +110,7 @@ fn put_beside<F: Folder>(
     ensures answers { F.is_steady folder.old → IfOk result (λ reply. AnswersPut (with_beside (F.objects folder.old) (stored_objects added.old), []) name.now bytes.items (told_view reply)
         (with_beside (F.objects folder.old) (stored_objects added.new), [])) }
     ensures apart { F.is_steady folder.old → AreApart (F.objects folder.old) (stored_objects added.old) → AreApart (F.objects folder.old) (stored_objects added.new) }
+    ensures put { IfOk result (λ reply. stored_objects added.new ≡ put_named (stored_objects added.old) name.now bytes.items (told_view reply)) }
     ensures untouched { F.is_steady folder.old → F.objects folder.new ≡ F.objects folder.old }
     ensures steady { F.is_steady folder.old → F.is_steady folder.new }
     ensures faults { CountsLoad result (F.fault_count folder.old) (F.fault_count folder.new) }
@@ -139,6 +140,7 @@ fn ask_beside<F: Folder>(
     ensures answers { F.is_steady folder.old → listed names.now ≡ names_of (F.objects folder.old) → IfOk result (λ reply. Answers (with_beside (F.objects folder.old) (stored_objects added.old), []) (asked_view request) (told_view reply)
         (with_beside (F.objects folder.old) (stored_objects added.new), [])) }
     ensures apart { F.is_steady folder.old → AreApart (F.objects folder.old) (stored_objects added.old) → AreApart (F.objects folder.old) (stored_objects added.new) }
+    ensures put { IfOk result (λ reply. stored_objects added.new ≡ put_so (stored_objects added.old) (asked_view request) (told_view reply)) }
     ensures untouched { F.is_steady folder.old → F.objects folder.new ≡ F.objects folder.old }
     ensures steady { F.is_steady folder.old → F.is_steady folder.new }
     ensures faults { CountsLoad result (F.fault_count folder.old) (F.fault_count folder.new) }
@@ -173,6 +175,10 @@ pub fn drive_beside<F: Folder, N: Session>(
     // Over a steady folder it was driven as over a store in memory that has the folder's objects.
     ensures driven { F.is_steady folder.old → (before : Talk) → N.fits before session.old [] None
         → IfOk result (λ ended. DrivesBeside N.asks N.ends N.lost (N.job session.old) (N.left session.old) before ended.outcome (F.objects folder.old) (stored_objects ended.added)) }
+    // Over any folder, whoever else writes into it, it was driven by a talk of its own, and just what its puts created is
+    // handed back.
+    ensures talks { (before : Talk) → N.fits before session.old [] None
+        → IfOk result (λ ended. TalksBeside N.asks N.ends (N.job session.old) (N.left session.old) before ended.outcome (stored_objects ended.added)) }
     ensures ended { IfOk result (λ ended. N.done session.new ≡ true) }
     ensures same { N.job session.new ≡ N.job session.old }
     ensures never_lost { IfOk result (λ ended. N.lost ended.outcome ≡ false) }

@@ -2,18 +2,18 @@
 //! just those are opened that the job looks at.
 //!
 //! [`tail`] reads rows by a session that only reads; [`drive_beside`] runs one that puts something, which is to be
-//! saved behind it, and [`create`], [`append`], [`close`] and [`checkpoint`] do; [`snapshot`] tells what a log leaves.
+//! saved behind it, and [`run`] does so with that of any job; [`snapshot`] tells what a log leaves.
 #![tactic(auto)]
 
 mod asking;
 mod beside;
 mod driving;
 mod fronts;
-mod putting;
+mod running;
 mod tailing;
 mod telling;
 
 pub use beside::{Beside, drive_beside};
-pub use putting::{append, checkpoint, close, create};
+pub use running::run;
 pub use tailing::tail;
 pub use telling::snapshot;

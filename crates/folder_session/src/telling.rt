@@ -1,7 +1,7 @@
 //! The snapshot of the table in a folder.
 ghost use Rattle.std.specs.Prelude.{◌≡◌, IfOk};
 ghost use Rattle.table_folder.specs.Faults.{CountsLoad, IsNotLoaded};
-ghost use Rattle.folder_session.specs.Jobs.{IsSnapshot};
+ghost use Rattle.folder_session.specs.Snapshots.{IsSnapshot};
 
 use crate::beside::{Beside, drive_beside};
 use snapshot_core::{SnapshotFault, snapshot_text};

@@ -12,7 +12,6 @@ use Rattle.delta_replay.specs.Closes.{is_closed}
 use Rattle.delta_replay.specs.Keys.{last_number}
 use Rattle.delta_replay.specs.Support.{writable}
 use Rattle.parquet_file.specs.Writing.{written_file}
-use Rattle.row_core.specs.Rows.{Row}
 use Rattle.table_log.specs.Counts.{commit_count}
 use Rattle.table_log.specs.Restoring.{replayed}
 use Rattle.table_log.specs.Versions.{log_of}
@@ -20,7 +19,7 @@ use Rattle.commit_core.specs.Commits.{commit_text}
 use Rattle.batch_core.specs.Committing.{batch_actions, data_file_name}
 use Rattle.batch_core.specs.Requests.{SinkRequest, checked, file_or_refusal, is_repeat, request_behind, unless_other, where_same}
 use Rattle.sink_core.specs.Appending.{EncodedBatch, batch_of, size_behind, put_plan, new_plan, puts, repeated_plan, request_of, append_plan, stands, plan_of}
-use Rattle.batch_core.specs.Refusals.{SinkRefusal, bad_log, read_only, stream_closed}
+use Rattle.batch_core.specs.Refusals.{SinkRefusal, bad_log}
 use Rattle.batch_core.specs.RowsIn.{rows_from, takes_rows}
 use Rattle.batch_core.proofs.Callers.{asked_parts, numbered_parts}
 

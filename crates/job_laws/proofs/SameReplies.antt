@@ -12,7 +12,7 @@ use Rattle.snapshot_core.specs.Faults.{readable_log}
 use Rattle.snapshot_core.specs.Taking.{IsNewestCheckpoint, most_bytes}
 use Rattle.snapshot_core.specs.Telling.{TellsSnapshot}
 use Rattle.lake_script.specs.Checkpoints.{by_log, checkpoint_by, checkpoint_of, checkpoint_reply, newest_version, snapshot_reply, too_large}
-use Rattle.script_lines.specs.Lines.{append, checkpoint, close, tail, Statement, create, die, fault, finish, foreign, hex, history, land, show, snapshot, start, step, task, tries, until}
+use Rattle.script_lines.specs.Lines.{append, checkpoint, close, tail, Statement, create, foreign, hex, history, show, snapshot, task, tries, look, world}
 use Rattle.lake_script.specs.Replies.{put_word}
 use Rattle.lake_script.specs.Told.{created_reply, in_hex, reply_to_statement, shown, sink_reply, tailed_reply, IsPrintedStatement}
 use Rattle.job_laws.specs.Looking.{LooksWithin}
@@ -42,18 +42,12 @@ same_reply objects (task (append application number at rows)) files printed with
 same_reply objects (task (close application at)) files printed within = ap sink_reply (same_closed files objects application)
 same_reply objects (task checkpoint) files printed within = ap checkpoint_reply (same_checkpoint files objects printed)
 same_reply objects (task (tail max offset)) files printed within = ap tailed_reply (same_tailed files objects max offset within)
-same_reply objects snapshot files printed within = ap (λ (log : Result (List (List Action)) faults.Reason). snapshot_reply log printed) (same_readable files objects)
-same_reply objects history files printed within = same_history files objects
-same_reply objects (show version) files printed within = ap shown (same_commit files objects version)
-same_reply objects (hex name) files printed within = ap in_hex (loaded_at files objects name (within name refl))
+same_reply objects (look snapshot) files printed within = ap (λ (log : Result (List (List Action)) faults.Reason). snapshot_reply log printed) (same_readable files objects)
+same_reply objects (look history) files printed within = same_history files objects
+same_reply objects (look (show version)) files printed within = ap shown (same_commit files objects version)
+same_reply objects (look (hex name)) files printed within = ap in_hex (loaded_at files objects name (within name refl))
 same_reply objects (tries count) files printed within = refl
-same_reply objects (fault kind) files printed within = refl
-same_reply objects (start actor job) files printed within = refl
-same_reply objects (until actor) files printed within = refl
-same_reply objects (step actor kind) files printed within = refl
-same_reply objects (finish actor) files printed within = refl
-same_reply objects (die actor) files printed within = refl
-same_reply objects (land put) files printed within = refl
+same_reply objects (world line) files printed within = refl
 same_reply objects (foreign version action) files printed within = ap (λ (found : Option (List ℕ)). with_newline (put_word found)) (same_commit files objects version)
 
 -- ---- the texts that stand beside lines
@@ -91,6 +85,6 @@ pub same_printed : (objects : Objects) (statement : Statement) (files : List (Li
 same_printed objects (create id at schema) files printed within is = is
 same_printed objects (task checkpoint) files printed within is =
     if_both (faults.checked false (loaded files objects)) (faults.checked false objects) _ _ (same_checked files objects) (λ commits. newest_printed files objects commits printed) is
-same_printed objects snapshot files printed within is =
+same_printed objects (look snapshot) files printed within is =
     if_both (readable_log false (loaded files objects)) (readable_log false objects) _ _ (same_readable files objects) (λ commits. snapshot_printed files objects printed) is
 same_printed objects _ files printed within is = tt

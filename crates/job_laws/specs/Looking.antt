@@ -9,7 +9,7 @@ use Rattle.table_folder.specs.Loads.{is_loaded}
 use Rattle.table_model.specs.declared.reading.Offset.{Offset}
 use Rattle.log_offsets.specs.Offsets.{offset_of}
 use Rattle.lake_script.specs.Tailing.{paths_in}
-use Rattle.script_lines.specs.Lines.{Statement, append, checkpoint, close, create, die, fault, finish, foreign, hex, history, land, show, snapshot, start, step, tail, task, tries, until}
+use Rattle.script_lines.specs.Lines.{Statement, append, checkpoint, close, create, foreign, hex, history, show, snapshot, tail, task, tries, look, world}
 
 -- the keys of paths
 abbrev pub keys_of : List Path → List (List ℕ)
@@ -33,21 +33,15 @@ pub record IsReadFrom (objects : Objects) (offset name : List ℕ) : Type 0 wher
 abbrev pub MayLookAt : Objects → Statement → (name : List ℕ) → Type 0
 MayLookAt objects (task (append application number at items)) name = name ≡ data_file_name application number
 MayLookAt objects (task (tail max offset)) name = IsReadFrom objects offset name
-MayLookAt objects (hex own) name = name ≡ own
+MayLookAt objects (look (hex own)) name = name ≡ own
 MayLookAt objects (task (close application at)) name = ⊥
 MayLookAt objects (task checkpoint) name = ⊥
 MayLookAt objects (create id at schema) name = ⊥
-MayLookAt objects snapshot name = ⊥
-MayLookAt objects history name = ⊥
-MayLookAt objects (show version) name = ⊥
+MayLookAt objects (look snapshot) name = ⊥
+MayLookAt objects (look history) name = ⊥
+MayLookAt objects (look (show version)) name = ⊥
 MayLookAt objects (tries most) name = ⊥
-MayLookAt objects (fault kind) name = ⊥
-MayLookAt objects (start actor job) name = ⊥
-MayLookAt objects (until actor) name = ⊥
-MayLookAt objects (step actor kind) name = ⊥
-MayLookAt objects (finish actor) name = ⊥
-MayLookAt objects (die actor) name = ⊥
-MayLookAt objects (land put) name = ⊥
+MayLookAt objects (world line) name = ⊥
 MayLookAt objects (foreign version action) name = ⊥
 
 -- a line looks at nothing but what is loaded with these data files

@@ -1,5 +1,5 @@
 -- A run that is repeated: its commit's name was taken, and no call of the folder failed.
-use Rattle.std.proofs.Common.{◌≡◌, ◌⊎◌, ◌<◌, inl, inr, ℕ, Bool, true, List, length, Option, Some, None, Result, Ok, Err, IfErr, IfSome, refl, sym, ap, subst}
+use Rattle.std.proofs.Common.{◌≡◌, ◌⊎◌, ◌<◌, ◌-◌, arith, inl, inr, ℕ, suc, Bool, true, List, length, Option, Some, None, Result, Ok, Err, IfErr, IfSome, refl, sym, ap, subst}
 use Rattle.std.specs.Prelude.{IsErrAnd}
 use Rattle.store_core.specs.Calls.{HasRisen}
 use Rattle.store_core.specs.Objects.{Objects}
@@ -10,6 +10,7 @@ use Rattle.script_lines.specs.Lines.{Statement}
 use Rattle.lake_script.specs.declared.inputs.TheConstants.{MOST_BYTES}
 use Rattle.lake_script.specs.declared.reply.LineReply.{LineReply}
 use Rattle.lake_words.specs.Asked.{Work}
+use Rattle.lake_command.specs.Again.{ComesOfRuns, IsRunOf, RanAsAsked, again, refused}
 use Rattle.lake_command.specs.Failures.{ComesOfACall, CountsFolderFault, HasCause, IsByFolder, IsCaused, IsLoading, IsOfInput, IsTaken, Leaves}
 use Rattle.lake_command.specs.Folders.{IsAskedBy, reads_input}
 use Rattle.lake_command.specs.declared.failure.Failure.{Failure}
@@ -99,3 +100,26 @@ folder_caused result work text is_broken statement old new asked by whole short 
   too_long = λ reads. never_long text _ (short reads);
   counts = counts;
 }
+
+-- ---- runs
+
+-- a commit that is not saved is no table that can't be read
+pub taken_is_loaded : (result : Result LineReply Failure) → IsTaken result → IsErrAnd result (λ failure. IsLoading failure) → ⊥
+taken_is_loaded (Err (Saving fault)) taken is = is
+taken_is_loaded (Err (Loading fault)) taken is = taken
+taken_is_loaded _ taken is = absurd taken
+
+-- one run more in front of those that have a version less
+pub run_before : (work : Work) (text : List ℕ) (use_checkpoints : Bool) (left : ℕ) (first outcome : Result LineReply Failure) → 1 < left
+    → (statement : Statement) × IsAskedBy work (Some text) statement × IsRunOf use_checkpoints left statement first → IsTaken first
+    → (IsErrAnd outcome (λ failure. IsLoading failure) → ⊥) → ComesOfRuns work text use_checkpoints (left - 1) outcome → ComesOfRuns work text use_checkpoints left outcome
+run_before work text use_checkpoints left first outcome more run taken loaded runs =
+    let one : left ≡ suc (left - 1) = omega arith in
+    subst (λ (n : ℕ). ComesOfRuns work text use_checkpoints n outcome) (sym one)
+    (again (left - 1) run.0 first outcome (omega arith) run.1 (subst (λ (n : ℕ). IsRunOf use_checkpoints n run.0 first) one run.2) taken loaded runs)
+
+-- where the input fails nothing is run
+pub input_told : (result : Result LineReply Failure) (failure : Failure) (work : Work) (text : Option (List ℕ)) (is_broken use_checkpoints : Bool) → result ≡ Err failure → IsOfInput failure work text is_broken
+    → RanAsAsked work text is_broken use_checkpoints result
+input_told result failure work text is_broken use_checkpoints is of =
+    subst (λ (r : Result LineReply Failure). RanAsAsked work text is_broken use_checkpoints r) (sym is) (refused failure of)

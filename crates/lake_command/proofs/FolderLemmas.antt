@@ -11,7 +11,7 @@ use Rattle.table_folder.specs.Loads.{loaded}
 use Rattle.table_folder.specs.declared.fault.SaveFault.{SaveFault}
 use Rattle.table_folder.specs.declared.fault.SaveFault.TheVariants as saves
 use Rattle.json_lines.specs.Rows.{input_lines, object_of}
-use Rattle.script_lines.specs.Lines.{Statement, asks, history}
+use Rattle.script_lines.specs.Lines.{Statement, asks, history, look}
 use Rattle.lake_script.specs.ReplyView.{reply_text}
 use Rattle.lake_script.specs.Runs.{Executes}
 use Rattle.lake_script.specs.Told.{IsPutHere}
@@ -28,14 +28,14 @@ use Rattle.lake_command.specs.declared.failure.Failure.TheVariants.{Loading, Sav
 -- ---- a history
 
 -- it leaves the objects as they are
-leaves_alone : (old after : Objects) (reply : List ℕ) → Executes old history reply after → Executes old history reply old
+leaves_alone : (old after : Objects) (reply : List ℕ) → Executes old (look history) reply after → Executes old (look history) reply old
 leaves_alone old after reply (inl has) = inl (has.0, has.1, has.2, refl)
 leaves_alone old after reply (inr short) = inr (short.0, refl)
 
 -- over the log alone it is told what it is told over all objects
-pub history_told : (old start end : Objects) (reply : List ℕ) → IsInOrder old → start ≡ loaded [] old → Executes start history reply end → Executes old history reply old
+pub history_told : (old start end : Objects) (reply : List ℕ) → IsInOrder old → start ≡ loaded [] old → Executes start (look history) reply end → Executes old (look history) reply old
 history_told old start end reply order is executed =
-    leaves_alone old _ reply (line_executed old end history [] reply order (λ name none. absurd none) (subst (λ (o : Objects). Executes o history reply end) is executed))
+    leaves_alone old _ reply (line_executed old end (look history) [] reply order (λ name none. absurd none) (subst (λ (o : Objects). Executes o (look history) reply end) is executed))
 
 -- the log's checkpoints are sound where the folder's are
 pub log_well : (use_checkpoints : Bool) (old start : Objects) → start ≡ loaded [] old → RestoresWell use_checkpoints old → RestoresWell use_checkpoints start

@@ -1,9 +1,9 @@
 pub mod AgainLemmas
 pub mod BesideLemmas
-pub mod BesideReplies
 pub mod CheckLemmas
 pub mod CountLemmas
 pub mod EndingLemmas
 pub mod FolderLemmas
 pub mod LineLemmas
+pub mod RunLemmas
 pub mod ScriptLemmas

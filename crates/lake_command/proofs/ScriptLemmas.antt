@@ -103,16 +103,16 @@ may_of_run end old new text before after fine empty run =
 
 -- what is written of a text with actors over nothing
 pub played_of_run : (end : End) (old new : Option (List ℕ)) (text : List ℕ) (before after : Objects) (uses : Bool) → status_of end ≢ 1 → before ≡ []
-    → Finishes end (λ _. Tells old new (λ written. PlaysText (first_scene before uses) text written after)) → Tells old new (IsPlayedOver text)
+    → Finishes end (λ _. Tells old new (λ written. PlaysText (first_scene before uses) text written after)) → Tells old new (IsPlayedOver uses text)
 played_of_run end old new text before after uses fine empty run =
     let told = has_told end _ fine run in
-    (told.0, told.1, (uses, after, subst (λ (o : Objects). PlaysText (first_scene o uses) text told.0 after) empty told.2))
+    (told.0, told.1, (after, subst (λ (o : Objects). PlaysText (first_scene o uses) text told.0 after) empty told.2))
 
 pub so_of_run : (end : End) (old new : Option (List ℕ)) (text : List ℕ) (after : Objects) (uses : Bool) → status_of end ≢ 1
-    → Finishes end (λ _. ArePutHere (lines_of text) → Tells old new (λ written. PlaysSo (first_scene [] uses) text written after)) → ArePutHere (lines_of text) → Tells old new (IsPlayedSo text)
+    → Finishes end (λ _. ArePutHere (lines_of text) → Tells old new (λ written. PlaysSo (first_scene [] uses) text written after)) → ArePutHere (lines_of text) → Tells old new (IsPlayedSo uses text)
 so_of_run end old new text after uses fine run here =
     let told = has_told end _ fine run here in
-    (told.0, told.1, (uses, after, told.2))
+    (told.0, told.1, (after, told.2))
 
 -- words that ask for a script ask for no job on a folder
 pub no_job : (words : List (List ℕ)) (c : Command) (t : TableCommand) → Spells words c → Table t ≡ c → ⊥
@@ -129,17 +129,17 @@ no_other words c other restoring e not_one = let both = sym (ap is_script e) ∙
 no_other words c other replaying e not_one = let both = sym (ap is_script e) ∙ not_one in cc
 
 -- what is written, put together
-pub written_of : (input : Option (List ℕ)) (is_short : Bool) (before after : Option (List ℕ))
+pub written_of : (uses : Bool) (input : Option (List ℕ)) (is_short : Bool) (before after : Option (List ℕ))
     → (is_short ≡ false → IfSome input (λ text. needs_world text ≡ false → Tells before after (IsTold [] text)))
     → (is_short ≡ false → IfSome input (λ text. needs_world text ≡ false → AreOfTable (lines_of text) → Appends before after (expected_by_table nothing text)))
     → (is_short ≡ false → IfSome input (λ text. needs_world text ≡ false → ArePutHere (lines_of text) → IsExpectedOver before after nothing [] (lines_of text)))
     → (is_short ≡ true → IfSome input (λ text. needs_world text ≡ false → Tells before after (FallsShort 1 [] (lines_of text))))
     → IfSome input (λ text. needs_world text ≡ false → Tells before after (MayBeTold [] text))
-    → IfSome input (λ text. needs_world text ≡ true → Tells before after (IsPlayedOver text))
-    → IfSome input (λ text. needs_world text ≡ true → ArePutHere (lines_of text) → Tells before after (IsPlayedSo text))
-    → IfSome input (λ text. WritesScript text is_short before after)
-written_of None is_short before after told tables shown short tells plays headline = tt
-written_of (Some text) is_short before after told tables shown short tells plays headline = record {
+    → IfSome input (λ text. needs_world text ≡ true → Tells before after (IsPlayedOver uses text))
+    → IfSome input (λ text. needs_world text ≡ true → ArePutHere (lines_of text) → Tells before after (IsPlayedSo uses text))
+    → IfSome input (λ text. WritesScript uses text is_short before after)
+written_of uses None is_short before after told tables shown short tells plays headline = tt
+written_of uses (Some text) is_short before after told tables shown short tells plays headline = record {
   told = λ none whole. told whole none;
   tables = λ none whole. tables whole none;
   shown = λ none whole. shown whole none;

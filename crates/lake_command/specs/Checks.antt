@@ -7,6 +7,7 @@ use Rattle.lake_script.specs.Streams.{held, write_failed, StandsIn}
 use Rattle.lake_script.specs.declared.outputs.Output.{Output}
 use Rattle.store_core.specs.Calls.{HasRisen}
 use Rattle.store_core.specs.Objects.{Objects}
+use Rattle.table_audit.specs.LargeFiles.{IsLargeFile}
 use Rattle.table_audit.specs.Verdicts.{IsVerdictOf}
 use Rattle.table_audit.specs.declared.verdict.Verdict.{Verdict}
 use Rattle.table_audit.specs.declared.verdict.Verdict.TheVariants.{Sound, Unsound}
@@ -26,8 +27,12 @@ abbrev pub IsOfVerdict : Verdict → List ℕ → Type 0
 IsOfVerdict verdict text = (why : List ℕ) × (text ≡ verdict_text verdict why)
 
 -- what is told of a data file that is too large to be read
-abbrev pub IsOfTooLarge : List ℕ → Type 0
-IsOfTooLarge text = (name : List ℕ) × (text ≡ with_newline (codes "refused P9 TooLarge " ++ name))
+abbrev pub too_large_text : (name : List ℕ) → List ℕ
+too_large_text name = with_newline (codes "refused P9 TooLarge " ++ name)
+
+-- what may be told of one; where the folder is steady, one of this name is
+abbrev pub IsOfTooLarge : (is_steady : Type 0) → Objects → List ℕ → Type 0
+IsOfTooLarge is_steady objects text = (name : List ℕ) × (text ≡ too_large_text name) × (is_steady → IsLargeFile objects name)
 
 -- A text for which this holds is told, with a status.
 abbrev pub IsTold : {W : Type 0} → (W → Option (List ℕ)) → (List ℕ → Type 0) → (status : ℕ) → (old new : Output W) → Exit → Type 0
@@ -51,16 +56,16 @@ abbrev pub IsJudged : {W : Type 0} → (W → Option (List ℕ)) → (is_steady 
 IsJudged contents is_steady objects old new exit =
     (verdict : Verdict) × (is_steady → IsVerdictOf objects verdict) × IsTextTold contents (IsOfVerdict verdict) (status_of_verdict verdict) old new exit
 
--- No verdict is told, and the status is 1: a data file is told as too large to be read; or nothing is told on the output,
--- since a call of the folder failed or a growth was refused.
-abbrev pub IsUnjudged : {W : Type 0} → (W → Option (List ℕ)) → (faults_old faults_new : ℕ) → (old new : Output W) → Exit → Type 0
-IsUnjudged contents faults_old faults_new old new exit =
-    IsTextTold contents IsOfTooLarge 1 old new exit
+-- No verdict is told, and the status is 1: a data file is told as too large to be read, over a steady folder one that is;
+-- or nothing is told on the output, since a call of the folder failed or a growth was refused.
+abbrev pub IsUnjudged : {W : Type 0} → (W → Option (List ℕ)) → (is_steady : Type 0) → Objects → (faults_old faults_new : ℕ) → (old new : Output W) → Exit → Type 0
+IsUnjudged contents is_steady objects faults_old faults_new old new exit =
+    IsTextTold contents (IsOfTooLarge is_steady objects) 1 old new exit
     ⊎ ((new ≡ old) × (exit.status ≡ 1) × (HasRisen faults_old faults_new ⊎ (exit.is_short ≡ true)))
 
 abbrev pub Checks : {W : Type 0} → (W → Option (List ℕ)) → (is_steady : Type 0) → Objects → (faults_old faults_new : ℕ) → (old new : Output W) → Exit → Type 0
 Checks contents is_steady objects faults_old faults_new old new exit =
-    IsJudged contents is_steady objects old new exit ⊎ IsUnjudged contents faults_old faults_new old new exit
+    IsJudged contents is_steady objects old new exit ⊎ IsUnjudged contents is_steady objects faults_old faults_new old new exit
 
 -- of a folder on the disk it isn't said what it holds, and its faults were counted from none on
 abbrev pub ChecksDisk : {W : Type 0} → (W → Option (List ℕ)) → (old new : Output W) → Exit → Type 0

@@ -10,6 +10,7 @@ use Rattle.lake_script.specs.declared.outputs.Output.{Output}
 use Rattle.lake_script.specs.declared.reply.LineReply.{LineReply}
 use Rattle.lake_words.specs.Asked.{Work}
 use Rattle.lake_hints.specs.Rowless.{creates_rowless}
+use Rattle.lake_command.specs.Again.{RanAsAsked}
 use Rattle.lake_command.specs.Failures.{HasCause, Leaves, failure_text}
 use Rattle.lake_command.specs.Folders.{IsJobAnswer}
 use Rattle.lake_command.specs.Status.{is_want_of_memory, refuses, status_of_failure}
@@ -81,13 +82,14 @@ IsMisused text is_broken is_unwritten exit =
     (exit.status ≡ 2) ⊎ ((exit.is_short ≡ true) ⊎ ((is_broken ≡ true) ⊎ ((is_unwritten ≡ true) ⊎ IfSome text (λ bytes. MOST_READS ≤ length bytes))))
 
 -- What comes of a job, some reply or a failure, is told; a failure has its cause in the words or the input, or comes
--- from the folder.
-pub record IsJobTold {W E : Type 0} (contents : W → Option (List ℕ)) (work : Work) (text : Option (List ℕ)) (is_broken : Bool) (old new : Output W) (err_old err_new : E) (exit : Exit) : Type 0 where
+-- from the folder, and what is told came of runs of what the words ask for.
+pub record IsJobTold {W E : Type 0} (contents : W → Option (List ℕ)) (use_checkpoints : Bool) (work : Work) (text : Option (List ℕ)) (is_broken : Bool) (old new : Output W) (err_old err_new : E) (exit : Exit) : Type 0 where
   pub outcome : Result LineReply Failure
   pub cause : IfErr outcome (λ failure. HasCause failure work text is_broken)
+  pub ran : RanAsAsked work text is_broken use_checkpoints outcome
   pub told : EndsWith contents work outcome old new err_old err_new exit
 
 -- or memory ran out, and nothing more is said
-abbrev pub TellsJob : {W E : Type 0} → (W → Option (List ℕ)) → Work → (text : Option (List ℕ)) → (is_broken : Bool) → (old new : Output W) → (err_old err_new : E) → Exit → Type 0
-TellsJob contents work text is_broken old new err_old err_new exit =
-    ((exit.status ≡ 1) × (exit.is_short ≡ true)) ⊎ IsJobTold contents work text is_broken old new err_old err_new exit
+abbrev pub TellsJob : {W E : Type 0} → (W → Option (List ℕ)) → (use_checkpoints : Bool) → Work → (text : Option (List ℕ)) → (is_broken : Bool) → (old new : Output W) → (err_old err_new : E) → Exit → Type 0
+TellsJob contents use_checkpoints work text is_broken old new err_old err_new exit =
+    ((exit.status ≡ 1) × (exit.is_short ≡ true)) ⊎ IsJobTold contents use_checkpoints work text is_broken old new err_old err_new exit

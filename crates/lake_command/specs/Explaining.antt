@@ -1,5 +1,5 @@
 -- How a code is explained.
-use Rattle.std.specs.Prelude.{◌≡◌, ◌⊎◌, ℕ, List, Option, true, false}
+use Rattle.std.specs.Prelude.{◌≡◌, ◌⊎◌, ℕ, List, Option, None, Some, true, false, codes}
 use Rattle.std.specs.Io.KnownBytes.{Appends}
 use Rattle.outcomes.specs.Lines.{with_newline}
 use Rattle.lake_script.specs.Streams.{held, write_failed}
@@ -7,7 +7,10 @@ use Rattle.lake_script.specs.declared.outputs.Output.{Output}
 use Rattle.refusal_texts.specs.Codes.{has_entry}
 use Rattle.refusal_texts.specs.Texts.{refusal_text}
 use Rattle.refusal_texts.specs.declared.refusal.Refusal.{Refusal}
+use Rattle.table_folder.specs.declared.fault.SaveFault.TheVariants as saves
 use Rattle.lake_command.specs.declared.exit.Exit.{Exit}
+use Rattle.lake_command.specs.declared.failure.Failure.{Failure}
+use Rattle.lake_command.specs.declared.failure.Failure.TheVariants.{Misused, NotRead, BadLine, Miscounted, Memory, Loading, Saving}
 
 -- the entry of the code is told
 pub record TellsEntry {W : Type 0} (contents : W → Option (List ℕ)) (code : List ℕ) (old new : Output W) (exit : Exit) : Type 0 where
@@ -21,3 +24,14 @@ abbrev pub IsExplained : {W : Type 0} → (W → Option (List ℕ)) → (code : 
 IsExplained contents code old new exit =
     TellsEntry contents code old new exit
     ⊎ (((exit.status ≡ 2) × (has_entry code ≡ false) × (new ≡ old)) ⊎ ((exit.status ≡ 1) × ((exit.is_short ≡ true) ⊎ (write_failed new ≡ true))))
+
+-- the code of a failure that is told as a refusal
+abbrev pub code_in : Failure → Option (List ℕ)
+code_in Misused = None
+code_in NotRead = Some (codes "F3")
+code_in (BadLine number flaw) = None
+code_in (Miscounted rows found) = None
+code_in Memory = Some (codes "S6")
+code_in (Loading fault) = Some (codes "F1")
+code_in (Saving saves.Lost) = Some (codes "St1")
+code_in (Saving fault) = Some (codes "F2")

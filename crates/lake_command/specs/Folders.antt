@@ -7,8 +7,9 @@ use Rattle.store_core.specs.Objects.{Objects}
 use Rattle.json_lines.specs.Rows.{input_lines, object_of}
 use Rattle.lake_words.specs.Asked.{Work}
 use Rattle.lake_words.specs.Asked as words
+use Rattle.lake_script.specs.LineJobs.{IsOfText}
 use Rattle.lake_script.specs.Growth.{MayPut}
-use Rattle.script_lines.specs.Lines.{Statement, Task, create, task, task_view, append, close, checkpoint, tail, snapshot, history}
+use Rattle.script_lines.specs.Lines.{Statement, create, task, task_view, append, close, checkpoint, tail, look, snapshot, history}
 use Rattle.lake_script.specs.Runs.{Executes}
 use Rattle.lake_script.specs.ReplyView.{reply_text}
 use Rattle.lake_script.specs.Told.{not_yet}
@@ -49,9 +50,9 @@ IsAskedBy (words.append application number at tries said) text statement =
 IsAskedBy (words.close application at tries) text statement = statement ≡ task (close application at)
 IsAskedBy (words.load workers at tries) text statement = ⊥
 IsAskedBy (words.tail max offset) text statement = statement ≡ task (tail max offset)
-IsAskedBy words.snapshot text statement = statement ≡ snapshot
+IsAskedBy words.snapshot text statement = statement ≡ look snapshot
 IsAskedBy words.checkpoint text statement = statement ≡ task checkpoint
-IsAskedBy words.history text statement = statement ≡ history
+IsAskedBy words.history text statement = statement ≡ look history
 
 -- the job isn't there yet
 abbrev pub IsNotYet : Work → Type 0
@@ -74,8 +75,8 @@ pub record IsAnsweredJob (work : Work) (text : Option (List ℕ)) (old : Objects
 abbrev pub line_view : JobLine → Statement
 line_view (lines.Create id at schema) = create id.now at schema.now
 line_view (lines.Job job) = task (task_view job)
-line_view lines.Snapshot = snapshot
-line_view lines.History = history
+line_view lines.Snapshot = look snapshot
+line_view lines.History = look history
 
 -- it creates a table, or is a job that puts something
 abbrev pub IsPutter : Statement → Type 0
@@ -84,6 +85,11 @@ IsPutter (task (append application number at items)) = Unit {0}
 IsPutter (task (close application at)) = Unit {0}
 IsPutter (task checkpoint) = Unit {0}
 IsPutter _ = ⊥
+
+-- the id of the application that it names, if it names one, is text
+abbrev pub IsTextLine : Statement → Type 0
+IsTextLine (task job) = IsOfText job
+IsTextLine _ = Unit {0}
 
 -- behind a line, however it ends: what stood, or what the line may put, all of it or
 -- its data file alone

@@ -1,3 +1,4 @@
+pub mod Again
 pub mod Failures
 pub mod Folders
 pub mod Status

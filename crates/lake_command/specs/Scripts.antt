@@ -3,6 +3,8 @@ use Rattle.std.specs.Prelude.{◌≡◌, List, ℕ, [], Bool, true, false, Optio
 use Rattle.std.specs.Io.KnownBytes.{Appends}
 use Rattle.delta_actions.specs.Commit.{lines_of}
 use Rattle.store_core.specs.Objects.{Objects}
+use Rattle.lake_words.specs.declared.command.Command.{Command}
+use Rattle.lake_words.specs.declared.command.Command.TheVariants as commands
 use Rattle.lake_script.specs.Runs.{FallsShort, MayBeTold, Tells}
 use Rattle.lake_script.specs.Scripts.{IsExpectedOver}
 use Rattle.lake_script.specs.Tables.{nothing, expected_output as expected_by_table, AreOfTable}
@@ -11,16 +13,21 @@ use Rattle.world_script.specs.Playing.{PlaysSo, PlaysText}
 use Rattle.world_script.specs.Scenes.{first_scene}
 use Rattle.world_script.specs.Words.{needs_world}
 
+-- whether the words of a command ask that a log is read by its checkpoints, where they ask for a script
+abbrev pub script_uses_checkpoints : Command → Bool
+script_uses_checkpoints (commands.Script use_checkpoints) = use_checkpoints
+script_uses_checkpoints _ = false
+
 -- its lines do what they ask for, with checkpoints or without
-abbrev pub IsPlayedOver : (text written : List ℕ) → Type 0
-IsPlayedOver text written = (uses : Bool) × (objects : Objects) × PlaysText (first_scene [] uses) text written objects
+abbrev pub IsPlayedOver : (use_checkpoints : Bool) → (text written : List ℕ) → Type 0
+IsPlayedOver use_checkpoints text written = (objects : Objects) × PlaysText (first_scene [] use_checkpoints) text written objects
 
 -- and what sessions told by them is so
-abbrev pub IsPlayedSo : (text written : List ℕ) → Type 0
-IsPlayedSo text written = (uses : Bool) × (objects : Objects) × PlaysSo (first_scene [] uses) text written objects
+abbrev pub IsPlayedSo : (use_checkpoints : Bool) → (text written : List ℕ) → Type 0
+IsPlayedSo use_checkpoints text written = (objects : Objects) × PlaysSo (first_scene [] use_checkpoints) text written objects
 
 -- What the output holds before and after a script that isn't refused, where both are known.
-pub record WritesScript (text : List ℕ) (is_short : Bool) (before after : Option (List ℕ)) : Type 0 where
+pub record WritesScript (use_checkpoints : Bool) (text : List ℕ) (is_short : Bool) (before after : Option (List ℕ)) : Type 0 where
   -- Without actors it is what is told, for some texts that the schemas of its lines are printed as, its checkpoints and its
   -- snapshots; the lines that met a refused growth are told so.
   pub told : needs_world text ≡ false → is_short ≡ false → Tells before after (IsTold [] text)
@@ -32,9 +39,9 @@ pub record WritesScript (text : List ℕ) (is_short : Bool) (before after : Opti
   pub short : needs_world text ≡ false → is_short ≡ true → Tells before after (FallsShort 1 [] (lines_of text))
   pub tells : needs_world text ≡ false → Tells before after (MayBeTold [] text)
   -- Where it has actors, each of its lines does what it asks for in a world, and is told that.
-  pub plays : needs_world text ≡ true → Tells before after (IsPlayedOver text)
+  pub plays : needs_world text ≡ true → Tells before after (IsPlayedOver use_checkpoints text)
   -- Where none of them puts another tool's commit, what is told there is so of the table that stands then: each batch that
   -- was acknowledged stands in the log once, every batch at most once and as submitted, each application's in rising number
   -- and none after its close; and what a reader was handed that resumes at its last offset is exactly the log's rows up to
   -- that offset, once each, in log order.
-  pub headline : needs_world text ≡ true → ArePutHere (lines_of text) → Tells before after (IsPlayedSo text)
+  pub headline : needs_world text ≡ true → ArePutHere (lines_of text) → Tells before after (IsPlayedSo use_checkpoints text)

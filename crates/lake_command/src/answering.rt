@@ -5,9 +5,10 @@ ghost use Rattle.store_core.specs.Objects.{AreBytes, object_at};
 ghost use Rattle.lake_script.specs.SoundStores.{IsSoundStore};
 ghost use Rattle.table_log.specs.Restoring.{RestoresWell};
 ghost use Rattle.lake_words.specs.Asked.{work_view};
-ghost use Rattle.script_lines.specs.Lines.{IsTimely};
+ghost use Rattle.script_lines.specs.Lines.{IsTimely, Statement};
 ghost use Rattle.lake_script.specs.ReplyView.{reply_text};
 ghost use Rattle.lake_script.specs.Streams.{read_failed, unread};
+ghost use Rattle.lake_command.specs.Again.{ComesOfRuns, IsRunOf, RanAsAsked, tries_in};
 ghost use Rattle.lake_command.specs.Failures.{ComesOfACall, CountsFolderFault, IsByFolder, IsCaused, IsLoading, IsNotRead, IsOfInput, IsTaken, Leaves};
 ghost use Rattle.lake_script.specs.Told.{not_yet};
 ghost use Rattle.lake_script.specs.declared.inputs.TheConstants.{MOST_BYTES};
@@ -68,6 +69,9 @@ pub fn answer<F: Folder, R: Read>(
         → IsErrAnd result (λ failure. IsOfInput failure (work_view command.entry.job) (unread R.remaining input.old) (read_failed input.new)) }
     // A job but `append` leaves the input alone.
     ensures input_untouched { reads_input (work_view command.entry.job) ≡ false → input.new ≡ input.old }
+    // Over any folder, whoever else writes into it, it is told what came of runs of the line that this job asks for, with
+    // the rows of this input, of which each but the last lost its version; or the words or the input are refused.
+    ensures runs { RanAsAsked (work_view command.entry.job) (unread R.remaining input.old) (read_failed input.new) command.entry.use_checkpoints result }
     // What isn't there yet is told as such, without a look at the folder.
     ensures later { IsNotYet (work_view command.entry.job)
         → IsOkAnd result (λ reply. reply_text reply ≡ not_yet) × (folder.new ≡ folder.old) }
@@ -105,7 +109,10 @@ fn run_again<F: Folder>(
     tries: u64,
     refused: Result<LineReply, Failure>,
 ) -> Result<LineReply, Failure>
-    requires { IsTaken refused }
+    requires taken { IsTaken refused }
+    requires first { (statement : Statement) × IsAskedBy (work_view command.job) (Some text.now) statement × IsRunOf command.use_checkpoints tries statement refused }
+    requires tries { tries ≡ tries_in (work_view command.job) }
+    ensures runs { ComesOfRuns (work_view command.entry.job) text.now command.entry.use_checkpoints tries result }
     ensures caused { IfErr result (λ failure. IsByFolder failure) }
     ensures faults { CountsFolderFault result (F.fault_count folder.old) (F.fault_count folder.new) }
     ensures kept { F.is_steady folder.old → (name bytes : List ℕ) → object_at (F.objects folder.old) name ≡ Some bytes
@@ -167,7 +174,8 @@ fn none_failed(before: u64, after: u64) -> bool
 
 /// How many versions a job tries at most; one that puts no commit of a stream tries none, and is taken to try one.
 fn tries_of(job: &Job<'_>) -> u64
-    ensures { 1 ≤ result }
+    ensures some { 1 ≤ result }
+    ensures same { result ≡ tries_in (work_view job.now) }
 {
     match job {
         Job::Append { tries, .. } | Job::Close { tries, .. } => (*tries).max(1),

@@ -3,7 +3,7 @@ ghost use Rattle.std.specs.Prelude.{◌≡◌, Err, IfOk, OnErr, OnOk, true};
 ghost use Rattle.std.specs.Io.KnownBytes.{Appends};
 ghost use Rattle.std.specs.String.{string_bytes};
 ghost use Rattle.lake_script.specs.Streams.{held, write_failed, StandsIn};
-ghost use Rattle.lake_command.specs.Checks.{Checks, IsOfTooLarge, IsOfVerdict, IsTextTold, status_of_verdict};
+ghost use Rattle.lake_command.specs.Checks.{Checks, IsOfVerdict, IsTextTold, status_of_verdict, too_large_text};
 
 use crate::exit::{DONE, Exit, REFUSED};
 use crate::failure::Failure;
@@ -26,7 +26,8 @@ pub fn check_command<F: Folder, P: Progress, W: Write, E: Write>(
     output: &mut Output<W>,
     err: &mut E,
 ) -> Exit
-    // The verdict is told, over a steady folder that of its files; or there is a reason why none is.
+    // The verdict is told, over a steady folder that of its files; or there is a reason why none is. A data file that is
+    // told as too large is, over a steady folder.
     ensures ended { Checks W.contents (F.is_steady reader.old.folder) (F.objects reader.old.folder)
         (F.fault_count reader.old.folder) (F.fault_count reader.new.folder) output.old output.new result }
     ensures untouched { F.is_steady reader.old.folder → F.objects reader.new.folder ≡ F.objects reader.old.folder }
@@ -87,7 +88,7 @@ fn tell_large<W: Write, E: Write>(
     output: &mut Output<W>,
     err: &mut E,
 ) -> Exit
-    ensures { IsTextTold W.contents IsOfTooLarge 1 output.old output.new result }
+    ensures { IsTextTold W.contents (λ text. text ≡ too_large_text name.now) 1 output.old output.new result }
 {
     match format!(in alloc; "refused P9 TooLarge {name}\n") {
         Ok(text) => {

@@ -12,7 +12,7 @@ ghost use Rattle.lake_command.specs.Checks.{ChecksDisk};
 ghost use Rattle.lake_command.specs.Endings.{IsMisused, TellsJob};
 ghost use Rattle.lake_command.specs.Explaining.{IsExplained};
 ghost use Rattle.lake_command.specs.Folders.{IsMiscounted, reads_input};
-ghost use Rattle.lake_command.specs.Scripts.{WritesScript};
+ghost use Rattle.lake_command.specs.Scripts.{WritesScript, script_uses_checkpoints};
 ghost use Rattle.lake_words.specs.Words.{commands};
 
 use crate::checking::check_command;
@@ -83,7 +83,7 @@ fn command_on_disk<H: Files + AllocGlobal + Clone + Drop, R: Read, W: Write, E: 
     output: &mut Output<W>,
     err: &mut E,
 ) -> Exit
-    ensures told { TellsJob W.contents (work_view command.entry.job) (unread R.remaining input.old) (read_failed input.new)
+    ensures told { TellsJob W.contents command.entry.use_checkpoints (work_view command.entry.job) (unread R.remaining input.old) (read_failed input.new)
         output.old output.new err.old err.new result }
     ensures counted { IsMiscounted (work_view command.entry.job) (unread R.remaining input.old)
         → IsMisused (unread R.remaining input.old) (read_failed input.new) (write_failed output.new) result }
@@ -139,7 +139,7 @@ pub fn command<
 ) -> Exit
     // A script that isn't refused writes what it is told.
     ensures script { (c : Command) → Spells (map S.text words.now) c → result.status ≢ REFUSED
-        → IfSome (unread R.remaining input.old) (λ text. WritesScript text result.is_short
+        → IfSome (unread R.remaining input.old) (λ text. WritesScript (script_uses_checkpoints c) text result.is_short
         (held W.contents output.old) (W.contents output.new.writer)) }
     ensures status { (c : Command) → Spells (map S.text words.now) c → result.status ≢ REFUSED
         → IfSome (unread R.remaining input.old) (λ text. result.status ≡ status_at (first_bad text)) }
@@ -151,9 +151,10 @@ pub fn command<
         ⊎ IfSome (unread R.remaining input.old) (λ text. MOST_READS ≤ length text))) }
 
     // What comes of a job is told where it belongs, with its status, and a failure of the words or the input has its
-    // cause there, unless memory runs out. What it leaves in a folder on the disk isn't claimed.
+    // cause there, unless memory runs out; all else came of runs of what the words ask for. What it leaves in a folder
+    // on the disk isn't claimed.
     ensures job { (folder : List ℕ) (use_checkpoints : Bool) (work : Work) → SpellsJob (map S.text words.now) (table folder use_checkpoints work)
-        → TellsJob W.contents work (unread R.remaining input.old) (read_failed input.new) output.old output.new err.old err.new result }
+        → TellsJob W.contents use_checkpoints work (unread R.remaining input.old) (read_failed input.new) output.old output.new err.old err.new result }
     // An append whose input has another count of lines than its words say has the status 2, by the same rule.
     ensures counted { (folder : List ℕ) (use_checkpoints : Bool) (work : Work) → SpellsJob (map S.text words.now) (table folder use_checkpoints work)
         → IsMiscounted work (unread R.remaining input.old)

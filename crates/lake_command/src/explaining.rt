@@ -1,9 +1,9 @@
 //! What a refusal means, where it is asked for, and the code of a failure.
-ghost use Rattle.std.specs.Prelude.{◌≡◌, Err, OnOk, true};
+ghost use Rattle.std.specs.Prelude.{◌≡◌, Err, OnOk, option_map, true};
 ghost use Rattle.std.specs.Io.KnownBytes.{Appends};
 ghost use Rattle.outcomes.specs.Lines.{with_newline};
 ghost use Rattle.lake_script.specs.Streams.{held, write_failed};
-ghost use Rattle.lake_command.specs.Explaining.{IsExplained};
+ghost use Rattle.lake_command.specs.Explaining.{IsExplained, code_in};
 ghost use Rattle.refusal_texts.specs.Texts.{refusal_text};
 
 use crate::exit::{DONE, Exit, MISUSED};
@@ -15,7 +15,9 @@ use std::io::Write;
 use table_folder::SaveFault;
 
 /// The code of a failure that is told as a refusal.
-pub(crate) fn code_of(failure: &Failure) -> Option<&'static str> {
+pub(crate) fn code_of(failure: &Failure) -> Option<&'static str>
+    ensures { option_map (λ code. code.now) result ≡ code_in failure.now }
+{
     match failure {
         Failure::Misused | Failure::BadLine(..) | Failure::Miscounted { .. } => None,
         Failure::NotRead => Some("F3"),

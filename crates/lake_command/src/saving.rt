@@ -2,9 +2,10 @@
 ghost use Rattle.std.specs.Prelude.{◌≡◌, ◌≤◌, ℕ, List, Some, IfOk, IfErr};
 ghost use Rattle.store_core.specs.Objects.{object_at};
 ghost use Rattle.table_log.specs.Restoring.{RestoresWell};
-ghost use Rattle.script_lines.specs.Lines.{history, snapshot, task, tail, IsTimely};
+ghost use Rattle.script_lines.specs.Lines.{history, look, snapshot, task, tail, IsTimely};
 ghost use Rattle.lake_script.specs.ReplyView.{reply_text};
 ghost use Rattle.lake_script.specs.Runs.{Executes};
+ghost use Rattle.lake_command.specs.Again.{IsRunOf};
 ghost use Rattle.lake_command.specs.Failures.{ComesOfACall, CountsFolderFault, IsByFolder, IsLoading, IsOfFolder, NamesPut};
 ghost use Rattle.lake_command.specs.Folders.{IsPutter, LineMayLeave, line_view};
 
@@ -12,7 +13,7 @@ use crate::Failure;
 use crate::job_line::JobLine;
 use crate::putting::reply_beside;
 use folder_session::Beside;
-use lake_script::{Job, Line, LineReply, execute, reply_of_read};
+use lake_script::{Job, Line, LineReply, Look, execute, reply_of_read};
 use log_reading::LogCache;
 use std::alloc::Global;
 use table_folder::{Folder, load_log, save};
@@ -38,6 +39,8 @@ pub(crate) fn execute_in<F: Folder>(
         → IfErr result (λ failure. NamesPut failure (line_view line.entry) (F.objects folder.old)) }
     ensures alone { F.is_steady folder.old → RestoresWell use_checkpoints (F.objects folder.old)
         → ComesOfACall result (F.fault_count folder.old) (F.fault_count folder.new) }
+    // Over any folder, whoever else writes into it, what comes of it is what came of a run of this very line.
+    ensures ran { IsRunOf use_checkpoints tries (line_view line.entry) result }
     ensures failed { F.is_steady folder.old → IfErr result (λ failure. IsOfFolder failure (F.objects folder.old) (F.objects folder.new)) }
     ensures caused { IfErr result (λ failure. IsByFolder failure) }
     ensures faults { CountsFolderFault result (F.fault_count folder.old) (F.fault_count folder.new) }
@@ -83,7 +86,7 @@ fn snapshot_in<F: Folder>(
     use_checkpoints: bool,
 ) -> Result<LineReply, Failure>
     ensures told { F.is_steady folder.old → RestoresWell use_checkpoints (F.objects folder.old)
-        → IfOk result (λ reply. Executes (F.objects folder.old) snapshot (reply_text reply) (F.objects folder.old)) }
+        → IfOk result (λ reply. Executes (F.objects folder.old) (look snapshot) (reply_text reply) (F.objects folder.old)) }
     ensures untouched { F.is_steady folder.old → F.objects folder.new ≡ F.objects folder.old }
     ensures caused { IfErr result (λ failure. IsLoading failure) }
     ensures faults { CountsFolderFault result (F.fault_count folder.old) (F.fault_count folder.new) }
@@ -102,7 +105,7 @@ fn history_in<F: Folder>(
     use_checkpoints: bool,
 ) -> Result<LineReply, Failure>
     ensures told { F.is_steady folder.old → RestoresWell use_checkpoints (F.objects folder.old)
-        → IfOk result (λ reply. Executes (F.objects folder.old) history (reply_text reply) (F.objects folder.old)) }
+        → IfOk result (λ reply. Executes (F.objects folder.old) (look history) (reply_text reply) (F.objects folder.old)) }
     ensures untouched { F.is_steady folder.old → F.objects folder.new ≡ F.objects folder.old }
     ensures caused { IfErr result (λ failure. IsLoading failure) }
     ensures faults { CountsFolderFault result (F.fault_count folder.old) (F.fault_count folder.new) }
@@ -113,7 +116,7 @@ fn history_in<F: Folder>(
     let mut tries = 1;
     Ok(execute(
         alloc,
-        Line::History,
+        Line::Look(Look::History),
         &mut store,
         &mut tries,
         use_checkpoints,
@@ -140,6 +143,8 @@ fn execute_beside<F: Folder>(
         → IfErr result (λ failure. NamesPut failure (line_view line.entry) (F.objects folder.old)) }
     ensures alone { F.is_steady folder.old → RestoresWell use_checkpoints (F.objects folder.old)
         → ComesOfACall result (F.fault_count folder.old) (F.fault_count folder.new) }
+    // Over any folder, whoever else writes into it, what comes of it is what came of a run of this very line.
+    ensures ran { IsRunOf use_checkpoints tries (line_view line.entry) result }
     ensures failed { F.is_steady folder.old → IfErr result (λ failure. IsOfFolder failure (F.objects folder.old) (F.objects folder.new)) }
     ensures caused { IfErr result (λ failure. IsByFolder failure) }
     ensures faults { CountsFolderFault result (F.fault_count folder.old) (F.fault_count folder.new) }

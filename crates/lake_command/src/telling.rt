@@ -8,6 +8,7 @@ ghost use Rattle.table_log.specs.Restoring.{RestoresWell};
 ghost use Rattle.lake_words.specs.Asked.{Work, work_view};
 ghost use Rattle.lake_script.specs.ReplyView.{reply_text};
 ghost use Rattle.lake_script.specs.Streams.{held, read_failed, unread, write_failed, StandsIn};
+ghost use Rattle.lake_command.specs.Again.{RanAsAsked};
 ghost use Rattle.lake_command.specs.Endings.{EndsWith, IsMisused, IsOutcome};
 ghost use Rattle.lake_command.specs.Failures.{ComesOfACall, IsCaused, failure_text};
 ghost use Rattle.lake_command.specs.Status.{ends_early, has_refusal, is_refusal, is_want_of_memory, refuses, status_of_failure};
@@ -40,14 +41,15 @@ pub fn table_command<F: Folder, R: Read, W: Write, E: Write>(
         → IsAnsweredJob (work_view command.entry.job) (unread R.remaining input.old) (F.objects folder.old)
         (held W.contents output.old) (W.contents output.new.writer) (F.objects folder.new) }
     // However it ends, there is a reply, or a failure that has its cause; over such a folder it is the answer, or
-    // leaves what it may. It is told where it belongs, with its status, or a write failed or a growth was refused, and
-    // the status is 1.
+    // leaves what it may, and over any folder it came of runs of what the words ask for. It is told where it belongs,
+    // with its status, or a write failed or a growth was refused, and the status is 1.
     ensures ended { (outcome : Result LineReply Failure)
         × (F.is_steady folder.old → RestoresWell command.entry.use_checkpoints (F.objects folder.old)
         → IsOutcome outcome (work_view command.entry.job) (unread R.remaining input.old) (F.objects folder.old) (F.objects folder.new)
         × ComesOfACall outcome (F.fault_count folder.old) (F.fault_count folder.new))
         × IsCaused outcome (work_view command.entry.job) (unread R.remaining input.old) (read_failed input.new)
         (F.fault_count folder.old) (F.fault_count folder.new)
+        × RanAsAsked (work_view command.entry.job) (unread R.remaining input.old) (read_failed input.new) command.entry.use_checkpoints outcome
         × EndsWith W.contents (work_view command.entry.job) outcome output.old output.new err.old err.new result }
     // An append whose input has another count of lines than its words say isn't run: the folder isn't touched, and the
     // status is 2, unless the input can't be read, its bad line can't be written or memory runs out.

@@ -18,7 +18,7 @@ use Rattle.snapshot_core.specs.declared.fault.SnapshotFault.{SnapshotFault}
 use Rattle.snapshot_core.specs.declared.fault.SnapshotFault.TheVariants as faults
 use Rattle.lake_script.specs.declared.reply.LineReply.TheVariants.{Checkpointed, NoSnapshot}
 use Rattle.lake_script.specs.Checkpoints.{checkpoint_by, newest_version}
-use Rattle.script_lines.specs.Lines.{Statement, checkpoint, snapshot, task}
+use Rattle.script_lines.specs.Lines.{Statement, checkpoint, look, snapshot, task}
 use Rattle.lake_script.specs.ReplyView.{reply_text, is_short}
 use Rattle.lake_script.specs.Runs.{Executes, Has, IsShort, no_room_to_tell}
 use Rattle.lake_script.specs.Sound.{IsExecuted}
@@ -114,7 +114,7 @@ refusal_short objects _ refusal short = cc
 -- ---- a snapshot
 
 -- a snapshot that is told
-pub snapshot_executed : (objects : Objects) (text : List ℕ) → TellsSnapshot false objects text → IsExecuted objects snapshot text objects
+pub snapshot_executed : (objects : Objects) (text : List ℕ) → TellsSnapshot false objects text → IsExecuted objects (look snapshot) text objects
 snapshot_executed objects text tells = record {
   text = text;
   printed = rw (tells.read, tells.supported) tells;
@@ -125,7 +125,7 @@ snapshot_executed objects text tells = record {
 
 -- a snapshot that isn't
 pub unread_executed : (objects : Objects) (fault : SnapshotFault) → IsSaid (says fault) (readable_log false objects) → is_short (NoSnapshot fault) ≡ false → fault ≢ faults.Lost
-    → IsExecuted objects snapshot (reply_text (NoSnapshot fault)) objects
+    → IsExecuted objects (look snapshot) (reply_text (NoSnapshot fault)) objects
 unread_executed objects (faults.BadLog version) said enough kept = record {
   text = [];
   printed = rw said tt;
@@ -145,9 +145,9 @@ unread_executed objects faults.Memory said enough kept = absurd cc
 unread_executed objects faults.TooLarge said enough kept = absurd said
 
 -- it is told what the refusal says, or of want of memory
-pub unread_told : (objects : Objects) (fault : SnapshotFault) → IsSaid (says fault) (readable_log false objects) → fault ≢ faults.Lost → Executes objects snapshot (reply_text (NoSnapshot fault)) objects
-unread_told objects (faults.BadLog version) said kept = has_executed objects snapshot _ objects (unread_executed objects (faults.BadLog version) said refl kept)
-unread_told objects (faults.Unsupported why) said kept = has_executed objects snapshot _ objects (unread_executed objects (faults.Unsupported why) said refl kept)
+pub unread_told : (objects : Objects) (fault : SnapshotFault) → IsSaid (says fault) (readable_log false objects) → fault ≢ faults.Lost → Executes objects (look snapshot) (reply_text (NoSnapshot fault)) objects
+unread_told objects (faults.BadLog version) said kept = has_executed objects (look snapshot) _ objects (unread_executed objects (faults.BadLog version) said refl kept)
+unread_told objects (faults.Unsupported why) said kept = has_executed objects (look snapshot) _ objects (unread_executed objects (faults.Unsupported why) said refl kept)
 unread_told objects faults.Lost said kept = absurd (kept refl)
 unread_told objects faults.Memory said kept = inr (refl, refl)
 unread_told objects faults.TooLarge said kept = absurd said

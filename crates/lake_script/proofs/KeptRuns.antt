@@ -12,7 +12,7 @@ use Rattle.table_model.specs.declared.table.AppendAnswer.{AppendAnswer}
 use Rattle.table_model.specs.declared.table.AppendAnswer.TheVariants.{Committed, Already, Stale, Differs, StreamClosed}
 use Rattle.commit_core.specs.Creating as creations
 use Rattle.commit_core.specs.Histories.{history_of, bad_log}
-use Rattle.script_lines.specs.Lines.{Statement, create, task, history, show, hex, snapshot, foreign, append, close, checkpoint, tail, Reading, skipped, bad, asks, reading_of}
+use Rattle.script_lines.specs.Lines.{Statement, create, task, look, history, show, hex, snapshot, foreign, append, close, checkpoint, tail, Reading, skipped, bad, asks, reading_of}
 use Rattle.log_offsets.specs.Offsets.{offset_of}
 use Rattle.batch_core.specs.Refusals.{SinkRefusal}
 use Rattle.lake_script.specs.Sound.{IsSoundStatement, IsSoundLine, AreSoundLines}
@@ -168,10 +168,10 @@ module _ (given : Given) where
   statement_told objects state (task (close application at)) printed keeps small sound only = (given.close_told objects state application at printed keeps small sound).0
   statement_told objects state (task checkpoint) printed keeps small sound only = (given.checkpoint_told objects state printed keeps sound).0
   statement_told objects state (task (tail max offset)) printed keeps small sound only = tail_state objects state keeps max offset
-  statement_told objects state history printed keeps small sound only = history_state objects state keeps
-  statement_told objects state snapshot printed keeps small sound only = absurd only
-  statement_told objects state (show version) printed keeps small sound only = absurd only
-  statement_told objects state (hex name) printed keeps small sound only = absurd only
+  statement_told objects state (look history) printed keeps small sound only = history_state objects state keeps
+  statement_told objects state (look snapshot) printed keeps small sound only = absurd only
+  statement_told objects state (look (show version)) printed keeps small sound only = absurd only
+  statement_told objects state (look (hex name)) printed keeps small sound only = absurd only
   statement_told objects state (foreign version action) printed keeps small sound only = absurd only
   statement_told objects state _ printed keeps small sound only = refl
 
@@ -266,10 +266,10 @@ module _ (given : Given) where
   statement_over objects state (task (close application at)) printed keeps small sound = statement_told objects state (task (close application at)) printed keeps small sound tt
   statement_over objects state (task checkpoint) printed keeps small sound = statement_told objects state (task checkpoint) printed keeps small sound tt
   statement_over objects state (task (tail max offset)) printed keeps small sound = statement_told objects state (task (tail max offset)) printed keeps small sound tt
-  statement_over objects state history printed keeps small sound = statement_told objects state history printed keeps small sound tt
-  statement_over objects state snapshot printed keeps small sound = refl
-  statement_over objects state (show version) printed keeps small sound = refl
-  statement_over objects state (hex name) printed keeps small sound = refl
+  statement_over objects state (look history) printed keeps small sound = statement_told objects state (look history) printed keeps small sound tt
+  statement_over objects state (look snapshot) printed keeps small sound = refl
+  statement_over objects state (look (show version)) printed keeps small sound = refl
+  statement_over objects state (look (hex name)) printed keeps small sound = refl
   statement_over objects state (foreign version action) printed keeps small sound = refl
   statement_over objects state _ printed keeps small sound = refl
 

@@ -30,7 +30,7 @@ use Rattle.snapshot_core.specs.declared.fault.SnapshotFault.TheVariants as snaps
 use Rattle.source_core.specs.TailFaults as tail_texts
 use Rattle.source_core.specs.Tailing as tails
 use Rattle.source_core.specs.TailTexts.{tailed}
-use Rattle.script_lines.specs.Lines.{Statement, append, close, checkpoint, tail, create, task, snapshot, history, show, hex, tries, fault, start, until, step, finish, die, land, foreign}
+use Rattle.script_lines.specs.Lines.{Statement, append, close, checkpoint, tail, create, task, snapshot, history, show, hex, tries, foreign, look, world}
 use Rattle.lake_script.specs.Checkpoints.{checkpointed_at, reason_text}
 use Rattle.lake_script.specs.Replies.{created, noted, outcome_text, put_word}
 use Rattle.lake_script.specs.Runs.{no_room_to_read, no_room_to_show, no_room_to_tell}
@@ -64,19 +64,13 @@ IsToldLost (task (append application number at rows)) reply = (version : Option 
 IsToldLost (task (close application at)) reply = (version : Option ℕ) × (reply ≡ lost_to_append version)
 IsToldLost (task (tail max offset)) reply = reply ≡ lost_to_read
 IsToldLost (task checkpoint) reply = reply ≡ lost_to_tell
-IsToldLost snapshot reply = reply ≡ lost_to_tell
-IsToldLost history reply = reply ≡ lost_to_tell
-IsToldLost (show version) reply = reply ≡ lost_to_show
-IsToldLost (hex name) reply = reply ≡ lost_to_show
+IsToldLost (look snapshot) reply = reply ≡ lost_to_tell
+IsToldLost (look history) reply = reply ≡ lost_to_tell
+IsToldLost (look (show version)) reply = reply ≡ lost_to_show
+IsToldLost (look (hex name)) reply = reply ≡ lost_to_show
 IsToldLost (foreign version action) reply = reply ≡ lost_to_show
 IsToldLost (tries count) reply = ⊥
-IsToldLost (fault kind) reply = ⊥
-IsToldLost (start actor job) reply = ⊥
-IsToldLost (until actor) reply = ⊥
-IsToldLost (step actor kind) reply = ⊥
-IsToldLost (finish actor) reply = ⊥
-IsToldLost (die actor) reply = ⊥
-IsToldLost (land put) reply = ⊥
+IsToldLost (world line) reply = ⊥
 
 -- ---- lines that put something
 
@@ -184,16 +178,10 @@ TellsOver is_reliable use_checkpoints most known (task (append application numbe
 TellsOver is_reliable use_checkpoints most known (task (close application at)) reply old new count later = TellsJob is_reliable (close_job application at most use_checkpoints known) reply old new count later
 TellsOver is_reliable use_checkpoints most known (task (tail max offset)) reply old new count later = TellsRows use_checkpoints max offset reply old new count later
 TellsOver is_reliable use_checkpoints most known (task checkpoint) reply old new count later = TellsCheckpoint use_checkpoints reply old new count later
-TellsOver is_reliable use_checkpoints most known snapshot reply old new count later = TellsSnapshotLine use_checkpoints reply old new count later
-TellsOver is_reliable use_checkpoints most known history reply old new count later = TellsHistory reply old new count later
-TellsOver is_reliable use_checkpoints most known (show version) reply old new count later = TellsCommit version reply old new count later
-TellsOver is_reliable use_checkpoints most known (hex name) reply old new count later = TellsDigits name reply old new count later
+TellsOver is_reliable use_checkpoints most known (look snapshot) reply old new count later = TellsSnapshotLine use_checkpoints reply old new count later
+TellsOver is_reliable use_checkpoints most known (look history) reply old new count later = TellsHistory reply old new count later
+TellsOver is_reliable use_checkpoints most known (look (show version)) reply old new count later = TellsCommit version reply old new count later
+TellsOver is_reliable use_checkpoints most known (look (hex name)) reply old new count later = TellsDigits name reply old new count later
 TellsOver is_reliable use_checkpoints most known (foreign version action) reply old new count later = TellsForeign version action reply old new count later
 TellsOver is_reliable use_checkpoints most known (tries number) reply old new count later = OnlyTells (with_newline noted) reply old new count later
-TellsOver is_reliable use_checkpoints most known (fault kind) reply old new count later = OnlyTells not_yet reply old new count later
-TellsOver is_reliable use_checkpoints most known (start actor job) reply old new count later = OnlyTells not_yet reply old new count later
-TellsOver is_reliable use_checkpoints most known (until actor) reply old new count later = OnlyTells not_yet reply old new count later
-TellsOver is_reliable use_checkpoints most known (step actor kind) reply old new count later = OnlyTells not_yet reply old new count later
-TellsOver is_reliable use_checkpoints most known (finish actor) reply old new count later = OnlyTells not_yet reply old new count later
-TellsOver is_reliable use_checkpoints most known (die actor) reply old new count later = OnlyTells not_yet reply old new count later
-TellsOver is_reliable use_checkpoints most known (land put) reply old new count later = OnlyTells not_yet reply old new count later
+TellsOver is_reliable use_checkpoints most known (world line) reply old new count later = OnlyTells not_yet reply old new count later

@@ -7,7 +7,7 @@ use Rattle.sink_core.specs.Closes.{close_plan, MayClose}
 use Rattle.commit_core.specs.Creating.{MayCreate}
 use Rattle.store_core.specs.Names.{commit_name}
 use Rattle.snapshot_core.specs.Taking.{HasPut}
-use Rattle.script_lines.specs.Lines.{Statement, append, close, checkpoint, tail, create, task, snapshot, history, show, hex, tries, fault, start, until, step, finish, die, land, foreign}
+use Rattle.script_lines.specs.Lines.{Statement, append, close, checkpoint, tail, create, task, tries, foreign, look, world}
 use Rattle.outcomes.specs.Lines.{with_newline}
 
 -- the checkpoint of the newest version was put, or nothing
@@ -21,16 +21,7 @@ MayPut old (task (append application number at items)) new = IsUtf8 application 
 MayPut old (task checkpoint) new = MayPutCheckpoint old new
 MayPut old (foreign version action) new = (new ≡ old) ⊎ (new ≡ with_object old (commit_name version) (with_newline action))
 MayPut old (task (tail max offset)) new = new ≡ old
-MayPut old snapshot new = new ≡ old
-MayPut old history new = new ≡ old
-MayPut old (show version) new = new ≡ old
-MayPut old (hex name) new = new ≡ old
+MayPut old (look line) new = new ≡ old
 MayPut old (task (close application at)) new = IsUtf8 application × MayClose application at (close_plan false old application) old new
 MayPut old (tries count) new = new ≡ old
-MayPut old (fault kind) new = new ≡ old
-MayPut old (start actor job) new = new ≡ old
-MayPut old (until actor) new = new ≡ old
-MayPut old (step actor kind) new = new ≡ old
-MayPut old (finish actor) new = new ≡ old
-MayPut old (die actor) new = new ≡ old
-MayPut old (land put) new = new ≡ old
+MayPut old (world line) new = new ≡ old

@@ -1,5 +1,7 @@
 pub mod AnyStore
+pub mod LineJobs
 pub mod Checkpoints
+pub mod Endings
 pub mod Growth
 pub mod Keeps
 pub mod Replies

@@ -11,7 +11,7 @@ use Rattle.lake_script.specs.Growth.{MayPut}
 use Rattle.commit_core.specs.Histories.{unanswered}
 use Rattle.snapshot_core.specs.Taking as checkpoints
 use Rattle.lake_script.specs.Checkpoints.{not_put_text, too_large}
-use Rattle.script_lines.specs.Lines.{Statement, append, close, checkpoint, tail, create, task, snapshot, history, show, hex, tries, fault, start, until, step, finish, die, land, foreign, Reading, skipped, bad, asks, reading_of}
+use Rattle.script_lines.specs.Lines.{Statement, append, close, checkpoint, tail, create, task, snapshot, history, show, hex, tries, foreign, Reading, skipped, bad, asks, reading_of, look, world}
 use Rattle.batch_core.specs.Refusals.{refusal_text, memory, file_too_large}
 use Rattle.commit_core.specs.Texts.{create_fault_text, refused}
 use Rattle.lake_script.specs.Replies.{bad_line}
@@ -45,20 +45,14 @@ IsWantOfMemory (create id at schema) reply = reply ≡ no_room_to_create
 IsWantOfMemory (task (append application number at rows)) reply = reply ≡ no_room_to_append
 IsWantOfMemory (task (tail max offset)) reply = reply ≡ no_room_to_read
 IsWantOfMemory (task checkpoint) reply = reply ≡ no_room_to_tell
-IsWantOfMemory snapshot reply = reply ≡ no_room_to_tell
-IsWantOfMemory history reply = reply ≡ no_room_to_tell
-IsWantOfMemory (show version) reply = reply ≡ no_room_to_show
-IsWantOfMemory (hex name) reply = reply ≡ no_room_to_show
+IsWantOfMemory (look snapshot) reply = reply ≡ no_room_to_tell
+IsWantOfMemory (look history) reply = reply ≡ no_room_to_tell
+IsWantOfMemory (look (show version)) reply = reply ≡ no_room_to_show
+IsWantOfMemory (look (hex name)) reply = reply ≡ no_room_to_show
 IsWantOfMemory (foreign version action) reply = reply ≡ no_room_to_show
 IsWantOfMemory (task (close application at)) reply = reply ≡ no_room_to_append
 IsWantOfMemory (tries count) reply = ⊥
-IsWantOfMemory (fault kind) reply = ⊥
-IsWantOfMemory (start actor job) reply = ⊥
-IsWantOfMemory (until actor) reply = ⊥
-IsWantOfMemory (step actor kind) reply = ⊥
-IsWantOfMemory (finish actor) reply = ⊥
-IsWantOfMemory (die actor) reply = ⊥
-IsWantOfMemory (land put) reply = ⊥
+IsWantOfMemory (world line) reply = ⊥
 
 -- the replies to lines that create a table and append a batch, where an object would pass 64 MiB
 abbrev pub too_large_to_create : List ℕ
@@ -78,20 +72,11 @@ IsTooLarge objects (create id at schema) reply = reply ≡ too_large_to_create
 IsTooLarge objects (task (append application number at rows)) reply = (reply ≡ too_large_to_append) × (append_plan false objects application number at rows ≡ Err file_too_large)
 IsTooLarge objects (task checkpoint) reply = (reply ≡ too_large_to_checkpoint) × checkpoints.IsTooLarge false objects
 IsTooLarge objects (task (tail max offset)) reply = ⊥
-IsTooLarge objects snapshot reply = ⊥
-IsTooLarge objects history reply = ⊥
-IsTooLarge objects (show version) reply = ⊥
-IsTooLarge objects (hex name) reply = ⊥
+IsTooLarge objects (look line) reply = ⊥
 IsTooLarge objects (foreign version action) reply = ⊥
 IsTooLarge objects (task (close application at)) reply = ⊥
 IsTooLarge objects (tries count) reply = ⊥
-IsTooLarge objects (fault kind) reply = ⊥
-IsTooLarge objects (start actor job) reply = ⊥
-IsTooLarge objects (until actor) reply = ⊥
-IsTooLarge objects (step actor kind) reply = ⊥
-IsTooLarge objects (finish actor) reply = ⊥
-IsTooLarge objects (die actor) reply = ⊥
-IsTooLarge objects (land put) reply = ⊥
+IsTooLarge objects (world line) reply = ⊥
 
 -- the reply to a line over these objects tells that a growth was refused, or that an object would pass 64 MiB
 abbrev pub IsShort : Objects → Statement → List ℕ → Type 0
@@ -103,20 +88,11 @@ MayLeave objects (task (append application number at rows)) after = MayHoldFile 
 MayLeave objects (create id at schema) after = after ≡ objects
 MayLeave objects (task (tail max offset)) after = after ≡ objects
 MayLeave objects (task checkpoint) after = after ≡ objects
-MayLeave objects snapshot after = after ≡ objects
-MayLeave objects history after = after ≡ objects
-MayLeave objects (show version) after = after ≡ objects
-MayLeave objects (hex name) after = after ≡ objects
+MayLeave objects (look line) after = after ≡ objects
 MayLeave objects (foreign version action) after = after ≡ objects
 MayLeave objects (task (close application at)) after = after ≡ objects
 MayLeave objects (tries count) after = after ≡ objects
-MayLeave objects (fault kind) after = after ≡ objects
-MayLeave objects (start actor job) after = after ≡ objects
-MayLeave objects (until actor) after = after ≡ objects
-MayLeave objects (step actor kind) after = after ≡ objects
-MayLeave objects (finish actor) after = after ≡ objects
-MayLeave objects (die actor) after = after ≡ objects
-MayLeave objects (land put) after = after ≡ objects
+MayLeave objects (world line) after = after ≡ objects
 
 -- a line has what it asks for, with some text beside it
 abbrev pub Has : Objects → Statement → List ℕ → Objects → Type 0

@@ -9,7 +9,7 @@ use Rattle.delta_actions.specs.Commit.{lines_of}
 use Rattle.commit_core.specs.LawfulLogs.{HasLawfulLog}
 use Rattle.commit_core.specs.SoundStores.{IsSoundStore}
 use Rattle.lake_script.specs.Keeps.{Keeps, KeepsBeside}
-use Rattle.script_lines.specs.Lines.{Statement, append, close, checkpoint, tail, create, task, snapshot, history, show, hex, tries, fault, start, until, step, finish, die, land, foreign, Reading, skipped, bad, asks, reading_of}
+use Rattle.script_lines.specs.Lines.{Statement, append, close, checkpoint, tail, create, task, snapshot, history, show, hex, tries, foreign, Reading, skipped, bad, asks, reading_of, look, world}
 use Rattle.lake_script.specs.Replies.{bad_line}
 use Rattle.lake_script.specs.Tables as tables
 use Rattle.lake_script.specs.Tables.{State, nothing, table, expected_from, expected_output, left, entries_of, AreOfTable}
@@ -38,24 +38,18 @@ pub record ReadsOut (objects : Objects) (state : State) : Type 0 where
 -- The reply to what a line asks for: an object that is shown and the snapshot are those of the objects in front of the
 -- line, and all else is told by the table.
 abbrev pub reply_over : State → Objects → Statement → (printed : List ℕ) → List ℕ
-reply_over state objects snapshot printed = told.reply_to_statement objects snapshot printed
-reply_over state objects (show version) printed = told.reply_to_statement objects (show version) printed
-reply_over state objects (hex name) printed = told.reply_to_statement objects (hex name) printed
+reply_over state objects (look snapshot) printed = told.reply_to_statement objects (look snapshot) printed
+reply_over state objects (look (show version)) printed = told.reply_to_statement objects (look (show version)) printed
+reply_over state objects (look (hex name)) printed = told.reply_to_statement objects (look (hex name)) printed
 reply_over state objects (foreign version action) printed = told.reply_to_statement objects (foreign version action) printed
 reply_over state objects (create id at schema) printed = tables.reply_to_statement state (create id at schema)
 reply_over state objects (task (append application number at items)) printed = tables.reply_to_statement state (task (append application number at items))
 reply_over state objects (task (tail max offset)) printed = tables.reply_to_statement state (task (tail max offset))
 reply_over state objects (task checkpoint) printed = tables.reply_to_statement state (task checkpoint)
-reply_over state objects history printed = tables.reply_to_statement state history
+reply_over state objects (look history) printed = tables.reply_to_statement state (look history)
 reply_over state objects (task (close application at)) printed = tables.reply_to_statement state (task (close application at))
 reply_over state objects (tries count) printed = tables.reply_to_statement state (tries count)
-reply_over state objects (fault kind) printed = tables.reply_to_statement state (fault kind)
-reply_over state objects (start actor job) printed = tables.reply_to_statement state (start actor job)
-reply_over state objects (until actor) printed = tables.reply_to_statement state (until actor)
-reply_over state objects (step actor kind) printed = tables.reply_to_statement state (step actor kind)
-reply_over state objects (finish actor) printed = tables.reply_to_statement state (finish actor)
-reply_over state objects (die actor) printed = tables.reply_to_statement state (die actor)
-reply_over state objects (land put) printed = tables.reply_to_statement state (land put)
+reply_over state objects (world line) printed = tables.reply_to_statement state (world line)
 
 -- the same of a line that is read, of that number
 abbrev pub line_over : ℕ → State → Objects → Reading → (printed : List ℕ) → List ℕ

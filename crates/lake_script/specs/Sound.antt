@@ -8,7 +8,7 @@ use Rattle.sink_core.specs.Appending.{append_plan, PutsWell}
 use Rattle.sink_core.specs.Closes.{close_plan, ClosesWell}
 use Rattle.commit_core.specs.Creating.{too_large, commit_from, CreatesWell}
 use Rattle.lake_script.specs.Checkpoints.{checkpoint_by, IsWellPut}
-use Rattle.script_lines.specs.Lines.{Statement, append, close, checkpoint, tail, create, task, snapshot, history, show, hex, tries, fault, start, until, step, finish, die, land, foreign, Reading, skipped, bad, asks, reading_of}
+use Rattle.script_lines.specs.Lines.{Statement, append, close, checkpoint, tail, create, task, tries, foreign, Reading, skipped, bad, asks, reading_of, look, world}
 use Rattle.batch_core.specs.Refusals.{file_too_large}
 use Rattle.lake_script.specs.Streams.{StandsIn}
 use Rattle.lake_script.specs.Told.{is_bad, UnlessBad, IsPrintedStatement, IsPrintedLine, ArePrintedLines, ArePrintedInPart, reply_to_statement, left_by_statement, reply_to, left_by}
@@ -21,20 +21,11 @@ IsSoundStatement objects (task (append application number at items)) printed = I
     × PutsWell application number at (append_plan false objects application number at items) × (append_plan false objects application number at items ≢ Err file_too_large)
 IsSoundStatement objects (task checkpoint) printed = IsWellPut (checkpoint_by objects printed)
 IsSoundStatement objects (task (tail max offset)) printed = Unit {0}
-IsSoundStatement objects snapshot printed = Unit {0}
-IsSoundStatement objects history printed = Unit {0}
-IsSoundStatement objects (show version) printed = Unit {0}
-IsSoundStatement objects (hex name) printed = Unit {0}
+IsSoundStatement objects (look line) printed = Unit {0}
 IsSoundStatement objects (foreign version action) printed = Unit {0}
 IsSoundStatement objects (task (close application at)) printed = IsUtf8 application × ClosesWell application at (close_plan false objects application)
 IsSoundStatement objects (tries count) printed = Unit {0}
-IsSoundStatement objects (fault kind) printed = Unit {0}
-IsSoundStatement objects (start actor job) printed = Unit {0}
-IsSoundStatement objects (until actor) printed = Unit {0}
-IsSoundStatement objects (step actor kind) printed = Unit {0}
-IsSoundStatement objects (finish actor) printed = Unit {0}
-IsSoundStatement objects (die actor) printed = Unit {0}
-IsSoundStatement objects (land put) printed = Unit {0}
+IsSoundStatement objects (world line) printed = Unit {0}
 
 -- A line is told what it asks for, leaves what it is to leave, and what it puts is well made, with a text beside it.
 pub record IsExecuted (objects : Objects) (statement : Statement) (reply : List ℕ) (after : Objects) : Type 0 where

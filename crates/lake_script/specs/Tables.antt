@@ -24,7 +24,7 @@ use Rattle.commit_core.specs.Histories.{close_told, number_told}
 use Rattle.commit_core.specs.Histories as histories
 use Rattle.snapshot_core.specs.Faults.{bad_log, unsupported}
 use Rattle.lake_script.specs.Checkpoints.{by_log, checkpointed_at, not_put_text}
-use Rattle.script_lines.specs.Lines.{Statement, append, close, checkpoint, tail, create, task, snapshot, history, show, hex, tries, fault, start, until, step, finish, die, land, foreign, Reading, skipped, bad, asks, reading_of}
+use Rattle.script_lines.specs.Lines.{Statement, append, close, checkpoint, tail, create, task, snapshot, history, show, hex, tries, foreign, Reading, skipped, bad, asks, reading_of, look, world}
 use Rattle.log_offsets.specs.Offsets.{offset_of}
 use Rattle.batch_core.specs.Refusals as appends
 use Rattle.commit_core.specs.Texts as texts
@@ -167,20 +167,14 @@ reply_to_statement state (create id at schema) = created_reply (creating state (
 reply_to_statement state (task (append application number at items)) = appended_reply state (batch_in state application number items)
 reply_to_statement state (task (tail max offset)) = tail_reply state max (offset_of offset)
 reply_to_statement state (task checkpoint) = checkpoint_reply state
-reply_to_statement state history = history_reply state
-reply_to_statement state snapshot = not_yet
-reply_to_statement state (show version) = not_yet
-reply_to_statement state (hex name) = not_yet
+reply_to_statement state (look history) = history_reply state
+reply_to_statement state (look snapshot) = not_yet
+reply_to_statement state (look (show version)) = not_yet
+reply_to_statement state (look (hex name)) = not_yet
 reply_to_statement state (foreign version action) = not_yet
 reply_to_statement state (task (close application at)) = closed_reply state application (stream_in state application)
 reply_to_statement state (tries count) = with_newline noted
-reply_to_statement state (fault kind) = not_yet
-reply_to_statement state (start actor job) = not_yet
-reply_to_statement state (until actor) = not_yet
-reply_to_statement state (step actor kind) = not_yet
-reply_to_statement state (finish actor) = not_yet
-reply_to_statement state (die actor) = not_yet
-reply_to_statement state (land put) = not_yet
+reply_to_statement state (world line) = not_yet
 
 -- the table behind it
 abbrev pub left_by_statement : State → Statement → State
@@ -188,20 +182,11 @@ left_by_statement state (create id at schema) = with_table state (creating state
 left_by_statement state (task (append application number at items)) = with_append state (batch_in state application number items)
 left_by_statement state (task (tail max offset)) = state
 left_by_statement state (task checkpoint) = state
-left_by_statement state snapshot = state
-left_by_statement state history = state
-left_by_statement state (show version) = state
-left_by_statement state (hex name) = state
+left_by_statement state (look line) = state
 left_by_statement state (foreign version action) = state
 left_by_statement state (task (close application at)) = with_closed state application (stream_in state application)
 left_by_statement state (tries count) = state
-left_by_statement state (fault kind) = state
-left_by_statement state (start actor job) = state
-left_by_statement state (until actor) = state
-left_by_statement state (step actor kind) = state
-left_by_statement state (finish actor) = state
-left_by_statement state (die actor) = state
-left_by_statement state (land put) = state
+left_by_statement state (world line) = state
 
 -- the reply to a line of that number
 abbrev pub reply_to : ℕ → State → Reading → List ℕ
@@ -239,24 +224,18 @@ left state script = left_from state (lines_of script)
 
 -- a line neither shows an object of the store, nor tells its snapshot, nor puts another tool's commit
 abbrev pub AsksTable : Statement → Type 0
-AsksTable snapshot = ⊥
-AsksTable (show version) = ⊥
-AsksTable (hex name) = ⊥
+AsksTable (look snapshot) = ⊥
+AsksTable (look (show version)) = ⊥
+AsksTable (look (hex name)) = ⊥
 AsksTable (foreign version action) = ⊥
 AsksTable (create id at schema) = Unit {0}
 AsksTable (task (append application number at items)) = Unit {0}
 AsksTable (task (tail max offset)) = Unit {0}
 AsksTable (task checkpoint) = Unit {0}
-AsksTable history = Unit {0}
+AsksTable (look history) = Unit {0}
 AsksTable (task (close application at)) = Unit {0}
 AsksTable (tries count) = Unit {0}
-AsksTable (fault kind) = Unit {0}
-AsksTable (start actor job) = Unit {0}
-AsksTable (until actor) = Unit {0}
-AsksTable (step actor kind) = Unit {0}
-AsksTable (finish actor) = Unit {0}
-AsksTable (die actor) = Unit {0}
-AsksTable (land put) = Unit {0}
+AsksTable (world line) = Unit {0}
 
 abbrev pub IsOfTable : Reading → Type 0
 IsOfTable skipped = Unit {0}

@@ -18,7 +18,7 @@ use Rattle.commit_core.specs.Creating.{commit_from, created_by, with_creation, I
 use Rattle.commit_core.specs.Histories.{history_of}
 use Rattle.snapshot_core.specs.Faults.{readable_log}
 use Rattle.lake_script.specs.Checkpoints.{checkpoint_by, checkpoint_reply, snapshot_reply, with_checkpoint, IsItsCheckpoint, IsItsSnapshot}
-use Rattle.script_lines.specs.Lines.{Statement, append, close, checkpoint, tail, create, task, snapshot, history, show, hex, tries, fault, start, until, step, finish, die, land, foreign, Reading, skipped, bad, asks, reading_of}
+use Rattle.script_lines.specs.Lines.{Statement, append, close, checkpoint, tail, create, task, snapshot, history, show, hex, tries, foreign, Reading, skipped, bad, asks, reading_of, look, world}
 use Rattle.batch_core.specs.Refusals.{SinkRefusal, refusal_text}
 use Rattle.lake_script.specs.Replies.{fault_text, created, noted, outcome_text, put_word, bad_line}
 use Rattle.commit_core.specs.Texts as texts
@@ -62,22 +62,16 @@ not_yet = with_newline (refused (fault_text NotYet))
 abbrev pub IsPrintedStatement : Objects → Statement → (printed : List ℕ) → Type 0
 IsPrintedStatement objects (create id at schema) printed = IsPrintedFor id schema printed
 IsPrintedStatement objects (task checkpoint) printed = IsItsCheckpoint objects printed
-IsPrintedStatement objects snapshot printed = IsItsSnapshot objects printed
+IsPrintedStatement objects (look snapshot) printed = IsItsSnapshot objects printed
 IsPrintedStatement objects (task (append application number at rows)) printed = Unit {0}
 IsPrintedStatement objects (task (tail max offset)) printed = Unit {0}
-IsPrintedStatement objects history printed = Unit {0}
-IsPrintedStatement objects (show version) printed = Unit {0}
-IsPrintedStatement objects (hex name) printed = Unit {0}
+IsPrintedStatement objects (look history) printed = Unit {0}
+IsPrintedStatement objects (look (show version)) printed = Unit {0}
+IsPrintedStatement objects (look (hex name)) printed = Unit {0}
 IsPrintedStatement objects (foreign version action) printed = Unit {0}
 IsPrintedStatement objects (task (close application at)) printed = Unit {0}
 IsPrintedStatement objects (tries count) printed = Unit {0}
-IsPrintedStatement objects (fault kind) printed = Unit {0}
-IsPrintedStatement objects (start actor job) printed = Unit {0}
-IsPrintedStatement objects (until actor) printed = Unit {0}
-IsPrintedStatement objects (step actor kind) printed = Unit {0}
-IsPrintedStatement objects (finish actor) printed = Unit {0}
-IsPrintedStatement objects (die actor) printed = Unit {0}
-IsPrintedStatement objects (land put) printed = Unit {0}
+IsPrintedStatement objects (world line) printed = Unit {0}
 
 -- the reply to what a line asks for, over the objects that stand
 abbrev pub reply_to_statement : Objects → Statement → (printed : List ℕ) → List ℕ
@@ -85,20 +79,14 @@ reply_to_statement objects (create id at schema) printed = created_reply (create
 reply_to_statement objects (task (append application number at rows)) printed = sink_reply (appended_by false objects application number at rows)
 reply_to_statement objects (task (tail max offset)) printed = tailed_reply (tailed false objects max offset)
 reply_to_statement objects (task checkpoint) printed = checkpoint_reply (checkpoint_by objects printed)
-reply_to_statement objects snapshot printed = snapshot_reply (readable_log false objects) printed
-reply_to_statement objects history printed = history_of objects
-reply_to_statement objects (show version) printed = shown (object_at objects (commit_name version))
-reply_to_statement objects (hex name) printed = in_hex (object_at objects name)
+reply_to_statement objects (look snapshot) printed = snapshot_reply (readable_log false objects) printed
+reply_to_statement objects (look history) printed = history_of objects
+reply_to_statement objects (look (show version)) printed = shown (object_at objects (commit_name version))
+reply_to_statement objects (look (hex name)) printed = in_hex (object_at objects name)
 reply_to_statement objects (foreign version action) printed = with_newline (put_word (object_at objects (commit_name version)))
 reply_to_statement objects (task (close application at)) printed = sink_reply (closed_by false objects application)
 reply_to_statement objects (tries count) printed = with_newline noted
-reply_to_statement objects (fault kind) printed = not_yet
-reply_to_statement objects (start actor job) printed = not_yet
-reply_to_statement objects (until actor) printed = not_yet
-reply_to_statement objects (step actor kind) printed = not_yet
-reply_to_statement objects (finish actor) printed = not_yet
-reply_to_statement objects (die actor) printed = not_yet
-reply_to_statement objects (land put) printed = not_yet
+reply_to_statement objects (world line) printed = not_yet
 
 -- the objects that stand once a line has what it asks for
 abbrev pub left_by_statement : Objects → Statement → (printed : List ℕ) → Objects
@@ -107,19 +95,10 @@ left_by_statement objects (task (append application number at rows)) printed = w
 left_by_statement objects (task checkpoint) printed = with_checkpoint objects printed (checkpoint_by objects printed)
 left_by_statement objects (foreign version action) printed = with_object objects (commit_name version) (with_newline action)
 left_by_statement objects (task (tail max offset)) printed = objects
-left_by_statement objects snapshot printed = objects
-left_by_statement objects history printed = objects
-left_by_statement objects (show version) printed = objects
-left_by_statement objects (hex name) printed = objects
+left_by_statement objects (look line) printed = objects
 left_by_statement objects (task (close application at)) printed = with_close objects application at (close_plan false objects application)
 left_by_statement objects (tries count) printed = objects
-left_by_statement objects (fault kind) printed = objects
-left_by_statement objects (start actor job) printed = objects
-left_by_statement objects (until actor) printed = objects
-left_by_statement objects (step actor kind) printed = objects
-left_by_statement objects (finish actor) printed = objects
-left_by_statement objects (die actor) printed = objects
-left_by_statement objects (land put) printed = objects
+left_by_statement objects (world line) printed = objects
 
 -- the same three of a line as it is read, of that number
 abbrev pub IsPrintedLine : Objects → Reading → (printed : List ℕ) → Type 0
@@ -146,19 +125,10 @@ IsPutHere (asks (create id at schema)) = Unit {0}
 IsPutHere (asks (task (append application number at rows))) = Unit {0}
 IsPutHere (asks (task (tail max offset))) = Unit {0}
 IsPutHere (asks (task checkpoint)) = Unit {0}
-IsPutHere (asks snapshot) = Unit {0}
-IsPutHere (asks history) = Unit {0}
-IsPutHere (asks (show version)) = Unit {0}
-IsPutHere (asks (hex name)) = Unit {0}
+IsPutHere (asks (look line)) = Unit {0}
 IsPutHere (asks (task (close application at))) = Unit {0}
 IsPutHere (asks (tries count)) = Unit {0}
-IsPutHere (asks (fault kind)) = Unit {0}
-IsPutHere (asks (start actor job)) = Unit {0}
-IsPutHere (asks (until actor)) = Unit {0}
-IsPutHere (asks (step actor kind)) = Unit {0}
-IsPutHere (asks (finish actor)) = Unit {0}
-IsPutHere (asks (die actor)) = Unit {0}
-IsPutHere (asks (land put)) = Unit {0}
+IsPutHere (asks (world line)) = Unit {0}
 
 -- no line puts another tool's commit, so that what is put is this program's
 abbrev pub ArePutHere : List (List ℕ) → Type 0

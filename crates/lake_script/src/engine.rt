@@ -1,13 +1,11 @@
-//! The engine of `script`: it reads its input to the end, then answers line by line.
-ghost use Rattle.std.specs.Prelude.{◌≡◌, ◌≢◌, ◌+◌, ◌<◌, ◌≤◌, ◌^◌, suc, [], ◌∷◌, ◌⊎◌, Bool, true, false, not, length, position, option_map, ⊤, OnOk, OnErr, IfOk, IfErr, IfSome};
-ghost use Rattle.std.specs.Io.KnownBytes.{Appends};
-ghost use Rattle.lake_script.specs.declared.inputs.TheConstants.{MOST_BYTES, MOST_READS};
+//! The engine of `script`: it answers the lines of a text, one by one.
+ghost use Rattle.std.specs.Prelude.{◌≡◌, ◌≢◌, ◌+◌, ◌<◌, ◌≤◌, ◌^◌, suc, [], ◌⊎◌, Bool, true, false, not, length, ⊤, OnOk, OnErr, IfOk};
 ghost use Rattle.script_lines.specs.Lines.{reading_of};
 ghost use Rattle.lake_script.specs.Runs.{FallsShort, IsCutOff, Replies, Runs, RunsInPart, Tells, TellsFront, TellsShort};
 ghost use Rattle.lake_script.specs.Keeps.{Keeps, KeepsBeside};
 ghost use Rattle.lake_script.specs.Scripts.{IsScript, StaysSound};
 ghost use Rattle.lake_script.specs.Sound.{IsAnsweredLine, IsScriptRun, IsRunInPart};
-ghost use Rattle.lake_script.specs.Streams.{held, waiting, write_failed, unread, read_failed, StandsIn};
+ghost use Rattle.lake_script.specs.Streams.{held, waiting, write_failed, StandsIn};
 ghost use Rattle.lake_script.specs.Tables.{State, entries_of};
 ghost use Rattle.delta_actions.specs.Commit.{lines_of};
 ghost use Rattle.store_core.specs.Names.{greatest_version};
@@ -15,14 +13,13 @@ ghost use Rattle.log_reading.specs.LogCache.{IsCacheOf};
 ghost use Rattle.table_log.specs.Restoring.{AreCheckpointsSound, HasOnlySoundCheckpoints, RestoresWell};
 ghost use Rattle.lake_script.specs.Told.{ArePutHere, is_bad, first_bad, Finishes, fell_short};
 
-use crate::inputs::{Input, InputError};
 use crate::outputs::{Output, OutputError};
 use crate::reply::execute;
 use json::Scratch;
 use log_reading::LogCache;
 use script_lines::{Reading, first_line, reading_of};
 use std::alloc::Global;
-use std::io::{Read, Write};
+use std::io::Write;
 use store_core::Store;
 
 /// How a run ended.
@@ -284,98 +281,6 @@ pub fn run_text<S: Store, W: Write>(
         Err(error) => Outcome {
             end: End::NotWritten,
             is_short: is_short || error == OutputError::Memory,
-        },
-    }
-}
-
-/// Runs a script over a store: reads its input to the end, then answers each line, up to the first
-/// bad one. With `use_checkpoints` appends, reads, checkpoints and snapshots go by the log's checkpoints, and
-/// otherwise by its commits alone, from version 0; where each checkpoint that stands and reads well is
-/// one of the log, what is told is the same.
-///
-/// Time is linear in the input, the objects that are put, compared and shown and the data files that
-/// rows are handed out of, and for each line that reads the log in the names of the store, the actions
-/// of the log and the bytes of the checkpoint and the commits that are read, but for the store's own.
-/// Without `use_checkpoints`, or where no object has a checkpoint's name, appends read a commit once, and so do
-/// reads, until a line puts something else than a batch or a read of the log fails. Many replies go in
-/// one write.
-pub fn run<R: Read, W: Write, S: Store>(
-    alloc: Global,
-    input: &mut Input<R>,
-    output: &mut Output<W>,
-    store: &mut S,
-    use_checkpoints: bool,
-) -> Outcome
-    // Where the run finishes, no growth was refused, no object of the product's passed 64 MiB, the store
-    // loses no call and, with `use_checkpoints`, each checkpoint that stands and reads well is one of the log, what
-    // is written is what is told for the text that is read, and the objects are what the text leaves, for
-    // some texts that the schemas of its lines are printed as, its checkpoints and its snapshots. They are
-    // known to the last byte where no line creates a table with a number in its metadata that has a
-    // fraction or an exponent, is `-0` or is beyond 64 bits, or puts another tool's commit: then what is
-    // written is one text. What is told is told by all commits, so with `use_checkpoints` and without it is the
-    // same.
-    ensures told { S.is_reliable store.old → RestoresWell use_checkpoints (S.objects store.old) → fell_short result ≡ false
-        → Finishes result.end (λ _. IfSome (unread R.remaining input.old) (λ text.
-        IsScriptRun (S.objects store.old) text (held W.contents output.old) (W.contents output.new.writer) (S.objects store.new))) }
-
-    // Over a store that keeps a table, or nothing, where there can be as many versions as it has entries and the text
-    // lines, this is what the plain table tells, where no line shows an object, tells the snapshot or puts another
-    // tool's commit, and begins with that in any case; where none puts such a commit, what is shown is told by the
-    // objects and all else by the table, the store then keeps the table that was told, and reads over it, each from the
-    // offset where the one before ended, are answered and hand out its rows, whatever their limits.
-    ensures script { (state : State) → S.is_reliable store.old → RestoresWell use_checkpoints (S.objects store.old) → Keeps (S.objects store.old) state
-        → fell_short result ≡ false → Finishes result.end (λ _. IfSome (unread R.remaining input.old)
-        (λ text. length (entries_of state) + length (lines_of text) ≤ suc greatest_version
-        → IsScript state (held W.contents output.old) (W.contents output.new.writer) text (S.objects store.old) (S.objects store.new))) }
-
-    // Over such a store, in which data files of other batches may stand too, that loses no call and whose checkpoints
-    // are the log's, and where no line of the text that is read puts another tool's commit, the store that is left is
-    // sound, its log is lawful, and it is such a store again, however the run ends and whatever growth is refused on
-    // the way.
-    ensures lawful { (state : State) → S.is_reliable store.old → HasOnlySoundCheckpoints (S.objects store.old) → KeepsBeside (S.objects store.old) state
-        → IfSome (unread R.remaining input.old) (λ text. ArePutHere (lines_of text) → StaysSound state (length (lines_of text)) (S.objects store.new)) }
-
-    // Where a growth was refused, each line has its reply and effect, or is told of want of memory
-    // and leaves the objects as they were, but for a batch's file, which may stand.
-    ensures tells { S.is_reliable store.old → RestoresWell use_checkpoints (S.objects store.old) → Finishes result.end (λ _. IfSome (unread R.remaining input.old) (λ text.
-        Tells (held W.contents output.old) (W.contents output.new.writer)
-        (λ written. Runs 1 (S.objects store.old) (lines_of text) written (S.objects store.new)))) }
-    // A run that finishes is short only where a reply that is written tells so.
-    ensures short { S.is_reliable store.old → RestoresWell use_checkpoints (S.objects store.old) → fell_short result ≡ true → Finishes result.end (λ _. IfSome (unread R.remaining input.old) (λ text.
-        Tells (held W.contents output.old) (W.contents output.new.writer) (FallsShort 1 (S.objects store.old) (lines_of text)))) }
-    // Where a reply can't be given, this holds of some first lines, and what is written is a front
-    // of their replies.
-    ensures front { S.is_reliable store.old → RestoresWell use_checkpoints (S.objects store.old) → result.end ≡ End.NotWritten → IfSome (unread R.remaining input.old) (λ text.
-        TellsFront (held W.contents output.old) (W.contents output.new.writer)
-        (λ written. RunsInPart 1 (S.objects store.old) (lines_of text) written (S.objects store.new))) }
-
-    // Nothing waits in the output when it is done.
-    ensures nothing_waits { Finishes result.end (λ _. waiting output.new ≡ []) }
-
-    // A store that loses no call goes on to lose none, and where each checkpoint was one of the log, it is
-    // so still: of all objects under a checkpoint's name, or of those that read well.
-    ensures reliable { S.is_reliable store.old → S.is_reliable store.new }
-    ensures restores { S.is_reliable store.old → (every : Bool) → AreCheckpointsSound every (S.objects store.old) → AreCheckpointsSound every (S.objects store.new) }
-
-    ensures bad { Finishes result.end (λ bad. IfSome (unread R.remaining input.old) (λ text. bad ≡ first_bad text)) }
-    ensures stands { S.is_reliable store.old → RestoresWell use_checkpoints (S.objects store.old) → fell_short result ≡ false → result.end ≡ End.NotWritten
-        → IfSome (unread R.remaining input.old)
-        (λ text. IsRunInPart (S.objects store.old) text (held W.contents output.old) (W.contents output.new.writer)) }
-    ensures nothing { result.end ≡ End.NotRead → (output.new ≡ output.old) × (store.new ≡ store.old) }
-
-    // When a run does not finish.
-    ensures not_read { result.end ≡ End.NotRead → (read_failed input.new ≡ true) ⊎ ((fell_short result ≡ true)
-        ⊎ IfSome (unread R.remaining input.old) (λ text. MOST_READS ≤ length text)) }
-    ensures broken_input { read_failed input.new ≡ true → result.end ≡ End.NotRead }
-    ensures too_long { IfSome (unread R.remaining input.old) (λ text. MOST_BYTES < length text → result.end ≡ End.NotRead) }
-    ensures not_written { result.end ≡ End.NotWritten → (write_failed output.new ≡ true) ⊎ (fell_short result ≡ true) }
-    ensures broken_output { Finishes result.end (λ _. write_failed output.new ≡ write_failed output.old) }
-{
-    match input.read_to_end(alloc) {
-        Ok(text) => run_text(alloc, text.as_slice(), store, output, use_checkpoints),
-        Err(error) => Outcome {
-            end: End::NotRead,
-            is_short: error == InputError::Memory,
         },
     }
 }

@@ -6,7 +6,7 @@ ghost use Rattle.log_reading.specs.LogCache.{IsCacheOf};
 ghost use Rattle.store_core.specs.Names.{commit_name};
 ghost use Rattle.table_log.specs.Restoring.{RestoresWell};
 ghost use Rattle.commit_core.specs.Histories.{history_of};
-ghost use Rattle.script_lines.specs.Lines.{hex, history, show, snapshot};
+ghost use Rattle.script_lines.specs.Lines.{hex, history, look, show, snapshot};
 ghost use Rattle.lake_script.specs.AnyStore.{IsToldLost, TellsCommit, TellsDigits, TellsHistory, TellsSnapshotLine};
 ghost use Rattle.lake_script.specs.ReplyView.{reply_text, is_short, says_lost};
 ghost use Rattle.lake_script.specs.Runs.{Executes, no_room_to_show, no_room_to_tell};
@@ -31,8 +31,8 @@ pub fn tell_snapshot<S: Store>(
 ) -> LineReply
     requires { IsCacheOf (S.objects store.old) cache.old }
     ensures cache { IsCacheOf (S.objects store.old) cache.new }
-    ensures told { S.is_reliable store.old → RestoresWell use_checkpoints (S.objects store.old) → Executes (S.objects store.old) snapshot (reply_text result) (S.objects store.new) }
-    ensures whole { S.is_reliable store.old → RestoresWell use_checkpoints (S.objects store.old) → is_short result ≡ false → IsExecuted (S.objects store.old) snapshot (reply_text result) (S.objects store.new) }
+    ensures told { S.is_reliable store.old → RestoresWell use_checkpoints (S.objects store.old) → Executes (S.objects store.old) (look snapshot) (reply_text result) (S.objects store.new) }
+    ensures whole { S.is_reliable store.old → RestoresWell use_checkpoints (S.objects store.old) → is_short result ≡ false → IsExecuted (S.objects store.old) (look snapshot) (reply_text result) (S.objects store.new) }
     ensures wants { RestoresWell use_checkpoints (S.objects store.old) → is_short result ≡ true → reply_text result ≡ no_room_to_tell }
     ensures untouched { S.objects store.new ≡ S.objects store.old }
     ensures reliable { S.is_reliable store.old → S.is_reliable store.new }
@@ -40,7 +40,7 @@ pub fn tell_snapshot<S: Store>(
     ensures counted { says_lost result ≡ false → S.fault_count store.new ≡ S.fault_count store.old }
     ensures any { TellsSnapshotLine use_checkpoints (reply_text result)
         (S.objects store.old, S.in_flight store.old) (S.objects store.new, S.in_flight store.new) (S.fault_count store.old) (S.fault_count store.new) }
-    ensures told_lost { says_lost result ≡ true → IsToldLost snapshot (reply_text result) }
+    ensures told_lost { says_lost result ≡ true → IsToldLost (look snapshot) (reply_text result) }
 {
     match snapshot_core::snapshot(alloc, store, use_checkpoints, &mut cache.loaded) {
         Ok(text) => LineReply::Bytes(text),
@@ -58,7 +58,7 @@ pub fn tell_history<S: Store>(alloc: Global, store: &mut S) -> LineReply
     ensures counted { says_lost result ≡ false → S.fault_count store.new ≡ S.fault_count store.old }
     ensures any { TellsHistory (reply_text result)
         (S.objects store.old, S.in_flight store.old) (S.objects store.new, S.in_flight store.new) (S.fault_count store.old) (S.fault_count store.new) }
-    ensures told_lost { says_lost result ≡ true → IsToldLost history (reply_text result) }
+    ensures told_lost { says_lost result ≡ true → IsToldLost (look history) (reply_text result) }
 {
     match history(alloc, store) {
         Ok(text) => LineReply::Bytes(text),
@@ -77,7 +77,7 @@ pub fn show<S: Store>(alloc: Global, store: &mut S, version: u64) -> LineReply
     ensures counted { says_lost result ≡ false → S.fault_count store.new ≡ S.fault_count store.old }
     ensures any { TellsCommit version (reply_text result)
         (S.objects store.old, S.in_flight store.old) (S.objects store.new, S.in_flight store.new) (S.fault_count store.old) (S.fault_count store.new) }
-    ensures told_lost { says_lost result ≡ true → IsToldLost (show version) (reply_text result) }
+    ensures told_lost { says_lost result ≡ true → IsToldLost (look (show version)) (reply_text result) }
 {
     match commit_at(alloc, store, version) {
         Ok(Some(bytes)) => LineReply::Bytes(bytes),
@@ -97,7 +97,7 @@ pub fn show_in_hex<S: Store>(alloc: Global, store: &mut S, name: &str) -> LineRe
     ensures counted { says_lost result ≡ false → S.fault_count store.new ≡ S.fault_count store.old }
     ensures any { TellsDigits name.now (reply_text result)
         (S.objects store.old, S.in_flight store.old) (S.objects store.new, S.in_flight store.new) (S.fault_count store.old) (S.fault_count store.new) }
-    ensures told_lost { says_lost result ≡ true → IsToldLost (hex name.now) (reply_text result) }
+    ensures told_lost { says_lost result ≡ true → IsToldLost (look (hex name.now)) (reply_text result) }
 {
     match hex_of(alloc, store, name) {
         Ok(Some(digits)) => LineReply::Digits(digits),

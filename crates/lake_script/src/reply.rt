@@ -27,7 +27,7 @@ use crate::outputs::{Output, OutputError};
 use commit_core::{CreateFault, create};
 use json_text::JsonRows;
 use log_reading::LogCache;
-use script_lines::{Job, Line};
+use script_lines::{Job, Line, Look};
 use sink_core::{SinkFault, SinkOutcome, append, close};
 use snapshot_core::{SnapshotFault, checkpoint};
 use source_core::{TailFault, tail};
@@ -447,10 +447,10 @@ pub fn execute<S: Store>(
             create_table(alloc, store, id, at, schema)
         }
         Line::Job(job) => execute_job(alloc, job, store, *tries, use_checkpoints, cache),
-        Line::Snapshot => tell_snapshot(alloc, store, use_checkpoints, cache),
-        Line::History => tell_history(alloc, store),
-        Line::Show { version } => show(alloc, store, version),
-        Line::Hex { name } => show_in_hex(alloc, store, name),
+        Line::Look(Look::Snapshot) => tell_snapshot(alloc, store, use_checkpoints, cache),
+        Line::Look(Look::History) => tell_history(alloc, store),
+        Line::Look(Look::Show { version }) => show(alloc, store, version),
+        Line::Look(Look::Hex { name }) => show_in_hex(alloc, store, name),
         Line::Foreign { version, action } => {
             forget(alloc, cache);
             put_foreign(alloc, store, version, action)
@@ -460,6 +460,7 @@ pub fn execute<S: Store>(
             *tries = count.max(1);
             LineReply::Noted
         }
-        _ => LineReply::Refused(Fault::NotYet),
+        // Here there are no actors.
+        Line::World(_) => LineReply::Refused(Fault::NotYet),
     }
 }

@@ -7,7 +7,7 @@ use Rattle.outcomes.specs.Options.{◌>>=◌}
 use Rattle.script_lines.specs.Names.{verb_of}
 use Rattle.script_lines.specs.Fields.{word_and_rest, number_of, number_between, moment_of, max_of, array_of}
 use Rattle.delta_actions.specs.Commit.{is_blank}
-use Rattle.script_lines.specs.Lines.{Statement, append_head, append_from, close_from, tail_from, Task, IsTimelyTask, IsTimely, append, close, checkpoint, tail, bare_task, task_from, task_of, task_split, create, task, show, tries, fault, start, step, land, foreign, asks, asked, bare_statement, statement_from, statement_split, statement_of, create_from, start_from, step_from, foreign_from, text_of, is_comment, reading_of}
+use Rattle.script_lines.specs.Lines.{Statement, append_head, append_from, close_from, tail_from, Task, IsTimelyTask, IsTimely, append, close, checkpoint, tail, bare_task, task_from, task_of, task_split, create, task, look, show, tries, fault, start, step, land, world, foreign, asks, asked, bare_statement, statement_from, statement_split, statement_of, create_from, start_from, step_from, foreign_from, text_of, is_comment, reading_of}
 
 kept_high : (low high : ℕ) (found : Option ℕ) (n : ℕ) → (found >>= λ m. if nat_le low m && nat_le m high then Some m else None) ≡ Some n → n ≤ high
 kept_high low high None n h = cc
@@ -138,12 +138,12 @@ spelled_timely text t h = split_task_timely text (word_and_rest text) t h
 start_timely : (text : List ℕ) (w : Statement) → start_from text ≡ Some w → IsTimely w
 unfolding start_from
 start_timely text w h =
-    bind_timely (word_and_rest text) _ (λ actor u _ h1. bind_timely (task_of actor.1) _ (λ job x is h2. some_timely (start actor.0 job) x (spelled_timely actor.1 job is) h2) u h1) w h
+    bind_timely (word_and_rest text) _ (λ actor u _ h1. bind_timely (task_of actor.1) _ (λ job x is h2. some_timely (world (start actor.0 job)) x (spelled_timely actor.1 job is) h2) u h1) w h
 
 step_timely : (text : List ℕ) (w : Statement) → step_from text ≡ Some w → IsTimely w
 unfolding step_from
 step_timely text w h =
-    bind_timely (word_and_rest text) _ (λ actor u _ h1. bind_timely _ _ (λ kind x _ h2. some_timely (step actor.0 kind) x tt h2) u h1) w h
+    bind_timely (word_and_rest text) _ (λ actor u _ h1. bind_timely _ _ (λ kind x _ h2. some_timely (world (step actor.0 kind)) x tt h2) u h1) w h
 
 foreign_timely : (text : List ℕ) (w : Statement) → foreign_from text ≡ Some w → IsTimely w
 unfolding foreign_from
@@ -178,16 +178,16 @@ from_timely verb.Checkpoint text w h = cc
 from_timely verb.Snapshot text w h = cc
 from_timely verb.History text w h = cc
 from_timely verb.Tail text w h = task_timely _ (tail_timely text) w h
-from_timely verb.Show text w h = map_timely _ show (λ _. tt) w h
+from_timely verb.Show text w h = map_timely _ (λ version. look (show version)) (λ _. tt) w h
 from_timely verb.Hex text w h = some_timely _ w tt h
 from_timely verb.Tries text w h = map_timely _ tries (λ _. tt) w h
-from_timely verb.Fault text w h = map_timely _ fault (λ _. tt) w h
+from_timely verb.Fault text w h = map_timely _ (λ kind. world (fault kind)) (λ _. tt) w h
 from_timely verb.Start text w h = start_timely text w h
 from_timely verb.Until text w h = some_timely _ w tt h
 from_timely verb.Step text w h = step_timely text w h
 from_timely verb.Finish text w h = some_timely _ w tt h
 from_timely verb.Die text w h = some_timely _ w tt h
-from_timely verb.Land text w h = map_timely _ land (λ _. tt) w h
+from_timely verb.Land text w h = map_timely _ (λ put. world (land put)) (λ _. tt) w h
 from_timely verb.Foreign text w h = foreign_timely text w h
 
 split_timely : (text : List ℕ) (split : Option (List ℕ × List ℕ)) (w : Statement) → statement_split text split ≡ Some w → IsTimely w

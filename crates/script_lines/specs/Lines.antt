@@ -11,6 +11,10 @@ use Rattle.script_lines.specs.declared.verb.Verb.TheVariants as verb
 use Rattle.script_lines.specs.declared.line.Job.TheVariants as job
 use Rattle.script_lines.specs.declared.line.Line.TheVariants as line
 use Rattle.script_lines.specs.declared.line.Job.{Job}
+use Rattle.script_lines.specs.declared.line.Look as code_look
+use Rattle.script_lines.specs.declared.line.Look.TheVariants as looks
+use Rattle.script_lines.specs.declared.line.WorldLine as code_world
+use Rattle.script_lines.specs.declared.line.WorldLine.TheVariants as worlds
 use Rattle.script_lines.specs.declared.line.Line.{Line}
 use Rattle.script_lines.specs.declared.reading.Reading as readings
 use Rattle.script_lines.specs.declared.reading.Reading.TheVariants as view
@@ -18,30 +22,39 @@ use Rattle.script_lines.specs.Names.{verb_of, kind_of}
 use Rattle.outcomes.specs.Options.{◌>>=◌}
 use Rattle.script_lines.specs.Fields.{word_and_rest, number_of, moment_of, max_of, tries_of, array_of}
 
--- what an actor can be started with
+-- what is done to a table: by a line at once, or by an actor that is started with it
 pub data Task : Type 0 where
   append : (application : List ℕ) (number at : ℕ) (rows : Items) → Task
   close : (application : List ℕ) (at : ℕ) → Task
   checkpoint : Task
   tail : (max : ℕ) (offset : List ℕ) → Task
 
+-- what a line shows of what stands, and leaves as it is
+pub data Look : Type 0 where
+  snapshot : Look
+  history : Look
+  show : (version : ℕ) → Look
+  hex : (name : List ℕ) → Look
+
+-- what a line does to a world of actors: it sets what the next commit put of a line without an actor meets, starts an
+-- actor, leads it on or drops it, or lets a put in flight take effect
+pub data WorldLine : Type 0 where
+  fault : Kind → WorldLine
+  start : (actor : List ℕ) → Task → WorldLine
+  until : (actor : List ℕ) → WorldLine
+  step : (actor : List ℕ) → Kind → WorldLine
+  finish : (actor : List ℕ) → WorldLine
+  die : (actor : List ℕ) → WorldLine
+  land : (put : ℕ) → WorldLine
+
 -- what a line asks for, wherever its texts lie in memory
 pub data Statement : Type 0 where
   create : (id : List ℕ) (at : ℕ) (schema : List ℕ) → Statement
   task : Task → Statement
-  snapshot : Statement
-  history : Statement
-  show : (version : ℕ) → Statement
-  hex : (name : List ℕ) → Statement
-  tries : ℕ → Statement
-  fault : Kind → Statement
-  start : (actor : List ℕ) → Task → Statement
-  until : (actor : List ℕ) → Statement
-  step : (actor : List ℕ) → Kind → Statement
-  finish : (actor : List ℕ) → Statement
-  die : (actor : List ℕ) → Statement
-  land : (put : ℕ) → Statement
+  look : Look → Statement
   foreign : (version : ℕ) (action : List ℕ) → Statement
+  tries : ℕ → Statement
+  world : WorldLine → Statement
 
 -- APP NUMBER AT, and the text behind them
 unfoldable pub append_head : List ℕ → Option (List ℕ × ℕ × ℕ × List ℕ)
@@ -108,14 +121,14 @@ unfoldable pub start_from : List ℕ → Option Statement
 start_from text = do
   actor ← word_and_rest text
   job ← task_of actor.1
-  Some (start actor.0 job)
+  Some (world (start actor.0 job))
 
 -- step ACTOR KIND
 unfoldable pub step_from : List ℕ → Option Statement
 step_from text = do
   actor ← word_and_rest text
   kind ← kind_of actor.1
-  Some (step actor.0 kind)
+  Some (world (step actor.0 kind))
 
 -- foreign V LINE
 unfoldable pub foreign_from : List ℕ → Option Statement
@@ -127,26 +140,26 @@ foreign_from text = do
 -- a line that is one word
 abbrev pub bare_statement : Verb → Option Statement
 bare_statement verb.Checkpoint = Some (task checkpoint)
-bare_statement verb.Snapshot = Some snapshot
-bare_statement verb.History = Some history
+bare_statement verb.Snapshot = Some (look snapshot)
+bare_statement verb.History = Some (look history)
 bare_statement _ = None
 
 -- a line of that verb with a number or a kind behind it
 abbrev pub counted_from : Verb → List ℕ → Option Statement
-counted_from verb.Show text = option_map show (number_of text)
+counted_from verb.Show text = option_map (λ version. look (show version)) (number_of text)
 counted_from verb.Tries text = option_map tries (tries_of text)
-counted_from verb.Fault text = option_map fault (kind_of text)
-counted_from verb.Land text = option_map land (number_of text)
+counted_from verb.Fault text = option_map (λ kind. world (fault kind)) (kind_of text)
+counted_from verb.Land text = option_map (λ put. world (land put)) (number_of text)
 counted_from _ text = None
 
 -- a line of that verb with this text behind it, where it has no task
 abbrev pub plain_from : Verb → List ℕ → Option Statement
 plain_from verb.Create text = create_from text
-plain_from verb.Hex text = Some (hex text)
-plain_from verb.Until text = Some (until text)
+plain_from verb.Hex text = Some (look (hex text))
+plain_from verb.Until text = Some (world (until text))
 plain_from verb.Step text = step_from text
-plain_from verb.Finish text = Some (finish text)
-plain_from verb.Die text = Some (die text)
+plain_from verb.Finish text = Some (world (finish text))
+plain_from verb.Die text = Some (world (die text))
 plain_from verb.Foreign text = foreign_from text
 plain_from v text = counted_from v text
 
@@ -200,23 +213,30 @@ task_view (job.Close application at) = close application.now at
 task_view job.Checkpoint = checkpoint
 task_view (job.Tail max offset) = tail max offset.now
 
+-- what a line of the code shows, and what it does to a world
+abbrev pub look_view : code_look.Look → Look
+look_view looks.Snapshot = snapshot
+look_view looks.History = history
+look_view (looks.Show version) = show version
+look_view (looks.Hex name) = hex name.now
+
+abbrev pub world_view : code_world.WorldLine → WorldLine
+world_view (worlds.Fault kind) = fault kind
+world_view (worlds.Start actor job) = start actor.now (task_view job)
+world_view (worlds.Until actor) = until actor.now
+world_view (worlds.Step actor kind) = step actor.now kind
+world_view (worlds.Finish actor) = finish actor.now
+world_view (worlds.Die actor) = die actor.now
+world_view (worlds.Land put) = land put
+
 -- what a line of the code asks for
 abbrev pub statement_view : Line → Statement
 statement_view (line.Create id at schema) = create id.now at schema.now
 statement_view (line.Job job) = task (task_view job)
-statement_view line.Snapshot = snapshot
-statement_view line.History = history
-statement_view (line.Show version) = show version
-statement_view (line.Hex name) = hex name.now
-statement_view (line.Tries count) = tries count
-statement_view (line.Fault kind) = fault kind
-statement_view (line.Start actor job) = start actor.now (task_view job)
-statement_view (line.Until actor) = until actor.now
-statement_view (line.Step actor kind) = step actor.now kind
-statement_view (line.Finish actor) = finish actor.now
-statement_view (line.Die actor) = die actor.now
-statement_view (line.Land put) = land put
+statement_view (line.Look shown) = look (look_view shown)
 statement_view (line.Foreign version action) = foreign version action.now
+statement_view (line.Tries count) = tries count
+statement_view (line.World changed) = world (world_view changed)
 
 -- a moment fits where a commit keeps one
 abbrev pub IsTimelyTask : Task → Type 0
@@ -225,22 +245,22 @@ IsTimelyTask (close application at) = at < 2 ^ 63
 IsTimelyTask checkpoint = ⊤
 IsTimelyTask (tail max offset) = ⊤
 
+abbrev pub IsTimelyIn : WorldLine → Type 0
+IsTimelyIn (start actor job) = IsTimelyTask job
+IsTimelyIn (fault kind) = ⊤
+IsTimelyIn (until actor) = ⊤
+IsTimelyIn (step actor kind) = ⊤
+IsTimelyIn (finish actor) = ⊤
+IsTimelyIn (die actor) = ⊤
+IsTimelyIn (land put) = ⊤
+
 abbrev pub IsTimely : Statement → Type 0
 IsTimely (create id at schema) = at < 2 ^ 63
 IsTimely (task job) = IsTimelyTask job
-IsTimely snapshot = ⊤
-IsTimely history = ⊤
-IsTimely (show version) = ⊤
-IsTimely (hex name) = ⊤
+IsTimely (look line) = ⊤
 IsTimely (foreign version action) = ⊤
 IsTimely (tries count) = ⊤
-IsTimely (fault kind) = ⊤
-IsTimely (start actor job) = IsTimelyTask job
-IsTimely (until actor) = ⊤
-IsTimely (step actor kind) = ⊤
-IsTimely (finish actor) = ⊤
-IsTimely (die actor) = ⊤
-IsTimely (land put) = ⊤
+IsTimely (world line) = IsTimelyIn line
 
 -- what the code took a line for
 abbrev pub reading_view : readings.Reading → Reading

@@ -11,6 +11,6 @@ mod splitting;
 mod verb;
 
 pub use kind::Kind;
-pub use line::{Job, Line};
+pub use line::{Job, Line, Look, WorldLine};
 pub use reading::{Reading, reading_of};
 pub use splitting::first_line;

@@ -12,7 +12,7 @@ use json::Scratch;
 use json_text::JsonRows;
 use std::alloc::Global;
 
-/// What an actor can be started with.
+/// What is done to a table: by a line at once, or by an actor that is started with it.
 #[derive(Drop)]
 pub enum Job<'a> {
     /// Puts a batch of rows under a number of the application.
@@ -36,6 +36,38 @@ pub enum Job<'a> {
     },
 }
 
+/// What a line shows of what stands, and leaves as it is.
+#[derive(Drop)]
+pub enum Look<'a> {
+    /// The table's snapshot.
+    Snapshot,
+    /// What each version holds.
+    History,
+    /// The bytes of a commit.
+    Show { version: u64 },
+    /// An object in hexadecimal.
+    Hex { name: &'a str },
+}
+
+/// What a line does to a world of actors.
+#[derive(Drop)]
+pub enum WorldLine<'a> {
+    /// Sets what the next commit put of a line without an actor meets.
+    Fault { kind: Kind },
+    /// Gives an actor a job.
+    Start { actor: &'a str, job: Job<'a> },
+    /// Runs an actor until its next request is a commit put.
+    Until { actor: &'a str },
+    /// Lets an actor's next request meet a kind.
+    Step { actor: &'a str, kind: Kind },
+    /// Runs an actor to its end.
+    Finish { actor: &'a str },
+    /// Drops an actor's session.
+    Die { actor: &'a str },
+    /// Lets a put in flight take effect.
+    Land { put: u64 },
+}
+
 /// A line of a script, with its words read. Moments are in milliseconds.
 #[derive(Drop)]
 pub enum Line<'a> {
@@ -47,57 +79,19 @@ pub enum Line<'a> {
     },
     /// Runs a job at once.
     Job(Job<'a>),
-    /// Prints the table's snapshot.
-    Snapshot,
-    /// Prints what each version holds.
-    History,
-    /// Prints the bytes of a commit.
-    Show {
-        version: u64,
-    },
-    /// Prints an object in hexadecimal.
-    Hex {
-        name: &'a str,
-    },
-    /// Sets how often later sessions try to put a commit.
-    Tries {
-        count: u64,
-    },
-    /// Sets what the next commit put meets.
-    Fault {
-        kind: Kind,
-    },
-    /// Gives an actor a job.
-    Start {
-        actor: &'a str,
-        job: Job<'a>,
-    },
-    /// Runs an actor until its next request is a commit put.
-    Until {
-        actor: &'a str,
-    },
-    /// Lets an actor's next request meet a kind.
-    Step {
-        actor: &'a str,
-        kind: Kind,
-    },
-    /// Runs an actor to its end.
-    Finish {
-        actor: &'a str,
-    },
-    /// Drops an actor's session.
-    Die {
-        actor: &'a str,
-    },
-    /// Lets a put in flight take effect.
-    Land {
-        put: u64,
-    },
+    /// Shows what stands.
+    Look(Look<'a>),
     /// Puts a commit of one line that another tool wrote.
     Foreign {
         version: u64,
         action: &'a str,
     },
+    /// Sets how often later sessions try to put a commit.
+    Tries {
+        count: u64,
+    },
+    /// Does something to a world of actors.
+    World(WorldLine<'a>),
 }
 
 #[tactic(auto, unfolding(crate::specs::Lines::append_head))]
@@ -217,7 +211,7 @@ fn start_from<'a>(
 {
     let (actor, job) = word_and_rest(text).ok_or(FieldError::Malformed)?;
     let job = task_of(alloc, job, scratch, is_owned)?;
-    Ok(Line::Start { actor, job })
+    Ok(Line::World(WorldLine::Start { actor, job }))
 }
 
 #[tactic(auto, unfolding(crate::specs::Lines::step_from))]
@@ -226,7 +220,7 @@ fn step_from(text: &str) -> Option<Line<'_>>
 {
     let (actor, kind) = word_and_rest(text)?;
     let kind = Kind::from_word(kind)?;
-    Some(Line::Step { actor, kind })
+    Some(Line::World(WorldLine::Step { actor, kind }))
 }
 
 #[tactic(auto, unfolding(crate::specs::Lines::foreign_from))]
@@ -243,8 +237,8 @@ fn bare_line<'a>(verb: Verb) -> Option<Line<'a>>
 {
     match verb {
         Verb::Checkpoint => Some(Line::Job(Job::Checkpoint)),
-        Verb::Snapshot => Some(Line::Snapshot),
-        Verb::History => Some(Line::History),
+        Verb::Snapshot => Some(Line::Look(Look::Snapshot)),
+        Verb::History => Some(Line::Look(Look::History)),
         _ => None,
     }
 }
@@ -254,18 +248,18 @@ fn counted_line<'a>(verb: Verb, text: &str) -> Option<Line<'a>>
     ensures { option_map statement_view result ≡ counted_from verb text.now }
 {
     let line = match verb {
-        Verb::Show => Line::Show {
+        Verb::Show => Line::Look(Look::Show {
             version: number_of(text)?,
-        },
+        }),
         Verb::Tries => Line::Tries {
             count: tries_of(text)?,
         },
-        Verb::Fault => Line::Fault {
+        Verb::Fault => Line::World(WorldLine::Fault {
             kind: Kind::from_word(text)?,
-        },
-        Verb::Land => Line::Land {
+        }),
+        Verb::Land => Line::World(WorldLine::Land {
             put: number_of(text)?,
-        },
+        }),
         _ => return None,
     };
     Some(line)
@@ -277,11 +271,11 @@ fn plain_line(verb: Verb, text: &str) -> Option<Line<'_>>
 {
     match verb {
         Verb::Create => create_from(text),
-        Verb::Hex => Some(Line::Hex { name: text }),
-        Verb::Until => Some(Line::Until { actor: text }),
+        Verb::Hex => Some(Line::Look(Look::Hex { name: text })),
+        Verb::Until => Some(Line::World(WorldLine::Until { actor: text })),
         Verb::Step => step_from(text),
-        Verb::Finish => Some(Line::Finish { actor: text }),
-        Verb::Die => Some(Line::Die { actor: text }),
+        Verb::Finish => Some(Line::World(WorldLine::Finish { actor: text })),
+        Verb::Die => Some(Line::World(WorldLine::Die { actor: text })),
         Verb::Foreign => foreign_from(text),
         _ => counted_line(verb, text),
     }

@@ -13,7 +13,8 @@ use Rattle.sink_core.specs.SinkSessions.{AnswerEnds, SinkAsks}
 use Rattle.sink_core.proofs.SinkTalks.{created_quiet, created_told}
 use Rattle.source_core.specs.SourceSessions.{SourceAsks}
 use Rattle.session_laws.specs.May.{TellsWhatWasCreated}
-use Rattle.session_laws.specs.Sessions.{Does, HasAsked, Job, Move, asks, checkpoint, checkpoints, creates, creation, load, loads, read, reads, stream, streams, tells}
+use Rattle.table_jobs.specs.Jobs.{Job, checkpoint, checkpoints, creates, creation, load, loads, read, reads, stream, streams}
+use Rattle.session_laws.specs.Moves.{Does, HasAsked, Move, asks, tells}
 
 -- ---- creations
 

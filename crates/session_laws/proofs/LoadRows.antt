@@ -27,7 +27,8 @@ use Rattle.commit_core.specs.SoundStores.{IsSoundStore}
 use Rattle.commit_core.proofs.Callers.{asked_last, front_log, snapshot_same}
 use Rattle.session_laws.specs.May.{MayAsk}
 use Rattle.session_laws.specs.Rows.{HasCheckpoint, IsLoadedBehind, IsLogBehind, IsTooLargeCheckpoint, MayTellOfCheckpoint, MayTellOfLoad, next_version}
-use Rattle.session_laws.specs.Sessions.{checkpoints, ends_lost, loads}
+use Rattle.table_jobs.specs.Jobs.{checkpoints, loads}
+use Rattle.session_laws.specs.Moves.{ends_lost}
 use Rattle.session_laws.proofs.Lacks.{load_lacks}
 use Rattle.session_laws.proofs.NextVersions.{file_next, listed_next}
 use Rattle.session_laws.proofs.Puts.{front_sound, told_stands}

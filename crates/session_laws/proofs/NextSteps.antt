@@ -6,7 +6,8 @@ use Rattle.session_core.specs.Talks.{Asked, Talk, Told, heard}
 use Rattle.session_core.specs.declared.session.Step.{Step}
 use Rattle.session_core.specs.declared.session.Step.TheVariants.{Ask, Done}
 use Rattle.session_laws.specs.May.{Hears, first, later, move_of}
-use Rattle.session_laws.specs.Sessions.{Asks, Does, Ends, Job, Outcome, ends_lost, is_lost}
+use Rattle.table_jobs.specs.Jobs.{Asks, Ends, Job, Outcome, is_lost}
+use Rattle.session_laws.specs.Moves.{Does, ends_lost}
 
 -- what was told last is told last
 ends_last : (talk : Talk) (asked : Asked) (told : Told) → ends_lost (talk ++ (asked, told) ∷ []) ≡ talks.is_lost told

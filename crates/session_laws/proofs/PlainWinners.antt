@@ -1,17 +1,17 @@
 -- The commits behind the first one of a sound store have no metadata.
-use Rattle.std.proofs.Common.{◌≡◌, ◌∙◌, ◌+◌, ◌≤◌, ◌<◌, ◌||◌, ℕ, zero, suc, List, [], ◌∷◌, length, slice_get, Bool, true, false, Option, Some, None, refl, sym, ap, subst, arith}
+use Rattle.std.proofs.Common.{◌≡◌, ◌∙◌, ◌+◌, ◌≤◌, ◌<◌, ◌||◌, ℕ, zero, suc, List, [], ◌∷◌, length, slice_get, Bool, false, Option, Some, None, refl, sym, ap, subst, arith}
 use Rattle.std.specs.List.{list_any}
 use Rattle.store_core.specs.Objects.{Objects, object_at}
 use Rattle.delta_actions.specs.Action as actions
-use Rattle.delta_actions.specs.Action.{Action, add, checkpoint_metadata, commit_info, domain_metadata, meta_data, other, protocol, remove, sidecar, txn, DomainMetadataAction}
+use Rattle.delta_actions.specs.Action.{Action, add, checkpoint_metadata, commit_info, domain_metadata, meta_data, other, protocol, remove, sidecar, txn}
 use Rattle.delta_actions.specs.Commit.{IsCommit}
 use Rattle.store_core.specs.Names.{commit_name, greatest_version}
 use Rattle.delta_replay.specs.Keys.{is_of, the_meta_data}
-use Rattle.table_log.specs.Versions.{Version, commit, commit_of, missing, unreadable, version_at, version_by, version_read}
+use Rattle.table_log.specs.Versions.{commit, commit_of, version_at, version_by, version_read}
 use Rattle.table_log.proofs.CommitBytes.{commit_is}
 use Rattle.table_model.specs.Lawful.{BeginsWithCreation, NoCreation}
 use Rattle.table_model.specs.Table.{Entry, creation, group, close}
-use Rattle.table_store.specs.Commits.{IsCommitOf, StandFor, without_commit_info}
+use Rattle.table_store.specs.Commits.{StandFor, without_commit_info}
 use Rattle.table_store.specs.Groups.{AreTxnsAndAdds}
 use Rattle.table_store.specs.Schema.{Schema}
 use Rattle.table_store.specs.Sound.{IsSound}

@@ -29,7 +29,8 @@ use Rattle.read_laws.specs.Kept.{IsKept}
 use Rattle.read_laws.proofs.Callers.{read_may, sound_kept}
 use Rattle.session_laws.specs.May.{MayAsk}
 use Rattle.session_laws.specs.Rows.{MayTellOfRead, TellsOfListed, TellsOfNone, WasListed, next_version}
-use Rattle.session_laws.specs.Sessions.{HasAsked, ends_lost, reads}
+use Rattle.table_jobs.specs.Jobs.{reads}
+use Rattle.session_laws.specs.Moves.{HasAsked, ends_lost}
 use Rattle.session_laws.proofs.NextVersions.{gets_next}
 
 -- ---- what it asks for

@@ -7,7 +7,7 @@ use Rattle.session_core.specs.Sessions.{AllAsked}
 use Rattle.session_core.specs.Talks.{Asked, Bears, Talk, get_object, put_commit, told_object, told_put}
 use Rattle.session_core.specs.Shown.{AllGets}
 use Rattle.delta_actions.specs.Names as names
-use Rattle.store_core.specs.Names.{commit_name, greatest_version}
+use Rattle.store_core.specs.Names.{commit_name}
 use Rattle.table_log.specs.LoadSessions.{HasListed, LoadAsks}
 use Rattle.table_model.specs.Table.{Entry}
 use Rattle.table_store.specs.Holds.{Holds}
@@ -23,7 +23,7 @@ use Rattle.batch_core.specs.Requests.{SinkRequest}
 use Rattle.batch_core.specs.declared.fault.SinkFault.{SinkFault}
 use Rattle.batch_core.specs.declared.fault.SinkFault.TheVariants as faults
 use Rattle.sink_core.specs.SinkSessions as sinks
-use Rattle.sink_core.specs.SinkSessions.{AnswerEnds, InRace, LooksAt, SinkAsks, SinkJob, race_of, repeated, rules}
+use Rattle.sink_core.specs.SinkSessions.{AnswerEnds, LooksAt, SinkAsks, SinkJob, race_of, repeated, rules}
 use Rattle.sink_core.specs.declared.sink_state.SinkOutcome.{SinkOutcome}
 use Rattle.sink_core.specs.declared.sink_state.SinkOutcome.TheVariants.{Already, AlreadyClosed, Closed, Committed}
 use Rattle.sink_core.proofs.SinkCounts.{all_tried}

@@ -1,12 +1,12 @@
 -- Why a stream's session does nothing more: what it tells is so of the table, of the rules over the commits that are known, or of its talk.
-use Rattle.std.proofs.Common.{◌≡◌, ◌∙◌, ◌⊎◌, ◌<◌, ◌≤◌, ℕ, suc, List, [], ◌∷◌, ◌++◌, Bool, true, false, Option, Some, None, Result, Ok, Err, IsSome, append_assoc, inl, inr, refl, sym, ap, ap₂, subst, arith}
+use Rattle.std.proofs.Common.{◌≡◌, ◌∙◌, ◌⊎◌, ◌<◌, ◌≤◌, ℕ, suc, List, [], ◌∷◌, ◌++◌, true, false, Option, Some, None, Result, Ok, Err, IsSome, append_assoc, inl, inr, refl, sym, ap, ap₂, subst, arith}
 use Rattle.std.specs.Str.{IsUtf8}
 use Rattle.serde_json.specs.Data.{Items}
 use Rattle.outcomes.specs.Results.{◌>>=◌, refused_as}
 use Rattle.store_core.specs.Objects.{Objects, object_at}
 use Rattle.store_core.specs.declared.store.Put.TheVariants.{Exists}
-use Rattle.store_core.specs.Names.{commit_name, greatest_version}
-use Rattle.session_core.specs.Talks.{Bears, Talk, get_object, put_commit, put_file, told_lost, told_object, told_put}
+use Rattle.store_core.specs.Names.{greatest_version}
+use Rattle.session_core.specs.Talks.{Bears, Talk, get_object, put_file, told_lost, told_object, told_put}
 use Rattle.session_core.proofs.Callers.{bears_more}
 use Rattle.schema_tree.specs.Tree.{Tree}
 use Rattle.source_core.specs.ParquetFile.{KeepsLimits}
@@ -38,13 +38,13 @@ use Rattle.batch_core.specs.declared.fault.SinkFault.TheVariants as faults
 use Rattle.batch_core.specs.RowsIn.{rows_from}
 use Rattle.batch_core.proofs.Callers.{IsOfNumber, asked_parts, close_parts, reads_as_file, refused_parts}
 use Rattle.sink_core.specs.SinkSessions as sinks
-use Rattle.sink_core.specs.SinkSessions.{AnswerEnds, HasLooked, HoldsOf, LooksAt, Point, Reaches, Readied, SinkJob, SinkTask, appends, asked_of, closes, conflicts, file_of, goes_on, loaded, race_of, ready, repeated, rules, readies, tell_metadata}
-use Rattle.session_laws.specs.Rows.{FoundTaken, GotNone, HasLargeFile, HasOtherFile, IsBatchOf, LosesCommit, RulesSay, TellsOfBatch, name_of, next_version}
+use Rattle.sink_core.specs.SinkSessions.{AnswerEnds, HasLooked, HoldsOf, LooksAt, Point, Reaches, SinkJob, SinkTask, appends, asked_of, closes, file_of, race_of, ready, repeated, rules, tell_metadata}
+use Rattle.session_laws.specs.Rows.{GotNone, HasLargeFile, HasOtherFile, IsBatchOf, LosesCommit, RulesSay, TellsOfBatch, name_of, next_version}
 use Rattle.session_laws.proofs.Entries.{batch_file}
 use Rattle.session_laws.proofs.Fronts.{IsKnownFront, reached_front}
 use Rattle.session_laws.proofs.NextVersions.{in_race_next, reaches_next, reaches_some}
 use Rattle.session_laws.proofs.PlainWinners.{plain_commits}
-use Rattle.session_laws.proofs.Ready.{batch_by, file_named, ready_for, ruled_batch}
+use Rattle.session_laws.proofs.Ready.{batch_by, file_named, ruled_batch}
 use Rattle.session_laws.proofs.TableAnswers.{again_answer, closed_answer, stale_answer, written_front}
 
 -- a close isn't refused for a number

@@ -1,6 +1,5 @@
 -- What each session may do next, in every sound store that bears its talk.
-use Rattle.std.specs.Prelude.{◌≡◌, ◌≤◌, ℕ, List, [], ◌∷◌, ◌++◌, Option, None, Some, Ok}
-use Rattle.std.specs.Str.{IsUtf8}
+use Rattle.std.specs.Prelude.{◌≡◌, ℕ, List, [], ◌∷◌, ◌++◌, Option, None, Some, Ok}
 use Rattle.store_core.specs.Objects.{AreBytes, Objects}
 use Rattle.store_core.specs.declared.store.Put.TheVariants.{Created}
 use Rattle.session_core.specs.Talks.{Asked, Bears, Talk, Told, asked_view, list_names, get_object, put_commit, put_file, told_put}
@@ -14,7 +13,8 @@ use Rattle.commit_core.specs.CreateSessions.{IsCreationOf, MayTellOfCreation}
 use Rattle.sink_core.specs.SinkLaws.{TellsCommit}
 use Rattle.sink_core.specs.SinkSessions.{IsFine}
 use Rattle.session_laws.specs.Rows.{IsCheckpointPut, IsJobCommit, IsJobFile, MayPutNext, MayTellOfCheckpoint, MayTellOfLoad, MayTellOfRead, MayTellOfStream}
-use Rattle.session_laws.specs.Sessions.{HasAsked, Job, Move, Outcome, asks, checkpoint, checkpoints, creates, creation, load, loads, read, reads, stream, streams, tells}
+use Rattle.table_jobs.specs.Jobs.{Job, Outcome, checkpoint, checkpoints, creates, creation, load, loads, read, reads, stream, streams}
+use Rattle.session_laws.specs.Moves.{HasAsked, Move, asks, tells}
 
 -- ---- the store, and the job
 
@@ -27,11 +27,6 @@ pub record BearsSession (objects : Objects) (schema : Schema) (entries : List En
   pub earlier : Bears objects before
   pub borne : Bears objects talk
   pub asked : HasAsked job before talk
-
--- a stream's application is a text, and its job tries a version at least
-abbrev pub IsValidJob : Job → Type 0
-IsValidJob (streams job) = IsUtf8 job.application × (1 ≤ job.tries)
-IsValidJob job = Unit {0}
 
 -- ---- what it may do
 

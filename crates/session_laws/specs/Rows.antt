@@ -53,7 +53,7 @@ use Rattle.log_rows.specs.declared.tail_fault.TailFault.{TailFault}
 use Rattle.log_rows.specs.declared.tail_fault.TailFault.TheVariants as read_faults
 use Rattle.read_laws.specs.Readable.{HasReadableFiles}
 use Rattle.read_laws.specs.Readers.{MayTellOfTable}
-use Rattle.session_laws.specs.Sessions.{ends_lost}
+use Rattle.session_laws.specs.Moves.{ends_lost}
 
 -- ---- talks
 
@@ -76,10 +76,6 @@ LosesCommit talk version = (front : Talk) × (bytes : List ℕ) × (talk ≡ fro
 -- at last nothing was got under a name
 abbrev pub GotNone : Talk → (name : List ℕ) → Type 0
 GotNone talk name = (front : Talk) × (talk ≡ front ++ (get_object name, told_object None) ∷ [])
-
--- the put of a version's commit found it taken
-abbrev pub FoundTaken : Talk → (version : ℕ) → Type 0
-FoundTaken talk version = (front : Talk) × (bytes : List ℕ) × (rest : Talk) × (talk ≡ front ++ (put_commit version bytes, told_put Exists) ∷ rest)
 
 -- these names were listed first
 abbrev pub Lists : Talk → (names : List (List ℕ)) → Type 0

@@ -1,7 +1,7 @@
 //! What each session may ask for and tell next, in every sound store that bears its talk: laws, each a function that
 //! does nothing.
 
-ghost use Rattle.std.specs.Prelude.{ℕ, List, Result};
+ghost use Rattle.std.specs.Prelude.{List, Result};
 ghost use Rattle.store_core.specs.Objects.{Objects};
 ghost use Rattle.session_core.specs.Talks.{Asked, Talk};
 ghost use Rattle.table_model.specs.Table.{Entry};
@@ -16,9 +16,10 @@ ghost use Rattle.sink_core.specs.SinkSessions.{SinkAsks, SinkEnds, SinkJob};
 ghost use Rattle.sink_core.specs.declared.sink_state.SinkEnd.{SinkEnd};
 ghost use Rattle.source_core.specs.SourceSessions.{SourceAsks, SourceJob};
 ghost use Rattle.source_core.specs.declared.source_session.ReadEnd.{ReadEnd};
-ghost use Rattle.session_laws.specs.May.{BearsSession, IsValidJob, May, MayAsk, TellsWhatWasCreated};
+ghost use Rattle.session_laws.specs.May.{BearsSession, May, MayAsk, TellsWhatWasCreated};
+ghost use Rattle.table_jobs.specs.Jobs.{IsValidJob, Job, checkpoint, checkpoints, load, loads, read, reads, streams};
 ghost use Rattle.session_laws.specs.Rows.{MayTellOfCheckpoint, MayTellOfLoad, MayTellOfRead, MayTellOfStream};
-ghost use Rattle.session_laws.specs.Sessions.{Does, HasAsked, Job, Move, checkpoint, checkpoints, load, loads, read, reads, streams, tells};
+ghost use Rattle.session_laws.specs.Moves.{Does, HasAsked, Move, tells};
 
 use commit_core::{what_a_commit_may, what_a_creation_may};
 

@@ -13,7 +13,7 @@ ghost use Rattle.sink_core.specs.SinkFits as sink_fits;
 ghost use Rattle.sink_core.specs.SinkSessions as sink_sessions;
 ghost use Rattle.source_core.specs.SourceSessions as source_sessions;
 ghost use Rattle.session_laws.specs.May.{Hears, BearsSession, StepMay};
-ghost use Rattle.session_laws.specs.Sessions.{checkpoint, checkpoints, creates, creation, load, loads, read, reads, stream, streams};
+ghost use Rattle.table_jobs.specs.Jobs.{checkpoint, checkpoints, creates, creation, load, loads, read, reads, stream, streams};
 
 use crate::what_a_session_may;
 use commit_core::{CreateFault, CreateSession};

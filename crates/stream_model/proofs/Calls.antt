@@ -15,12 +15,12 @@ use Rattle.table_store.specs.Schema.{Schema}
 use Rattle.log_laws.specs.Sound.{IsSoundStore}
 use Rattle.batch_core.specs.Committing.{batch_actions}
 use Rattle.sink_core.specs.SinkSessions.{Point, Reaches, SinkAsks, SinkJob, SinkTask, appends, closes}
-use Rattle.session_laws.specs.May.{IsValidJob, MayAsk}
+use Rattle.session_laws.specs.May.{MayAsk}
+use Rattle.session_laws.specs.Jobs.{IsValidJob, Asks, Job, checkpoints, creates, loads, reads, streams}
 use Rattle.session_laws.specs.Rows.{IsBatchOf, IsJobCommit}
-use Rattle.session_laws.specs.Sessions.{Asks, Does, HasAsked, Job, asks, checkpoints, creates, loads, reads, streams}
+use Rattle.session_laws.specs.Moves.{Does, HasAsked, asks}
 use Rattle.session_core.proofs.Callers.{asked_more}
-use Rattle.session_laws.proofs.Callers.{batch_commit, close_commit, reached_front, reaches_some}
-use Rattle.session_laws.proofs.Callers.{bears_front}
+use Rattle.session_laws.proofs.Callers.{batch_commit, close_commit, reached_front, reaches_some, bears_front}
 use Rattle.stream_model.specs.Events.{Event, IsOfBytes}
 use Rattle.stream_model.specs.Puts.{HasTable, IsGoodPut, IsMade, Submitted, WasBegun, a_checkpoint, a_commit, a_file}
 use Rattle.stream_model.specs.Puts as made

@@ -1,10 +1,10 @@
 -- An event that fits a world has its effect, and another one changes nothing.
-use Rattle.std.proofs.Common.{◌≡◌, ◌==◌, ℕ, List, [], Option, Some, None, true, inl, inr, refl, arith}
+use Rattle.std.proofs.Common.{◌≡◌, ◌==◌, ℕ, [], Option, Some, None, true, inl, inr, refl, arith}
 use Rattle.std.proofs.lemmas.Bool.Decides.{nat_tests}
 use Rattle.store_core.specs.ObjectLaws.{object_at-with_object_same}
 use Rattle.store_core.specs.Objects.{Objects}
 use Rattle.session_core.specs.Talks.{Asked, Talk}
-use Rattle.session_laws.specs.Sessions.{Job, Outcome}
+use Rattle.session_laws.specs.Jobs.{Job, Outcome}
 use Rattle.stream_model.specs.Effects.{HasEffect, HasStepped, IsAnswered}
 use Rattle.stream_model.specs.Events.{Event, Fits, Happens, Takes, acts, begins, begins_now, dies, ends, goes_on, lands, loses, nothing_happens, takes}
 use Rattle.stream_model.specs.Worlds.{Actor, Hand, How, World, asking, ended, late, lost, once, short, told_how, twice, with_actor}

@@ -32,7 +32,8 @@ use Rattle.log_rows.specs.declared.read_state.ReadRows.{ReadRows}
 use Rattle.log_rows.specs.declared.tail_fault.TailFault.{TailFault}
 use Rattle.source_core.specs.declared.source_session.ReadEnd.{ReadEnd}
 use Rattle.row_core.specs.Views.{row_views}
-use Rattle.session_laws.specs.Sessions.{Asks, Does, HasAsked, Job, Outcome, read, reads, stream, streams, tells}
+use Rattle.session_laws.specs.Jobs.{Asks, Job, Outcome, read, reads, stream, streams}
+use Rattle.session_laws.specs.Moves.{Does, HasAsked, tells}
 use Rattle.stream_model.specs.Events.{Event}
 use Rattle.stream_model.specs.Headline.{IsPartOf, IsSoOf}
 use Rattle.stream_model.specs.Puts.{IsGoodPut, Submitted, WasBegun}

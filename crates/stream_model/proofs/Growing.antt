@@ -12,8 +12,8 @@ use Rattle.table_store.proofs.HoldingGrown.{front, same_schema}
 use Rattle.table_store.proofs.HoldingSchema.{only_table}
 use Rattle.table_model.specs.Lawful.{IsLawful}
 use Rattle.sink_core.specs.SinkSessions.{SinkJob}
-use Rattle.session_laws.specs.Sessions.{Job, streams}
-use Rattle.session_laws.specs.Sessions as jobs
+use Rattle.session_laws.specs.Jobs.{Job, streams}
+use Rattle.session_laws.specs.Jobs as jobs
 use Rattle.stream_model.specs.Events.{Event}
 use Rattle.stream_model.specs.Puts.{HasTable, IsGoodPut, IsMade, IsSubmittedFile, Submitted, WasBegun, a_checkpoint, a_commit, a_file, appends, closes, creates}
 

@@ -13,8 +13,9 @@ use Rattle.table_model.specs.declared.reading.Offset.{Offset}
 use Rattle.table_store.specs.Schema.{Schema}
 use Rattle.table_store.specs.Sound.{IsAdmissible}
 use Rattle.log_laws.specs.Sound.{IsSoundStore}
-use Rattle.session_laws.specs.May.{BearsSession, IsValidJob, May}
-use Rattle.session_laws.specs.Sessions.{Does, Job, Move}
+use Rattle.session_laws.specs.May.{BearsSession, May}
+use Rattle.session_laws.specs.Jobs.{IsValidJob, Job}
+use Rattle.session_laws.specs.Moves.{Does, Move}
 
 pub record AreLaws : Type 0 where
   pub empty : IsSoundStore []

@@ -21,7 +21,8 @@ use Rattle.log_rows.specs.declared.tail_fault.TailFault.{TailFault}
 use Rattle.source_core.specs.declared.source_session.ReadEnd.{ReadEnd}
 use Rattle.session_laws.specs.Readers.{next_told, rows_told}
 use Rattle.session_laws.specs.Rows.{Lists, MayTellOfRead, TellsOfListed, WasListed, next_version}
-use Rattle.session_laws.specs.Sessions.{HasAsked, Job, Outcome, read, reads}
+use Rattle.session_laws.specs.Jobs.{Job, Outcome, read, reads}
+use Rattle.session_laws.specs.Moves.{HasAsked}
 use Rattle.session_laws.proofs.Callers.{none_told}
 use Rattle.stream_model.specs.Events.{Event}
 use Rattle.stream_model.specs.Headline.{HandsOutTheLog, IsPartOf, Resume, last_offset, most_rows, rows_handed}

@@ -15,7 +15,8 @@ use Rattle.session_laws.specs.May.{MayTell}
 use Rattle.source_core.specs.SourceSessions.{SourceJob}
 use Rattle.source_core.specs.declared.source_session.ReadEnd.{ReadEnd}
 use Rattle.session_laws.specs.Rows.{IsLogBehind, Lists, MayTellOfRead, MayTellOfStream, TellsOfListed, next_version}
-use Rattle.session_laws.specs.Sessions.{HasAsked, Job, Outcome, checkpoints, creates, loads, read, reads, streams, tells}
+use Rattle.session_laws.specs.Jobs.{Job, Outcome, checkpoints, creates, loads, read, reads, streams}
+use Rattle.session_laws.specs.Moves.{HasAsked, tells}
 use Rattle.session_laws.proofs.Callers.{IsFrontOf, front_of, listed_count}
 use Rattle.stream_model.specs.Events.{Event, HasActor}
 use Rattle.stream_model.specs.Headline.{IsReadSo, ListsCommit, TellsBadLog, TellsSchemaChanged, TellsUnsupported, bad_checkpoint, bad_load, bad_stream, changed, unsupported}

@@ -11,8 +11,8 @@ use Rattle.table_store.specs.Schema.{Schema}
 use Rattle.sink_core.specs.SinkSessions.{SinkJob}
 use Rattle.sink_core.specs.declared.sink_state.SinkEnd.{SinkEnd}
 use Rattle.session_laws.specs.Rows.{IsBatchOf}
-use Rattle.session_laws.specs.Sessions.{Job, Outcome}
-use Rattle.stream_model.specs.Events.{CanBegin, Event, Happens, IsWorldOf, Ran, acts, at_first, begin, begins, die, dies, ends, goes_on, lands, nothing_happens, then_one, with_told}
+use Rattle.session_laws.specs.Jobs.{Job, Outcome, CanBegin}
+use Rattle.stream_model.specs.Events.{Event, Happens, IsWorldOf, Ran, acts, at_first, begin, begins, die, dies, ends, goes_on, lands, nothing_happens, then_one, with_told}
 use Rattle.stream_model.specs.Headline.{Acknowledges, IsHeadline, IsSoOf, already, committed}
 use Rattle.stream_model.specs.Worlds.{How, World, empty_world, fresh, late, left_by, left_how, lost, once, short, twice}
 use Rattle.stream_model.proofs.Calls.{got_one}

@@ -17,10 +17,9 @@ use Rattle.log_laws.proofs.Callers.{count_held, held_first}
 use Rattle.session_laws.specs.ParquetFile.{KeepsLimits}
 use Rattle.row_core.specs.Rows.{Row}
 use Rattle.source_core.specs.SourceSessions.{HasNewFiles, IsNewFile, SourceAsks, SourceJob}
-use Rattle.session_laws.proofs.Callers.{kept_files, sound_kept}
+use Rattle.session_laws.proofs.Callers.{kept_files, sound_kept, batch_file, no_versions}
 use Rattle.session_laws.specs.Rows.{IsReadable, Lists}
-use Rattle.session_laws.specs.Sessions.{Asks, Job, reads}
-use Rattle.session_laws.proofs.Callers.{batch_file, no_versions}
+use Rattle.session_laws.specs.Jobs.{Asks, Job, reads}
 use Rattle.stream_model.specs.Events.{Event}
 use Rattle.stream_model.specs.Worlds.{left_by, told_by}
 use Rattle.stream_model.proofs.Growing.{file_more, lawful_held, submitted_more}

@@ -20,7 +20,8 @@ use Rattle.sink_core.specs.declared.sink_state.SinkOutcome.{SinkOutcome}
 use Rattle.sink_core.specs.declared.sink_state.SinkOutcome.TheVariants.{Already, AlreadyClosed, Closed, Committed}
 use Rattle.session_laws.specs.May.{BearsSession, MayAsk, MayTell}
 use Rattle.session_laws.specs.Rows.{MayTellOfStream}
-use Rattle.session_laws.specs.Sessions.{Asks, Does, HasAsked, Job, Outcome, asks, checkpoint, checkpoints, creates, creation, load, loads, read, reads, stream, streams, tells}
+use Rattle.session_laws.specs.Jobs.{Asks, Job, Outcome, checkpoint, checkpoints, creates, creation, load, loads, read, reads, stream, streams}
+use Rattle.session_laws.specs.Moves.{Does, HasAsked, asks, tells}
 use Rattle.stream_model.specs.Events.{Event, HasActor, IsOfBytes, Takes, begins_now, loses, takes, with_told}
 use Rattle.stream_model.specs.Headline.{IsPartOf, IsSoOf}
 use Rattle.stream_model.specs.Puts.{IsGoodPut, WasBegun}

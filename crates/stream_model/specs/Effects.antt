@@ -1,5 +1,5 @@
 -- What an event does to a world that it fits.
-use Rattle.std.specs.Prelude.{◌≡◌, ℕ, List, [], Option, Some, None, slice_get, unwrap_or}
+use Rattle.std.specs.Prelude.{◌≡◌, ℕ, List, [], Some, None, slice_get, unwrap_or}
 use Rattle.store_core.specs.Objects.{Objects, object_at}
 use Rattle.session_core.specs.Talks.{Asked, Talk, Told, told_lost, told_memory}
 use Rattle.stream_model.specs.Events.{Event, HasActor, Takes, act, answer, begin, die, land, lose_answer}

@@ -1,10 +1,10 @@
 -- What may happen in a world: one event after the other, from a world in which nothing stands.
-use Rattle.std.specs.Prelude.{◌≡◌, ◌⊎◌, ℕ, List, [], ◌∷◌, ◌++◌, length, Option, None, Some, slice_get}
+use Rattle.std.specs.Prelude.{◌≡◌, ◌⊎◌, ℕ, List, [], ◌∷◌, ◌++◌, Option, None, Some, slice_get}
 use Rattle.outcomes.specs.Bytes.{IsBytes}
 use Rattle.store_core.specs.Objects.{with_object}
 use Rattle.session_core.specs.Talks.{Asked, Talk, Told, put_commit, put_file, told_lost}
-use Rattle.session_laws.specs.May.{IsValidJob}
-use Rattle.session_laws.specs.Sessions.{Does, Job, Outcome, asks, checkpoints, creates, loads, reads, streams, tells}
+use Rattle.session_laws.specs.Jobs.{CanBegin, Job, Outcome}
+use Rattle.session_laws.specs.Moves.{Does, asks, tells}
 use Rattle.stream_model.specs.Worlds.{Actor, How, World, acted, asking, empty_world, ended, fresh, waiting, with_actor}
 
 -- An actor begins a session, dropping an older one, or dies; its call is answered in some way; its session goes on: it makes its first step,
@@ -16,19 +16,6 @@ pub data Event : Type 0 where
   answer : (name : ℕ) → Event
   lose_answer : (name : ℕ) → Event
   land : (place : ℕ) → Event
-
--- how many versions of the log a job knows before it begins
-abbrev pub known_of : Job → ℕ
-known_of (creates job) = 0
-known_of (loads job) = job.known
-known_of (checkpoints job) = job.known
-known_of (streams job) = job.load.known
-known_of (reads job) = length job.known
-
--- a job that can begin: a stream's application is a text and a version is tried at least, and no version is known already. Of the name of
--- a checkpoint from which none is known nothing is asked.
-abbrev pub CanBegin : Job → Type 0
-CanBegin job = IsValidJob job × (known_of job ≡ 0)
 
 -- the actor of a number
 abbrev pub HasActor : World → ℕ → Actor → Type 0

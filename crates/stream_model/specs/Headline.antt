@@ -30,7 +30,8 @@ use Rattle.source_core.specs.declared.source_session.ReadEnd.{ReadEnd}
 use Rattle.log_rows.specs.declared.tail_fault.TailFault.TheVariants as read_faults
 use Rattle.session_laws.specs.Readers.{next_told, rows_told}
 use Rattle.session_laws.specs.Rows.{IsBatchOf, Lists, TellsOfBatch, TellsOfListed}
-use Rattle.session_laws.specs.Sessions.{Job, Outcome, checkpoint, ends_lost, load, read, reads, stream, streams}
+use Rattle.session_laws.specs.Jobs.{Job, Outcome, checkpoint, load, read, reads, stream, streams}
+use Rattle.session_laws.specs.Moves.{ends_lost}
 use Rattle.stream_model.specs.Events.{Event}
 use Rattle.stream_model.specs.Puts.{Submitted}
 

@@ -11,10 +11,10 @@ use Rattle.table_store.specs.Sound.{IsAdmissible}
 use Rattle.sink_core.specs.SinkSessions as tasks
 use Rattle.sink_core.specs.SinkSessions.{SinkJob}
 use Rattle.session_laws.specs.Rows.{IsBatchOf, IsJobFile}
-use Rattle.session_laws.specs.Sessions.{Job, streams}
-use Rattle.session_laws.specs.Sessions as jobs
+use Rattle.session_laws.specs.Jobs.{Job, streams, CanBegin}
+use Rattle.session_laws.specs.Jobs as jobs
 use Rattle.session_laws.specs.CreateSessions.{CreateJob, IsCreationOf}
-use Rattle.stream_model.specs.Events.{CanBegin, Event, begin}
+use Rattle.stream_model.specs.Events.{Event, begin}
 
 -- some actor began this job, which can begin
 abbrev pub WasBegun : List Event → Job → Type 0

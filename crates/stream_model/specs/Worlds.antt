@@ -4,7 +4,7 @@ use Rattle.store_core.specs.Calls.{Flight, put_told}
 use Rattle.store_core.specs.Objects.{Objects, names_of, object_at, with_object}
 use Rattle.session_core.specs.Talks.{Asked, Talk, Told, get_object, list_names, put_commit, put_file, told_lost, told_memory, told_names, told_object, told_put}
 use Rattle.store_core.specs.Names.{commit_name}
-use Rattle.session_laws.specs.Sessions.{Job, Outcome}
+use Rattle.session_laws.specs.Jobs.{Job, Outcome}
 
 -- What a session has at hand: it has asked for nothing yet; it asks for a call; an answer to its call waits; or it has ended.
 pub data Hand : Type 0 where

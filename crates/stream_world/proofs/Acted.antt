@@ -5,10 +5,10 @@ use Rattle.store_core.specs.Objects.{Objects}
 use Rattle.session_core.specs.Talks.{Asked, Talk, asked_view, told_view}
 use Rattle.session_core.specs.declared.asking.Reply.{Reply}
 use Rattle.session_core.specs.declared.asking.Request.{Request}
-use Rattle.stream_model.specs.JobSessions.{Job}
+use Rattle.table_jobs.specs.Jobs.{Job}
 use Rattle.stream_model.specs.Events.{Fits, HasActor, act, acts}
 use Rattle.stream_model.specs.Worlds.{Actor, Hand, How, World, acted, asking, ended, fresh, told_how, waiting}
-use Rattle.stream_world.specs.Sessions.{SessionFits, job_of}
+use Rattle.table_jobs.specs.Sessions.{SessionFits, job_of}
 use Rattle.stream_world.specs.Standing.{ActorStands, Becomes, HandStands, HasEnded, Meets, SlotStands}
 use Rattle.stream_world.specs.declared.actor.Actor as code
 use Rattle.stream_world.specs.declared.actor.Hand as code_hand

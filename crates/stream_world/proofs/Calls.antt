@@ -13,7 +13,7 @@ use Rattle.session_core.specs.Talks.{Asked, Told, get_object, list_names, put_co
 use Rattle.store_core.specs.Names.{commit_name}
 use Rattle.stream_model.specs.Worlds.{How, left_by, once, short, told_by, twice}
 use Rattle.stream_world.specs.Calling.{IsSentCall, again, sent_told}
-use Rattle.stream_world.specs.Jobs.{IsMetIn}
+use Rattle.stream_world.specs.EventViews.{IsMetIn}
 use Rattle.stream_world.specs.Standing.{Meets}
 
 -- What a store answers that loses no call takes effect, or memory ran out.

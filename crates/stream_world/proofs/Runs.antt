@@ -5,20 +5,20 @@ use Rattle.stream_model.specs.SoundStores.{IsSoundStore}
 use Rattle.table_model.specs.Table.{Entry}
 use Rattle.stream_model.specs.Holds.{Holds}
 use Rattle.stream_model.specs.TableSchema.{Schema}
-use Rattle.stream_model.specs.JobSessions.{Job, Outcome}
+use Rattle.table_jobs.specs.Jobs.{Job, Outcome}
 use Rattle.stream_model.specs.Events.{Event, IsWorldOf, Ran}
 use Rattle.stream_model.specs.Events as events
 use Rattle.stream_model.specs.Headline.{IsHeadline}
 use Rattle.stream_model.specs.Worlds.{World}
-use Rattle.stream_world.specs.Jobs.{event_view}
+use Rattle.stream_world.specs.EventViews.{event_view}
 use Rattle.stream_world.specs.Running.{AreRun, HasRun, IsTold, at_first, then_one}
 use Rattle.stream_world.specs.Standing.{HasHappened, WorldStands, quiet_world}
 use Rattle.stream_world.specs.declared.event.Event as code_event
-use Rattle.stream_world.specs.declared.table_session.Outcome as code_outcome
+use Rattle.table_jobs.specs.declared.job_session.JobEnd as code_end
 use Rattle.stream_world.specs.declared.world.World as code_world
 
 -- what was run happened
-ran_so : (first : World) (seen : List code_event.Event) (told : List (Option code_outcome.Outcome)) (met : List Event) (outs : List (Job × Outcome)) (w : World) → AreRun first seen told met outs w → Ran first met outs w
+ran_so : (first : World) (seen : List code_event.Event) (told : List (Option code_end.JobEnd)) (met : List Event) (outs : List (Job × Outcome)) (w : World) → AreRun first seen told met outs w → Ran first met outs w
 ran_so first _ _ _ _ _ at_first = events.at_first
 ran_so first _ _ _ _ _ (then_one seen told met outs w event next one out later run is tells happens) = events.then_one met outs w one out later (ran_so first seen told met outs w run) happens
 
@@ -27,7 +27,7 @@ pub run_none : {S : Type 0} (objects : S → Objects) (first : Objects) (world :
 run_none objects first world stands = record { met = []; outs = []; w = quiet_world first; ran = at_first; stands = stands }
 
 -- one more event has happened
-pub run_more : {S : Type 0} (objects : S → Objects) (first : Objects) (seen : List code_event.Event) (event : code_event.Event) (told : List (Option code_outcome.Outcome)) (next : Option code_outcome.Outcome) (world later : code_world.World S)
+pub run_more : {S : Type 0} (objects : S → Objects) (first : Objects) (seen : List code_event.Event) (event : code_event.Event) (told : List (Option code_end.JobEnd)) (next : Option code_end.JobEnd) (world later : code_world.World S)
     → HasRun objects first seen told world → ((w : World) → WorldStands objects world w → HasHappened objects w (event_view event) next later) → HasRun objects first (seen ++ event ∷ []) (told ++ next ∷ []) later
 run_more objects first seen event told next world later run happens =
     let one = happens run.w run.stands in
@@ -40,7 +40,7 @@ run_more objects first seen event told next world later run happens =
     }
 
 -- What was told by events over nothing is so of the table that the store holds, as it is of every world.
-pub told_so : {S : Type 0} (objects : S → Objects) (first : Objects) (seen : List code_event.Event) (told : List (Option code_outcome.Outcome)) (world : code_world.World S) → HasRun objects first seen told world → first ≡ []
+pub told_so : {S : Type 0} (objects : S → Objects) (first : Objects) (seen : List code_event.Event) (told : List (Option code_end.JobEnd)) (world : code_world.World S) → HasRun objects first seen told world → first ≡ []
     → ((met : List Event) (outs : List (Job × Outcome)) (w : World) → IsWorldOf met outs w → IsSoundStore w.objects)
     → ((met : List Event) (outs : List (Job × Outcome)) (w : World) → IsWorldOf met outs w → (schema : Schema) (entries : List Entry) → Holds w.objects schema entries → IsHeadline met outs schema entries)
     → IsTold objects seen told world

@@ -7,19 +7,20 @@ use Rattle.session_core.specs.Talks as talks
 use Rattle.session_core.specs.Talks.{Asked, Talk, Told, asked_view, heard, told_lost, told_view}
 use Rattle.session_core.specs.declared.asking.Reply.{Reply}
 use Rattle.session_core.specs.declared.asking.Reply.TheVariants as replies
-use Rattle.stream_model.specs.JobSessions.{Asks, Does, Ends, Job, Outcome, asks, ends_lost, is_lost, tells}
+use Rattle.table_jobs.specs.Jobs.{Asks, Ends, Job, Outcome, is_lost}
+use Rattle.stream_model.specs.Moves.{Does, asks, ends_lost, tells}
 use Rattle.stream_model.specs.Events.{Event, Fits, HasActor, Takes, act, answer, begin, begins_now, die, ends, goes_on, land, lose_answer, loses, nothing_happens, takes}
 use Rattle.stream_model.specs.Worlds.{Actor, Hand, How, World, asking, ended, fresh, waiting, with_actor}
 use Rattle.stream_model.specs.Worlds as worlds
 use Rattle.stream_world.specs.Acting.{AsksNext, GoesOnAs, HasNext, TellsNext}
-use Rattle.stream_world.specs.Jobs.{IsMetAs, IsMetIn}
-use Rattle.stream_world.specs.Sessions.{SessionFits, job_of, outcome_view}
+use Rattle.stream_world.specs.EventViews.{IsMetAs, IsMetIn}
+use Rattle.table_jobs.specs.Sessions.{SessionFits, job_of, end_view}
 use Rattle.stream_world.specs.Standing.{ActorStands, Becomes, HandStands, HasEnded, SlotStands, call_of, taking}
 use Rattle.stream_world.specs.declared.actor.Actor as code
 use Rattle.stream_world.specs.declared.actor.Hand as code_hand
 use Rattle.stream_world.specs.declared.actor.Hand.TheVariants as hands
-use Rattle.stream_world.specs.declared.table_session.Outcome as code_outcome
-use Rattle.stream_world.specs.declared.table_session.TableSession.{TableSession}
+use Rattle.table_jobs.specs.declared.job_session.JobEnd as code_end
+use Rattle.table_jobs.specs.declared.job_session.JobSession.{JobSession}
 use Rattle.stream_world.proofs.Places.{actor_other, actor_there}
 
 -- ---- events
@@ -56,7 +57,7 @@ nothing_became w event name slot stands unfit = record {
 }
 
 -- the same of objects and puts that a world has, and of a slot that is the one
-pub at_store : (w : World) (event : Event) (name : ℕ) (outcome : Option code_outcome.Outcome) (objects : Objects) (flight : Flight) (slot now : Option code.Actor) → w.objects ≡ objects → w.flight ≡ flight → now ≡ slot
+pub at_store : (w : World) (event : Event) (name : ℕ) (outcome : Option code_end.JobEnd) (objects : Objects) (flight : Flight) (slot now : Option code.Actor) → w.objects ≡ objects → w.flight ≡ flight → now ≡ slot
     → Becomes w event name outcome w.objects w.flight slot → Becomes w event name outcome objects flight now
 at_store w event name outcome objects flight slot now same_objects same_flight same_slot became =
     subst (Becomes w event name outcome objects flight) (sym same_slot)
@@ -67,7 +68,7 @@ pub stands_alike : (actor later : code.Actor) (found : Option Actor) → later.s
 stands_alike actor later None session hand stands = absurd stands
 stands_alike actor later (Some plain) session hand stands = record {
   job = ap job_of session ∙ stands.job;
-  fit = subst (λ (s : TableSession). SessionFits [] s plain.talk (call_of plain.hand)) (sym session) stands.fit;
+  fit = subst (λ (s : JobSession). SessionFits [] s plain.talk (call_of plain.hand)) (sym session) stands.fit;
   hand = subst (λ (h : code_hand.Hand). HandStands h plain.talk plain.hand) (sym hand) stands.hand;
 }
 
@@ -140,9 +141,9 @@ module _ (w : World) (name : ℕ) (is_lost_now : Bool) (actor : code.Actor) (pla
       }
 
   -- it ends
-  tells_now : (outcome : code_outcome.Outcome) → TellsNext actor.session reply outcome → Becomes w (taking name is_lost_now) name (Some outcome) w.objects w.flight None
+  tells_now : (outcome : code_end.JobEnd) → TellsNext actor.session reply outcome → Becomes w (taking name is_lost_now) name (Some outcome) w.objects w.flight None
   tells_now outcome (goes, lost) =
-      let told : Outcome = outcome_view outcome in
+      let told : Outcome = end_view outcome in
       let ended_so : Ends plain.job [] is.now told = subst (λ (j : Job). Ends j [] is.now told) stands.job
       (subst (λ (t : Talk). Ends (job_of actor.session) [] t told) is.hears (goes plain.talk (call_of plain.hand) stands.fit)) in
       let does : Does plain.job [] is.now (tells told) = (ended_so, lost ∙ is.lost) in
@@ -160,14 +161,14 @@ module _ (w : World) (name : ℕ) (is_lost_now : Bool) (actor : code.Actor) (pla
         others = actor_other w name (Some next);
       }
 
-  gone_on : (outcome : Option code_outcome.Outcome) (slot : Option code.Actor) → GoesOnAs actor.session reply outcome slot → Becomes w (taking name is_lost_now) name outcome w.objects w.flight slot
+  gone_on : (outcome : Option code_end.JobEnd) (slot : Option code.Actor) → GoesOnAs actor.session reply outcome slot → Becomes w (taking name is_lost_now) name outcome w.objects w.flight slot
   gone_on None (Some later) (same, next) = asks_on later later.hand refl same next
   gone_on (Some outcome) None next = tells_now outcome next
   gone_on None None next = absurd next
   gone_on (Some outcome) (Some later) next = absurd next
 
 -- A session that was told what it takes has gone on.
-pub went_on : (w : World) (name : ℕ) (is_lost_now : Bool) (actor : code.Actor) (reply : Option Reply) (outcome : Option code_outcome.Outcome) (slot : Option code.Actor)
+pub went_on : (w : World) (name : ℕ) (is_lost_now : Bool) (actor : code.Actor) (reply : Option Reply) (outcome : Option code_end.JobEnd) (slot : Option code.Actor)
     → SlotStands (Some actor) (w.actors name) → HasNext actor.hand is_lost_now (Ok reply) → GoesOnAs actor.session reply outcome slot → Becomes w (taking name is_lost_now) name outcome w.objects w.flight slot
 went_on w name is_lost_now actor reply outcome slot stands next goes = by_actor (w.actors name) refl stands
   where

@@ -12,15 +12,15 @@ use Rattle.store_core.specs.declared.fault.StoreFault.{StoreFault}
 use Rattle.store_core.specs.declared.fault.StoreFault.TheVariants.{Lost, Memory}
 use Rattle.store_core.specs.declared.store.Put.{Put}
 use Rattle.store_core.specs.declared.store.Put.TheVariants.{Created, Exists}
-use Rattle.stream_model.specs.JobSessions.{Job}
-use Rattle.stream_model.specs.Events.{CanBegin, Event, Fits, begin, begins, die, dies, land, lands, nothing_happens}
+use Rattle.table_jobs.specs.Jobs.{Job, CanBegin}
+use Rattle.stream_model.specs.Events.{Event, Fits, begin, begins, die, dies, land, lands, nothing_happens}
 use Rattle.stream_model.specs.Worlds.{Actor, World, fresh, with_actor}
-use Rattle.stream_world.specs.Sessions.{SessionFits, job_of}
+use Rattle.table_jobs.specs.Sessions.{SessionFits, job_of}
 use Rattle.stream_world.specs.Standing.{ActorStands, Becomes, HandStands, HasHappened, LandsAs, SlotStands, WorldStands, landing_told, slot_at}
 use Rattle.stream_world.specs.declared.actor.Actor as code
 use Rattle.stream_world.specs.declared.actor.Hand as code_hand
 use Rattle.stream_world.specs.declared.actor.Hand.TheVariants as hands
-use Rattle.stream_world.specs.declared.table_session.Outcome as code_outcome
+use Rattle.table_jobs.specs.declared.job_session.JobEnd as code_end
 use Rattle.stream_world.specs.declared.world.World as code_world
 use Rattle.stream_world.proofs.Places.{actor_other, actor_there, kept, place_stands}
 
@@ -37,7 +37,7 @@ told_in w put = put_told (object_at w.objects put.0)
 
 module _ {S : Type 0} (objects : S → Objects) (old new : code_world.World S) (w : World) (stands : WorldStands objects old w) where
   -- What became of a world by an event of one actor is what happened, where its place was written.
-  pub wrote : (event : Event) (name : ℕ) (outcome : Option code_outcome.Outcome) (slot : Option code.Actor) → UpdatesBy nat_cmp (nat_cmp name) old.actors new.actors (Some slot)
+  pub wrote : (event : Event) (name : ℕ) (outcome : Option code_end.JobEnd) (slot : Option code.Actor) → UpdatesBy nat_cmp (nat_cmp name) old.actors new.actors (Some slot)
       → Becomes w event name outcome (objects new.store.store) (puts_sent new.store) slot → HasHappened objects w event outcome new
   wrote event name outcome slot updates became = record {
     met = became.met;
@@ -54,7 +54,7 @@ module _ {S : Type 0} (objects : S → Objects) (old new : code_world.World S) (
   }
 
   -- The same where no place was written.
-  pub unwritten : (event : Event) (name : ℕ) (outcome : Option code_outcome.Outcome) → get nat_cmp old.actors name ≡ None → new.store ≡ old.store → new.actors ≡ old.actors → Becomes w event name outcome w.objects w.flight None
+  pub unwritten : (event : Event) (name : ℕ) (outcome : Option code_end.JobEnd) → get nat_cmp old.actors name ≡ None → new.store ≡ old.store → new.actors ≡ old.actors → Becomes w event name outcome w.objects w.flight None
       → HasHappened objects w event outcome new
   unwritten event name outcome nowhere store actors became = record {
     met = became.met;

@@ -1,6 +1,6 @@
 -- How many calls an actor's session still makes, and what it has at hand.
 use Rattle.std.specs.Prelude.{ℕ, Bool, true, false, Option, None, Some}
-use Rattle.stream_world.specs.Sessions.{left}
+use Rattle.table_jobs.specs.Sessions.{left}
 use Rattle.stream_world.specs.declared.actor.Actor.{Actor}
 use Rattle.stream_world.specs.declared.actor.Hand.{Hand}
 use Rattle.stream_world.specs.declared.actor.Hand.TheVariants.{Fresh, Asks, Waits}

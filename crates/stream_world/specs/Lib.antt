@@ -1,12 +1,11 @@
 pub mod Acting
 pub mod Calling
 pub mod Hands
-pub mod Jobs
+pub mod EventViews
 pub mod Left
-pub mod Sessions
 pub mod Standing
 pub mod Running
-pub use Rattle.stream_model.specs.JobSessions
+pub use Rattle.stream_model.specs.Moves
 pub use Rattle.stream_model.specs.SoundStores
 pub use Rattle.stream_model.specs.Worlds
 pub use Rattle.stream_model.specs.Events

@@ -10,15 +10,15 @@ use Rattle.store_core.specs.declared.fault.StoreFault.{StoreFault}
 use Rattle.store_core.specs.declared.fault.StoreFault.TheVariants.{Lost, Memory}
 use Rattle.store_core.specs.declared.store.Put.{Put}
 use Rattle.session_core.specs.Talks.{Asked, Talk, Told, asked_view, told_view}
-use Rattle.stream_model.specs.JobSessions.{Job, Outcome}
+use Rattle.table_jobs.specs.Jobs.{Job, Outcome}
 use Rattle.stream_model.specs.Events.{Event, Happens, answer, begin, land, lose_answer}
 use Rattle.stream_model.specs.Worlds.{Actor, Hand, How, World, asking, ended, flight_how, fresh, left_how, told_how, waiting}
-use Rattle.stream_world.specs.Jobs.{IsMetAs, IsMetIn}
-use Rattle.stream_world.specs.Sessions.{SessionFits, job_of, outcome_view}
+use Rattle.stream_world.specs.EventViews.{IsMetAs, IsMetIn}
+use Rattle.table_jobs.specs.Sessions.{SessionFits, job_of, end_view}
 use Rattle.stream_world.specs.declared.actor.Actor as code_actor
 use Rattle.stream_world.specs.declared.actor.Hand as code_hand
 use Rattle.stream_world.specs.declared.actor.Hand.TheVariants as hands
-use Rattle.stream_world.specs.declared.table_session.Outcome as code_outcome
+use Rattle.table_jobs.specs.declared.job_session.JobEnd as code_end
 use Rattle.stream_world.specs.declared.world.World as code_world
 
 -- ---- actors
@@ -73,9 +73,9 @@ quiet_world objects = record { objects = objects; flight = []; actors = λ name.
 -- ---- what happened
 
 -- what is told, with the job of the session that told it
-abbrev pub TellsAs : Option code_outcome.Outcome → Option (Job × Outcome) → Type 0
+abbrev pub TellsAs : Option code_end.JobEnd → Option (Job × Outcome) → Type 0
 TellsAs None None = Unit {0}
-TellsAs (Some outcome) (Some told) = told.1 ≡ outcome_view outcome
+TellsAs (Some outcome) (Some told) = told.1 ≡ end_view outcome
 TellsAs outcome told = ⊥
 
 -- A call is answered in this way, or memory ran out in it: what is told, and what stands and is in flight then.
@@ -87,7 +87,7 @@ pub record Meets (how : How) (call : Asked) (told : Told) (objects : Objects) (f
   pub in_flight : flight_new ≡ flight_how met flight call
 
 -- What became of a world by an event of the actor of a number, for whom this is kept then.
-pub record Becomes (w : World) (event : Event) (name : ℕ) (outcome : Option code_outcome.Outcome) (objects : Objects) (flight : Flight) (slot : Option code_actor.Actor) : Type 0 where
+pub record Becomes (w : World) (event : Event) (name : ℕ) (outcome : Option code_end.JobEnd) (objects : Objects) (flight : Flight) (slot : Option code_actor.Actor) : Type 0 where
   pub met : Event
   pub is : IsMetAs event met
   pub told : Option (Job × Outcome)
@@ -100,7 +100,7 @@ pub record Becomes (w : World) (event : Event) (name : ℕ) (outcome : Option co
   pub others : (other : ℕ) → (other ≡ name → ⊥) → later.actors other ≡ w.actors other
 
 -- What happened to a world by an event, for which the world of the code stands then.
-pub record HasHappened {S : Type 0} (objects : S → Objects) (w : World) (event : Event) (outcome : Option code_outcome.Outcome) (world : code_world.World S) : Type 0 where
+pub record HasHappened {S : Type 0} (objects : S → Objects) (w : World) (event : Event) (outcome : Option code_end.JobEnd) (world : code_world.World S) : Type 0 where
   pub met : Event
   pub is : IsMetAs event met
   pub told : Option (Job × Outcome)
@@ -116,7 +116,7 @@ TakesMemory (land place) = Unit {0}
 TakesMemory event = ⊥
 
 -- The same of an event that may find no memory to begin with: then nothing has happened.
-abbrev pub StepsTo : {S : Type 0} → (objects : S → Objects) → World → Event → Result (Option code_outcome.Outcome) AllocError → code_world.World S → Type 0
+abbrev pub StepsTo : {S : Type 0} → (objects : S → Objects) → World → Event → Result (Option code_end.JobEnd) AllocError → code_world.World S → Type 0
 StepsTo objects w event (Ok outcome) world = HasHappened objects w event outcome world
 StepsTo objects w event (Err fault) world = TakesMemory event × WorldStands objects world w
 

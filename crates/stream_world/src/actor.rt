@@ -2,10 +2,10 @@
 
 ghost use Rattle.std.specs.Prelude.{◌≡◌, false, true};
 ghost use Rattle.stream_world.specs.Hands.{is_at_hand};
-ghost use Rattle.stream_world.specs.Sessions.{awaited, is_ended};
+ghost use Rattle.table_jobs.specs.Sessions.{awaited, is_ended};
 
-use crate::table_session::TableSession;
 use session_core::{Reply, Request};
+use table_jobs::JobSession;
 
 /// What a session has at hand that hasn't ended.
 #[derive(Drop)]
@@ -21,7 +21,7 @@ pub enum Hand {
 /// A session that hasn't ended, with what it has at hand.
 #[derive(Drop)]
 pub struct Actor {
-    pub session: TableSession,
+    pub session: JobSession<'static>,
     pub hand: Hand,
     pub ghost unended: { is_ended session ≡ false },
     pub ghost ready: { is_at_hand (awaited session) hand ≡ true },

@@ -4,7 +4,7 @@ ghost use Rattle.std.specs.Prelude.{◌≡◌};
 ghost use Rattle.store_core.specs.Turns.{puts_sent};
 ghost use Rattle.session_core.specs.Talks.{IsAnswerOf, asked_view, kind_of, told_view};
 ghost use Rattle.stream_world.specs.Calling.{IsSentCall, again, sent_told};
-ghost use Rattle.stream_world.specs.Jobs.{how_view};
+ghost use Rattle.stream_world.specs.EventViews.{how_view};
 ghost use Rattle.stream_world.specs.Standing.{Meets};
 
 use crate::event::How;

@@ -1,6 +1,6 @@
 //! What may happen in a world.
 
-use crate::job::Job;
+use table_jobs::Job;
 
 /// How a call is answered, if there is memory for it: else that memory ran out waits.
 #[derive(Clone, Copy)]
@@ -21,7 +21,7 @@ pub enum How {
 #[derive(Drop)]
 pub enum Event {
     /// The actor begins a session, in place of an older one. Nothing is asked for yet.
-    Begin { actor: u64, job: Job },
+    Begin { actor: u64, job: Job<'static> },
     /// The actor's session is dropped.
     Die { actor: u64 },
     /// The call that the actor's session asks for is answered in this way.

@@ -7,18 +7,13 @@
 
 mod acting;
 mod actor;
-mod beginning;
 mod calling;
 mod event;
-mod job;
 mod running;
-mod table_session;
 mod world;
 
 pub use actor::{Actor, Hand};
 pub use event::{Event, How};
-pub use job::{Creation, Job, StreamJob};
 pub use running::{Ran, run};
 pub use stream_model::every_world;
-pub use table_session::{Outcome, TableSession};
 pub use world::World;

@@ -4,11 +4,11 @@ ghost use Rattle.std.specs.Prelude.{◌≡◌, [], IfOk, length};
 ghost use Rattle.stream_world.specs.Running.{HasRun, IsTold};
 
 use crate::event::Event;
-use crate::table_session::Outcome;
 use crate::world::World;
 use std::alloc::{AllocError, Global};
 use store_core::Store;
 use stream_model::every_world;
+use table_jobs::JobEnd;
 
 /// What a list of events came to.
 #[derive(Drop)]
@@ -16,7 +16,7 @@ pub struct Ran<S> {
     /// The world behind the last event.
     pub world: World<S>,
     /// For each event, what a session told that ended by it.
-    pub told: Vec<Option<Outcome>>,
+    pub told: Vec<Option<JobEnd>>,
 }
 
 /// Lets events happen one after the other, over a store in which nobody acts yet. Fails where memory runs out in a

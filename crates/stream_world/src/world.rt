@@ -2,18 +2,17 @@
 
 ghost use Rattle.std.specs.Prelude.{◌≡◌, ◌<◌, [], Bool, None, true};
 ghost use Rattle.store_core.specs.Turns.{turns_left};
-ghost use Rattle.stream_model.specs.Events.{CanBegin, act, begin, die, land};
+ghost use Rattle.stream_model.specs.Events.{act, begin, die, land};
+ghost use Rattle.table_jobs.specs.Jobs.{CanBegin};
 ghost use Rattle.stream_model.specs.Worlds as worlds;
 
 use crate::acting;
 use crate::actor::{Actor, Hand};
-use crate::beginning::session_of;
 use crate::event::{Event, How};
-use crate::job::Job;
-use crate::table_session::Outcome;
 use std::alloc::{AllocError, Global};
 use std::collections::BTreeMap;
 use store_core::{Flaky, Put, Store, StoreFault};
+use table_jobs::{Job, JobEnd, JobSession};
 
 /// Actors that act on one store, which keeps the puts in flight. An actor that waits takes no time. An event takes the
 /// time of the step or the call that it is, with what it drops or copies, and the logarithm of how many actors there
@@ -28,7 +27,8 @@ pub struct World<S> {
 }
 
 impl<S: Store> World<S> {
-    ghost use Rattle.stream_world.specs.Jobs.{event_view, how_view, job_view};
+    ghost use Rattle.stream_world.specs.EventViews.{event_view, how_view};
+    ghost use Rattle.table_jobs.specs.Views.{job_view};
     ghost use Rattle.stream_world.specs.Left.{asks_call, calls_left, takes_step};
     ghost use Rattle.stream_world.specs.Standing.{BeginsAs, HasHappened, LandsAs, StepsTo, WorldStands, quiet_world, slot_at, taking};
 
@@ -48,7 +48,7 @@ impl<S: Store> World<S> {
     /// Lets an event happen, and returns what a session told that ended by it. An event that doesn't fit changes
     /// nothing. Fails where memory runs out in a beginning or a landing, and then nothing has happened; in a call that
     /// is made, the session is told so. A landing that the store loses tells nothing.
-    pub fn step(&mut self, event: Event) -> Result<Option<Outcome>, AllocError>
+    pub fn step(&mut self, event: Event) -> Result<Option<JobEnd>, AllocError>
         ensures happens { S.is_reliable self.old.store.store → (w : worlds.World) → WorldStands S.objects self.old w → StepsTo S.objects w (event_view event) result self.new }
         ensures reliable { S.is_reliable self.old.store.store → S.is_reliable self.new.store.store }
     {
@@ -77,13 +77,13 @@ impl<S: Store> World<S> {
 
     /// An actor begins a session, in place of an older one; nothing is asked for yet. Fails where memory runs out, and
     /// then nothing has happened.
-    pub fn begin(&mut self, actor: u64, job: Job) -> Result<(), AllocError>
-        ensures happens { (w : worlds.World) → WorldStands S.objects self.old w → BeginsAs S.objects w (begin actor (job_view job)) result self.new }
+    pub fn begin(&mut self, actor: u64, job: Job<'static>) -> Result<(), AllocError>
+        ensures happens { (w : worlds.World) → WorldStands S.objects self.old w → BeginsAs S.objects w (begin actor (job_view job.entry)) result self.new }
         // Every job of the code can begin.
-        ensures can { CanBegin (job_view job) }
+        ensures can { CanBegin (job_view job.entry) }
         ensures store { self.new.store ≡ self.old.store }
     {
-        let session = session_of(self.alloc, job);
+        let session = JobSession::new(self.alloc, job);
         let begun = Actor {
             session,
             hand: Hand::Fresh,
@@ -117,7 +117,7 @@ impl<S: Store> World<S> {
 
     /// An actor's session makes its first step, or takes the answer that waits, or that the call was lost in place of
     /// it. Returns what it tells where it ends.
-    pub fn go_on(&mut self, actor: u64, is_lost: bool) -> Option<Outcome>
+    pub fn go_on(&mut self, actor: u64, is_lost: bool) -> Option<JobEnd>
         ensures happens { (w : worlds.World) → WorldStands S.objects self.old w → HasHappened S.objects w (taking actor is_lost) result self.new }
         ensures store { self.new.store ≡ self.old.store }
         // With each step that isn't its last, the session makes one call less at most.

@@ -3,6 +3,7 @@ pub mod CheckpointParts
 pub mod EndParts
 pub mod FileReads
 pub mod GroupParts
+pub mod LargeParts
 pub mod ListParts
 pub mod NumberParts
 pub mod WalkParts

@@ -1,9 +1,11 @@
 //! Whether the objects of a store, or of whatever else is read as one, are sound.
 
-ghost use Rattle.std.specs.Prelude.{◌≡◌, ℕ, suc, List, Some, map, IfOk, IfSome, IfNone, IsErrOf, string_bytes};
+ghost use Rattle.std.specs.Prelude.{◌≡◌, ℕ, suc, List, Some, map, IfOk, IfErr, IfSome, IfNone, IsErrOf, string_bytes};
+ghost use Rattle.schema_tree.specs.Schema.{tree_of};
 ghost use Rattle.store_core.specs.Objects.{object_at};
 ghost use Rattle.table_check.specs.Below.{IsSoundBelow};
 ghost use Rattle.table_log.specs.Restoring.{IsSoundCheckpoint, checkpoint_version};
+ghost use Rattle.table_audit.specs.LargeFiles.{TellsLarge, TellsLargeFile, TellsNoFile};
 ghost use Rattle.table_audit.specs.Verdicts.{IsVerdictOf};
 ghost use Rattle.table_audit.specs.Walks.{IsWalk, IsWalkOver};
 
@@ -33,6 +35,7 @@ pub fn audit<R: ObjectReader>(alloc: Global, reader: &mut R) -> Result<Verdict, 
     ensures steady { R.is_steady reader.old → R.is_steady reader.new }
     ensures reliable { R.is_reliable reader.old → R.is_reliable reader.new }
     ensures never_lost { R.is_reliable reader.old → IsErrOf result AuditError.Lost → ⊥ }
+    ensures large { R.is_steady reader.old → IfErr result (TellsLargeFile (R.objects reader.old)) }
 {
     let names = reader.names()?;
     let Some(bytes) = reader.read(&commit_name(alloc, 0)?)? else {
@@ -57,6 +60,7 @@ fn audit_walk<R: ObjectReader>(
     ensures steady { R.is_steady reader.old → R.is_steady reader.new }
     ensures reliable { R.is_reliable reader.old → R.is_reliable reader.new }
     ensures never_lost { R.is_reliable reader.old → IsErrOf result AuditError.Lost → ⊥ }
+    ensures large { R.is_steady reader.old → IfErr result (TellsLarge (R.objects reader.old) (tree_of walk.schema)) }
 {
     let checkpoints = sorted_checkpoints(alloc, names)?;
     for checkpoint in &checkpoints {
@@ -92,6 +96,7 @@ fn wrong_checkpoint<R: ObjectReader>(
     ensures steady { R.is_steady reader.old → R.is_steady reader.new }
     ensures reliable { R.is_reliable reader.old → R.is_reliable reader.new }
     ensures never_lost { R.is_reliable reader.old → IsErrOf result AuditError.Lost → ⊥ }
+    ensures no_file { IfErr result TellsNoFile }
 {
     let Some(bytes) = reader.read(&checkpoint.name)? else {
         return Ok(None);

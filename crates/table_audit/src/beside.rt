@@ -1,6 +1,6 @@
 //! The names that stand beside a table.
 
-ghost use Rattle.std.specs.Prelude.{◌≡◌, ◌||◌, ◌&&◌, ℕ, List, filter, is_some, not, map, IfOk, OnOk, IsErrOf, string_bytes};
+ghost use Rattle.std.specs.Prelude.{◌≡◌, ◌||◌, ◌&&◌, ℕ, List, filter, is_some, not, map, IfOk, IfErr, OnOk, IsErrOf, string_bytes};
 ghost use Rattle.std.specs.BTreeSet.{contains_text};
 ghost use Rattle.std.specs.List.{list_any};
 ghost use Rattle.delta_actions.specs.Action.{path_view, view, views};
@@ -8,6 +8,7 @@ ghost use Rattle.store_core.specs.Objects.{names_of};
 ghost use Rattle.table_log.specs.Views.{version_view};
 ghost use Rattle.table_check.specs.Named.{version_named};
 ghost use Rattle.table_audit.specs.Beside.{adds, is_unnamed, name_adds, version_adds};
+ghost use Rattle.table_audit.specs.LargeFiles.{TellsNoFile};
 
 use crate::fault::AuditError;
 use crate::listing::version_named;
@@ -30,6 +31,7 @@ pub fn unnamed<R: ObjectReader>(alloc: Global, reader: &mut R) -> Result<Vec<Str
     ensures steady { R.is_steady reader.old → R.is_steady reader.new }
     ensures reliable { R.is_reliable reader.old → R.is_reliable reader.new }
     ensures never_lost { R.is_reliable reader.old → IsErrOf result AuditError.Lost → ⊥ }
+    ensures no_file { IfErr result TellsNoFile }
 {
     let names = reader.names()?;
     let files = files_added(alloc, reader, &names)?;
@@ -47,6 +49,7 @@ fn files_added<R: ObjectReader>(
     ensures steady { R.is_steady reader.old → R.is_steady reader.new }
     ensures reliable { R.is_reliable reader.old → R.is_reliable reader.new }
     ensures never_lost { R.is_reliable reader.old → IsErrOf result AuditError.Lost → ⊥ }
+    ensures no_file { IfErr result TellsNoFile }
 {
     let mut files = BTreeSet::new(alloc);
     for name in names {
@@ -67,6 +70,7 @@ fn add_files_under<R: ObjectReader>(
     ensures steady { R.is_steady reader.old → R.is_steady reader.new }
     ensures reliable { R.is_reliable reader.old → R.is_reliable reader.new }
     ensures never_lost { R.is_reliable reader.old → IsErrOf result AuditError.Lost → ⊥ }
+    ensures no_file { IfErr result TellsNoFile }
 {
     if commit_version(name).is_none() {
         return Ok(());

@@ -1,7 +1,7 @@
 //! Why a store isn't judged.
 
-ghost use Rattle.std.specs.Prelude.{◌≡◌};
-ghost use Rattle.table_audit.specs.Faults.{of_store};
+ghost use Rattle.std.specs.Prelude.{◌≡◌, Some};
+ghost use Rattle.table_audit.specs.Faults.{audit_text, of_store};
 ghost use Rattle.table_audit.specs.declared.fault.AuditError.TheVariants.{Memory};
 
 use std::alloc::{AllocError, AllocFailed};
@@ -10,7 +10,7 @@ use std::fmt::{Display, Formatter};
 use store_core::StoreFault;
 use thiserror::Error;
 
-/// Why a store isn't judged.
+/// Why a store isn't judged. Its texts are written by hand, so that contracts know them.
 #[derive(Debug, Drop, Error)]
 pub enum AuditError {
     /// A call of the store was lost.
@@ -23,6 +23,8 @@ pub enum AuditError {
 }
 
 impl Display for AuditError {
+    ghost output = { λ error. Some (audit_text error) };
+
     fn fmt<W: fmt::Write>(&self, f: &mut Formatter<W>) -> fmt::Result {
         match self {
             AuditError::Lost => f.write_str("St1 Lost"),

@@ -6,7 +6,7 @@ use Rattle.lake_script.specs.Runs.{Tells}
 use Rattle.lake_script.specs.Told.{is_bad}
 use Rattle.lake_script.proofs.StreamLemmas.{Appends-both}
 use Rattle.script_lines.specs.Lines.{Reading, asks, bad, reading_of, skipped}
-use Rattle.stream_world.specs.JobSessions.{Job, Outcome}
+use Rattle.table_jobs.specs.Jobs.{Job, Outcome}
 use Rattle.store_core.specs.Objects.{Objects}
 use Rattle.stream_world.specs.Events.{Event}
 use Rattle.world_script.specs.Doing.{Answers, IsCutOff}

@@ -2,16 +2,16 @@
 use Rattle.std.proofs.Common.{◌≡◌, ◌∙◌, ℕ, List, [], ◌∷◌, Option, ◌≤◌, Some, None, refl, sym, ap, subst}
 use Rattle.std.specs.BTreeMap.{get_by_text}
 use Rattle.script_lines.specs.Lines as lines
-use Rattle.script_lines.specs.Lines.{Statement, Task}
+use Rattle.script_lines.specs.Lines.{Look, Task}
 use Rattle.script_lines.specs.declared.kind.Kind.{Kind}
-use Rattle.stream_world.specs.JobSessions.{Job, Outcome}
+use Rattle.table_jobs.specs.Jobs.{Job, Outcome}
 use Rattle.store_core.specs.Objects.{Objects}
 use Rattle.stream_world.specs.Events.{Event, Happens, die}
 use Rattle.stream_world.specs.Worlds.{World}
 use Rattle.stream_world.specs.Standing.{HasHappened, TellsAs, WorldStands}
 use Rattle.stream_world.specs.declared.world.World as code_world
 use Rattle.world_script.specs.Acting.{CameBy}
-use Rattle.world_script.specs.Asked.{job_of_creation, job_of_task}
+use Rattle.lake_script.specs.LineJobs.{job_of_creation, job_of_task}
 use Rattle.world_script.specs.Doing.{ComesTo, ComesToAlone, ComesToNamed, ComesToStart, TellsIn}
 use Rattle.world_script.specs.Lines as does
 use Rattle.world_script.specs.Lines.{deed_does, ok}
@@ -35,19 +35,19 @@ died stored n w new was = record {
 }
 
 module _ {S : Type 0} (stored : S → Objects) (s : Scene) (reply : List ℕ) (new : code.Scene S) where
-  pub of_until : (name : List ℕ) → ComesToNamed stored s name deeds.Until reply new → ComesTo stored s (lines.until name) reply new
+  pub of_until : (name : List ℕ) → ComesToNamed stored s name deeds.Until reply new → ComesTo stored s (lines.world (lines.until name)) reply new
   of_until name came = record { events = came.events; outs = came.outs; later = came.later; does = came.does; stands = came.stands }
 
-  pub of_step : (name : List ℕ) (kind : Kind) → ComesToNamed stored s name (deeds.Step kind) reply new → ComesTo stored s (lines.step name kind) reply new
+  pub of_step : (name : List ℕ) (kind : Kind) → ComesToNamed stored s name (deeds.Step kind) reply new → ComesTo stored s (lines.world (lines.step name kind)) reply new
   of_step name kind came = record { events = came.events; outs = came.outs; later = came.later; does = came.does; stands = came.stands }
 
-  pub of_finish : (name : List ℕ) → ComesToNamed stored s name deeds.Finish reply new → ComesTo stored s (lines.finish name) reply new
+  pub of_finish : (name : List ℕ) → ComesToNamed stored s name deeds.Finish reply new → ComesTo stored s (lines.world (lines.finish name)) reply new
   of_finish name came = record { events = came.events; outs = came.outs; later = came.later; does = came.does; stands = came.stands }
 
-  pub of_die : (name : List ℕ) → ComesToNamed stored s name deeds.Die reply new → ComesTo stored s (lines.die name) reply new
+  pub of_die : (name : List ℕ) → ComesToNamed stored s name deeds.Die reply new → ComesTo stored s (lines.world (lines.die name)) reply new
   of_die name came = record { events = came.events; outs = came.outs; later = came.later; does = came.does; stands = came.stands }
 
-  pub of_start : (name : List ℕ) (job : Task) → ComesToStart stored s name job reply new → ComesTo stored s (lines.start name job) reply new
+  pub of_start : (name : List ℕ) (job : Task) → ComesToStart stored s name job reply new → ComesTo stored s (lines.world (lines.start name job)) reply new
   of_start name job came = record { events = came.events; outs = []; later = came.later; does = (refl, came.does); stands = came.stands }
 
   pub of_create : (id : List ℕ) (at : ℕ) (schema : List ℕ) → ComesToAlone stored s (lines.create id at schema) (Some (job_of_creation id at schema)) reply new → ComesTo stored s (lines.create id at schema) reply new
@@ -56,23 +56,14 @@ module _ {S : Type 0} (stored : S → Objects) (s : Scene) (reply : List ℕ) (n
   pub of_task : (job : Task) → ComesToAlone stored s (lines.task job) (job_of_task s.use_checkpoints s.tries job) reply new → ComesTo stored s (lines.task job) reply new
   of_task job came = record { events = came.events; outs = came.outs; later = came.later; does = came.does; stands = came.stands }
 
-  pub of_snapshot : TellsIn stored s lines.snapshot reply new → ComesTo stored s lines.snapshot reply new
-  of_snapshot came = record { events = []; outs = []; later = came.later; does = (refl, refl, came.tells); stands = came.stands }
-
-  pub of_history : TellsIn stored s lines.history reply new → ComesTo stored s lines.history reply new
-  of_history came = record { events = []; outs = []; later = came.later; does = (refl, refl, came.tells); stands = came.stands }
-
-  pub of_show : (version : ℕ) → TellsIn stored s (lines.show version) reply new → ComesTo stored s (lines.show version) reply new
-  of_show version came = record { events = []; outs = []; later = came.later; does = (refl, refl, came.tells); stands = came.stands }
-
-  pub of_hex : (name : List ℕ) → TellsIn stored s (lines.hex name) reply new → ComesTo stored s (lines.hex name) reply new
-  of_hex name came = record { events = []; outs = []; later = came.later; does = (refl, refl, came.tells); stands = came.stands }
+  pub of_look : (line : Look) → TellsIn stored s (lines.look line) reply new → ComesTo stored s (lines.look line) reply new
+  of_look line came = record { events = []; outs = []; later = came.later; does = (refl, refl, came.tells); stands = came.stands }
 
   pub of_foreign : (version : ℕ) (action : List ℕ) → TellsIn stored s (lines.foreign version action) reply new → ComesTo stored s (lines.foreign version action) reply new
   of_foreign version action came = record { events = []; outs = []; later = came.later; does = (refl, refl, came.tells); stands = came.stands }
 
 module _ {S : Type 0} (stored : S → Objects) (old : code.Scene S) (s : Scene) (stands : SceneStands stored old s) (new : code.Scene S) where
-  pub of_fault : (kind : Kind) → new.world ≡ old.world → new.parts ≡ old.parts → new.next ≡ old.next → new.tries ≡ old.tries → new.fault ≡ Some kind → new.use_checkpoints ≡ old.use_checkpoints → ComesTo stored s (lines.fault kind) [] new
+  pub of_fault : (kind : Kind) → new.world ≡ old.world → new.parts ≡ old.parts → new.next ≡ old.next → new.tries ≡ old.tries → new.fault ≡ Some kind → new.use_checkpoints ≡ old.use_checkpoints → ComesTo stored s (lines.world (lines.fault kind)) [] new
   of_fault kind world parts next tries fault uses = record {
     events = [];
     outs = [];

@@ -1,14 +1,14 @@
 -- What a script with actors comes to, as what may happen in a world.
 use Rattle.std.proofs.Common.{◌≡◌, ℕ, List, [], ◌∷◌, ◌++◌, Bool, true, false, Option, Some, None, refl, sym, ap, subst, append-nil, append_assoc}
 use Rattle.delta_actions.specs.Commit.{lines_of}
-use Rattle.lake_script.specs.Told.{ArePutHere, IsPutHere}
+use Rattle.lake_script.specs.Told.{ArePutHere, IsPutHere, Finishes}
 use Rattle.lake_script.specs.Tries.{IsLook}
 use Rattle.stream_world.specs.SoundStores.{IsSoundStore}
 use Rattle.script_lines.specs.Lines as lines
-use Rattle.script_lines.specs.Lines.{Reading, Statement, Task, asks, reading_of, skipped}
+use Rattle.script_lines.specs.Lines.{Statement, asks, reading_of}
 use Rattle.script_lines.specs.declared.kind.Kind.{Kind}
 use Rattle.script_lines.specs.declared.kind.Kind.TheVariants.{Pass}
-use Rattle.stream_world.specs.JobSessions.{Job, Outcome}
+use Rattle.table_jobs.specs.Jobs.{Job, Outcome}
 use Rattle.store_core.specs.Objects.{Objects}
 use Rattle.stream_world.specs.Events.{Event, Happens, IsWorldOf, Ran, act, answer, begin, die, land, with_told}
 use Rattle.stream_world.specs.Events as events
@@ -21,12 +21,11 @@ use Rattle.table_store.specs.Schema.{Schema}
 use Rattle.world_script.specs.Acting as acting
 use Rattle.world_script.specs.Acting.{GoesOn, Leads, LeadsThrough, Meets, Steps}
 use Rattle.world_script.specs.Lines as does
-use Rattle.world_script.specs.Lines.{Dies, IsNamed, IsStoreLine, Lands, LineDoes, RunsAlone, Starts, TellsOf, deed_does}
+use Rattle.world_script.specs.Lines.{IsNamed, Lands, LineDoes, RunsAlone, Starts, TellsOf, deed_does}
 use Rattle.world_script.specs.Playing as plays
 use Rattle.world_script.specs.Playing.{HasPlayed, HasPlayedText, IsSoOfTable, Plays, PlaysInPart, PlaysSo, PlaysText, StaysSo}
 use Rattle.world_script.specs.Scenes.{Scene, first_scene, part_for}
 use Rattle.lake_script.specs.Runs.{Tells}
-use Rattle.lake_script.specs.Told.{Finishes}
 use Rattle.lake_script.specs.declared.engine.End.{End}
 use Rattle.lake_script.specs.declared.engine.End.TheVariants.{BadLine, Done, NotRead, NotWritten}
 use Rattle.world_script.specs.declared.named.Deed.{Deed}
@@ -123,19 +122,16 @@ line_ran (lines.task (lines.append application number at rows)) s seen outs repl
 line_ran (lines.task (lines.close application at)) s seen outs reply later here done = alone_ran s _ _ seen outs reply later done
 line_ran (lines.task lines.checkpoint) s seen outs reply later here done = alone_ran s _ _ seen outs reply later done
 line_ran (lines.task (lines.tail max offset)) s seen outs reply later here done = alone_ran s _ _ seen outs reply later done
-line_ran (lines.start name job) s seen outs reply later here done = outs_none s.world seen outs later.world done.0 (starts_ran s name _ seen reply later done.1)
-line_ran (lines.until name) s seen outs reply later here done = named_ran s name _ seen outs reply later done
-line_ran (lines.step name kind) s seen outs reply later here done = named_ran s name _ seen outs reply later done
-line_ran (lines.finish name) s seen outs reply later here done = named_ran s name _ seen outs reply later done
-line_ran (lines.die name) s seen outs reply later here done = named_ran s name _ seen outs reply later done
-line_ran (lines.land place) s seen outs reply later here done = outs_none s.world seen outs later.world done.0 (lands_ran s place seen reply later done.1)
-line_ran (lines.fault kind) s seen outs reply later here done = none_ran s.world seen outs later.world done.0 done.1 (same_ran s.world later.world (ap (λ (l : Scene). l.world) done.3))
+line_ran (lines.look line) s seen outs reply later here done = none_ran s.world seen outs later.world done.0 done.1 (tells_ran s _ reply later tt done.2)
 line_ran (lines.tries count) s seen outs reply later here done = none_ran s.world seen outs later.world done.0 done.1 (same_ran s.world later.world (ap (λ (l : Scene). l.world) done.3.2))
-line_ran lines.snapshot s seen outs reply later here done = none_ran s.world seen outs later.world done.0 done.1 (tells_ran s _ reply later tt done.2)
-line_ran lines.history s seen outs reply later here done = none_ran s.world seen outs later.world done.0 done.1 (tells_ran s _ reply later tt done.2)
-line_ran (lines.show version) s seen outs reply later here done = none_ran s.world seen outs later.world done.0 done.1 (tells_ran s _ reply later tt done.2)
-line_ran (lines.hex name) s seen outs reply later here done = none_ran s.world seen outs later.world done.0 done.1 (tells_ran s _ reply later tt done.2)
 line_ran (lines.foreign version action) s seen outs reply later here done = absurd here
+line_ran (lines.world (lines.start name job)) s seen outs reply later here done = outs_none s.world seen outs later.world done.0 (starts_ran s name _ seen reply later done.1)
+line_ran (lines.world (lines.until name)) s seen outs reply later here done = named_ran s name _ seen outs reply later done
+line_ran (lines.world (lines.step name kind)) s seen outs reply later here done = named_ran s name _ seen outs reply later done
+line_ran (lines.world (lines.finish name)) s seen outs reply later here done = named_ran s name _ seen outs reply later done
+line_ran (lines.world (lines.die name)) s seen outs reply later here done = named_ran s name _ seen outs reply later done
+line_ran (lines.world (lines.land place)) s seen outs reply later here done = outs_none s.world seen outs later.world done.0 (lands_ran s place seen reply later done.1)
+line_ran (lines.world (lines.fault kind)) s seen outs reply later here done = none_ran s.world seen outs later.world done.0 done.1 (same_ran s.world later.world (ap (λ (l : Scene). l.world) done.3))
 
 -- ---- lines that follow one another
 

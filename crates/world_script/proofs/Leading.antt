@@ -3,11 +3,11 @@ use Rattle.std.proofs.Common.{◌≡◌, ℕ, List, [], ◌++◌, Bool, true, fa
 use Rattle.script_lines.specs.declared.kind.Kind.{Kind}
 use Rattle.script_lines.specs.declared.kind.Kind.TheVariants.{Pass}
 use Rattle.store_core.specs.Objects.{Objects}
-use Rattle.stream_world.specs.JobSessions.{Job, Outcome}
+use Rattle.table_jobs.specs.Jobs.{Job, Outcome}
 use Rattle.stream_world.specs.Events.{Event}
 use Rattle.stream_world.specs.Worlds.{World}
 use Rattle.stream_world.specs.Standing.{TellsAs, WorldStands}
-use Rattle.stream_world.specs.declared.table_session.Outcome as code_outcome
+use Rattle.table_jobs.specs.declared.job_session.JobEnd as code_end
 use Rattle.stream_world.specs.declared.world.World as code_world
 use Rattle.world_script.specs.Acting.{CameBy, GoesOn, Leads, Meets, Steps, at_first, behind, by_it, ends, ends_before, goes, halts, hand_at, in_front, meets_now, meets_then, next_at, then_one, unhindered}
 use Rattle.world_script.specs.Doing.{CameThrough}
@@ -31,7 +31,7 @@ halts_there true (nexts.Call true) alive stops = (refl, refl)
 halts_there true (nexts.Call false) alive stops = cc
 halts_there false (nexts.Call c) alive stops = cc
 
-told_some : (outcome : code_outcome.Outcome) (told : Option (Job × Outcome)) → TellsAs (Some outcome) told → (one : Job × Outcome) × (told ≡ Some one)
+told_some : (outcome : code_end.JobEnd) (told : Option (Job × Outcome)) → TellsAs (Some outcome) told → (one : Job × Outcome) × (told ≡ Some one)
 told_some outcome (Some one) tells = (one, refl)
 told_some outcome None tells = absurd tells
 
@@ -57,7 +57,7 @@ module _ {S : Type 0} (stored : S → Objects) (n : ℕ) (halts_at_commit : Bool
         }
 
     -- the last one
-    pub led_end : (outcome : code_outcome.Outcome) → CameBy stored (Steps n Pass led.later) (Some outcome) later → CameBy stored (Leads n halts_at_commit w) (Some outcome) later
+    pub led_end : (outcome : code_end.JobEnd) → CameBy stored (Steps n Pass led.later) (Some outcome) later → CameBy stored (Leads n halts_at_commit w) (Some outcome) later
     led_end outcome came =
         let one = told_some outcome came.told came.tells in
         record {
@@ -85,14 +85,14 @@ call_next (nexts.Call c) alive isnt = (c, refl)
 
 module _ {S : Type 0} (stored : S → Objects) (n : ℕ) (kind : Kind) (w : World) where
   -- at once
-  pub met_now : (outcome : Option code_outcome.Outcome) (world : code_world.World S) → (next_at (hand_at w n) ≡ nexts.Nothing → ⊥) → (next_at (hand_at w n) ≡ nexts.Step → ⊥) → CameBy stored (Steps n kind w) outcome world
+  pub met_now : (outcome : Option code_end.JobEnd) (world : code_world.World S) → (next_at (hand_at w n) ≡ nexts.Nothing → ⊥) → (next_at (hand_at w n) ≡ nexts.Step → ⊥) → CameBy stored (Steps n kind w) outcome world
       → CameBy stored (Meets n kind w) outcome world
   met_now outcome world alive isnt came =
       let call = call_next (next_at (hand_at w n)) alive isnt in
       record { events = came.events; told = came.told; later = came.later; done = meets_now call.0 came.events came.told came.later call.1 came.done; tells = came.tells; stands = came.stands }
 
   -- it ended by its first step
-  pub met_never : (outcome : code_outcome.Outcome) (world : code_world.World S) → next_at (hand_at w n) ≡ nexts.Step → CameBy stored (Steps n kind w) (Some outcome) world → CameBy stored (Meets n kind w) (Some outcome) world
+  pub met_never : (outcome : code_end.JobEnd) (world : code_world.World S) → next_at (hand_at w n) ≡ nexts.Step → CameBy stored (Steps n kind w) (Some outcome) world → CameBy stored (Meets n kind w) (Some outcome) world
   met_never outcome world is came =
       let one = told_some outcome came.told came.tells in
       record {
@@ -109,7 +109,7 @@ module _ {S : Type 0} (stored : S → Objects) (n : ℕ) (kind : Kind) (w : Worl
     pub alive_then : next_at (hand_at first.later n) ≡ nexts.Nothing → ⊥
     alive_then = still_goes n kind w first.events first.told first.later (told_none first.told first.tells) first.done
 
-    pub met_then : (outcome : Option code_outcome.Outcome) (world : code_world.World S) → next_at (hand_at w n) ≡ nexts.Step → CameBy stored (Steps n kind first.later) outcome world → CameBy stored (Meets n kind w) outcome world
+    pub met_then : (outcome : Option code_end.JobEnd) (world : code_world.World S) → next_at (hand_at w n) ≡ nexts.Step → CameBy stored (Steps n kind first.later) outcome world → CameBy stored (Meets n kind w) outcome world
     met_then outcome world is came = record {
       events = first.events ++ came.events;
       told = came.told;
@@ -133,7 +133,7 @@ halts_alive n w _ _ _ none (ends events mid more told later on go_on steps) noth
 
 module _ {S : Type 0} (stored : S → Objects) (w : World) where
   -- no fault is set
-  pub through_none : (outcome : Option code_outcome.Outcome) (world : code_world.World S) → CameBy stored (Leads 0 false w) outcome world → CameThrough stored None w outcome None world
+  pub through_none : (outcome : Option code_end.JobEnd) (world : code_world.World S) → CameBy stored (Leads 0 false w) outcome world → CameThrough stored None w outcome None world
   through_none outcome world came = by_told came.told came.done came.tells
     where
       by_told : (told : Option (Job × Outcome)) → Leads 0 false w came.events told came.later → TellsAs outcome told → CameThrough stored None w outcome None world
@@ -141,7 +141,7 @@ module _ {S : Type 0} (stored : S → Objects) (w : World) where
       by_told (Some told) does tells = record { events = came.events; told = told; later = came.later; leads = unhindered w came.events told came.later does; tells = tells; stands = came.stands }
 
   -- it ends in front of the fault
-  pub through_front : (kind : Kind) (outcome : code_outcome.Outcome) (world : code_world.World S) → CameBy stored (Leads 0 true w) (Some outcome) world → CameThrough stored (Some kind) w (Some outcome) (Some kind) world
+  pub through_front : (kind : Kind) (outcome : code_end.JobEnd) (world : code_world.World S) → CameBy stored (Leads 0 true w) (Some outcome) world → CameThrough stored (Some kind) w (Some outcome) (Some kind) world
   through_front kind outcome world came =
       let one = told_some outcome came.told came.tells in
       record {
@@ -164,7 +164,7 @@ module _ {S : Type 0} (stored : S → Objects) (w : World) where
     pub alive_there : next_at (hand_at came.later 0) ≡ nexts.Nothing → ⊥
     alive_there = halts_alive 0 w came.events came.told came.later none came.done
 
-    pub through_fault : (outcome : code_outcome.Outcome) (later : code_world.World S) → CameBy stored (Steps 0 kind came.later) (Some outcome) later → CameThrough stored (Some kind) w (Some outcome) None later
+    pub through_fault : (outcome : code_end.JobEnd) (later : code_world.World S) → CameBy stored (Steps 0 kind came.later) (Some outcome) later → CameThrough stored (Some kind) w (Some outcome) None later
     through_fault outcome later step =
         let one = told_some outcome step.told step.tells in
         record {
@@ -180,7 +180,7 @@ module _ {S : Type 0} (stored : S → Objects) (w : World) where
       pub alive_behind : next_at (hand_at step.later 0) ≡ nexts.Nothing → ⊥
       alive_behind = still_goes 0 kind came.later step.events step.told step.later (told_none step.told step.tells) step.done
 
-      pub through_behind : (outcome : Option code_outcome.Outcome) (later : code_world.World S) → CameBy stored (Leads 0 false step.later) outcome later → CameThrough stored (Some kind) w outcome None later
+      pub through_behind : (outcome : Option code_end.JobEnd) (later : code_world.World S) → CameBy stored (Leads 0 false step.later) outcome later → CameThrough stored (Some kind) w outcome None later
       through_behind outcome later rest = by_told rest.told rest.done rest.tells
         where
           stepped : Steps 0 kind came.later step.events None step.later

@@ -4,13 +4,13 @@ use Rattle.std.specs.BTreeMap.{BTreeMap, get, get_by_text}
 use Rattle.std.specs.Ordering.{nat_cmp}
 use Rattle.lake_script.specs.Runs.{Executes, IsWantOfMemory}
 use Rattle.lake_script.specs.Tries.{IsLook}
-use Rattle.script_lines.specs.Lines.{Statement}
+use Rattle.script_lines.specs.Lines.{Statement, Task}
 use Rattle.store_core.specs.Turns.{puts_sent}
 use Rattle.stream_world.specs.declared.actor.Actor as actor
 use Rattle.table_log.specs.Restoring.{RestoresWell}
 use Rattle.store_core.specs.Objects.{Objects}
-use Rattle.stream_world.specs.JobSessions.{Job, Outcome}
-use Rattle.stream_world.specs.Events.{CanBegin, Event, Happens, begin, die, land, with_told}
+use Rattle.table_jobs.specs.Jobs.{Job, Outcome, CanBegin}
+use Rattle.stream_world.specs.Events.{Event, Happens, begin, die, land, with_told}
 use Rattle.store_core.specs.declared.store.Put.{Put}
 use Rattle.store_core.specs.declared.store.Put.TheVariants as puts
 use Rattle.store_core.specs.declared.fault.StoreFault.{StoreFault}
@@ -19,18 +19,17 @@ use Rattle.lake_script.specs.ReplyView.{reply_text}
 use Rattle.lake_script.specs.declared.reply.LineReply.TheVariants as replies
 use Rattle.script_lines.specs.Lines as lines
 use Rattle.stream_world.specs.Worlds.{World}
-use Rattle.stream_world.specs.Sessions.{outcome_view}
+use Rattle.table_jobs.specs.Sessions.{end_view}
 use Rattle.stream_world.specs.Standing.{HasHappened, LandsAs, SlotStands, TellsAs, WorldStands, landing_told}
-use Rattle.stream_world.specs.declared.table_session.Outcome as code_outcome
+use Rattle.table_jobs.specs.declared.job_session.JobEnd as code_end
 use Rattle.stream_world.specs.declared.world.World as code_world
-use Rattle.script_lines.specs.Lines.{Task}
 use Rattle.script_lines.specs.declared.kind.Kind.{Kind}
-use Rattle.world_script.specs.Asked.{job_of_task}
+use Rattle.lake_script.specs.LineJobs.{job_of_task}
 use Rattle.world_script.specs.Acting.{CameBy, LeadsThrough, hand_at, next_at}
 use Rattle.world_script.specs.Doing.{CameThrough, ComesTo, ComesToAlone, ComesToNamed, ComesToStart, IsReplyAs, RanJob, TellsIn}
-use Rattle.world_script.specs.Endings.{IsReplyOf}
+use Rattle.lake_script.specs.Endings.{IsReplyOf}
 use Rattle.world_script.specs.Lines as does
-use Rattle.world_script.specs.Lines.{IsNamed, IsReplyIn, deed_does, if_refused, no_actor, no_offset, no_room, ok}
+use Rattle.world_script.specs.Lines.{IsReplyIn, deed_does, if_refused, no_actor, no_offset, no_room, ok}
 use Rattle.world_script.specs.Scenes.{HasPart, Scene, SceneStands, next_behind, part_for}
 use Rattle.world_script.specs.declared.named.Deed.{Deed}
 use Rattle.world_script.specs.declared.acting.Next.{Next}
@@ -40,7 +39,7 @@ use Rattle.world_script.specs.declared.part.Part.{Part}
 use Rattle.world_script.specs.declared.scene.Scene as code
 
 -- the reply of an outcome, as that of what was told in a world
-reply_so : (outcome : Option code_outcome.Outcome) (told : Option (Job × Outcome)) (reply : List ℕ) → TellsAs outcome told → IsReplyAs outcome reply → IsReplyIn told reply
+reply_so : (outcome : Option code_end.JobEnd) (told : Option (Job × Outcome)) (reply : List ℕ) → TellsAs outcome told → IsReplyAs outcome reply → IsReplyIn told reply
 reply_so None None reply tells is = is
 reply_so (Some outcome) (Some told) reply tells is = subst (λ (o : Outcome). IsReplyOf o reply) (sym tells) is
 reply_so (Some outcome) None reply tells is = absurd tells
@@ -70,7 +69,7 @@ module _ {S : Type 0} (stored : S → Objects) (old : code.Scene S) (s : Scene) 
       pub named_gone : part.is_refused ≡ false → next_at (hand_at s.world part.number) ≡ nexts.Nothing → ComesToNamed stored s name deed no_actor old
       named_gone fine nothing = record { events = []; outs = []; later = s; does = does.gone part at_name fine nothing; stands = stands }
 
-      pub named_done : (new : code.Scene S) (outcome : Option code_outcome.Outcome) (reply : List ℕ) → part.is_refused ≡ false → (next_at (hand_at s.world part.number) ≡ nexts.Nothing → ⊥)
+      pub named_done : (new : code.Scene S) (outcome : Option code_end.JobEnd) (reply : List ℕ) → part.is_refused ≡ false → (next_at (hand_at s.world part.number) ≡ nexts.Nothing → ⊥)
           → CameBy stored (deed_does deed part.number s.world) outcome new.world → IsReplyAs outcome reply
           → new.parts ≡ old.parts → new.next ≡ old.next → new.tries ≡ old.tries → new.fault ≡ old.fault → new.use_checkpoints ≡ old.use_checkpoints → ComesToNamed stored s name deed reply new
       named_done new outcome reply fine alive came is parts next tries fault uses = record {
@@ -239,7 +238,7 @@ module _ {S : Type 0} (stored : S → Objects) (old : code.Scene S) (s : Scene) 
   none_landed (Some told) tells = absurd tells
 
   pub lands_so : (new : code.Scene S) (place : ℕ) (found : Option Put) (reply : List ℕ) → LandsAs stored s.world place (Ok found) new.world → reply ≡ does.landing_reply found
-      → new.parts ≡ old.parts → new.next ≡ old.next → new.tries ≡ old.tries → new.fault ≡ old.fault → new.use_checkpoints ≡ old.use_checkpoints → ComesTo stored s (lines.land place) reply new
+      → new.parts ≡ old.parts → new.next ≡ old.next → new.tries ≡ old.tries → new.fault ≡ old.fault → new.use_checkpoints ≡ old.use_checkpoints → ComesTo stored s (lines.world (lines.land place)) reply new
   lands_so new place found reply landed is parts next tries fault uses =
       let was = landed.1 in
       let happens : Happens s.world (land place) None was.later = subst (λ (o : Option (Job × Outcome)). Happens s.world (land place) o was.later) (none_landed was.told was.tells) (subst (λ (e : Event). Happens s.world e was.told was.later) was.is was.happens) in
@@ -253,7 +252,7 @@ module _ {S : Type 0} (stored : S → Objects) (old : code.Scene S) (s : Scene) 
       }
 
   pub no_landing : (new : code.Scene S) (place : ℕ) → WorldStands stored new.world s.world → new.parts ≡ old.parts → new.next ≡ old.next → new.tries ≡ old.tries → new.fault ≡ old.fault → new.use_checkpoints ≡ old.use_checkpoints
-      → ComesTo stored s (lines.land place) no_room new
+      → ComesTo stored s (lines.world (lines.land place)) no_room new
   no_landing new place there parts next tries fault uses = record {
     events = [];
     outs = [];
@@ -263,7 +262,7 @@ module _ {S : Type 0} (stored : S → Objects) (old : code.Scene S) (s : Scene) 
   }
 
   pub lands_err : (new : code.Scene S) (place : ℕ) (fault : StoreFault) → LandsAs stored s.world place (Err fault) new.world → new.parts ≡ old.parts → new.next ≡ old.next → new.tries ≡ old.tries → new.fault ≡ old.fault
-      → new.use_checkpoints ≡ old.use_checkpoints → ComesTo stored s (lines.land place) (reply_text (replies.Unanswered fault)) new
+      → new.use_checkpoints ≡ old.use_checkpoints → ComesTo stored s (lines.world (lines.land place)) (reply_text (replies.Unanswered fault)) new
   lands_err new place store_faults.Memory there parts next tries fault uses = no_landing new place there parts next tries fault uses
   lands_err new place store_faults.Lost there parts next tries fault uses = absurd there
 
@@ -290,7 +289,7 @@ module _ {S : Type 0} (stored : S → Objects) (old : code.Scene S) (s : Scene) 
     begun_alive = alive_of _ (begun_steps s.world 0 job (begin 0 job) None begun.later refl can begins)
 
     -- it ran to its end, by the fault that the scene has
-    pub ran_job : (new : code.Scene S) (outcome : code_outcome.Outcome) (reply : List ℕ) → CameThrough stored old.fault begun.later (Some outcome) new.fault new.world → IsReplyOf (outcome_view outcome) reply
+    pub ran_job : (new : code.Scene S) (outcome : code_end.JobEnd) (reply : List ℕ) → CameThrough stored old.fault begun.later (Some outcome) new.fault new.world → IsReplyOf (end_view outcome) reply
         → new.parts ≡ old.parts → new.next ≡ old.next → new.tries ≡ old.tries → new.use_checkpoints ≡ old.use_checkpoints → RanJob stored s job reply new
     ran_job new outcome reply came is parts next tries uses = record {
       mid = begun.later;

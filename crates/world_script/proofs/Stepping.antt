@@ -5,12 +5,12 @@ use Rattle.script_lines.specs.declared.kind.Kind.{Kind}
 use Rattle.script_lines.specs.declared.kind.Kind.TheVariants as kinds
 use Rattle.store_core.specs.Objects.{Objects}
 use Rattle.session_core.specs.Talks.{Asked, Talk, Told, get_object, list_names, put_commit, put_file}
-use Rattle.stream_world.specs.JobSessions.{Job, Outcome}
-use Rattle.stream_world.specs.Events.{CanBegin, Event, Fits, HasActor, Happens, Takes, act, acts, answer, begin, begins, begins_now, dies, ends, goes_on, lands, lose_answer, loses, nothing_happens, takes}
+use Rattle.table_jobs.specs.Jobs.{Job, Outcome, CanBegin}
+use Rattle.stream_world.specs.Events.{Event, Fits, HasActor, Happens, Takes, act, acts, answer, begin, begins, begins_now, dies, ends, goes_on, lands, lose_answer, loses, nothing_happens, takes}
 use Rattle.stream_world.specs.Worlds.{Actor, Hand, How, World, acted, asking, ended, fresh, late, lost, once, short, told_by, told_how, twice, waiting, with_actor}
-use Rattle.stream_world.specs.Jobs.{IsMetAs, IsMetIn}
+use Rattle.stream_world.specs.EventViews.{IsMetAs, IsMetIn}
 use Rattle.stream_world.specs.Standing.{HasHappened, TellsAs, WorldStands, taking}
-use Rattle.stream_world.specs.declared.table_session.Outcome as code_outcome
+use Rattle.table_jobs.specs.declared.job_session.JobEnd as code_end
 use Rattle.stream_world.specs.declared.world.World as code_world
 use Rattle.world_script.specs.Acting.{CameBy, Steps, calls, hand_at, how_of, is_commit_put, is_memory, loses_answer, next_at}
 use Rattle.world_script.specs.Acting as stepping
@@ -224,7 +224,7 @@ loses_so kinds.Mute lost objects call ran (inr wrong) is = cc
 
 module _ {S : Type 0} (stored : S → Objects) (n : ℕ) (kind : Kind) (w : World) where
   -- a session makes its first step, or takes the answer that waits
-  pub stepped : (outcome : Option code_outcome.Outcome) (world : code_world.World S) → next_at (hand_at w n) ≡ nexts.Step → HasHappened stored w (answer n) outcome world → CameBy stored (Steps n kind w) outcome world
+  pub stepped : (outcome : Option code_end.JobEnd) (world : code_world.World S) → next_at (hand_at w n) ≡ nexts.Step → HasHappened stored w (answer n) outcome world → CameBy stored (Steps n kind w) outcome world
   stepped outcome world next was = record {
     events = answer n ∷ [];
     told = was.told;
@@ -235,7 +235,7 @@ module _ {S : Type 0} (stored : S → Objects) (n : ℕ) (kind : Kind) (w : Worl
   }
 
   -- its call is answered, and it goes on
-  pub called : (c l ran : Bool) (outcome : Option code_outcome.Outcome) (mid world : code_world.World S) → next_at (hand_at w n) ≡ nexts.Call c → HasHappened stored w (act n (how_of kind)) None mid
+  pub called : (c l ran : Bool) (outcome : Option code_end.JobEnd) (mid world : code_world.World S) → next_at (hand_at w n) ≡ nexts.Call c → HasHappened stored w (act n (how_of kind)) None mid
       → ((v : World) → WorldStands stored mid v → (call : Asked) (told : Told) → hand_at v n ≡ Some (waiting call told) → ran ≡ is_memory told) → l ≡ (loses_answer kind && not ran)
       → ((v : World) → WorldStands stored mid v → HasHappened stored v (taking n l) outcome world) → CameBy stored (Steps n kind w) outcome world
   called c l ran outcome mid world next acted shorts says goes =

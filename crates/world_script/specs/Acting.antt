@@ -3,13 +3,13 @@ use Rattle.std.specs.Prelude.{◌≡◌, ℕ, List, [], ◌∷◌, ◌++◌, Boo
 use Rattle.script_lines.specs.declared.kind.Kind.{Kind}
 use Rattle.script_lines.specs.declared.kind.Kind.TheVariants.{Pass, Lost, Mute, Late, Twice}
 use Rattle.session_core.specs.Talks.{Asked, Told, put_commit, told_memory}
-use Rattle.stream_world.specs.JobSessions.{Job, Outcome}
+use Rattle.table_jobs.specs.Jobs.{Job, Outcome}
 use Rattle.stream_world.specs.Events.{Event, Happens, act, answer}
 use Rattle.stream_world.specs.Worlds as worlds
 use Rattle.stream_world.specs.Worlds.{Hand, How, World, asking, ended, fresh, waiting}
-use Rattle.stream_world.specs.Jobs.{IsMetIn}
+use Rattle.stream_world.specs.EventViews.{IsMetIn}
 use Rattle.stream_world.specs.Standing.{WorldStands, TellsAs, taking}
-use Rattle.stream_world.specs.declared.table_session.Outcome as code_outcome
+use Rattle.table_jobs.specs.declared.job_session.JobEnd as code_end
 use Rattle.stream_world.specs.declared.world.World as code_world
 use Rattle.store_core.specs.Objects.{Objects}
 use Rattle.world_script.specs.declared.acting.Next.{Next}
@@ -97,7 +97,7 @@ pub data LeadsThrough (n : ℕ) : (fault : Option Kind) → World → List Event
 -- ---- in the code
 
 -- A world of the code came from one by events of this kind, told this, and stands for a later one.
-pub record CameBy {S : Type 0} (stored : S → Objects) (does : List Event → Option (Job × Outcome) → World → Type 0) (outcome : Option code_outcome.Outcome) (world : code_world.World S) : Type 0 where
+pub record CameBy {S : Type 0} (stored : S → Objects) (does : List Event → Option (Job × Outcome) → World → Type 0) (outcome : Option code_end.JobEnd) (world : code_world.World S) : Type 0 where
   pub events : List Event
   pub told : Option (Job × Outcome)
   pub later : World

@@ -6,17 +6,17 @@ use Rattle.lake_script.specs.Replies.{bad_line}
 use Rattle.lake_script.specs.declared.reply.LineReply.{LineReply}
 use Rattle.script_lines.specs.Lines.{Reading, Statement, Task, asks, bad, skipped}
 use Rattle.script_lines.specs.declared.kind.Kind.{Kind}
-use Rattle.stream_world.specs.JobSessions.{Job, Outcome}
+use Rattle.table_jobs.specs.Jobs.{Job, Outcome}
 use Rattle.store_core.specs.Objects.{Objects}
 use Rattle.stream_world.specs.Events.{Event, Happens, begin}
 use Rattle.stream_world.specs.Worlds.{World}
-use Rattle.stream_world.specs.Sessions.{outcome_view}
+use Rattle.table_jobs.specs.Sessions.{end_view}
 use Rattle.stream_world.specs.Standing.{TellsAs, WorldStands}
-use Rattle.stream_world.specs.declared.table_session.Outcome as code_outcome
+use Rattle.table_jobs.specs.declared.job_session.JobEnd as code_end
 use Rattle.stream_world.specs.declared.world.World as code_world
 use Rattle.world_script.specs.Acting.{LeadsThrough}
-use Rattle.world_script.specs.Asked.{job_of_task}
-use Rattle.world_script.specs.Endings.{IsReplyOf}
+use Rattle.lake_script.specs.LineJobs.{job_of_task}
+use Rattle.lake_script.specs.Endings.{IsReplyOf}
 use Rattle.world_script.specs.Lines.{IsNamed, LineDoes, RunsAlone, Starts, TellsOf, no_room, ok}
 use Rattle.world_script.specs.Scenes.{Scene, SceneStands}
 use Rattle.world_script.specs.declared.named.Deed.{Deed}
@@ -28,9 +28,9 @@ replied None = []
 replied (Some reply) = reply_text reply
 
 -- the reply to a line by which an actor went on, and ended if there is an outcome
-abbrev pub IsReplyAs : Option code_outcome.Outcome → List ℕ → Type 0
+abbrev pub IsReplyAs : Option code_end.JobEnd → List ℕ → Type 0
 IsReplyAs None reply = reply ≡ ok
-IsReplyAs (Some outcome) reply = IsReplyOf (outcome_view outcome) reply
+IsReplyAs (Some outcome) reply = IsReplyOf (end_view outcome) reply
 
 -- What a line did to a scene and replied, for which the code stands now.
 pub record ComesTo {S : Type 0} (stored : S → Objects) (s : Scene) (statement : Statement) (reply : List ℕ) (scene : code.Scene S) : Type 0 where
@@ -75,7 +75,7 @@ pub record TellsIn {S : Type 0} (stored : S → Objects) (s : Scene) (statement 
   pub stands : SceneStands stored scene later
 
 -- An actor was led through a fault to its end, and told this.
-pub record CameThrough {S : Type 0} (stored : S → Objects) (fault : Option Kind) (w : World) (outcome : Option code_outcome.Outcome) (left : Option Kind) (world : code_world.World S) : Type 0 where
+pub record CameThrough {S : Type 0} (stored : S → Objects) (fault : Option Kind) (w : World) (outcome : Option code_end.JobEnd) (left : Option Kind) (world : code_world.World S) : Type 0 where
   pub events : List Event
   pub told : Job × Outcome
   pub later : World

@@ -1,7 +1,5 @@
 pub mod Acting
-pub mod Asked
 pub mod Doing
-pub mod Endings
 pub mod Lines
 pub mod Playing
 pub mod Scenes

@@ -10,9 +10,9 @@ use Rattle.lake_script.specs.Tries.{IsLook}
 use Rattle.table_log.specs.Restoring.{RestoresWell}
 use Rattle.lake_script.specs.declared.faults.Fault.TheVariants.{NoActor, NoSuchName}
 use Rattle.script_lines.specs.Lines as lines
-use Rattle.script_lines.specs.Lines.{Statement, Task}
+use Rattle.script_lines.specs.Lines.{Statement, WorldLine}
 use Rattle.script_lines.specs.declared.kind.Kind.{Kind}
-use Rattle.stream_world.specs.JobSessions.{Job, Outcome}
+use Rattle.table_jobs.specs.Jobs.{Job, Outcome}
 use Rattle.source_core.specs.TailFaults as tails
 use Rattle.source_core.specs.Tailing.{bad_offset}
 use Rattle.store_core.specs.Objects.{Objects}
@@ -23,8 +23,8 @@ use Rattle.stream_world.specs.Worlds.{World}
 use Rattle.stream_world.specs.Standing.{landing_told}
 use Rattle.world_script.specs.Acting.{Leads, LeadsThrough, Meets, hand_at, next_at}
 use Rattle.world_script.specs.declared.acting.Next.TheVariants as nexts
-use Rattle.world_script.specs.Asked.{job_of_creation, job_of_task}
-use Rattle.world_script.specs.Endings.{IsReplyOf}
+use Rattle.lake_script.specs.LineJobs.{job_of_creation, job_of_task}
+use Rattle.lake_script.specs.Endings.{IsReplyOf}
 use Rattle.world_script.specs.Scenes.{HasPart, Scene, next_behind, part_for}
 use Rattle.world_script.specs.declared.named.Deed.{Deed}
 use Rattle.world_script.specs.declared.named.Deed.TheVariants as deeds
@@ -123,19 +123,20 @@ SetsTries count s later = (tries : ℕ) × (1 ≤ count → tries ≡ count) × 
 
 -- ---- all lines
 
+-- what a line does to the world of actors
+abbrev pub WorldLineDoes : WorldLine → Scene → List Event → (outs : List (Job × Outcome)) → (reply : List ℕ) → Scene → Type 0
+WorldLineDoes (lines.start name job) s events outs reply later = (outs ≡ []) × Starts s name (job_of_task s.use_checkpoints s.tries job) events reply later
+WorldLineDoes (lines.until name) s events outs reply later = IsNamed s name deeds.Until events outs reply later
+WorldLineDoes (lines.step name kind) s events outs reply later = IsNamed s name (deeds.Step kind) events outs reply later
+WorldLineDoes (lines.finish name) s events outs reply later = IsNamed s name deeds.Finish events outs reply later
+WorldLineDoes (lines.die name) s events outs reply later = IsNamed s name deeds.Die events outs reply later
+WorldLineDoes (lines.land place) s events outs reply later = (outs ≡ []) × Lands s place events reply later
+WorldLineDoes (lines.fault kind) s events outs reply later = (events ≡ []) × (outs ≡ []) × (reply ≡ []) × (later ≡ record s { fault = Some kind })
+
 abbrev pub LineDoes : Statement → Scene → List Event → (outs : List (Job × Outcome)) → (reply : List ℕ) → Scene → Type 0
 LineDoes (lines.create id at schema) s events outs reply later = RunsAlone s (lines.create id at schema) (Some (job_of_creation id at schema)) events outs reply later
 LineDoes (lines.task job) s events outs reply later = RunsAlone s (lines.task job) (job_of_task s.use_checkpoints s.tries job) events outs reply later
-LineDoes (lines.start name job) s events outs reply later = (outs ≡ []) × Starts s name (job_of_task s.use_checkpoints s.tries job) events reply later
-LineDoes (lines.until name) s events outs reply later = IsNamed s name deeds.Until events outs reply later
-LineDoes (lines.step name kind) s events outs reply later = IsNamed s name (deeds.Step kind) events outs reply later
-LineDoes (lines.finish name) s events outs reply later = IsNamed s name deeds.Finish events outs reply later
-LineDoes (lines.die name) s events outs reply later = IsNamed s name deeds.Die events outs reply later
-LineDoes (lines.land place) s events outs reply later = (outs ≡ []) × Lands s place events reply later
-LineDoes (lines.fault kind) s events outs reply later = (events ≡ []) × (outs ≡ []) × (reply ≡ []) × (later ≡ record s { fault = Some kind })
-LineDoes (lines.tries count) s events outs reply later = (events ≡ []) × (outs ≡ []) × (reply ≡ ok) × SetsTries count s later
-LineDoes lines.snapshot s events outs reply later = IsStoreLine s lines.snapshot events outs reply later
-LineDoes lines.history s events outs reply later = IsStoreLine s lines.history events outs reply later
-LineDoes (lines.show version) s events outs reply later = IsStoreLine s (lines.show version) events outs reply later
-LineDoes (lines.hex name) s events outs reply later = IsStoreLine s (lines.hex name) events outs reply later
+LineDoes (lines.look line) s events outs reply later = IsStoreLine s (lines.look line) events outs reply later
 LineDoes (lines.foreign version action) s events outs reply later = IsStoreLine s (lines.foreign version action) events outs reply later
+LineDoes (lines.tries count) s events outs reply later = (events ≡ []) × (outs ≡ []) × (reply ≡ ok) × SetsTries count s later
+LineDoes (lines.world line) s events outs reply later = WorldLineDoes line s events outs reply later

@@ -4,7 +4,7 @@ use Rattle.delta_actions.specs.Commit.{lines_of}
 use Rattle.lake_script.specs.Replies.{bad_line}
 use Rattle.stream_world.specs.SoundStores.{IsSoundStore}
 use Rattle.script_lines.specs.Lines.{Statement, asks, bad, reading_of, skipped}
-use Rattle.stream_world.specs.JobSessions.{Job, Outcome}
+use Rattle.table_jobs.specs.Jobs.{Job, Outcome}
 use Rattle.store_core.specs.Objects.{Objects}
 use Rattle.stream_world.specs.Events.{Event, IsWorldOf}
 use Rattle.stream_world.specs.Worlds.{World}

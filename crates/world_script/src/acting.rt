@@ -1,7 +1,7 @@
 //! How an actor's session is led on.
 ghost use Rattle.std.specs.Prelude.{◌≡◌, ◌<◌, ◌≢◌, ◌&&◌, not, None, Some, true, false};
 ghost use Rattle.stream_world.specs.Worlds as worlds;
-ghost use Rattle.stream_world.specs.Jobs.{how_view};
+ghost use Rattle.stream_world.specs.EventViews.{how_view};
 ghost use Rattle.stream_world.specs.Left.{calls_left};
 ghost use Rattle.stream_world.specs.Standing.{WorldStands, slot_at};
 ghost use Rattle.world_script.specs.Acting.{CameBy, Leads, Meets, Steps, goes, hand_at, how_of, loses_answer, next_at};
@@ -10,7 +10,8 @@ ghost use Rattle.world_script.specs.Slots.{next_in, short_in};
 use script_lines::Kind;
 use session_core::{Reply, Request};
 use store_core::Store;
-use stream_world::{Actor, Hand, How, Outcome, World};
+use stream_world::{Actor, Hand, How, World};
+use table_jobs::JobEnd;
 
 /// What comes next for an actor.
 #[derive(Clone, Copy)]
@@ -92,7 +93,7 @@ fn is_lost<S: Store>(world: &World<S>, actor: u64, kind: Kind) -> bool
 
 /// A step of an actor, which has a session: its first one, or its call meets a kind and it goes on. Returns what it
 /// tells where it ends.
-pub(crate) fn step<S: Store>(world: &mut World<S>, actor: u64, kind: Kind) -> Option<Outcome>
+pub(crate) fn step<S: Store>(world: &mut World<S>, actor: u64, kind: Kind) -> Option<JobEnd>
     ensures came { S.is_reliable world.old.store.store → (w : worlds.World) → WorldStands S.objects world.old w → next_at (hand_at w actor) ≢ Next.Nothing
         → CameBy S.objects (Steps actor kind w) result world.new }
     ensures fewer { next_in (slot_at world.old actor) ≢ Next.Nothing → result ≡ None → calls_left (slot_at world.new actor) < calls_left (slot_at world.old actor) }
@@ -111,7 +112,7 @@ pub(crate) fn step<S: Store>(world: &mut World<S>, actor: u64, kind: Kind) -> Op
 
 /// An actor, which has a session, makes its first step if it has asked for nothing yet, and then its call meets a kind.
 /// Returns what it tells where it ends.
-pub(crate) fn meet<S: Store>(world: &mut World<S>, actor: u64, kind: Kind) -> Option<Outcome>
+pub(crate) fn meet<S: Store>(world: &mut World<S>, actor: u64, kind: Kind) -> Option<JobEnd>
     ensures came { S.is_reliable world.old.store.store → (w : worlds.World) → WorldStands S.objects world.old w → next_at (hand_at w actor) ≢ Next.Nothing
         → CameBy S.objects (Meets actor kind w) result world.new }
     ensures reliable { S.is_reliable world.old.store.store → S.is_reliable world.new.store.store }
@@ -142,7 +143,7 @@ pub(crate) fn lead<S: Store>(
     world: &mut World<S>,
     actor: u64,
     halts_at_commit: bool,
-) -> Option<Outcome>
+) -> Option<JobEnd>
     ensures came { S.is_reliable world.old.store.store → (w : worlds.World) → WorldStands S.objects world.old w → next_at (hand_at w actor) ≢ Next.Nothing
         → CameBy S.objects (Leads actor halts_at_commit w) result world.new }
     ensures reliable { S.is_reliable world.old.store.store → S.is_reliable world.new.store.store }

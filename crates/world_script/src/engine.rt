@@ -1,32 +1,23 @@
 //! The engine of any script: it reads its input to the end, then answers line by line.
-ghost use Rattle.std.specs.Prelude.{◌≡◌, ◌≢◌, ◌+◌, ◌≤◌, ◌^◌, ◌⊎◌, suc, ℕ, List, [], true, false, not, length, ⊤, OnOk, OnErr, IfOk, IfSome};
-ghost use Rattle.std.specs.Io.KnownBytes.{Appends};
+ghost use Rattle.std.specs.Prelude.{◌≡◌, ◌≢◌, ◌+◌, ◌≤◌, ◌^◌, ◌⊎◌, [], true, false, not, length, ⊤, OnOk, OnErr, IfOk};
 ghost use Rattle.delta_actions.specs.Commit.{lines_of};
-ghost use Rattle.store_core.specs.Names.{greatest_version};
-ghost use Rattle.lake_script.specs.Keeps.{Keeps, KeepsBeside};
-ghost use Rattle.lake_script.specs.Runs.{FallsShort, Runs, Tells};
-ghost use Rattle.lake_script.specs.Scripts.{IsScript, StaysSound};
-ghost use Rattle.lake_script.specs.Sound.{IsScriptRun};
-ghost use Rattle.lake_script.specs.Streams.{StandsIn, held, read_failed, unread, waiting, write_failed};
-ghost use Rattle.lake_script.specs.Tables.{State, entries_of};
+ghost use Rattle.lake_script.specs.Runs.{Tells};
+ghost use Rattle.lake_script.specs.Streams.{held, waiting, write_failed};
 ghost use Rattle.lake_script.specs.Told.{ArePutHere, Finishes, fell_short, first_bad, is_bad};
-ghost use Rattle.lake_script.specs.declared.inputs.TheConstants.{MOST_BYTES, MOST_READS};
 ghost use Rattle.script_lines.specs.Lines.{reading_of};
-ghost use Rattle.table_log.specs.Restoring.{HasOnlySoundCheckpoints, RestoresWell};
 ghost use Rattle.world_script.specs.Doing.{Answers, IsCutOff};
 ghost use Rattle.world_script.specs.Playing.{PlaysInPart, PlaysSo, PlaysText, StaysSo};
 ghost use Rattle.world_script.specs.Scenes as scenes;
 ghost use Rattle.world_script.specs.Scenes.{SceneStands, first_scene};
-ghost use Rattle.world_script.specs.Words.{needs_world};
 
 use crate::lines::do_line;
 use crate::scene::Scene;
 use crate::words::needs_world;
 use json::Scratch;
-use lake_script::{End, Input, InputError, Outcome, Output, OutputError, run_text};
+use lake_script::{End, Outcome, Output, OutputError};
 use script_lines::{Reading, first_line, reading_of};
 use std::alloc::Global;
-use std::io::{Read, Write};
+use std::io::Write;
 use store_core::Store;
 use stream_world::every_world;
 

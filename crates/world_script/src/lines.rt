@@ -1,8 +1,7 @@
 //! What each line of a script does to a scene, and its reply.
-ghost use Rattle.std.specs.Prelude.{◌≡◌};
-ghost use Rattle.log_reading.specs.LogCache.{IsCacheOf};
+
 ghost use Rattle.lake_script.specs.ReplyView.{reply_text};
-ghost use Rattle.script_lines.specs.Lines.{IsTimely, land, statement_view};
+ghost use Rattle.script_lines.specs.Lines.{IsTimely, IsTimelyIn, land, statement_view, world, world_view};
 ghost use Rattle.world_script.specs.Doing.{ComesTo, TellsIn, replied};
 ghost use Rattle.world_script.specs.Scenes as scenes;
 ghost use Rattle.world_script.specs.Scenes.{SceneStands};
@@ -13,13 +12,13 @@ use crate::scene::Scene;
 use crate::starting::start;
 use lake_script::{Fault, LineReply, execute};
 use log_reading::LogCache;
-use script_lines::Line;
+use script_lines::{Line, WorldLine};
 use std::alloc::Global;
 use store_core::Store;
 
 /// A put in flight takes effect.
 fn land<S: Store>(scene: &mut Scene<S>, put: u64) -> LineReply
-    ensures comes { S.is_reliable scene.old.world.store.store → (s : scenes.Scene) → SceneStands S.objects scene.old s → ComesTo S.objects s (land put) (reply_text result) scene.new }
+    ensures comes { S.is_reliable scene.old.world.store.store → (s : scenes.Scene) → SceneStands S.objects scene.old s → ComesTo S.objects s (world (land put)) (reply_text result) scene.new }
     ensures reliable { S.is_reliable scene.old.world.store.store → S.is_reliable scene.new.world.store.store }
 {
     match scene.world.land(put as usize) {
@@ -48,6 +47,30 @@ fn tell<S: Store>(alloc: Global, scene: &mut Scene<S>, line: Line<'_>) -> LineRe
     )
 }
 
+/// Does what a line does to the world of actors. `None` where nothing is replied.
+fn change_world<S: Store>(
+    alloc: Global,
+    line: WorldLine<'_>,
+    scene: &mut Scene<S>,
+) -> Option<LineReply>
+    requires { IsTimelyIn (world_view line) }
+    ensures comes { S.is_reliable scene.old.world.store.store → (s : scenes.Scene) → SceneStands S.objects scene.old s → ComesTo S.objects s (world (world_view line.entry)) (replied result) scene.new }
+    ensures reliable { S.is_reliable scene.old.world.store.store → S.is_reliable scene.new.world.store.store }
+{
+    match line {
+        WorldLine::Start { actor, job } => Some(start(alloc, scene, actor, job)),
+        WorldLine::Until { actor } => Some(do_named(alloc, scene, actor, Deed::Until)),
+        WorldLine::Step { actor, kind } => Some(do_named(alloc, scene, actor, Deed::Step(kind))),
+        WorldLine::Finish { actor } => Some(do_named(alloc, scene, actor, Deed::Finish)),
+        WorldLine::Die { actor } => Some(do_named(alloc, scene, actor, Deed::Die)),
+        WorldLine::Land { put } => Some(land(scene, put)),
+        WorldLine::Fault { kind } => {
+            scene.fault = Some(kind);
+            None
+        }
+    }
+}
+
 /// Does what a line asks for. `None` where nothing is replied.
 pub(crate) fn do_line<S: Store>(
     alloc: Global,
@@ -61,27 +84,15 @@ pub(crate) fn do_line<S: Store>(
     match line {
         Line::Create { id, at, schema } => Some(create_table(alloc, scene, id, at, schema)),
         Line::Job(job) => Some(run_task(alloc, scene, job)),
-        Line::Start { actor, job } => Some(start(alloc, scene, actor, job)),
-        Line::Until { actor } => Some(do_named(alloc, scene, actor, Deed::Until)),
-        Line::Step { actor, kind } => Some(do_named(alloc, scene, actor, Deed::Step(kind))),
-        Line::Finish { actor } => Some(do_named(alloc, scene, actor, Deed::Finish)),
-        Line::Die { actor } => Some(do_named(alloc, scene, actor, Deed::Die)),
-        Line::Land { put } => Some(land(scene, put)),
-        Line::Fault { kind } => {
-            scene.fault = Some(kind);
-            None
-        }
         Line::Tries { count } => {
             // A line gives at least one.
             scene.tries = count.max(1);
             Some(LineReply::Noted)
         }
-        Line::Snapshot => Some(tell(alloc, scene, Line::Snapshot)),
-        Line::History => Some(tell(alloc, scene, Line::History)),
-        Line::Show { version } => Some(tell(alloc, scene, Line::Show { version })),
-        Line::Hex { name } => Some(tell(alloc, scene, Line::Hex { name })),
+        Line::Look(look) => Some(tell(alloc, scene, Line::Look(look))),
         Line::Foreign { version, action } => {
             Some(tell(alloc, scene, Line::Foreign { version, action }))
         }
+        Line::World(line) => change_world(alloc, line, scene),
     }
 }

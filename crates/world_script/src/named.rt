@@ -19,7 +19,8 @@ use script_lines::Kind;
 use source_core::TailFault;
 use std::alloc::Global;
 use store_core::Store;
-use stream_world::{Outcome, World};
+use stream_world::World;
+use table_jobs::JobEnd;
 
 /// What a line does to an actor that was started.
 #[derive(Clone, Copy)]
@@ -35,7 +36,7 @@ pub enum Deed {
 }
 
 /// Does it to the actor of a number, which has a session.
-fn do_deed<S: Store>(world: &mut World<S>, number: u64, deed: Deed) -> Option<Outcome>
+fn do_deed<S: Store>(world: &mut World<S>, number: u64, deed: Deed) -> Option<JobEnd>
     ensures came { S.is_reliable world.old.store.store → (w : worlds.World) → WorldStands S.objects world.old w → next_at (hand_at w number) ≢ Nothing
         → CameBy S.objects (deed_does deed number w) result world.new }
     ensures reliable { S.is_reliable world.old.store.store → S.is_reliable world.new.store.store }

@@ -7,7 +7,7 @@ ghost use Rattle.world_script.specs.Doing.{ComesToStart, StartsAs};
 ghost use Rattle.world_script.specs.Scenes as scenes;
 ghost use Rattle.world_script.specs.Scenes.{SceneStands, next_behind, part_for};
 
-use crate::asked::job_of_task;
+use crate::asked::kept_job;
 use crate::part::{Part, Parts, part_of, set_part, set_refused};
 use crate::scene::Scene;
 use lake_script::LineReply;
@@ -71,7 +71,7 @@ fn begin_named<S: Store>(
     ensures starts { (s : scenes.Scene) → SceneStands S.objects scene.old s → StartsAs S.objects s name.now (task_view job.entry) result scene.new }
     ensures store { scene.new.world.store ≡ scene.old.world.store }
 {
-    let begun = job_of_task(alloc, job, scene.tries, scene.use_checkpoints)?;
+    let begun = kept_job(alloc, job, scene.tries, scene.use_checkpoints)?;
     let part = name_actor(alloc, &mut scene.parts, &mut scene.next, name)?;
     match begun {
         Some(job) => {

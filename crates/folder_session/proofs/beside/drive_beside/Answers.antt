@@ -7,8 +7,8 @@ use Rattle.store_core.specs.declared.names.Names.{Names}
 use Rattle.session_core.specs.Stores.{Answers, State, Talked}
 use Rattle.session_core.specs.Talks.{Asked, Talk, Told, asked_view, told_view, has_lost, heard}
 use Rattle.session_core.proofs.Callers.{asked_more, bears_grows, exact_never_lost, talk_alone, talk_borne, talk_grows}
-use Rattle.folder_session.specs.Beside.{AreApart, with_beside}
-use Rattle.folder_session.proofs.BesideLemmas.{answered_more}
+use Rattle.folder_session.specs.Beside.{AreApart, put_so, with_beside}
+use Rattle.folder_session.proofs.BesideLemmas.{answered_more, put_more, unlost_more}
 use Rattle.folder_session.proofs.beside.drive_beside.Goals as goal
 
 pub calls-init : goal.calls-init
@@ -27,6 +27,17 @@ calls-init g c =
       faults = c.in_ok-names.ensures.faults;
       reliable = λ reliable. c.in_ok-names.ensures.stays_reliable reliable;
       listed = λ steady. rising c.in_ok-names-2.field-0 c.in-Some.names _ c.in-Some.is c.in_ok-names-2.ensures ∙ c.in_ok-names.ensures.names steady;
+      talks = λ before fits. record {
+        talk = [];
+        taken = [];
+        asked = None;
+        fit = fits;
+        all = refl;
+        asked_for = tt;
+        unlost = refl;
+        few = omega arith;
+        put = none;
+      };
       driven = λ steady before fits. record {
         talk = [];
         taken = [];
@@ -65,6 +76,19 @@ returns-in-Done-clause-driven g c = λ steady before fits.
       apart = c.calls.invariant.apart steady;
     }
 
+pub returns-in-Done-clause-talks : goal.returns-in-Done-clause-talks
+returns-in-Done-clause-talks g c = λ before fits.
+    let i = c.calls.invariant.talks before fits in
+    let step = c.in-Done.ensures.goes before i.taken i.asked i.fit in
+    record {
+      talk = i.talk;
+      asked = i.asked_for;
+      unlost = i.unlost;
+      ended = rw c.calls.invariant.job at (rw i.all at step);
+      few = omega (arith, i.few);
+      put = i.put;
+    }
+
 pub calls-preserved : goal.calls-preserved
 calls-preserved g c =
     let objects : Objects = g.F.Folder.objects c.args.folder.now in
@@ -83,6 +107,21 @@ calls-preserved g c =
       untouched = λ steady. answered.untouched (i.steady steady) ∙ i.untouched steady;
       faults = answered.faults ∙ i.faults;
       listed = i.listed;
+      talks = λ before fits.
+          let d = i.talks before fits in
+          let step = c.in-Ask.ensures.goes before d.taken d.asked d.fit in
+          let talk : Talk = d.talk ++ (asked, told) ∷ [] in
+          record {
+            talk = talk;
+            taken = heard d.taken d.asked (option_map told_view c.calls.reply);
+            asked = Some asked;
+            fit = step.0;
+            all = ap (λ (t : Talk). t ++ (asked, told) ∷ []) d.all;
+            asked_for = asked_more (g.N.Session.asks (g.N.Session.job c.args.session.now) before) [] d.talk asked told d.asked_for (rw i.job at (rw d.all at step.1));
+            unlost = unlost_more d.talk asked told d.unlost answered.never_lost;
+            few = let longer = length-append d.talk ((asked, told) ∷ []) in omega (arith, d.few, steps.1, longer);
+            put = answered.put ∙ (ap (λ (o : Objects). put_so o asked told) d.put ∙ sym (put_more [] d.talk asked told));
+          };
       reliable = λ reliable. answered.stays_reliable (i.reliable reliable);
       driven = λ steady before fits.
           let d = i.driven steady before fits in

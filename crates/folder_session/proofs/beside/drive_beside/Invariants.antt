@@ -4,7 +4,7 @@ use Rattle.store_core.specs.Memory.{stored_objects}
 use Rattle.store_core.specs.Objects.{names_of}
 use Rattle.session_core.specs.Sessions.{IsDriven, hears_lost}
 use Rattle.session_core.specs.Talks.{Talk, IsReplyTo, told_view}
-use Rattle.folder_session.specs.Beside.{AreApart, with_beside}
+use Rattle.folder_session.specs.Beside.{AreApart, IsTalking, with_beside}
 use Rattle.folder_session.proofs.beside.drive_beside.Given as goal
 
 abbrev pub invariant-calls : goal.invariant-calls
@@ -18,6 +18,8 @@ invariant-calls g l = record {
   untouched : g.F.Folder.is_steady l.fn.folder → g.F.Folder.objects l.folder ≡ g.F.Folder.objects l.fn.folder;
   faults : g.F.Folder.fault_count l.folder ≡ g.F.Folder.fault_count l.fn.folder;
   reliable : g.F.Folder.is_reliable l.fn.folder → g.F.Folder.is_reliable l.folder;
+  talks : (before : Talk) → g.N.Session.fits before l.fn.session [] None
+      → IsTalking (g.N.Session.fits before) g.N.Session.left (g.N.Session.asks (g.N.Session.job l.fn.session) before) l.fn.session l.session (option_map told_view l.reply) (stored_objects l.added);
   listed : g.F.Folder.is_steady l.fn.folder → listed l.names ≡ names_of (g.F.Folder.objects l.fn.folder);
   driven : g.F.Folder.is_steady l.fn.folder → (before : Talk) → g.N.Session.fits before l.fn.session [] None
       → IsDriven (g.N.Session.fits before) g.N.Session.left (g.N.Session.asks (g.N.Session.job l.fn.session) before) (Unit {0}) l.fn.session l.session (option_map told_view l.reply)

@@ -4,7 +4,7 @@ use Rattle.store_core.specs.Objects.{Objects}
 use Rattle.session_core.proofs.Callers.{all_got}
 use Rattle.table_log.specs.LoadSessions.{LoadAsks, LoadEnds, LoadJob, is_lost_load, left_at}
 use Rattle.folder_session.specs.Beside.{DrivesBeside}
-use Rattle.folder_session.proofs.JobLemmas.{refused_so, snapshot_so}
+use Rattle.folder_session.proofs.SnapshotLemmas.{refused_so, snapshot_so}
 use Rattle.folder_session.proofs.telling.snapshot.Goals as goal
 
 pub returns-in-Ok-clause-told : goal.returns-in-Ok-clause-told

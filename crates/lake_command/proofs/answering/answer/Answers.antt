@@ -1,9 +1,10 @@
-use Rattle.std.proofs.Common.{◌∙◌, sym, subst, ℕ, List}
+use Rattle.std.proofs.Common.{◌∙◌, Some, ap, refl, sym, subst, ℕ, List, Ok}
 use Rattle.lake_script.specs.Streams.{read_failed, unread}
 use Rattle.lake_words.specs.Asked.{work_view}
+use Rattle.lake_command.specs.Again.{ComesOfRuns, last, not_there, runs}
 use Rattle.lake_command.specs.Failures.{CountsFolderFault}
 use Rattle.lake_command.specs.Folders.{IsTextOf, line_view}
-use Rattle.lake_command.proofs.AgainLemmas.{fails_with, folder_caused, input_alone, input_causes, input_leaves}
+use Rattle.lake_command.proofs.AgainLemmas.{fails_with, folder_caused, input_alone, input_causes, input_leaves, input_told}
 use Rattle.lake_command.proofs.CountLemmas.{asked_count, refused_by}
 use Rattle.lake_command.proofs.FolderLemmas.{fails_for_job, found_asked, may_leave, replies_to_job, sound_restores, stays_sound}
 use Rattle.lake_command.proofs.answering.answer.Goals as goal
@@ -97,3 +98,43 @@ returns-in_err-line-clause-counted g c = λ other.
     let known = unread g.R.Read.remaining c.args.input.now in
     let is = subst (λ (bytes : List ℕ). IsTextOf work known bytes) (sym c.deref.ensures.value) c.in_ok-text.ensures.read in
     refused_by c.from_residual-in_err-line.result c.in_err-line.field-0.0 work known _ (fails_with c.from_residual-in_err-line.result c.in_err-line.field-0.0 c.from_residual-in_err-line.ensures.1) (c.in_err-line.ensures.failed known (read_failed c.text_for.new.input) is)
+
+pub returns-in_err-text-clause-runs : goal.returns-in_err-text-clause-runs
+returns-in_err-text-clause-runs g c =
+    input_told c.from_residual.result c.in_err-text.field-0.0 (work_view c.args.command.job) (unread g.R.Read.remaining c.args.input.now) (read_failed c.text_for.new.input) c.args.command.use_checkpoints
+    (fails_with c.from_residual.result c.in_err-text.field-0.0 c.from_residual.ensures.1) c.in_err-text.ensures.failed
+
+pub returns-in_err-line-clause-runs : goal.returns-in_err-line-clause-runs
+returns-in_err-line-clause-runs g c =
+    let work = work_view c.args.command.job in
+    let known = unread g.R.Read.remaining c.args.input.now in
+    let is = subst (λ (bytes : List ℕ). IsTextOf work known bytes) (sym c.deref.ensures.value) c.in_ok-text.ensures.read in
+    input_told c.from_residual-in_err-line.result c.in_err-line.field-0.0 work known (read_failed c.text_for.new.input) c.args.command.use_checkpoints
+    (fails_with c.from_residual-in_err-line.result c.in_err-line.field-0.0 c.from_residual-in_err-line.ensures.1) (c.in_err-line.ensures.failed known (read_failed c.text_for.new.input) is)
+
+pub returns-in_default-clause-runs : goal.returns-in_default-clause-runs
+returns-in_default-clause-runs g c = not_there _ (c.in_ok-line.ensures.later (ap Ok c.in_default.is)) refl
+
+pub run_again-requires-clause-first : goal.run_again-requires-clause-first
+run_again-requires-clause-first g c =
+    let text = c.deref-then-none_failed.result.now in
+    let same = c.deref.ensures.value ∙ sym c.deref-then-none_failed.ensures.value in
+    (line_view c.in-Some.line, found_asked c.in_ok-line.field-0 c.in-Some.line (work_view c.args.command.job) (Some text) c.in-Some.is (c.in_ok-line.ensures.asked (Some text) (λ reads. same)), c.execute_in-outcome.ensures.ran)
+
+pub returns-then-none_failed-clause-runs : goal.returns-then-none_failed-clause-runs
+returns-then-none_failed-clause-runs g c =
+    let work = work_view c.args.command.job in
+    let known = unread g.R.Read.remaining c.args.input.now in
+    let text = c.deref-then-none_failed.result.now in
+    let is = subst (λ (bytes : List ℕ). IsTextOf work known bytes) (sym c.deref-then-none_failed.ensures.value) c.in_ok-text.ensures.read in
+    runs text c.run_again.result is (subst (λ (n : ℕ). ComesOfRuns work text c.args.command.use_checkpoints n c.run_again.result) c.tries_of-tries.ensures.same c.run_again.ensures.runs)
+
+pub returns-clause-runs : goal.returns-clause-runs
+returns-clause-runs g c =
+    let work = work_view c.args.command.job in
+    let known = unread g.R.Read.remaining c.args.input.now in
+    let text = c.deref.result.now in
+    let is = subst (λ (bytes : List ℕ). IsTextOf work known bytes) (sym c.deref.ensures.value) c.in_ok-text.ensures.read in
+    let asked = found_asked c.in_ok-line.field-0 c.in-Some.line work (Some text) c.in-Some.is (c.in_ok-line.ensures.asked (Some text) (λ reads. refl)) in
+    runs text c.execute_in-outcome.result is (subst (λ (n : ℕ). ComesOfRuns work text c.args.command.use_checkpoints n c.execute_in-outcome.result) c.tries_of-tries.ensures.same
+    (last _ (line_view c.in-Some.line) _ asked c.execute_in-outcome.ensures.ran))

@@ -1,6 +1,7 @@
-use Rattle.std.proofs.Common.{rules, ◌≡◌, ◌≢◌, true, false, Some, refl, sym, ◌∙◌}
+use Rattle.std.proofs.Common.{rules, ◌≡◌, ◌≢◌, true, false, Some, refl, sym, ap, ◌∙◌}
 use Rattle.lake_script.specs.Tables.{nothing}
 use Rattle.lake_script.proofs.Callers.{well_of_empty}
+use Rattle.lake_command.specs.Scripts.{script_uses_checkpoints}
 use Rattle.lake_command.specs.Status.{status_of}
 use Rattle.world_script.specs.Words.{needs_world}
 use Rattle.lake_command.proofs.ScriptLemmas.{by_table_of, may_of_run, no_job, no_other, of_such, over_of, played_of_run, script_of_run, short_of_run, so_of_run, output_of_run, written_of}
@@ -10,7 +11,8 @@ pub returns-in-Ok-Script-clause-script : goal.returns-in-Ok-Script-clause-script
 returns-in-Ok-Script-clause-script g c = λ command spells fine.
     let end = c.run-ran.result.outcome.end in
     let ends : status_of end ≢ 1 = λ refused. fine (c.ended.ensures ∙ refused) in
-    written_of _ _ _ _
+    let same = sym c.in-Ok-Script.field-0-is ∙ c.in-Ok-Script.ensures.spelled command spells in
+    rw (sym (ap script_uses_checkpoints same)) (written_of c.in-Ok-Script.use_checkpoints _ _ _ _
     (λ whole. of_such end _ (λ text. needs_world text ≡ false) _ _ ends (λ text is run. output_of_run end (Some text) _ _ _ _ ends run (search rules))
     (c.run-ran.ensures.told (search rules) (well_of_empty _ _ (search rules)) (sym c.is_short.ensures ∙ whole)))
     (λ whole. of_such end _ (λ text. needs_world text ≡ false) _ _ ends (λ text is run. by_table_of (Some text) _ _ _ _ (script_of_run end (Some text) _ _ _ _ ends run (rw is at c.run-ran.ensures.too_long)))
@@ -22,7 +24,7 @@ returns-in-Ok-Script-clause-script g c = λ command spells fine.
     (of_such end _ (λ text. needs_world text ≡ false) _ _ ends (λ text is run. may_of_run end _ _ text _ _ ends (search rules) run)
     (c.run-ran.ensures.tells (search rules) (well_of_empty _ _ (search rules))))
     (of_such end _ (λ text. needs_world text ≡ true) _ _ ends (λ text is run. played_of_run end _ _ text _ _ c.in-Ok-Script.use_checkpoints ends (search rules) run) (c.run-ran.ensures.plays (search rules)))
-    (of_such end _ (λ text. needs_world text ≡ true) _ _ ends (λ text is run. so_of_run end _ _ text _ c.in-Ok-Script.use_checkpoints ends run) (c.run-ran.ensures.headline (search rules) (search rules)))
+    (of_such end _ (λ text. needs_world text ≡ true) _ _ ends (λ text is run. so_of_run end _ _ text _ c.in-Ok-Script.use_checkpoints ends run) (c.run-ran.ensures.headline (search rules) (search rules))))
 
 pub returns-in-Ok-Table-clause-script : goal.returns-in-Ok-Table-clause-script
 returns-in-Ok-Table-clause-script g c = λ command spells. absurd (no_job _ command c.in-Ok-Table.command spells (sym c.in-Ok-Table.field-0-is ∙ c.in-Ok-Table.ensures.spelled command spells))

@@ -5,11 +5,13 @@ use Rattle.table_folder.specs.Copies.{HasSavedFront, to_save, with_copies}
 use Rattle.lake_script.specs.ReplyView.{reply_text}
 use Rattle.lake_script.specs.Runs.{Executes}
 use Rattle.lake_script.specs.declared.reply.LineReply.{LineReply}
+use Rattle.lake_command.specs.Again.{told}
 use Rattle.lake_command.specs.Failures.{NamesPut}
 use Rattle.lake_command.specs.Folders.{line_view}
 use Rattle.lake_command.specs.declared.failure.Failure.{Failure}
 use Rattle.lake_command.proofs.BesideLemmas.{line_left, named_beside, saved_beside}
 use Rattle.lake_command.proofs.FolderLemmas.{fails_as, saved_alone}
+use Rattle.lake_command.proofs.RunLemmas.{unread_run, unsaved_run}
 use Rattle.lake_command.proofs.saving.execute_beside.Goals as goal
 
 pub returns-clause-told : goal.returns-clause-told
@@ -63,3 +65,17 @@ pub returns-in_err-save-clause-kept : goal.returns-in_err-save-clause-kept
 returns-in_err-save-clause-kept g c = λ steady name bytes stands.
     let unchanged : g.F.Folder.objects c.reply_beside.new.folder ≡ g.F.Folder.objects c.args.folder.now = c.in_ok-outcome.ensures.untouched steady in
     c.in_err-save.ensures.kept (c.in_ok-outcome.ensures.steady steady) name bytes (ap (λ (o : Objects). object_at o name) unchanged ∙ stands)
+
+-- ---- over any folder
+
+pub returns-in_err-outcome-clause-ran : goal.returns-in_err-outcome-clause-ran
+returns-in_err-outcome-clause-ran g c =
+    unread_run c.args.use_checkpoints c.args.tries (line_view c.args.line) c.from_residual.result c.in_err-outcome.field-0.0 c.from_residual.ensures.1
+
+pub returns-in_err-save-clause-ran : goal.returns-in_err-save-clause-ran
+returns-in_err-save-clause-ran g c =
+    unsaved_run c.args.use_checkpoints c.args.tries (line_view c.args.line) c.from_residual-in_err-save.result c.in_ok-outcome.field-0.outcome (stored_objects c.in_ok-outcome.field-0.added) c.in_err-save.field-0.0
+    c.from_residual-in_err-save.ensures.1 c.in_ok-outcome.ensures.ran c.in_err-save.ensures.named
+
+pub returns-clause-ran : goal.returns-clause-ran
+returns-clause-ran g c = told c.in_ok-outcome.field-0.outcome (stored_objects c.in_ok-outcome.field-0.added) c.in_ok-outcome.ensures.ran

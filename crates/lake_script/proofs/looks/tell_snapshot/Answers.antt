@@ -1,6 +1,6 @@
 use Rattle.std.proofs.Common.{Err, inl, ap, subst, sym}
 use Rattle.store_core.specs.Objects.{Objects}
-use Rattle.script_lines.specs.Lines.{snapshot}
+use Rattle.script_lines.specs.Lines.{look, snapshot}
 use Rattle.lake_script.specs.ReplyView.{reply_text}
 use Rattle.lake_script.specs.Runs.{Executes}
 use Rattle.lake_script.specs.Sound.{IsExecuted}
@@ -15,28 +15,28 @@ returns-in-Ok-clause-told g c = λ reliable well.
     let objects = g.S.Store.objects c.args.store.now in
     let text = c.in-Ok.text.items in
     let tells = tells_alike c.args.use_checkpoints objects well text c.in-Ok.ensures.told in
-    subst (λ (after : Objects). Executes objects snapshot text after) (sym c.in-Ok.ensures.untouched) (has_executed objects snapshot text objects (snapshot_executed objects text tells))
+    subst (λ (after : Objects). Executes objects (look snapshot) text after) (sym c.in-Ok.ensures.untouched) (has_executed objects (look snapshot) text objects (snapshot_executed objects text tells))
 
 pub returns-in-Ok-clause-whole : goal.returns-in-Ok-clause-whole
 returns-in-Ok-clause-whole g c = λ reliable well enough.
     let objects = g.S.Store.objects c.args.store.now in
     let text = c.in-Ok.text.items in
     let tells = tells_alike c.args.use_checkpoints objects well text c.in-Ok.ensures.told in
-    subst (λ (after : Objects). IsExecuted objects snapshot text after) (sym c.in-Ok.ensures.untouched) (snapshot_executed objects text tells)
+    subst (λ (after : Objects). IsExecuted objects (look snapshot) text after) (sym c.in-Ok.ensures.untouched) (snapshot_executed objects text tells)
 
 pub returns-in-Err-clause-told : goal.returns-in-Err-clause-told
 returns-in-Err-clause-told g c = λ reliable well.
     let objects = g.S.Store.objects c.args.store.now in
     let fault = c.in-Err.fault in
     let said = unread_alike c.args.use_checkpoints objects well fault c.in-Err.ensures.refused in
-    subst (λ (after : Objects). Executes objects snapshot (reply_text (NoSnapshot fault)) after) (sym c.in-Err.ensures.untouched) (unread_told objects fault said (λ lost. c.in-Err.ensures.never_lost reliable (ap Err lost)))
+    subst (λ (after : Objects). Executes objects (look snapshot) (reply_text (NoSnapshot fault)) after) (sym c.in-Err.ensures.untouched) (unread_told objects fault said (λ lost. c.in-Err.ensures.never_lost reliable (ap Err lost)))
 
 pub returns-in-Err-clause-whole : goal.returns-in-Err-clause-whole
 returns-in-Err-clause-whole g c = λ reliable well enough.
     let objects = g.S.Store.objects c.args.store.now in
     let fault = c.in-Err.fault in
     let said = unread_alike c.args.use_checkpoints objects well fault c.in-Err.ensures.refused in
-    subst (λ (after : Objects). IsExecuted objects snapshot (reply_text (NoSnapshot fault)) after) (sym c.in-Err.ensures.untouched) (unread_executed objects fault said enough (λ lost. c.in-Err.ensures.never_lost reliable (ap Err lost)))
+    subst (λ (after : Objects). IsExecuted objects (look snapshot) (reply_text (NoSnapshot fault)) after) (sym c.in-Err.ensures.untouched) (unread_executed objects fault said enough (λ lost. c.in-Err.ensures.never_lost reliable (ap Err lost)))
 
 pub returns-in-Err-clause-wants : goal.returns-in-Err-clause-wants
 returns-in-Err-clause-wants g c = λ well short.

@@ -8,8 +8,8 @@ use Rattle.lake_script.proofs.reply.execute.Goals as goal
 pub returns-in-Create-clause-told : goal.returns-in-Create-clause-told
 returns-in-Create-clause-told g c = λ reliable well. rw c.in-Create.is (c.create_table.ensures.told reliable)
 
-pub returns-in-Snapshot-clause-told : goal.returns-in-Snapshot-clause-told
-returns-in-Snapshot-clause-told g c = λ reliable well. rw c.in-Snapshot.is (c.tell_snapshot.ensures.told reliable well)
+pub returns-in-Look-Snapshot-clause-told : goal.returns-in-Look-Snapshot-clause-told
+returns-in-Look-Snapshot-clause-told g c = λ reliable well. let look = rw c.in-Look-Snapshot.is at c.in-Look-Snapshot.field-0-is in rw (c.in-Look-Snapshot.is, look) (c.tell_snapshot.ensures.told reliable well)
 
 pub returns-in-Create-clause-restores : goal.returns-in-Create-clause-restores
 returns-in-Create-clause-restores g c = λ reliable every sound.
@@ -19,8 +19,8 @@ pub returns-in-Job-clause-restores : goal.returns-in-Job-clause-restores
 returns-in-Job-clause-restores g c = λ reliable every sound.
     puts_sound every (g.S.Store.objects c.args.store.now) (task (task_view c.in-Job.job)) (g.S.Store.objects c.execute_job.new.store) (c.execute_job.ensures.grows reliable (λ is. well_sound every (g.S.Store.objects c.args.store.now) sound)) sound
 
-pub returns-in-Snapshot-clause-restores : goal.returns-in-Snapshot-clause-restores
-returns-in-Snapshot-clause-restores g c = λ reliable every sound. subst (AreCheckpointsSound every) (sym c.tell_snapshot.ensures.untouched) sound
+pub returns-in-Look-Snapshot-clause-restores : goal.returns-in-Look-Snapshot-clause-restores
+returns-in-Look-Snapshot-clause-restores g c = λ reliable every sound. subst (AreCheckpointsSound every) (sym c.tell_snapshot.ensures.untouched) sound
 
 pub returns-in-Foreign-clause-restores : goal.returns-in-Foreign-clause-restores
 returns-in-Foreign-clause-restores g c = λ reliable every sound.
@@ -32,8 +32,8 @@ returns-in-Job-clause-told g c = λ reliable well. rw c.in-Job.is (c.execute_job
 pub returns-in-Job-clause-whole : goal.returns-in-Job-clause-whole
 returns-in-Job-clause-whole g c = λ reliable well enough. rw c.in-Job.is (c.execute_job.ensures.whole reliable well enough)
 
-pub returns-in-Snapshot-clause-whole : goal.returns-in-Snapshot-clause-whole
-returns-in-Snapshot-clause-whole g c = λ reliable well enough. rw c.in-Snapshot.is (c.tell_snapshot.ensures.whole reliable well enough)
+pub returns-in-Look-Snapshot-clause-whole : goal.returns-in-Look-Snapshot-clause-whole
+returns-in-Look-Snapshot-clause-whole g c = λ reliable well enough. let look = rw c.in-Look-Snapshot.is at c.in-Look-Snapshot.field-0-is in rw (c.in-Look-Snapshot.is, look) (c.tell_snapshot.ensures.whole reliable well enough)
 
 pub returns-in-Job-clause-short : goal.returns-in-Job-clause-short
 returns-in-Job-clause-short g c = λ well short. rw c.in-Job.is (c.execute_job.ensures.short well short)
@@ -56,29 +56,29 @@ returns-in-Job-clause-any g c = rw c.in-Job.is c.execute_job.ensures.any
 pub returns-in-Job-clause-told_lost : goal.returns-in-Job-clause-told_lost
 returns-in-Job-clause-told_lost g c = λ is. rw c.in-Job.is (c.execute_job.ensures.told_lost is)
 
-pub returns-in-Snapshot-clause-any : goal.returns-in-Snapshot-clause-any
-returns-in-Snapshot-clause-any g c = rw c.in-Snapshot.is c.tell_snapshot.ensures.any
+pub returns-in-Look-Snapshot-clause-any : goal.returns-in-Look-Snapshot-clause-any
+returns-in-Look-Snapshot-clause-any g c = let look = rw c.in-Look-Snapshot.is at c.in-Look-Snapshot.field-0-is in rw (c.in-Look-Snapshot.is, look) c.tell_snapshot.ensures.any
 
-pub returns-in-Snapshot-clause-told_lost : goal.returns-in-Snapshot-clause-told_lost
-returns-in-Snapshot-clause-told_lost g c = λ is. rw c.in-Snapshot.is (c.tell_snapshot.ensures.told_lost is)
+pub returns-in-Look-Snapshot-clause-told_lost : goal.returns-in-Look-Snapshot-clause-told_lost
+returns-in-Look-Snapshot-clause-told_lost g c = λ is. let look = rw c.in-Look-Snapshot.is at c.in-Look-Snapshot.field-0-is in rw (c.in-Look-Snapshot.is, look) (c.tell_snapshot.ensures.told_lost is)
 
-pub returns-in-History-clause-any : goal.returns-in-History-clause-any
-returns-in-History-clause-any g c = rw c.in-History.is c.tell_history.ensures.any
+pub returns-in-Look-History-clause-any : goal.returns-in-Look-History-clause-any
+returns-in-Look-History-clause-any g c = let look = rw c.in-Look-History.is at c.in-Look-History.field-0-is in rw (c.in-Look-History.is, look) c.tell_history.ensures.any
 
-pub returns-in-History-clause-told_lost : goal.returns-in-History-clause-told_lost
-returns-in-History-clause-told_lost g c = λ is. rw c.in-History.is (c.tell_history.ensures.told_lost is)
+pub returns-in-Look-History-clause-told_lost : goal.returns-in-Look-History-clause-told_lost
+returns-in-Look-History-clause-told_lost g c = λ is. let look = rw c.in-Look-History.is at c.in-Look-History.field-0-is in rw (c.in-Look-History.is, look) (c.tell_history.ensures.told_lost is)
 
-pub returns-in-Show-clause-any : goal.returns-in-Show-clause-any
-returns-in-Show-clause-any g c = rw c.in-Show.is c.show.ensures.any
+pub returns-in-Look-Show-clause-any : goal.returns-in-Look-Show-clause-any
+returns-in-Look-Show-clause-any g c = let look = rw c.in-Look-Show.is at c.in-Look-Show.field-0-is in rw (c.in-Look-Show.is, look) c.show.ensures.any
 
-pub returns-in-Show-clause-told_lost : goal.returns-in-Show-clause-told_lost
-returns-in-Show-clause-told_lost g c = λ is. rw c.in-Show.is (c.show.ensures.told_lost is)
+pub returns-in-Look-Show-clause-told_lost : goal.returns-in-Look-Show-clause-told_lost
+returns-in-Look-Show-clause-told_lost g c = λ is. let look = rw c.in-Look-Show.is at c.in-Look-Show.field-0-is in rw (c.in-Look-Show.is, look) (c.show.ensures.told_lost is)
 
-pub returns-in-Hex-clause-any : goal.returns-in-Hex-clause-any
-returns-in-Hex-clause-any g c = rw c.in-Hex.is c.show_in_hex.ensures.any
+pub returns-in-Look-Hex-clause-any : goal.returns-in-Look-Hex-clause-any
+returns-in-Look-Hex-clause-any g c = let look = rw c.in-Look-Hex.is at c.in-Look-Hex.field-0-is in rw (c.in-Look-Hex.is, look) c.show_in_hex.ensures.any
 
-pub returns-in-Hex-clause-told_lost : goal.returns-in-Hex-clause-told_lost
-returns-in-Hex-clause-told_lost g c = λ is. rw c.in-Hex.is (c.show_in_hex.ensures.told_lost is)
+pub returns-in-Look-Hex-clause-told_lost : goal.returns-in-Look-Hex-clause-told_lost
+returns-in-Look-Hex-clause-told_lost g c = λ is. let look = rw c.in-Look-Hex.is at c.in-Look-Hex.field-0-is in rw (c.in-Look-Hex.is, look) (c.show_in_hex.ensures.told_lost is)
 
 pub returns-in-Foreign-clause-any : goal.returns-in-Foreign-clause-any
 returns-in-Foreign-clause-any g c = rw c.in-Foreign.is c.put_foreign.ensures.any

@@ -3,9 +3,10 @@ use Rattle.store_core.specs.Objects.{Objects}
 use Rattle.session_core.specs.Talks.{Talk, get_object, list_names, put_commit, put_file}
 use Rattle.table_model.specs.Table.{Entry}
 use Rattle.table_store.specs.Schema.{Schema}
-use Rattle.session_laws.specs.May.{BearsSession, IsValidJob, May}
+use Rattle.session_laws.specs.May.{BearsSession, May}
+use Rattle.table_jobs.specs.Jobs.{IsValidJob, Job, checkpoint, checkpoints, creates, creation, load, loads, read, reads, stream, streams}
 use Rattle.session_laws.specs.Rows.{next_version}
-use Rattle.session_laws.specs.Sessions.{Does, Job, Move, asks, checkpoint, checkpoints, creates, creation, load, loads, read, reads, stream, streams, tells}
+use Rattle.session_laws.specs.Moves.{Does, Move, asks, tells}
 use Rattle.session_laws.proofs.Created.{created_row}
 use Rattle.session_laws.proofs.sessions.what_a_session_may.Goals as goal
 

@@ -4,8 +4,8 @@ use Rattle.session_core.specs.Talks.{Asked, Talk, get_object, list_names, put_co
 use Rattle.table_model.specs.Table.{Entry}
 use Rattle.table_store.specs.Schema.{Schema}
 use Rattle.sink_core.specs.SinkSessions.{SinkAsks, SinkJob}
-use Rattle.session_laws.specs.May.{BearsSession, IsValidJob, MayAsk}
-use Rattle.session_laws.specs.Sessions.{streams}
+use Rattle.session_laws.specs.May.{BearsSession, MayAsk}
+use Rattle.table_jobs.specs.Jobs.{IsValidJob, streams}
 use Rattle.session_laws.proofs.StreamLacks.{stream_tells}
 use Rattle.session_laws.proofs.StreamPuts.{puts_commit, puts_file}
 use Rattle.session_laws.proofs.sessions.what_a_stream_may.Goals as goal

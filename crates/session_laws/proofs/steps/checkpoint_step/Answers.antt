@@ -3,7 +3,7 @@ use Rattle.session_core.specs.Sessions.{Goes}
 use Rattle.session_core.specs.Talks.{Talk}
 use Rattle.snapshot_core.specs.CheckpointSessions.{CheckpointFits, is_lost_checkpoint, job_of}
 use Rattle.session_laws.specs.May.{move_of}
-use Rattle.session_laws.specs.Sessions.{Asks, Ends, checkpoint, checkpoints}
+use Rattle.table_jobs.specs.Jobs.{Asks, Ends, checkpoint, checkpoints}
 use Rattle.session_laws.proofs.NextSteps.{does_step, heard_now}
 use Rattle.session_laws.proofs.steps.checkpoint_step.Goals as goal
 

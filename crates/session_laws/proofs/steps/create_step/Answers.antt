@@ -3,7 +3,7 @@ use Rattle.session_core.specs.Sessions.{Goes}
 use Rattle.session_core.specs.Talks.{Talk}
 use Rattle.commit_core.specs.CreateSessions.{CreateFits, job_of, tells_lost}
 use Rattle.session_laws.specs.May.{move_of}
-use Rattle.session_laws.specs.Sessions.{Asks, Ends, creation, creates}
+use Rattle.table_jobs.specs.Jobs.{Asks, Ends, creation, creates}
 use Rattle.session_laws.proofs.NextSteps.{does_step, heard_now}
 use Rattle.session_laws.proofs.steps.create_step.Goals as goal
 

@@ -3,7 +3,7 @@ use Rattle.session_core.specs.Sessions.{Goes}
 use Rattle.session_core.specs.Talks.{Talk}
 use Rattle.table_log.specs.LoadSessions.{LoadFits, is_lost_load, job_of}
 use Rattle.session_laws.specs.May.{move_of}
-use Rattle.session_laws.specs.Sessions.{Asks, Ends, load, loads}
+use Rattle.table_jobs.specs.Jobs.{Asks, Ends, load, loads}
 use Rattle.session_laws.proofs.NextSteps.{does_step, heard_now}
 use Rattle.session_laws.proofs.steps.load_step.Goals as goal
 

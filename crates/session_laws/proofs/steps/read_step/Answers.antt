@@ -3,7 +3,7 @@ use Rattle.session_core.specs.Sessions.{Goes}
 use Rattle.session_core.specs.Talks.{Talk}
 use Rattle.source_core.specs.SourceSessions.{SourceFits, is_lost_read, job_of}
 use Rattle.session_laws.specs.May.{move_of}
-use Rattle.session_laws.specs.Sessions.{Asks, Ends, read, reads}
+use Rattle.table_jobs.specs.Jobs.{Asks, Ends, read, reads}
 use Rattle.session_laws.proofs.NextSteps.{does_step, heard_now}
 use Rattle.session_laws.proofs.steps.read_step.Goals as goal
 

@@ -5,7 +5,7 @@ use Rattle.std.proofs.lemmas.Str.{IsUtf8-string_bytes}
 use Rattle.sink_core.specs.SinkFits.{SinkFits}
 use Rattle.sink_core.specs.SinkSessions.{is_lost_end, job_of}
 use Rattle.session_laws.specs.May.{move_of}
-use Rattle.session_laws.specs.Sessions.{Asks, Ends, stream, streams}
+use Rattle.table_jobs.specs.Jobs.{Asks, Ends, stream, streams}
 use Rattle.session_laws.proofs.NextSteps.{does_step, heard_now}
 use Rattle.session_laws.proofs.steps.stream_step.Goals as goal
 

@@ -1,5 +1,5 @@
 use Rattle.std.proofs.Common.{subst}
-use Rattle.session_laws.specs.Sessions.{Job}
+use Rattle.session_laws.specs.Jobs.{Job}
 use Rattle.stream_model.proofs.Laws.{AreLaws}
 use Rattle.stream_model.proofs.Readers.{was_listed}
 use Rattle.stream_model.proofs.Seen.{SeesWell}

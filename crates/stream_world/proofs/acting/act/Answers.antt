@@ -5,8 +5,8 @@ use Rattle.store_core.specs.Turns.{puts_sent}
 use Rattle.session_core.specs.Talks.{asked_view, told_view}
 use Rattle.stream_model.specs.Events.{act}
 use Rattle.stream_world.specs.Hands.{is_at_hand}
-use Rattle.stream_world.specs.Jobs.{how_view}
-use Rattle.stream_world.specs.Sessions.{awaited}
+use Rattle.stream_world.specs.EventViews.{how_view}
+use Rattle.table_jobs.specs.Sessions.{awaited}
 use Rattle.stream_world.specs.Standing.{Meets, SlotStands}
 use Rattle.stream_world.specs.declared.actor.Actor as code
 use Rattle.stream_world.specs.declared.actor.Hand.{Hand}

@@ -1,6 +1,6 @@
 use Rattle.std.proofs.Common.{[]}
 use Rattle.stream_world.proofs.Hands.{ready_asks}
-use Rattle.stream_world.specs.Sessions.{awaited}
+use Rattle.table_jobs.specs.Sessions.{awaited}
 use Rattle.stream_world.proofs.acting.advance.Goals as goal
 
 pub invariant_of-asking : goal.invariant_of-asking

@@ -14,6 +14,7 @@ loop-checkpoint-init g c = record {
   steady = λ steady. steady;
   reliable = λ reliable. reliable;
   walk = λ steady over. over.1;
+  schema = refl;
   most = omega (arith, c.requires);
   seen = λ steady over. tt;
   ahead = first_ahead c.args.walk.next c.requires (map listed_view c.deref-checkpoint-items.result.now);
@@ -99,6 +100,7 @@ loop-checkpoint-preserved g c =
           let below : AreCheckpointsSoundBelow objects x.version = below_at objects items all i x c.loop-checkpoint-test.true c.checkpoint-item.is listed (c.loop-checkpoint.invariant.seen steady over) in
           let low : AreCheckpointsSoundBelow (g.R.ObjectReader.objects c.loop-checkpoint.reader) x.version = subst (λ (o : Objects). AreCheckpointsSoundBelow o x.version) (sym same) below in
           rw (c.in-Behind.is, same) at (c.in_ok-walk_on.ensures.reached here begun low);
+      schema = c.walk_on.ensures.keeps ∙ c.loop-checkpoint.invariant.schema;
       most = omega (arith, behind, small);
       seen = λ steady over.
           let all = all_listed objects (map string_bytes c.args.names.now) c.in_ok-checkpoints.checkpoints.items items over.0 c.deref-checkpoint-items.ensures.value c.in_ok-checkpoints.ensures.all in

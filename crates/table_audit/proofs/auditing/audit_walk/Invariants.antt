@@ -14,6 +14,7 @@ invariant-loop-checkpoint g l = record {
   steady : g.R.ObjectReader.is_steady l.fn.reader → g.R.ObjectReader.is_steady l.reader;
   reliable : g.R.ObjectReader.is_reliable l.fn.reader → g.R.ObjectReader.is_reliable l.reader;
   walk : g.R.ObjectReader.is_steady l.fn.reader → IsWalkOver (g.R.ObjectReader.objects l.fn.reader) (map string_bytes l.names) l.fn.walk → IsWalk (g.R.ObjectReader.objects l.fn.reader) l.walk;
+  schema : l.walk.schema ≡ l.fn.walk.schema;
   most : l.walk.next ≤ suc greatest_version;
   seen : g.R.ObjectReader.is_steady l.fn.reader → IsWalkOver (g.R.ObjectReader.objects l.fn.reader) (map string_bytes l.names) l.fn.walk
       → AllByRecursion (λ p. (bytes : List ℕ) → object_at (g.R.ObjectReader.objects l.fn.reader) p.1 ≡ Some bytes → IsSoundCheckpoint (g.R.ObjectReader.objects l.fn.reader) p.0 bytes)

@@ -1,9 +1,10 @@
-use Rattle.std.proofs.Common.{◌≡◌, ℕ, List, Some, refl, sym, subst, ◌∙◌}
+use Rattle.std.proofs.Common.{◌≡◌, ℕ, List, Some, string_bytes, refl, sym, subst, ◌∙◌}
 use Rattle.schema_tree.specs.Schema.{tree_of}
 use Rattle.store_core.specs.Objects.{object_at}
 use Rattle.table_store.specs.Schema.{IsFileOf}
 use Rattle.table_store.proofs.HeldLemmas.{read_at}
 use Rattle.table_store.proofs.HoldingOne.{some_is}
+use Rattle.table_audit.proofs.LargeParts.{told_large}
 use Rattle.table_audit.proofs.file.wrong_file.Goals as goal
 
 pub returns-in-Ok-Some-clause-breaks : goal.returns-in-Ok-Some-clause-breaks
@@ -13,3 +14,10 @@ returns-in-Ok-Some-clause-breaks g c = λ steady rows stand.
     let same : stand.0 ≡ c.deref.result.now = some_is stand.0 c.in-Some.bytes.items (sym stand.1 ∙ there) ∙ sym c.deref.ensures.value in
     let none = rw c.in-Ok-Some.field-0-is at c.in-Ok-Some.ensures.breaks in
     none rows (subst (λ (b : List ℕ). IsFileOf (tree_of c.args.schema.now) b rows) same stand.2)
+
+pub returns-clause-large : goal.returns-clause-large
+returns-clause-large g c = λ steady.
+    let objects = g.R.ObjectReader.objects c.args.reader.now in
+    let there : object_at objects c.args.name.now ≡ Some c.in-Some.bytes.items = read_at objects _ _ _ (Some c.in-Some.bytes) (c.in_ok-bytes.ensures.object steady) refl c.in-Some.is in
+    let large = rw c.in-Err-Fault.field-0-is at c.in-Err-Fault.ensures.large in
+    told_large objects (tree_of c.args.schema.now) c.args.name.now (string_bytes c.in_ok-name-in-Err-Fault.name) c.in-Some.bytes.items c.deref.result.now there c.deref.ensures.value c.in_ok-name-in-Err-Fault.ensures.ok large

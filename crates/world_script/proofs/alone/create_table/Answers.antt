@@ -1,7 +1,7 @@
 use Rattle.std.proofs.Common.{Some, refl, subst}
-use Rattle.stream_world.specs.JobSessions.{Job}
+use Rattle.table_jobs.specs.Jobs.{Job}
 use Rattle.script_lines.specs.Lines.{create}
-use Rattle.stream_world.specs.Jobs.{job_view}
+use Rattle.table_jobs.specs.Views.{job_view}
 use Rattle.lake_script.specs.ReplyView.{reply_text}
 use Rattle.world_script.specs.Doing.{ComesToAlone}
 use Rattle.world_script.proofs.Scening.{alone_ran, alone_short}

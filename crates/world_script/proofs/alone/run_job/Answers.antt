@@ -1,6 +1,6 @@
 use Rattle.std.proofs.Common.{refl, sym, subst}
 use Rattle.std.proofs.lemmas.Result.{err_from_is_err_and}
-use Rattle.stream_world.specs.Jobs.{job_view}
+use Rattle.table_jobs.specs.Views.{job_view}
 use Rattle.world_script.proofs.Scening.{begun_alive, ran_job, with_world}
 use Rattle.world_script.proofs.alone.run_job.Goals as goal
 

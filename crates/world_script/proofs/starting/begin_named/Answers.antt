@@ -1,6 +1,6 @@
 use Rattle.std.proofs.Common.{◌∙◌, true, false, option_map, refl, sym, ap}
 use Rattle.std.proofs.lemmas.Result.{err_from_is_err_and}
-use Rattle.stream_world.specs.Jobs.{job_view}
+use Rattle.table_jobs.specs.Views.{job_view}
 use Rattle.script_lines.specs.Lines.{task_view}
 use Rattle.world_script.proofs.Scening.{job_at, not_started, started_begun, started_refused, unstarted}
 use Rattle.world_script.proofs.starting.begin_named.Goals as goal

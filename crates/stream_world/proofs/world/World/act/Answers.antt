@@ -3,7 +3,7 @@ use Rattle.std.specs.BTreeMap.{get}
 use Rattle.std.specs.Option.{option_copied_mut}
 use Rattle.std.specs.Ordering.{nat_cmp}
 use Rattle.stream_model.specs.Events.{act}
-use Rattle.stream_world.specs.Jobs.{how_view}
+use Rattle.stream_world.specs.EventViews.{how_view}
 use Rattle.stream_world.specs.Standing.{SlotStands}
 use Rattle.stream_world.specs.declared.actor.Actor as code
 use Rattle.stream_world.proofs.Acted.{nobody_acted}

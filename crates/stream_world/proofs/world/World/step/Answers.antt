@@ -1,7 +1,7 @@
 use Rattle.std.proofs.Common.{None, ap, subst, sym}
 use Rattle.std.proofs.lemmas.Result.{err_from_is_err_and}
 use Rattle.stream_model.specs.Events.{Event}
-use Rattle.stream_world.specs.Jobs.{event_view}
+use Rattle.stream_world.specs.EventViews.{event_view}
 use Rattle.stream_world.specs.Standing.{HasHappened, TakesMemory}
 use Rattle.stream_world.specs.declared.event.Event as code_event
 use Rattle.stream_world.proofs.world.World.step.Goals as goal

@@ -1,0 +1,39 @@
+//! A job over a folder, as its session: what it puts is to be saved behind it.
+ghost use Rattle.std.specs.Prelude.{◌≡◌, IfOk};
+ghost use Rattle.store_core.specs.Memory.{stored_objects};
+ghost use Rattle.table_folder.specs.Faults.{CountsLoad, IsNotLoaded};
+ghost use Rattle.table_jobs.specs.Done.{IsJobDone};
+ghost use Rattle.table_jobs.specs.Sessions.{end_view};
+ghost use Rattle.table_jobs.specs.Views.{job_view};
+ghost use Rattle.folder_session.specs.Beside.{AreApart, RanBeside, with_beside};
+
+use crate::beside::{Beside, drive_beside};
+use std::alloc::Global;
+use table_folder::{Folder, LoadFault};
+use table_jobs::{Job, JobEnd, JobSession};
+
+/// Does a job over a folder. Where nothing else changes the folder, what it tells and puts is what its rules say over a
+/// store that has the folder's objects. The folder is listed, and just those files are opened that the session asks for,
+/// or that stand under a name that it puts: for a creation what stands under the name of version 0; else the newest
+/// checkpoint, where these are used, the commits behind it, of a read its data files, and what stands under the names
+/// that are put. Fails where a call of the folder fails; the folder isn't written to.
+pub fn run<F: Folder>(
+    alloc: Global,
+    folder: &mut F,
+    job: Job<'_>,
+) -> Result<Beside<JobEnd>, LoadFault>
+    ensures done { F.is_steady folder.old → IfOk result (λ ended. IsJobDone (job_view job.entry)
+        (F.objects folder.old) (with_beside (F.objects folder.old) (stored_objects ended.added)) (end_view ended.outcome)) }
+    // Over any folder, whoever else writes into it, its session told this behind a talk in which it asked for just what
+    // this job asks for, and what it put is what it was told to have created.
+    ensures ran { IfOk result (λ ended. RanBeside (job_view job.entry) (end_view ended.outcome) (stored_objects ended.added)) }
+    ensures apart { F.is_steady folder.old → IfOk result (λ ended. AreApart (F.objects folder.old) (stored_objects ended.added)) }
+    ensures untouched { F.is_steady folder.old → F.objects folder.new ≡ F.objects folder.old }
+    ensures steady { F.is_steady folder.old → F.is_steady folder.new }
+    ensures faults { CountsLoad result (F.fault_count folder.old) (F.fault_count folder.new) }
+    ensures never_fails { F.is_reliable folder.old → IsNotLoaded result → ⊥ }
+    ensures stays_reliable { F.is_reliable folder.old → F.is_reliable folder.new }
+{
+    let mut session = JobSession::new(alloc, job);
+    drive_beside(alloc, folder, &mut session)
+}

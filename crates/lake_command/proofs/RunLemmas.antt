@@ -1,0 +1,63 @@
+-- A run of a line: its job can begin, what it may put where nothing was run, and what came of it where it wasn't saved or the folder couldn't be read.
+use Rattle.std.proofs.Common.{◌≡◌, ◌≤◌, ◌∙◌, ℕ, Bool, [], Option, Some, IfSome, Result, Err, inl, refl, sym, subst}
+use Rattle.std.specs.Prelude.{IsErrAnd, bytes_eq, string_bytes}
+use Rattle.std.proofs.lemmas.Cmp.{nat_list_eq_equiv}
+use Rattle.std.proofs.lemmas.Map.Views.{Contains-from_any, list_any-from_Contains}
+use Rattle.std.proofs.lemmas.Slice.Eq.{bytes_eq-Decides}
+use Rattle.store_core.specs.Objects.{Objects, names_of}
+use Rattle.table_folder.specs.Copies.{to_save}
+use Rattle.table_folder.specs.Faults.{SaveFailsAmong}
+use Rattle.table_folder.specs.declared.fault.LoadFault.{LoadFault}
+use Rattle.table_folder.specs.declared.fault.SaveFault.{SaveFault}
+use Rattle.table_folder.specs.declared.fault.SaveFault.TheVariants as saves
+use Rattle.table_folder.proofs.Callers.{list_any-to_save}
+use Rattle.table_jobs.specs.Jobs.{IsValidJob, Job}
+use Rattle.script_lines.specs.Lines.{Statement, append, checkpoint, close, create, foreign, task}
+use Rattle.lake_script.specs.LineJobs.{job_of_line}
+use Rattle.lake_script.specs.Growth.{MayPut}
+use Rattle.lake_script.specs.declared.reply.LineReply.{LineReply}
+use Rattle.lake_script.proofs.Callers.{valid_task}
+use Rattle.lake_command.specs.Again.{IsRunOf, IsUnsaved, RanLine, unread, unsaved}
+use Rattle.lake_command.specs.Folders.{IsTextLine}
+use Rattle.lake_command.specs.declared.failure.Failure.{Failure}
+use Rattle.lake_command.specs.declared.failure.Failure.TheVariants.{Loading, Saving}
+use Rattle.lake_command.proofs.AgainLemmas.{fails_with}
+
+-- ---- its job
+
+line_valid : (use_checkpoints : Bool) (tries : ℕ) (statement : Statement) → 1 ≤ tries → IsTextLine statement → IfSome (job_of_line use_checkpoints tries statement) IsValidJob
+line_valid use_checkpoints tries (task job) some text = valid_task use_checkpoints tries job some text
+line_valid use_checkpoints tries _ some text = tt
+
+-- The job of a line whose application's id is text, and which tries a version at least, can begin.
+pub valid_line : (use_checkpoints : Bool) (tries : ℕ) (statement : Statement) (job : Job) → 1 ≤ tries → IsTextLine statement → job_of_line use_checkpoints tries statement ≡ Some job → IsValidJob job
+valid_line use_checkpoints tries statement job some text is = subst (λ (found : Option Job). IfSome found IsValidJob) is (line_valid use_checkpoints tries statement some text)
+
+-- ---- where nothing was run
+
+-- a line may put nothing
+pub unrun_grows : (objects : Objects) (statement : Statement) → IsTextLine statement → MayPut objects statement objects
+unrun_grows objects (create id at schema) text = inl refl
+unrun_grows objects (task (append application number at rows)) text = (text, inl refl)
+unrun_grows objects (task (close application at)) text = (text, inl refl)
+unrun_grows objects (task checkpoint) text = inl refl
+unrun_grows objects (foreign version action) text = inl refl
+unrun_grows objects _ text = refl
+
+-- ---- where it wasn't saved, or not run
+
+-- what isn't saved of what a run put was put by it
+unsaved_among : (fault : SaveFault) (added : Objects) → SaveFailsAmong {X = Unit {0}} (to_save [] (names_of added)) (Err fault) → IsUnsaved fault added
+unsaved_among (saves.NotSaved name reason) added among =
+    Contains-from_any {eq = bytes_eq} (λ x y same. (bytes_eq-Decides x y).0 same) (string_bytes name) (names_of added)
+    (sym (list_any-to_save [] (names_of added) (string_bytes name)) ∙ list_any-from_Contains nat_list_eq_equiv (string_bytes name) (to_save [] (names_of added)) among)
+unsaved_among saves.Lost added among = tt
+unsaved_among saves.Memory added among = tt
+
+module _ (use_checkpoints : Bool) (tries : ℕ) (statement : Statement) (result : Result LineReply Failure) where
+  pub unsaved_run : (reply : LineReply) (added : Objects) (fault : SaveFault) → IsErrAnd result (λ failure. failure ≡ Saving fault) → RanLine use_checkpoints tries statement reply added
+      → SaveFailsAmong {X = Unit {0}} (to_save [] (names_of added)) (Err fault) → IsRunOf use_checkpoints tries statement result
+  unsaved_run reply added fault is run among = subst (IsRunOf use_checkpoints tries statement) (sym (fails_with result (Saving fault) is)) (unsaved reply added fault run (unsaved_among fault added among))
+
+  pub unread_run : (fault : LoadFault) → IsErrAnd result (λ failure. failure ≡ Loading fault) → IsRunOf use_checkpoints tries statement result
+  unread_run fault is = subst (IsRunOf use_checkpoints tries statement) (sym (fails_with result (Loading fault) is)) (unread fault)

@@ -1,0 +1,2 @@
+-- The lemmas that proofs of other crates may cite.
+pub use Rattle.table_jobs.proofs.QuietJobs.{quiet_job}

@@ -1,0 +1,2 @@
+pub mod Callers
+mod QuietJobs

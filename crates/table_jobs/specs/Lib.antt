@@ -1,0 +1,4 @@
+pub mod Done
+pub mod Jobs
+pub mod Sessions
+pub mod Views

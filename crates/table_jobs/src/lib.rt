@@ -1,0 +1,13 @@
+//! Jobs on a table: what there is to do, the session that does it, and what it tells when it ends.
+//!
+//! Whoever runs a job begins its [`JobSession`] and answers each call that it asks for: over a folder, or as an actor of
+//! a world.
+#![tactic(auto)]
+
+mod beginning;
+mod job;
+mod job_session;
+mod owning;
+
+pub use job::{Creation, Job, StreamJob};
+pub use job_session::{JobEnd, JobSession};
