@@ -1,5 +1,5 @@
 -- How a code is explained.
-use Rattle.std.specs.Prelude.{◌≡◌, ◌⊎◌, ℕ, List, Option, None, Some, true, false, codes}
+use Rattle.std.specs.Prelude.{◌≡◌, ◌⊎◌, ◌++◌, ℕ, List, Option, None, Some, true, false, codes}
 use Rattle.std.specs.Io.KnownBytes.{Appends}
 use Rattle.outcomes.specs.Lines.{with_newline}
 use Rattle.lake_script.specs.Streams.{held, write_failed}
@@ -8,6 +8,7 @@ use Rattle.refusal_texts.specs.Codes.{has_entry}
 use Rattle.refusal_texts.specs.Texts.{refusal_text}
 use Rattle.refusal_texts.specs.declared.refusal.Refusal.{Refusal}
 use Rattle.table_folder.specs.declared.fault.SaveFault.TheVariants as saves
+use Rattle.lake_command.specs.Failures.{failure_text}
 use Rattle.lake_command.specs.declared.exit.Exit.{Exit}
 use Rattle.lake_command.specs.declared.failure.Failure.{Failure}
 use Rattle.lake_command.specs.declared.failure.Failure.TheVariants.{Misused, NotRead, BadLine, Miscounted, Memory, Loading, Saving}
@@ -24,6 +25,10 @@ abbrev pub IsExplained : {W : Type 0} → (W → Option (List ℕ)) → (code : 
 IsExplained contents code old new exit =
     TellsEntry contents code old new exit
     ⊎ (((exit.status ≡ 2) × (has_entry code ≡ false) × (new ≡ old)) ⊎ ((exit.status ≡ 1) × ((exit.is_short ≡ true) ⊎ (write_failed new ≡ true))))
+
+-- the text of a failure tells it as a refusal with this code
+abbrev pub TellsCode : Failure → (code : List ℕ) → Type 0
+TellsCode failure code = (rest : List ℕ) × (failure_text failure ≡ codes "refused " ++ (code ++ (codes " " ++ rest)))
 
 -- the code of a failure that is told as a refusal
 abbrev pub code_in : Failure → Option (List ℕ)

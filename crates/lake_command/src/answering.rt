@@ -113,6 +113,8 @@ fn run_again<F: Folder>(
     requires first { (statement : Statement) × IsAskedBy (work_view command.job) (Some text.now) statement × IsRunOf command.use_checkpoints tries statement refused }
     requires tries { tries ≡ tries_in (work_view command.job) }
     ensures runs { ComesOfRuns (work_view command.entry.job) text.now command.entry.use_checkpoints tries result }
+    // What a run has put may stand, so it isn't told that the folder can't be read.
+    ensures loaded { IsErrAnd result (λ failure. IsLoading failure) → ⊥ }
     ensures caused { IfErr result (λ failure. IsByFolder failure) }
     ensures faults { CountsFolderFault result (F.fault_count folder.old) (F.fault_count folder.new) }
     ensures kept { F.is_steady folder.old → (name bytes : List ℕ) → object_at (F.objects folder.old) name ≡ Some bytes

@@ -1,9 +1,9 @@
 //! What a refusal means, where it is asked for, and the code of a failure.
-ghost use Rattle.std.specs.Prelude.{◌≡◌, Err, OnOk, option_map, true};
+ghost use Rattle.std.specs.Prelude.{◌≡◌, Err, IfSome, OnOk, option_map, true};
 ghost use Rattle.std.specs.Io.KnownBytes.{Appends};
 ghost use Rattle.outcomes.specs.Lines.{with_newline};
 ghost use Rattle.lake_script.specs.Streams.{held, write_failed};
-ghost use Rattle.lake_command.specs.Explaining.{IsExplained, code_in};
+ghost use Rattle.lake_command.specs.Explaining.{IsExplained, TellsCode, code_in};
 ghost use Rattle.refusal_texts.specs.Texts.{refusal_text};
 
 use crate::exit::{DONE, Exit, MISUSED};
@@ -16,7 +16,9 @@ use table_folder::SaveFault;
 
 /// The code of a failure that is told as a refusal.
 pub(crate) fn code_of(failure: &Failure) -> Option<&'static str>
-    ensures { option_map (λ code. code.now) result ≡ code_in failure.now }
+    ensures code { option_map (λ code. code.now) result ≡ code_in failure.now }
+    // It is the one that the failure's text tells.
+    ensures told { IfSome result (λ code. TellsCode failure.now code.now) }
 {
     match failure {
         Failure::Misused | Failure::BadLine(..) | Failure::Miscounted { .. } => None,

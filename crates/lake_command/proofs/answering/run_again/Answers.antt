@@ -60,3 +60,15 @@ loop-left-preserved g c =
       steady = λ steady. c.execute_in-outcome.ensures.steady (c.loop-left.invariant.steady steady);
       kept = λ steady name bytes stands. c.execute_in-outcome.ensures.kept (c.loop-left.invariant.steady steady) name bytes (c.loop-left.invariant.kept steady name bytes stands);
     }
+
+pub returns-in_default-clause-loaded : goal.returns-in_default-clause-loaded
+returns-in_default-clause-loaded g c = taken_is_loaded c.loop-left.refused c.loop-left.invariant.taken
+
+pub returns-then-is_unloaded-clause-loaded : goal.returns-then-is_unloaded-clause-loaded
+returns-then-is_unloaded-clause-loaded g c = taken_is_loaded c.loop-left.refused c.loop-left.invariant.taken
+
+pub returns-then-not-is_taken-clause-loaded : goal.returns-then-not-is_taken-clause-loaded
+returns-then-not-is_taken-clause-loaded g c = λ is. false≢true (sym c.if-is_unloaded.false ∙ c.is_unloaded.ensures.1 is)
+
+pub returns-clause-loaded : goal.returns-clause-loaded
+returns-clause-loaded g c = taken_is_loaded c.loop-left.refused c.loop-left.invariant.taken
