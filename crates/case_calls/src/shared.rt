@@ -97,6 +97,8 @@ impl Folder for SharedFolder<'_> {
 
     ghost is_reliable = { λ _. ⊥ };
 
+    ghost makes = { λ _ _ _. Unit {0} };
+
     fn names(&mut self) -> Result<Vec<String>, FolderFault> {
         self.files.names()
     }

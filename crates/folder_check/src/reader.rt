@@ -76,6 +76,8 @@ impl<F: Folder, P: Progress> ObjectReader for FolderReader<F, P> {
 
     ghost is_reliable = { λ reader. F.is_reliable reader.folder };
 
+    ghost makes = { λ _ _. Unit {0} };
+
     fn names(&mut self) -> Result<Vec<String>, StoreFault> {
         match self.folder.names() {
             Ok(names) => {

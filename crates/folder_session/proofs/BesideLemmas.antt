@@ -1,16 +1,21 @@
 -- What is found where objects stand beside those of a folder, and what a put there tells and leaves.
-use Rattle.std.proofs.Common.{◌≡◌, ℕ, List, [], ◌∷◌, ◌++◌, Bool, true, false, cond, Option, Some, None, IsSome, refl, sym, ap, subst, ◌∙◌}
-use Rattle.std.specs.Prelude.{bytes_eq, is_some, option_map}
+use Rattle.std.proofs.Common.{◌≡◌, ℕ, List, [], ◌∷◌, ◌++◌, Bool, true, false, cond, Option, Some, None, IsSome, Result, Ok, Err, IfErr, refl, sym, ap, subst, ◌∙◌, inl, inr, append_assoc, append-nil}
+use Rattle.std.specs.Prelude.{IsErrOf, bytes_eq, is_some, option_map}
 use Rattle.std.proofs.lemmas.Slice.Eq.{bytes_eq-Decides}
 use Rattle.store_core.specs.Calls.{IsUntouched, put_told}
+use Rattle.store_core.specs.Names.{commit_name}
 use Rattle.store_core.specs.Objects.{Objects, IsInOrder, names_of, object_at, with_object}
 use Rattle.store_core.specs.ObjectLaws.{IsInOrder-with_object, object_at-with_object_other, same_objects, with_object_stands}
 use Rattle.store_core.specs.declared.store.Put.{Put}
 use Rattle.store_core.specs.declared.store.Put.TheVariants.{Created, Exists}
 use Rattle.session_core.specs.Stores.{State, Answers, AnswersPut, Talked}
-use Rattle.session_core.specs.Talks.{Asked, Told, has_lost, is_lost, told_put, Talk}
-use Rattle.table_folder.proofs.Callers.{IsInOrder-with_copies, first_of, found_after_put, list_any-names, object_at-with_copies}
-use Rattle.folder_session.specs.Beside.{AreApart, put_by, put_named, put_so, with_beside}
+use Rattle.session_core.specs.Talks.{Asked, Told, get_object, has_lost, is_lost, list_names, put_commit, put_file, told_memory, told_put, told_view, fault_reply, Talk}
+use Rattle.session_core.specs.declared.asking.Reply.{Reply}
+use Rattle.store_core.specs.declared.fault.StoreFault.{StoreFault}
+use Rattle.store_core.specs.declared.fault.StoreFault.TheVariants.{Lost, Memory}
+use Rattle.table_folder.specs.Traces.{FolderCall, MakeNone, MakesNone, Traced}
+use Rattle.table_folder.proofs.Callers.{IsInOrder-with_copies, first_of, found_after_put, list_any-names, none_made_on, object_at-with_copies}
+use Rattle.folder_session.specs.Beside.{AreApart, Hears, HearsAll, HearsPut, IsOpened, TellsFound, TellsPut, put_by, put_named, put_so, with_beside}
 
 -- ---- what is found
 
@@ -129,3 +134,66 @@ put_created added new name bytes Exists told landed = by_found (object_at added 
     by_found : (found : Option (List ℕ)) → object_at added name ≡ found → new ≡ added
     by_found None is = let wrong : Exists ≡ Created = told ∙ ap put_told is in absurd cc
     by_found (Some kept) is = landed ∙ with_object_stands added name bytes (ap is_some is)
+
+-- ---- what is heard of the folder
+
+-- which calls were made for a talk with one call more
+pub heard_more : (names : List (List ℕ)) (added : Objects) (talk : Talk) (asked : Asked) (told : Told) (calls more : List FolderCall) → HearsAll names added talk calls → Hears names (put_by added talk) asked told more
+    → HearsAll names added (talk ++ (asked, told) ∷ []) (calls ++ more)
+heard_more names added [] asked told calls more none one = (more, [], one, refl, (λ i. none i ++ more) ∙ sym (append-nil more))
+heard_more names added (call ∷ talk) asked told calls more is one =
+    (is.0, is.1 ++ more, is.2, heard_more names (put_so added call.0 call.1) talk asked told is.1 more is.3 one, ap (λ (c : List FolderCall). c ++ more) is.4 ∙ append_assoc is.0 is.1 more)
+
+-- one call was made
+pub traced_once : {F : Type 0} → (makes : F → FolderCall → F → Type 0) (old new : F) (call : FolderCall) → makes old call new → Traced makes old (call ∷ []) new
+traced_once makes old new call is = (new, is, refl)
+
+-- what a call told that found something, or nothing
+pub found_told : {A : Type 0} (view : A → List ℕ) (found : Option A) → is_some found ≡ true → (bytes : List ℕ) × (option_map view found ≡ Some bytes)
+found_told view None is = absurd cc
+found_told view (Some file) is = (view file, refl)
+
+pub none_told : {A : Type 0} (view : A → List ℕ) (found : Option A) → is_some found ≡ false → option_map view found ≡ None
+none_told view None is = refl
+none_told view (Some file) is = absurd cc
+
+-- the calls of a session's call make no file
+opened_makes_none : (names : List (List ℕ)) (name : List ℕ) (found : Option (List ℕ)) (call : FolderCall) → IsOpened names name found call → MakesNone call
+opened_makes_none names name found call (inl is) = subst MakesNone (sym is) tt
+opened_makes_none names name found call (inr is) = subst MakesNone (sym is.1) tt
+
+put_makes_none : (added : Objects) (name : List ℕ) (told : Told) (calls : List FolderCall) → HearsPut added name told calls → MakeNone calls
+put_makes_none added name told calls (inl is) = subst MakeNone (sym is.3) (tt, (tt, tt))
+put_makes_none added name told calls (inr is) = subst MakeNone (sym is.1) (tt, tt)
+
+pub hears_makes_none : (names : List (List ℕ)) (added : Objects) (asked : Asked) (told : Told) (calls : List FolderCall) → Hears names added asked told calls → MakeNone calls
+hears_makes_none names added list_names told calls is = subst MakeNone (sym is.1) tt
+hears_makes_none names added (get_object name) told calls is = subst MakeNone (sym is.4) (opened_makes_none names name is.0 is.1 is.2, tt)
+hears_makes_none names added (put_file name bytes) told calls is = put_makes_none added name told calls is
+hears_makes_none names added (put_commit version bytes) told calls (inl is) = put_makes_none added (commit_name version) told calls is
+hears_makes_none names added (put_commit version bytes) told calls (inr is) = subst MakeNone (sym is.1) tt
+
+pub heard_makes_none : (names : List (List ℕ)) (added : Objects) (talk : Talk) (calls : List FolderCall) → HearsAll names added talk calls → MakeNone calls
+heard_makes_none names added [] calls is = subst MakeNone (sym is) tt
+heard_makes_none names added (call ∷ talk) calls is =
+    subst MakeNone (sym is.4) (none_made_on is.0 is.1 (hears_makes_none names added call.0 call.1 is.0 is.2) (heard_makes_none names (put_so added call.0 call.1) talk is.1 is.3))
+
+-- what is so holds of a fault
+pub for_fault : {X E : Type 0} (Q : Type 0) (result : Result X E) → Q → IfErr result (λ fault. Q)
+for_fault Q (Ok x) is = tt
+for_fault Q (Err fault) is = is
+
+-- a call that told nothing was made, and makes no file
+pub looked_once : {F : Type 0} → (makes : F → FolderCall → F → Type 0) (old new : F) (call : FolderCall) → makes old call new → MakesNone call → (calls : List FolderCall) × Traced makes old calls new × MakeNone calls
+looked_once makes old new call is none = (call ∷ [], traced_once makes old new call is, (none, tt))
+
+-- a store in memory that fails has no memory
+pub memory_alone : {X : Type 0} (fault : StoreFault) (reply : Reply) → reply ≡ fault_reply fault → (IsErrOf {T = X} (Err fault) Lost → ⊥) → told_view reply ≡ told_memory
+memory_alone Lost reply is never = absurd (never refl)
+memory_alone Memory reply is never = ap told_view is
+
+pub memory_tells_put : (added : Objects) (name : List ℕ) (told : Told) → told ≡ told_memory → TellsPut added name told
+memory_tells_put added name told is = subst (TellsPut added name) (sym is) tt
+
+pub memory_tells_found : (added : Objects) (name : List ℕ) (told : Told) → told ≡ told_memory → TellsFound added name None told
+memory_tells_found added name told is = subst (TellsFound added name None) (sym is) tt

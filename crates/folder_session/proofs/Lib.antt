@@ -1,4 +1,5 @@
 mod BesideLemmas
+mod Listing
 mod SnapshotLemmas
 mod Showing
 mod Unspelled

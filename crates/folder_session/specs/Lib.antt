@@ -1,3 +1,4 @@
 pub mod Beside
 pub mod Driving
+pub mod Runs
 pub mod Snapshots

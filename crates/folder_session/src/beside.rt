@@ -1,6 +1,6 @@
 //! A session that puts something, driven over a folder: what it puts is kept in memory beside the folder, which is left
 //! as it is.
-ghost use Rattle.std.specs.Prelude.{◌≡◌, [], false, true, None, IfOk, option_map};
+ghost use Rattle.std.specs.Prelude.{◌≡◌, List, [], false, true, None, IfErr, IfOk, option_map};
 ghost use Rattle.std.specs.String.{string_bytes};
 ghost use Rattle.session_core.specs.Stores.{Answers, AnswersPut};
 ghost use Rattle.session_core.specs.Talks.{IsAnswerOf, Talk, asked_view, fault_reply, get_object, getting, is_lost, kind_of, list_names, listing, putting, told_view};
@@ -8,7 +8,8 @@ ghost use Rattle.store_core.specs.Listed.{listed};
 ghost use Rattle.store_core.specs.Memory.{stored_objects};
 ghost use Rattle.store_core.specs.Objects.{Objects, names_of, object_at};
 ghost use Rattle.table_folder.specs.Faults.{CountsLoad, IsNotLoaded};
-ghost use Rattle.folder_session.specs.Beside.{AreApart, DrivesBeside, TalksBeside, put_named, put_so, with_beside};
+ghost use Rattle.table_folder.specs.Traces.{FolderCall, MakeNone, Traced};
+ghost use Rattle.folder_session.specs.Beside.{AreApart, DrivesBeside, Hears, HearsPut, IsOpened, TalksBeside, put_named, put_so, with_beside};
 
 use crate::asking::listed_as;
 use session_core::{Reply, Request, Session, Step, a_store_answers_as_any_store_may};
@@ -40,6 +41,7 @@ fn list_beside(names: &Names, added: &mut MemoryStore) -> Reply
     ensures never_lost { is_lost (told_view result) ≡ false }
     ensures answers { (objects : Objects) → listed names.now ≡ names_of objects
         → Answers (with_beside objects (stored_objects added.old), []) list_names (told_view result) (with_beside objects (stored_objects added.new), []) }
+    ensures heard { Hears (listed names.now) (stored_objects added.old) list_names (told_view result) [] }
     ensures kept { stored_objects added.new ≡ stored_objects added.old }
 {
     match added.list() {
@@ -62,6 +64,9 @@ fn found_in<F: Folder>(
     ensures faults { CountsLoad result (F.fault_count folder.old) (F.fault_count folder.new) }
     ensures never_fails { F.is_reliable folder.old → IsNotLoaded result → ⊥ }
     ensures stays_reliable { F.is_reliable folder.old → F.is_reliable folder.new }
+    ensures opened { IfOk result (λ found. (call : FolderCall) × F.makes folder.old call folder.new
+        × IsOpened (listed names.now) (string_bytes name.now) (option_map (λ bytes. bytes.items) found) call) }
+    ensures looked { IfErr result (λ _. (calls : List FolderCall) × Traced F.makes folder.old calls folder.new × MakeNone calls) }
 {
     if names.as_slice().binary_search(name).is_ok() {
         Ok(folder.read(name.as_str())?)
@@ -87,6 +92,9 @@ fn get_beside<F: Folder>(
     ensures faults { CountsLoad result (F.fault_count folder.old) (F.fault_count folder.new) }
     ensures never_fails { F.is_reliable folder.old → IsNotLoaded result → ⊥ }
     ensures stays_reliable { F.is_reliable folder.old → F.is_reliable folder.new }
+    ensures heard { IfOk result (λ reply. (calls : List FolderCall) × Traced F.makes folder.old calls folder.new
+        × Hears (listed names.now) (stored_objects added.old) (get_object (string_bytes name.now)) (told_view reply) calls) }
+    ensures looked { IfErr result (λ _. (calls : List FolderCall) × Traced F.makes folder.old calls folder.new × MakeNone calls) }
 {
     if let Some(bytes) = found_in(folder, names, name)? {
         return Ok(Reply::Object(Some(bytes)));
@@ -116,6 +124,9 @@ fn put_beside<F: Folder>(
     ensures faults { CountsLoad result (F.fault_count folder.old) (F.fault_count folder.new) }
     ensures never_fails { F.is_reliable folder.old → IsNotLoaded result → ⊥ }
     ensures stays_reliable { F.is_reliable folder.old → F.is_reliable folder.new }
+    ensures heard { IfOk result (λ reply. (calls : List FolderCall) × Traced F.makes folder.old calls folder.new
+        × HearsPut (stored_objects added.old) name.now (told_view reply) calls) }
+    ensures looked { IfErr result (λ _. (calls : List FolderCall) × Traced F.makes folder.old calls folder.new × MakeNone calls) }
 {
     if folder.find(name)?.is_some() {
         let _names = folder.names()?;
@@ -146,6 +157,9 @@ fn ask_beside<F: Folder>(
     ensures faults { CountsLoad result (F.fault_count folder.old) (F.fault_count folder.new) }
     ensures never_fails { F.is_reliable folder.old → IsNotLoaded result → ⊥ }
     ensures stays_reliable { F.is_reliable folder.old → F.is_reliable folder.new }
+    ensures heard { IfOk result (λ reply. (calls : List FolderCall) × Traced F.makes folder.old calls folder.new
+        × Hears (listed names.now) (stored_objects added.old) (asked_view request) (told_view reply) calls) }
+    ensures looked { IfErr result (λ _. (calls : List FolderCall) × Traced F.makes folder.old calls folder.new × MakeNone calls) }
 {
     match request {
         Request::List => Ok(list_beside(names, added)),
@@ -175,10 +189,10 @@ pub fn drive_beside<F: Folder, N: Session>(
     // Over a steady folder it was driven as over a store in memory that has the folder's objects.
     ensures driven { F.is_steady folder.old → (before : Talk) → N.fits before session.old [] None
         → IfOk result (λ ended. DrivesBeside N.asks N.ends N.lost (N.job session.old) (N.left session.old) before ended.outcome (F.objects folder.old) (stored_objects ended.added)) }
-    // Over any folder, whoever else writes into it, it was driven by a talk of its own, and just what its puts created is
-    // handed back.
+    // Over any folder, whoever else writes into it, it was driven by a talk of its own, in which it was told what the
+    // folder's calls told, and just what its puts created is handed back. No other call is made of the folder.
     ensures talks { (before : Talk) → N.fits before session.old [] None
-        → IfOk result (λ ended. TalksBeside N.asks N.ends (N.job session.old) (N.left session.old) before ended.outcome (stored_objects ended.added)) }
+        → IfOk result (λ ended. TalksBeside N.asks N.ends (λ calls. Traced F.makes folder.old calls folder.new) (N.job session.old) (N.left session.old) before ended.outcome (stored_objects ended.added)) }
     ensures ended { IfOk result (λ ended. N.done session.new ≡ true) }
     ensures same { N.job session.new ≡ N.job session.old }
     ensures never_lost { IfOk result (λ ended. N.lost ended.outcome ≡ false) }
@@ -187,6 +201,7 @@ pub fn drive_beside<F: Folder, N: Session>(
     ensures faults { CountsLoad result (F.fault_count folder.old) (F.fault_count folder.new) }
     ensures never_fails { F.is_reliable folder.old → IsNotLoaded result → ⊥ }
     ensures stays_reliable { F.is_reliable folder.old → F.is_reliable folder.new }
+    ensures looked { IfErr result (λ _. (calls : List FolderCall) × Traced F.makes folder.old calls folder.new × MakeNone calls) }
 {
     a_store_answers_as_any_store_may();
     let Some(names) = Names::rising(alloc, folder.names()?)? else {

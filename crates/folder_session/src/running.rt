@@ -1,11 +1,13 @@
 //! A job over a folder, as its session: what it puts is to be saved behind it.
-ghost use Rattle.std.specs.Prelude.{◌≡◌, IfOk};
+ghost use Rattle.std.specs.Prelude.{◌≡◌, List, IfErr, IfOk};
 ghost use Rattle.store_core.specs.Memory.{stored_objects};
 ghost use Rattle.table_folder.specs.Faults.{CountsLoad, IsNotLoaded};
+ghost use Rattle.table_folder.specs.Traces.{FolderCall, MakeNone, Traced};
 ghost use Rattle.table_jobs.specs.Done.{IsJobDone};
 ghost use Rattle.table_jobs.specs.Sessions.{end_view};
 ghost use Rattle.table_jobs.specs.Views.{job_view};
-ghost use Rattle.folder_session.specs.Beside.{AreApart, RanBeside, with_beside};
+ghost use Rattle.folder_session.specs.Beside.{AreApart, with_beside};
+ghost use Rattle.folder_session.specs.Runs.{RanBeside};
 
 use crate::beside::{Beside, drive_beside};
 use std::alloc::Global;
@@ -25,8 +27,10 @@ pub fn run<F: Folder>(
     ensures done { F.is_steady folder.old → IfOk result (λ ended. IsJobDone (job_view job.entry)
         (F.objects folder.old) (with_beside (F.objects folder.old) (stored_objects ended.added)) (end_view ended.outcome)) }
     // Over any folder, whoever else writes into it, its session told this behind a talk in which it asked for just what
-    // this job asks for, and what it put is what it was told to have created.
-    ensures ran { IfOk result (λ ended. RanBeside (job_view job.entry) (end_view ended.outcome) (stored_objects ended.added)) }
+    // this job asks for and was told what the folder's calls told, and what it put is what it was told to have created.
+    ensures ran { IfOk result (λ ended. (calls : List FolderCall) × Traced F.makes folder.old calls folder.new
+        × RanBeside (job_view job.entry) (end_view ended.outcome) (stored_objects ended.added) calls) }
+    ensures looked { IfErr result (λ _. (calls : List FolderCall) × Traced F.makes folder.old calls folder.new × MakeNone calls) }
     ensures apart { F.is_steady folder.old → IfOk result (λ ended. AreApart (F.objects folder.old) (stored_objects ended.added)) }
     ensures untouched { F.is_steady folder.old → F.objects folder.new ≡ F.objects folder.old }
     ensures steady { F.is_steady folder.old → F.is_steady folder.new }

@@ -1,18 +1,22 @@
 -- A run that is repeated: its commit's name was taken, and no call of the folder failed.
-use Rattle.std.proofs.Common.{◌≡◌, ◌⊎◌, ◌<◌, ◌-◌, arith, inl, inr, ℕ, suc, Bool, true, List, length, Option, Some, None, Result, Ok, Err, IfErr, IfSome, refl, sym, ap, subst}
+use Rattle.std.proofs.Common.{◌≡◌, ◌⊎◌, ◌<◌, ◌-◌, ◌++◌, [], append_assoc, append-nil, arith, inl, inr, ℕ, suc, Bool, true, List, length, Option, Some, None, Result, Ok, Err, IfErr, IfSome, refl, sym, ap, subst}
 use Rattle.std.specs.Prelude.{IsErrAnd}
 use Rattle.store_core.specs.Calls.{HasRisen}
 use Rattle.store_core.specs.Objects.{Objects}
+use Rattle.table_folder.specs.Traces.{FolderCall, MakeNone, Traced}
 use Rattle.table_folder.specs.declared.fault.LoadFault.{LoadFault}
 use Rattle.table_folder.specs.declared.fault.LoadFault.TheVariants as loads
 use Rattle.table_folder.specs.declared.fault.SaveFault.TheVariants as saves
-use Rattle.script_lines.specs.Lines.{Statement}
+use Rattle.table_folder.proofs.Callers.{traced_on}
+use Rattle.script_lines.specs.Lines.{Statement, append, checkpoint, close, create, foreign, look, tail, task}
 use Rattle.lake_script.specs.declared.inputs.TheConstants.{MOST_BYTES}
 use Rattle.lake_script.specs.declared.reply.LineReply.{LineReply}
 use Rattle.lake_words.specs.Asked.{Work}
-use Rattle.lake_command.specs.Again.{ComesOfRuns, IsRunOf, RanAsAsked, again, refused}
+use Rattle.lake_words.specs.Asked as words
+use Rattle.lake_command.specs.Again.{ComesOfRuns, IsRunOf, RanAsAsked, tries_in}
+use Rattle.lake_command.specs.Again as come
 use Rattle.lake_command.specs.Failures.{ComesOfACall, CountsFolderFault, HasCause, IsByFolder, IsCaused, IsLoading, IsOfInput, IsTaken, Leaves}
-use Rattle.lake_command.specs.Folders.{IsAskedBy, reads_input}
+use Rattle.lake_command.specs.Folders.{IsAskedBy, IsPutter, IsTextOf, reads_input}
 use Rattle.lake_command.specs.declared.failure.Failure.{Failure}
 use Rattle.lake_command.specs.declared.failure.Failure.TheVariants.{Loading, Saving}
 
@@ -110,16 +114,138 @@ taken_is_loaded (Err (Loading fault)) taken is = taken
 taken_is_loaded _ taken is = absurd taken
 
 -- one run more in front of those that have a version less
-pub run_before : (work : Work) (text : List ℕ) (use_checkpoints : Bool) (left : ℕ) (first outcome : Result LineReply Failure) → 1 < left
-    → (statement : Statement) × IsAskedBy work (Some text) statement × IsRunOf use_checkpoints left statement first → IsTaken first
-    → (IsErrAnd outcome (λ failure. IsLoading failure) → ⊥) → ComesOfRuns work text use_checkpoints (left - 1) outcome → ComesOfRuns work text use_checkpoints left outcome
-run_before work text use_checkpoints left first outcome more run taken loaded runs =
+pub run_before : (work : Work) (text : List ℕ) (use_checkpoints : Bool) (left : ℕ) (first outcome : Result LineReply Failure) (statement : Statement) (calls more : List FolderCall) → 1 < left
+    → IsAskedBy work (Some text) statement → IsRunOf use_checkpoints left statement first calls → IsTaken first
+    → (IsErrAnd outcome (λ failure. IsLoading failure) → ⊥) → ComesOfRuns work text use_checkpoints (left - 1) outcome more → ComesOfRuns work text use_checkpoints left outcome (calls ++ more)
+run_before work text use_checkpoints left first outcome statement calls more some asked run taken loaded runs =
     let one : left ≡ suc (left - 1) = omega arith in
-    subst (λ (n : ℕ). ComesOfRuns work text use_checkpoints n outcome) (sym one)
-    (again (left - 1) run.0 first outcome (omega arith) run.1 (subst (λ (n : ℕ). IsRunOf use_checkpoints n run.0 first) one run.2) taken loaded runs)
+    subst (λ (n : ℕ). ComesOfRuns work text use_checkpoints n outcome (calls ++ more)) (sym one)
+    (come.again (left - 1) statement first outcome calls more (omega arith) asked (subst (λ (n : ℕ). IsRunOf use_checkpoints n statement first calls) one run) taken loaded runs)
+
+-- a run that couldn't read the folder made no file
+pub unread_makes_none : (use_checkpoints : Bool) (tries : ℕ) (statement : Statement) (outcome : Result LineReply Failure) (calls : List FolderCall) → IsRunOf use_checkpoints tries statement outcome calls → IsErrAnd outcome (λ failure. IsLoading failure) → MakeNone calls
+unread_makes_none use_checkpoints tries statement _ _ (come.told reply added calls saved run is) loading = absurd loading
+unread_makes_none use_checkpoints tries statement _ _ (come.unsaved reply added fault calls saved run among is) loading = absurd loading
+unread_makes_none use_checkpoints tries statement _ _ (come.unread fault calls none) loading = none
+
+-- Where runs have come: by these calls of the folder so far, behind those of the run before, to one that was refused by the last of
+-- these; and what comes of the runs that are left comes of all.
+pub record HasRun (made : List FolderCall → Type 0) (work : Work) (text : List ℕ) (use_checkpoints : Bool) (tries left : ℕ) (before : List FolderCall) (refused : Result LineReply Failure) : Type 0 where
+  pub so_far : List FolderCall
+  pub is_made : made so_far
+  pub statement : Statement
+  pub calls : List FolderCall
+  pub asked : IsAskedBy work (Some text) statement
+  pub run : IsRunOf use_checkpoints left statement refused calls
+  pub whole : (outcome : Result LineReply Failure) (more : List FolderCall) → (IsErrAnd outcome (λ failure. IsLoading failure) → ⊥) → ComesOfRuns work text use_checkpoints left outcome (calls ++ more)
+      → ComesOfRuns work text use_checkpoints tries outcome (before ++ (so_far ++ more))
+
+-- nothing was run behind it yet
+pub first_run : (made : List FolderCall → Type 0) (work : Work) (text : List ℕ) (use_checkpoints : Bool) (tries : ℕ) (refused : Result LineReply Failure) (statement : Statement) (calls : List FolderCall)
+    → made [] → IsAskedBy work (Some text) statement → IsRunOf use_checkpoints tries statement refused calls → HasRun made work text use_checkpoints tries tries calls refused
+first_run made work text use_checkpoints tries refused statement calls none asked run = record {
+  so_far = [];
+  is_made = none;
+  statement = statement;
+  calls = calls;
+  asked = asked;
+  run = run;
+  whole = λ outcome more loaded runs. runs;
+}
+
+module _ {F : Type 0} (makes : F → FolderCall → F → Type 0) (work : Work) (text : List ℕ) (use_checkpoints : Bool) (tries left : ℕ) (before : List FolderCall) (refused : Result LineReply Failure) (first now : F)
+    (been : HasRun (λ calls. Traced makes first calls now) work text use_checkpoints tries left before refused) (taken : IsTaken refused) where
+  -- the last that was refused is told, behind calls that make no file
+  pub refused_last : (new : F) (behind : List FolderCall) → Traced makes now behind new → MakeNone behind
+      → (more : List FolderCall) × Traced makes first more new × ComesOfRuns work text use_checkpoints tries refused (before ++ more)
+  refused_last new behind traced none = (
+    been.so_far ++ behind,
+    traced_on makes first now new been.so_far behind been.is_made traced,
+    been.whole refused behind (taken_is_loaded refused taken) (come.last left been.statement refused been.calls behind been.asked been.run none),
+  )
+
+  -- one more is run and told
+  pub told_last : (new : F) (outcome : Result LineReply Failure) (statement : Statement) → 1 < left → IsAskedBy work (Some text) statement → (IsErrAnd outcome (λ failure. IsLoading failure) → ⊥)
+      → (calls : List FolderCall) × Traced makes now calls new × IsRunOf use_checkpoints (left - 1) statement outcome calls
+      → (more : List FolderCall) × Traced makes first more new × ComesOfRuns work text use_checkpoints tries outcome (before ++ more)
+  told_last new outcome statement some asked loaded run =
+      let behind = subst (λ (calls : List FolderCall). ComesOfRuns work text use_checkpoints (left - 1) outcome calls) (append-nil run.0) (come.last (left - 1) statement outcome run.0 [] asked run.2 tt) in (
+        been.so_far ++ run.0,
+        traced_on makes first now new been.so_far run.0 been.is_made run.1,
+        been.whole outcome run.0 loaded (run_before work text use_checkpoints left refused outcome been.statement been.calls run.0 some been.asked been.run taken loaded behind),
+      )
+
+  -- one more is run, and was refused too
+  pub more_run : (new : F) (outcome : Result LineReply Failure) (statement : Statement) → 1 < left → IsAskedBy work (Some text) statement
+      → (calls : List FolderCall) × Traced makes now calls new × IsRunOf use_checkpoints (left - 1) statement outcome calls
+      → HasRun (λ calls. Traced makes first calls new) work text use_checkpoints tries (left - 1) before outcome
+  more_run new outcome statement some asked run = record {
+    so_far = been.so_far ++ run.0;
+    is_made = traced_on makes first now new been.so_far run.0 been.is_made run.1;
+    statement = statement;
+    calls = run.0;
+    asked = asked;
+    run = run.2;
+    whole = λ told more loaded runs.
+        subst (λ (calls : List FolderCall). ComesOfRuns work text use_checkpoints tries told (before ++ calls)) (sym (append_assoc been.so_far run.0 more))
+        (been.whole told (run.0 ++ more) loaded (run_before work text use_checkpoints left refused told been.statement been.calls (run.0 ++ more) some been.asked been.run taken loaded runs));
+  }
 
 -- where the input fails nothing is run
-pub input_told : (result : Result LineReply Failure) (failure : Failure) (work : Work) (text : Option (List ℕ)) (is_broken use_checkpoints : Bool) → result ≡ Err failure → IsOfInput failure work text is_broken
-    → RanAsAsked work text is_broken use_checkpoints result
-input_told result failure work text is_broken use_checkpoints is of =
-    subst (λ (r : Result LineReply Failure). RanAsAsked work text is_broken use_checkpoints r) (sym is) (refused failure of)
+pub input_told : (made : List FolderCall → Type 0) (result : Result LineReply Failure) (failure : Failure) (work : Work) (text : Option (List ℕ)) (is_broken use_checkpoints : Bool) → result ≡ Err failure → IsOfInput failure work text is_broken
+    → RanAsAsked made work text is_broken use_checkpoints result
+input_told made result failure work text is_broken use_checkpoints is of =
+    subst (λ (r : Result LineReply Failure). RanAsAsked made work text is_broken use_checkpoints r) (sym is) (come.refused failure of)
+
+-- what else holds of the calls
+pub ran_so : (made other : List FolderCall → Type 0) (work : Work) (text : Option (List ℕ)) (is_broken use_checkpoints : Bool) (outcome : Result LineReply Failure) → ((calls : List FolderCall) → made calls → other calls)
+    → RanAsAsked made work text is_broken use_checkpoints outcome → RanAsAsked other work text is_broken use_checkpoints outcome
+ran_so made other work text is_broken use_checkpoints _ weaker (come.refused failure of) = come.refused failure of
+ran_so made other work text is_broken use_checkpoints _ weaker (come.not_there reply is told) = come.not_there reply is told
+ran_so made other work text is_broken use_checkpoints _ weaker (come.runs bytes outcome calls is traced comes) = come.runs bytes outcome calls is (weaker calls traced) comes
+ran_so made other work text is_broken use_checkpoints _ weaker (come.looks bytes statement outcome is asked none failed) = come.looks bytes statement outcome is asked none failed
+
+-- ---- which lines put something
+
+pub puts_or_not : (statement : Statement) → IsPutter statement ⊎ (IsPutter statement → ⊥)
+puts_or_not (create id at schema) = inl tt
+puts_or_not (task (append application number at items)) = inl tt
+puts_or_not (task (close application at)) = inl tt
+puts_or_not (task checkpoint) = inl tt
+puts_or_not (task (tail max offset)) = inr (λ puts. puts)
+puts_or_not (look asked) = inr (λ puts. puts)
+puts_or_not (foreign version action) = inr (λ puts. puts)
+puts_or_not _ = inr (λ puts. puts)
+
+-- a job that puts something asks for lines that do
+pub puts_still : (work : Work) (text other : Option (List ℕ)) (statement more : Statement) → IsAskedBy work text statement → IsPutter statement → IsAskedBy work other more → IsPutter more
+puts_still (words.create id schema at) text other statement more asked puts again = subst IsPutter (sym again) tt
+puts_still (words.append application number at tries said) text other statement more asked puts again = subst IsPutter (sym again.4) tt
+puts_still (words.close application at tries) text other statement more asked puts again = subst IsPutter (sym again) tt
+puts_still (words.load workers at tries) text other statement more asked puts again = absurd asked
+puts_still (words.tail max offset) text other statement more asked puts again = absurd (subst IsPutter asked puts)
+puts_still words.snapshot text other statement more asked puts again = absurd (subst IsPutter asked puts)
+puts_still words.checkpoint text other statement more asked puts again = subst IsPutter (sym again) tt
+puts_still words.history text other statement more asked puts again = absurd (subst IsPutter asked puts)
+
+-- what wasn't saved was to be put
+pub taken_puts : (outcome : Result LineReply Failure) (statement : Statement) → ((IsPutter statement → ⊥) → IfErr outcome (λ failure. IsLoading failure)) → IsTaken outcome → IsPutter statement
+taken_puts (Err (Saving fault)) statement reads taken = by_case (puts_or_not statement)
+  where
+    by_case : IsPutter statement ⊎ (IsPutter statement → ⊥) → IsPutter statement
+    by_case (inl puts) = puts
+    by_case (inr none) = absurd (reads none)
+taken_puts _ statement reads taken = absurd taken
+
+-- one run, of a line that puts something or of one that doesn't
+pub run_once : {F : Type 0} (makes : F → FolderCall → F → Type 0) (work : Work) (known : Option (List ℕ)) (text : List ℕ) (is_broken use_checkpoints : Bool) (tries : ℕ) (statement : Statement) (outcome : Result LineReply Failure) (first now : F)
+    → tries ≡ tries_in work → IsTextOf work known text → IsAskedBy work (Some text) statement → (IsPutter statement → (calls : List FolderCall) × Traced makes first calls now × IsRunOf use_checkpoints tries statement outcome calls)
+    → ((IsPutter statement → ⊥) → IfErr outcome (λ failure. IsLoading failure)) → RanAsAsked (λ calls. Traced makes first calls now) work known is_broken use_checkpoints outcome
+run_once {F} makes work known text is_broken use_checkpoints tries statement outcome first now same is asked ran reads = by_line (puts_or_not statement)
+  where
+    by_line : IsPutter statement ⊎ (IsPutter statement → ⊥) → RanAsAsked (λ calls. Traced makes first calls now) work known is_broken use_checkpoints outcome
+    by_line (inl puts) =
+        let one = ran puts in
+        let comes = subst (λ (calls : List FolderCall). ComesOfRuns work text use_checkpoints tries outcome calls) (append-nil one.0) (come.last tries statement outcome one.0 [] asked one.2 tt) in
+        come.runs text outcome one.0 is one.1 (subst (λ (n : ℕ). ComesOfRuns work text use_checkpoints n outcome one.0) same comes)
+    by_line (inr none) = come.looks text statement outcome is asked none (reads none)

@@ -39,3 +39,9 @@ folder_unjudged contents work (NotLoaded name reason) faults_old faults_new old 
 folder_unjudged contents work (NotLoaded name reason) faults_old faults_new old new err_old err_new exit rose (inr untold) = let none = untold.meant in cc
 folder_unjudged contents work Memory faults_old faults_new old new err_old err_new exit rose (inl told) = inr (told.written, told.status, inr told.short)
 folder_unjudged contents work Memory faults_old faults_new old new err_old err_new exit rose (inr untold) = let none = untold.meant in cc
+
+-- nor where there was no memory for its path
+pub folder_unopened : {W E : Type 0} (contents : W → Option (List ℕ)) (work : Work) (old new : Output W) (err_old err_new : E) (exit : Exit) → EndsWith contents work (Err (Loading Memory)) old new err_old err_new exit
+    → (new ≡ old) × (exit.status ≡ 1) × (exit.is_short ≡ true)
+folder_unopened contents work old new err_old err_new exit (inl told) = (told.written, told.status, told.short)
+folder_unopened contents work old new err_old err_new exit (inr untold) = let none = untold.meant in cc

@@ -67,6 +67,9 @@ abbrev pub Checks : {W : Type 0} → (W → Option (List ℕ)) → (is_steady : 
 Checks contents is_steady objects faults_old faults_new old new exit =
     IsJudged contents is_steady objects old new exit ⊎ IsUnjudged contents is_steady objects faults_old faults_new old new exit
 
--- of a folder on the disk it isn't said what it holds, and its faults were counted from none on
-abbrev pub ChecksDisk : {W : Type 0} → (W → Option (List ℕ)) → (old new : Output W) → Exit → Type 0
-ChecksDisk contents old new exit = (faults : ℕ) × Checks contents ⊥ [] 0 faults old new exit
+-- Of a folder of that path on the disk it isn't said what it holds; its faults were counted from none on. Or memory ran out for
+-- its path, and nothing is told.
+abbrev pub ChecksDisk : {W F : Type 0} → (W → Option (List ℕ)) → (path_of : F → List ℕ) → (count_of : F → ℕ) → (path : List ℕ) → (old new : Output W) → Exit → Type 0
+ChecksDisk {W} {F} contents path_of count_of path old new exit =
+    ((new ≡ old) × (exit.status ≡ 1) × (exit.is_short ≡ true))
+    ⊎ ((folder : F) × (faults : ℕ) × (path_of folder ≡ path) × (count_of folder ≡ 0) × Checks contents ⊥ [] (count_of folder) faults old new exit)

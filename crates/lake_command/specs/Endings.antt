@@ -2,6 +2,7 @@
 use Rattle.std.specs.Prelude.{◌≡◌, ◌⊎◌, ◌≤◌, ◌||◌, ℕ, Bool, true, false, List, Option, Some, None, Result, Ok, Err, IfErr, IfSome, if◌then◌else◌, length}
 use Rattle.std.specs.Io.KnownBytes.{Appends}
 use Rattle.store_core.specs.Objects.{Objects}
+use Rattle.table_folder.specs.Traces.{FolderCall, Traced}
 use Rattle.lake_script.specs.ReplyView as replies
 use Rattle.lake_script.specs.ReplyView.{reply_text}
 use Rattle.lake_script.specs.Streams.{held, write_failed, StandsIn}
@@ -81,15 +82,19 @@ abbrev pub IsMisused : (text : Option (List ℕ)) → (is_broken is_unwritten : 
 IsMisused text is_broken is_unwritten exit =
     (exit.status ≡ 2) ⊎ ((exit.is_short ≡ true) ⊎ ((is_broken ≡ true) ⊎ ((is_unwritten ≡ true) ⊎ IfSome text (λ bytes. MOST_READS ≤ length bytes))))
 
+-- these calls were made of a folder of that path
+abbrev pub AreCallsAt : {F : Type 0} → (path_of : F → List ℕ) → (makes : F → FolderCall → F → Type 0) → (path : List ℕ) → List FolderCall → Type 0
+AreCallsAt {F} path_of makes path calls = (old new : F) × (path_of old ≡ path) × Traced makes old calls new
+
 -- What comes of a job, some reply or a failure, is told; a failure has its cause in the words or the input, or comes
--- from the folder, and what is told came of runs of what the words ask for.
-pub record IsJobTold {W E : Type 0} (contents : W → Option (List ℕ)) (use_checkpoints : Bool) (work : Work) (text : Option (List ℕ)) (is_broken : Bool) (old new : Output W) (err_old err_new : E) (exit : Exit) : Type 0 where
+-- from the folder, and what is told is what runs of what the words ask for tell, by calls of the folder of which this holds.
+pub record IsJobTold {W E : Type 0} (contents : W → Option (List ℕ)) (made : List FolderCall → Type 0) (use_checkpoints : Bool) (work : Work) (text : Option (List ℕ)) (is_broken : Bool) (old new : Output W) (err_old err_new : E) (exit : Exit) : Type 0 where
   pub outcome : Result LineReply Failure
   pub cause : IfErr outcome (λ failure. HasCause failure work text is_broken)
-  pub ran : RanAsAsked work text is_broken use_checkpoints outcome
+  pub ran : RanAsAsked made work text is_broken use_checkpoints outcome
   pub told : EndsWith contents work outcome old new err_old err_new exit
 
 -- or memory ran out, and nothing more is said
-abbrev pub TellsJob : {W E : Type 0} → (W → Option (List ℕ)) → (use_checkpoints : Bool) → Work → (text : Option (List ℕ)) → (is_broken : Bool) → (old new : Output W) → (err_old err_new : E) → Exit → Type 0
-TellsJob contents use_checkpoints work text is_broken old new err_old err_new exit =
-    ((exit.status ≡ 1) × (exit.is_short ≡ true)) ⊎ IsJobTold contents use_checkpoints work text is_broken old new err_old err_new exit
+abbrev pub TellsJob : {W E : Type 0} → (W → Option (List ℕ)) → (made : List FolderCall → Type 0) → (use_checkpoints : Bool) → Work → (text : Option (List ℕ)) → (is_broken : Bool) → (old new : Output W) → (err_old err_new : E) → Exit → Type 0
+TellsJob contents made use_checkpoints work text is_broken old new err_old err_new exit =
+    ((exit.status ≡ 1) × (exit.is_short ≡ true)) ⊎ IsJobTold contents made use_checkpoints work text is_broken old new err_old err_new exit

@@ -6,3 +6,4 @@ pub mod Endings
 pub mod Scripts
 pub mod Checks
 pub mod Explaining
+pub mod Counts

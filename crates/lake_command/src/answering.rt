@@ -1,7 +1,8 @@
 //! The reply to a job on the table in a folder.
-ghost use Rattle.std.specs.Prelude.{◌≡◌, ◌≢◌, ◌⊎◌, ◌↔◌, ◌<◌, ◌≤◌, ◌^◌, ℕ, Bool, List, Option, true, false, Some, None, IfOk, IfErr, IfSome, IsErrAnd, IsSomeAnd, IsOk, IsOkAnd, IsTrue, Ok, length};
+ghost use Rattle.std.specs.Prelude.{◌≡◌, ◌≢◌, ◌⊎◌, ◌++◌, ◌↔◌, ◌<◌, ◌≤◌, ◌^◌, ℕ, Bool, List, Option, true, false, Some, None, IfOk, IfErr, IfSome, IsErrAnd, IsSomeAnd, IsOk, IsOkAnd, IsTrue, Ok, length};
 ghost use Rattle.store_core.specs.Calls.{HasRisen};
 ghost use Rattle.store_core.specs.Objects.{AreBytes, object_at};
+ghost use Rattle.table_folder.specs.Traces.{FolderCall, Traced};
 ghost use Rattle.lake_script.specs.SoundStores.{IsSoundStore};
 ghost use Rattle.table_log.specs.Restoring.{RestoresWell};
 ghost use Rattle.lake_words.specs.Asked.{work_view};
@@ -9,10 +10,11 @@ ghost use Rattle.script_lines.specs.Lines.{IsTimely, Statement};
 ghost use Rattle.lake_script.specs.ReplyView.{reply_text};
 ghost use Rattle.lake_script.specs.Streams.{read_failed, unread};
 ghost use Rattle.lake_command.specs.Again.{ComesOfRuns, IsRunOf, RanAsAsked, tries_in};
+ghost use Rattle.lake_command.specs.Counts.{rows_at_hand};
 ghost use Rattle.lake_command.specs.Failures.{ComesOfACall, CountsFolderFault, IsByFolder, IsCaused, IsLoading, IsNotRead, IsOfInput, IsTaken, Leaves};
 ghost use Rattle.lake_script.specs.Told.{not_yet};
 ghost use Rattle.lake_script.specs.declared.inputs.TheConstants.{MOST_BYTES};
-ghost use Rattle.lake_command.specs.Folders.{IsJobAnswer, IsAskedBy, IsMiscounted, IsNotYet, IsTextOf, JobMayLeave, line_view, reads_input};
+ghost use Rattle.lake_command.specs.Folders.{IsJobAnswer, IsAskedBy, IsMiscounted, IsNotYet, IsPutter, IsTextOf, JobMayLeave, line_view, reads_input};
 
 use crate::Failure;
 use crate::job_line::JobLine;
@@ -69,9 +71,10 @@ pub fn answer<F: Folder, R: Read>(
         → IsErrAnd result (λ failure. IsOfInput failure (work_view command.entry.job) (unread R.remaining input.old) (read_failed input.new)) }
     // A job but `append` leaves the input alone.
     ensures input_untouched { reads_input (work_view command.entry.job) ≡ false → input.new ≡ input.old }
-    // Over any folder, whoever else writes into it, it is told what came of runs of the line that this job asks for, with
-    // the rows of this input, of which each but the last lost its version; or the words or the input are refused.
-    ensures runs { RanAsAsked (work_view command.entry.job) (unread R.remaining input.old) (read_failed input.new) command.entry.use_checkpoints result }
+    // Over any folder, whoever else writes into it, runs of the line that this job asks for were made, with the rows of
+    // this input, of which each but the last lost its version, and what is told is what came of the last; or the words or
+    // the input are refused. What is told as done was saved, by calls of the folder that say that they made it.
+    ensures runs { RanAsAsked (λ calls. Traced F.makes folder.old calls folder.new) (work_view command.entry.job) (unread R.remaining input.old) (read_failed input.new) command.entry.use_checkpoints result }
     // What isn't there yet is told as such, without a look at the folder.
     ensures later { IsNotYet (work_view command.entry.job)
         → IsOkAnd result (λ reply. reply_text reply ≡ not_yet) × (folder.new ≡ folder.old) }
@@ -110,9 +113,12 @@ fn run_again<F: Folder>(
     refused: Result<LineReply, Failure>,
 ) -> Result<LineReply, Failure>
     requires taken { IsTaken refused }
-    requires first { (statement : Statement) × IsAskedBy (work_view command.job) (Some text.now) statement × IsRunOf command.use_checkpoints tries statement refused }
+    requires puts { (statement : Statement) × IsAskedBy (work_view command.job) (Some text.now) statement × IsPutter statement }
     requires tries { tries ≡ tries_in (work_view command.job) }
-    ensures runs { ComesOfRuns (work_view command.entry.job) text.now command.entry.use_checkpoints tries result }
+    // Behind the run that was refused, by these calls, just those of further runs are made.
+    ensures runs { (statement : Statement) (calls : List FolderCall) → IsAskedBy (work_view command.entry.job) (Some text.now) statement
+        → IsRunOf command.entry.use_checkpoints tries statement refused calls → (more : List FolderCall) × Traced F.makes folder.old more folder.new
+        × ComesOfRuns (work_view command.entry.job) text.now command.entry.use_checkpoints tries result (calls ++ more) }
     // What a run has put may stand, so it isn't told that the folder can't be read.
     ensures loaded { IsErrAnd result (λ failure. IsLoading failure) → ⊥ }
     ensures caused { IfErr result (λ failure. IsByFolder failure) }
@@ -186,7 +192,9 @@ fn tries_of(job: &Job<'_>) -> u64
 }
 
 /// How many rows a line has, whose texts are at hand.
-fn count_rows(line: &JobLine<'_>) -> u64 {
+fn count_rows(line: &JobLine<'_>) -> u64
+    ensures { result ≡ rows_at_hand line.now }
+{
     match line {
         JobLine::Job(
             lake_script::Job::Append {

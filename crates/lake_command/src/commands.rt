@@ -9,7 +9,7 @@ ghost use Rattle.lake_script.specs.Told.{first_bad};
 ghost use Rattle.lake_words.specs.Asked.{Spells, Work, check, explain, table, work_view};
 ghost use Rattle.lake_words.specs.Spelling.{SpellsJob};
 ghost use Rattle.lake_command.specs.Checks.{ChecksDisk};
-ghost use Rattle.lake_command.specs.Endings.{IsMisused, TellsJob};
+ghost use Rattle.lake_command.specs.Endings.{AreCallsAt, IsMisused, TellsJob};
 ghost use Rattle.lake_command.specs.Explaining.{IsExplained};
 ghost use Rattle.lake_command.specs.Folders.{IsMiscounted, reads_input};
 ghost use Rattle.lake_command.specs.Scripts.{WritesScript, script_uses_checkpoints};
@@ -70,7 +70,8 @@ fn open<H: Files + AllocGlobal + Clone + Drop>(
     rt: &H,
     path: &str,
 ) -> Result<DirFolder<H>, AllocError>
-    ensures { IfOk result (λ folder. ⟦<DirFolder<H> as Folder>⟧.fault_count folder ≡ 0) }
+    ensures path { IfOk result (λ folder. ⟦<DirFolder<H> as Folder>⟧.path folder ≡ path.now) }
+    ensures faults { IfOk result (λ folder. ⟦<DirFolder<H> as Folder>⟧.fault_count folder ≡ 0) }
 {
     DirFolder::new(rt.clone()?, path)
 }
@@ -83,7 +84,8 @@ fn command_on_disk<H: Files + AllocGlobal + Clone + Drop, R: Read, W: Write, E: 
     output: &mut Output<W>,
     err: &mut E,
 ) -> Exit
-    ensures told { TellsJob W.contents command.entry.use_checkpoints (work_view command.entry.job) (unread R.remaining input.old) (read_failed input.new)
+    ensures told { TellsJob W.contents (AreCallsAt ⟦<DirFolder<H> as Folder>⟧.path ⟦<DirFolder<H> as Folder>⟧.makes command.entry.folder.now)
+        command.entry.use_checkpoints (work_view command.entry.job) (unread R.remaining input.old) (read_failed input.new)
         output.old output.new err.old err.new result }
     ensures counted { IsMiscounted (work_view command.entry.job) (unread R.remaining input.old)
         → IsMisused (unread R.remaining input.old) (read_failed input.new) (write_failed output.new) result }
@@ -106,7 +108,8 @@ fn check_on_disk<H: Files + AllocGlobal + Clone + Drop, P: Progress + Drop, W: W
     output: &mut Output<W>,
     err: &mut E,
 ) -> Exit
-    ensures { ChecksDisk W.contents output.old output.new result }
+    ensures { ChecksDisk W.contents ⟦<DirFolder<H> as Folder>⟧.path ⟦<DirFolder<H> as Folder>⟧.fault_count path.now
+        output.old output.new result }
 {
     match open(rt, path) {
         Ok(folder) => {
@@ -151,10 +154,11 @@ pub fn command<
         ⊎ IfSome (unread R.remaining input.old) (λ text. MOST_READS ≤ length text))) }
 
     // What comes of a job is told where it belongs, with its status, and a failure of the words or the input has its
-    // cause there, unless memory runs out; all else came of runs of what the words ask for. What it leaves in a folder
-    // on the disk isn't claimed.
+    // cause there, unless memory runs out; all else is what runs of what the words ask for tell, over the folder that
+    // they name. What it leaves in a folder on the disk isn't claimed.
     ensures job { (folder : List ℕ) (use_checkpoints : Bool) (work : Work) → SpellsJob (map S.text words.now) (table folder use_checkpoints work)
-        → TellsJob W.contents use_checkpoints work (unread R.remaining input.old) (read_failed input.new) output.old output.new err.old err.new result }
+        → TellsJob W.contents (AreCallsAt ⟦<DirFolder<H> as Folder>⟧.path ⟦<DirFolder<H> as Folder>⟧.makes folder)
+        use_checkpoints work (unread R.remaining input.old) (read_failed input.new) output.old output.new err.old err.new result }
     // An append whose input has another count of lines than its words say has the status 2, by the same rule.
     ensures counted { (folder : List ℕ) (use_checkpoints : Bool) (work : Work) → SpellsJob (map S.text words.now) (table folder use_checkpoints work)
         → IsMiscounted work (unread R.remaining input.old)
@@ -165,7 +169,7 @@ pub fn command<
     // A check leaves the input alone, and tells a verdict with its status, or a reason why it tells none. That the
     // verdict is right of a folder on the disk isn't claimed.
     ensures checks { (folder : List ℕ) → SpellsJob (map S.text words.now) (check folder) → (input.new ≡ input.old)
-        × ChecksDisk W.contents output.old output.new result }
+        × ChecksDisk W.contents ⟦<DirFolder<H> as Folder>⟧.path ⟦<DirFolder<H> as Folder>⟧.fault_count folder output.old output.new result }
 
     // What a code means is told, or that no refusal has it.
     ensures explains { (code : List ℕ) → SpellsJob (map S.text words.now) (explain code) → (input.new ≡ input.old)

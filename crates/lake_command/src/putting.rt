@@ -1,7 +1,8 @@
 //! The reply to a line that puts something into the table in a folder, and what is to be saved behind it.
-ghost use Rattle.std.specs.Prelude.{◌≡◌, ◌≤◌, IfOk, option_map};
+ghost use Rattle.std.specs.Prelude.{◌≡◌, ◌≤◌, List, IfErr, IfOk, option_map};
 ghost use Rattle.store_core.specs.Memory.{stored_objects};
 ghost use Rattle.table_folder.specs.Faults.{CountsLoad};
+ghost use Rattle.table_folder.specs.Traces.{FolderCall, MakeNone, Traced};
 ghost use Rattle.table_jobs.specs.Views.{job_view};
 ghost use Rattle.table_log.specs.Restoring.{RestoresWell};
 ghost use Rattle.folder_session.specs.Beside.{AreApart, with_beside};
@@ -73,8 +74,10 @@ pub(crate) fn reply_beside<F: Folder>(
         (line_view line.entry) (reply_text ended.outcome) (with_beside (F.objects folder.old) (stored_objects ended.added))) }
     ensures grows { F.is_steady folder.old → RestoresWell use_checkpoints (F.objects folder.old) → IfOk result (λ ended. MayPut (F.objects folder.old)
         (line_view line.entry) (with_beside (F.objects folder.old) (stored_objects ended.added))) }
-    // Over any folder it is told what the job of this very line told.
-    ensures ran { IfOk result (λ ended. RanLine use_checkpoints tries (line_view line.entry) ended.outcome (stored_objects ended.added)) }
+    // Over any folder it is told what the job of this very line told, by just these calls of the folder.
+    ensures ran { IfOk result (λ ended. (calls : List FolderCall) × Traced F.makes folder.old calls folder.new
+        × RanLine use_checkpoints tries (line_view line.entry) ended.outcome (stored_objects ended.added) calls) }
+    ensures looked { IfErr result (λ _. (calls : List FolderCall) × Traced F.makes folder.old calls folder.new × MakeNone calls) }
     ensures apart { F.is_steady folder.old → IfOk result (λ ended. AreApart (F.objects folder.old) (stored_objects ended.added)) }
     ensures untouched { F.is_steady folder.old → F.objects folder.new ≡ F.objects folder.old }
     ensures steady { F.is_steady folder.old → F.is_steady folder.new }

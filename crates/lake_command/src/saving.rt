@@ -1,6 +1,7 @@
 //! What a line asks for, done on the table in a folder, and what it put saved there.
 ghost use Rattle.std.specs.Prelude.{◌≡◌, ◌≤◌, ℕ, List, Some, IfOk, IfErr};
 ghost use Rattle.store_core.specs.Objects.{object_at};
+ghost use Rattle.table_folder.specs.Traces.{FolderCall, Traced};
 ghost use Rattle.table_log.specs.Restoring.{RestoresWell};
 ghost use Rattle.script_lines.specs.Lines.{history, look, snapshot, task, tail, IsTimely};
 ghost use Rattle.lake_script.specs.ReplyView.{reply_text};
@@ -39,8 +40,11 @@ pub(crate) fn execute_in<F: Folder>(
         → IfErr result (λ failure. NamesPut failure (line_view line.entry) (F.objects folder.old)) }
     ensures alone { F.is_steady folder.old → RestoresWell use_checkpoints (F.objects folder.old)
         → ComesOfACall result (F.fault_count folder.old) (F.fault_count folder.new) }
-    // Over any folder, whoever else writes into it, what comes of it is what came of a run of this very line.
-    ensures ran { IsRunOf use_checkpoints tries (line_view line.entry) result }
+    // Over any folder, whoever else writes into it, what comes of it is what came of a run of this very line, by just
+    // these calls of the folder.
+    ensures ran { IsPutter (line_view line.entry) → (calls : List FolderCall) × Traced F.makes folder.old calls folder.new
+        × IsRunOf use_checkpoints tries (line_view line.entry) result calls }
+    ensures read { (IsPutter (line_view line.entry) → ⊥) → IfErr result (λ failure. IsLoading failure) }
     ensures failed { F.is_steady folder.old → IfErr result (λ failure. IsOfFolder failure (F.objects folder.old) (F.objects folder.new)) }
     ensures caused { IfErr result (λ failure. IsByFolder failure) }
     ensures faults { CountsFolderFault result (F.fault_count folder.old) (F.fault_count folder.new) }
@@ -143,8 +147,10 @@ fn execute_beside<F: Folder>(
         → IfErr result (λ failure. NamesPut failure (line_view line.entry) (F.objects folder.old)) }
     ensures alone { F.is_steady folder.old → RestoresWell use_checkpoints (F.objects folder.old)
         → ComesOfACall result (F.fault_count folder.old) (F.fault_count folder.new) }
-    // Over any folder, whoever else writes into it, what comes of it is what came of a run of this very line.
-    ensures ran { IsRunOf use_checkpoints tries (line_view line.entry) result }
+    // Over any folder, whoever else writes into it, what comes of it is what came of a run of this very line, by just
+    // these calls of the folder.
+    ensures ran { (calls : List FolderCall) × Traced F.makes folder.old calls folder.new
+        × IsRunOf use_checkpoints tries (line_view line.entry) result calls }
     ensures failed { F.is_steady folder.old → IfErr result (λ failure. IsOfFolder failure (F.objects folder.old) (F.objects folder.new)) }
     ensures caused { IfErr result (λ failure. IsByFolder failure) }
     ensures faults { CountsFolderFault result (F.fault_count folder.old) (F.fault_count folder.new) }

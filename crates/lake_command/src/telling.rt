@@ -4,6 +4,7 @@ ghost use Rattle.std.specs.Prelude.{◌≡◌, ◌≢◌, ◌⊎◌, ◌||◌, �
 ghost use Rattle.std.specs.Io.KnownBytes.{Appends};
 ghost use Rattle.store_core.specs.Objects.{AreBytes, object_at};
 ghost use Rattle.lake_script.specs.SoundStores.{IsSoundStore};
+ghost use Rattle.table_folder.specs.Traces.{Traced};
 ghost use Rattle.table_log.specs.Restoring.{RestoresWell};
 ghost use Rattle.lake_words.specs.Asked.{Work, work_view};
 ghost use Rattle.lake_script.specs.ReplyView.{reply_text};
@@ -41,7 +42,7 @@ pub fn table_command<F: Folder, R: Read, W: Write, E: Write>(
         → IsAnsweredJob (work_view command.entry.job) (unread R.remaining input.old) (F.objects folder.old)
         (held W.contents output.old) (W.contents output.new.writer) (F.objects folder.new) }
     // However it ends, there is a reply, or a failure that has its cause; over such a folder it is the answer, or
-    // leaves what it may, and over any folder it came of runs of what the words ask for. It is told where it belongs,
+    // leaves what it may, and over any folder it is what runs of what the words ask for tell. It is told where it belongs,
     // with its status, or a write failed or a growth was refused, and the status is 1.
     ensures ended { (outcome : Result LineReply Failure)
         × (F.is_steady folder.old → RestoresWell command.entry.use_checkpoints (F.objects folder.old)
@@ -49,7 +50,7 @@ pub fn table_command<F: Folder, R: Read, W: Write, E: Write>(
         × ComesOfACall outcome (F.fault_count folder.old) (F.fault_count folder.new))
         × IsCaused outcome (work_view command.entry.job) (unread R.remaining input.old) (read_failed input.new)
         (F.fault_count folder.old) (F.fault_count folder.new)
-        × RanAsAsked (work_view command.entry.job) (unread R.remaining input.old) (read_failed input.new) command.entry.use_checkpoints outcome
+        × RanAsAsked (λ calls. Traced F.makes folder.old calls folder.new) (work_view command.entry.job) (unread R.remaining input.old) (read_failed input.new) command.entry.use_checkpoints outcome
         × EndsWith W.contents (work_view command.entry.job) outcome output.old output.new err.old err.new result }
     // An append whose input has another count of lines than its words say isn't run: the folder isn't touched, and the
     // status is 2, unless the input can't be read, its bad line can't be written or memory runs out.

@@ -1,6 +1,7 @@
 pub mod AnyStoreLemmas
 pub mod Callers
 pub mod CheckpointLemmas
+pub mod EndingLemmas
 pub mod JobReplies
 pub mod KeptAppend
 pub mod KeptCheckpoint

@@ -10,7 +10,9 @@ use Rattle.batch_core.specs.declared.fault.SinkFault.{SinkFault}
 use Rattle.batch_core.specs.declared.fault.SinkFault.TheVariants as appending
 use Rattle.batch_core.specs.Refusals.{file_too_large}
 use Rattle.sink_core.specs.Appending.{append_plan}
-use Rattle.sink_core.specs.SinkSessions.{IsDriven, close_job}
+use Rattle.sink_core.specs.SinkSessions.{IsDriven, SinkJob, close_job}
+use Rattle.sink_core.specs.declared.sink_state.SinkOutcome.{SinkOutcome}
+use Rattle.session_core.specs.Talks.{Talk}
 use Rattle.session_core.specs.Stores.{State}
 use Rattle.table_log.specs.declared.loading.Loaded.{Loaded}
 use Rattle.source_core.specs.TailTexts.{tailed}
@@ -52,10 +54,35 @@ close_short appending.Memory objects application at h small = inl refl
 close_short appending.FileTooLarge objects application at h small = absurd (small refl)
 close_short _ objects application at h small = cc
 
+-- a job that was driven by some calls
+pub driven_somehow : (makes : Talk → Type 0) (is_reliable : Type 0) (job : SinkJob) (known : Loaded) (answer : Result SinkOutcome SinkFault) (old new : State) (count behind : ℕ) → IsDriven makes is_reliable job known answer old new count behind
+    → IsDriven (λ talk. Unit {0}) is_reliable job known answer old new count behind
+driven_somehow makes is_reliable job known answer old new count behind (inl memory) = inl (memory.0, tt, memory.2, memory.3)
+driven_somehow makes is_reliable job known answer old new count behind (inr driven) =
+    let d = driven.3 in
+    inr (
+      driven.0,
+      driven.1,
+      driven.2,
+      record {
+        talk = d.talk;
+        talked = d.talked;
+        called = tt;
+        exact = d.exact;
+        asked = d.asked;
+        ended = d.ended;
+        borne = d.borne;
+        still_borne = d.still_borne;
+        counted = d.counted;
+        told = d.told;
+        few = d.few;
+      },
+    )
+
 -- a close writes no file that is too large
 module _ (is_reliable : Type 0) (application : List ℕ) (at tries : ℕ) (use_checkpoints : Bool) (known later_known : Loaded) (old new : State) (count later : ℕ) where
   abbrev IsClosedBy : SinkFault → Type 0
-  IsClosedBy fault = IsDriven is_reliable (close_job application at tries use_checkpoints known) later_known (Err fault) old new count later
+  IsClosedBy fault = IsDriven (λ talk. Unit {0}) is_reliable (close_job application at tries use_checkpoints known) later_known (Err fault) old new count later
 
   none_large : IsClosedBy appending.FileTooLarge → ⊥
   none_large (inl memory) = let wrong = memory.0 in cc

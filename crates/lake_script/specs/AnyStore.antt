@@ -98,7 +98,7 @@ sink_answer (Err why) = with_newline (refused (refusal_text (refusal_view why)))
 -- an append or a close: the answer is told of a talk with the store by which this job was driven, or there was no memory to begin
 abbrev pub TellsJob : (is_reliable : Type 0) → SinkJob → (reply : List ℕ) (old new : State) (count later : ℕ) → Type 0
 TellsJob is_reliable job reply old new count later = (known : Loaded) × (answer : Result SinkOutcome SinkFault)
-    × (reply ≡ sink_answer answer) × IsDriven is_reliable job known answer old new count later
+    × (reply ≡ sink_answer answer) × IsDriven (λ talk. Unit {0}) is_reliable job known answer old new count later
 
 -- the reply to a line that puts a checkpoint, by what that answered
 abbrev pub checkpoint_answer : Result ℕ SnapshotFault → List ℕ

@@ -1,5 +1,5 @@
 -- The reply to a job, by what its session told.
-use Rattle.std.specs.Prelude.{◌≡◌, ◌⊎◌, ℕ, List, Result, Ok, Err}
+use Rattle.std.specs.Prelude.{◌≡◌, ◌⊎◌, ℕ, Bool, true, false, List, Result, Ok, Err}
 use Rattle.batch_core.specs.Refusals.{refusal_text, refusal_view}
 use Rattle.commit_core.specs.Texts.{create_fault_text, refused}
 use Rattle.outcomes.specs.Lines.{with_newline}
@@ -8,7 +8,7 @@ use Rattle.lake_script.specs.Replies.{created, outcome_text}
 use Rattle.lake_script.specs.Runs.{no_room_to_read}
 use Rattle.lake_script.specs.Told.{not_yet}
 use Rattle.schema_tree.specs.Schema.{tree_of}
-use Rattle.table_jobs.specs.Jobs.{Outcome, checkpoint, creation, load, read, stream}
+use Rattle.table_jobs.specs.Jobs.{Outcome, checkpoint, creation, is_lost, load, read, stream}
 use Rattle.snapshot_core.specs.FaultTexts as snapshots
 use Rattle.source_core.specs.TailFaults as tails
 use Rattle.source_core.specs.TailViews.{handed_view}
@@ -17,6 +17,13 @@ use Rattle.log_rows.specs.declared.read_state.ReadRows.{ReadRows}
 use Rattle.log_rows.specs.declared.tail_fault.TailFault.{TailFault}
 use Rattle.sink_core.specs.declared.sink_state.SinkOutcome.{SinkOutcome}
 use Rattle.batch_core.specs.declared.fault.SinkFault.{SinkFault}
+use Rattle.batch_core.specs.declared.fault.SinkFault.TheVariants as sink
+use Rattle.commit_core.specs.declared.fault.CreateFault.{CreateFault}
+use Rattle.commit_core.specs.declared.fault.CreateFault.TheVariants as creating
+use Rattle.log_rows.specs.declared.tail_fault.TailFault.TheVariants as tailing
+use Rattle.snapshot_core.specs.declared.checkpoint_session.Checkpointed.{Checkpointed}
+use Rattle.snapshot_core.specs.declared.fault.SnapshotFault.{SnapshotFault}
+use Rattle.snapshot_core.specs.declared.fault.SnapshotFault.TheVariants as snapshot_faults
 
 -- the outcome of an append or a close, or why there is none
 abbrev pub stream_reply : Result SinkOutcome SinkFault → List ℕ
@@ -37,3 +44,52 @@ IsReplyOf (checkpoint (Err fault)) reply = reply ≡ with_newline (refused (snap
 IsReplyOf (stream end) reply = reply ≡ stream_reply end.answer
 IsReplyOf (read end) reply = IsReadReply end.answer reply
 IsReplyOf (load result) reply = reply ≡ not_yet
+
+-- ---- which replies are short, and which say that a call was lost
+
+-- a creation, a checkpoint, an append or a close, and a read tell that a growth was refused, or that an object would pass 64 MiB
+abbrev pub creation_wants : Result (Unit {0}) CreateFault → Bool
+creation_wants (Err creating.Memory) = true
+creation_wants (Err creating.TooLarge) = true
+creation_wants answer = false
+
+abbrev pub checkpoint_wants : Result Checkpointed SnapshotFault → Bool
+checkpoint_wants (Err snapshot_faults.Memory) = true
+checkpoint_wants (Err snapshot_faults.TooLarge) = true
+checkpoint_wants answer = false
+
+abbrev pub stream_wants : Result SinkOutcome SinkFault → Bool
+stream_wants (Err sink.Memory) = true
+stream_wants (Err sink.FileTooLarge) = true
+stream_wants answer = false
+
+abbrev pub read_wants : Result ReadRows TailFault → Bool
+read_wants (Err tailing.Memory) = true
+read_wants answer = false
+
+-- The reply to a read is short just where the read tells so, or where there was no room for the text of its rows.
+abbrev pub IsReadShort : Result ReadRows TailFault → (reply : List ℕ) → (short : Bool) → Type 0
+IsReadShort (Ok handed) reply short =
+    ((reply ≡ handed_text (tree_of handed.schema.schema) (handed_view handed)) × (short ≡ false)) ⊎ ((reply ≡ no_room_to_read) × (short ≡ true))
+IsReadShort (Err fault) reply short = short ≡ read_wants (Err fault)
+
+-- So is each other reply just where the session tells so. No line asks for a load, and its reply is never short.
+abbrev pub IsShortBy : Outcome → (reply : List ℕ) → (short : Bool) → Type 0
+IsShortBy (creation answer) reply short = short ≡ creation_wants answer
+IsShortBy (checkpoint answer) reply short = short ≡ checkpoint_wants answer
+IsShortBy (stream end) reply short = short ≡ stream_wants end.answer
+IsShortBy (read end) reply short = IsReadShort end.answer reply short
+IsShortBy (load result) reply short = short ≡ false
+
+-- an append or a close tells that a call was lost
+abbrev pub stream_loses : Result SinkOutcome SinkFault → Bool
+stream_loses (Err (sink.Lost version)) = true
+stream_loses answer = false
+
+-- whether the reply says that a call was lost: just where the session tells so, but for a load
+abbrev pub reply_loses : Outcome → Bool
+reply_loses (creation answer) = is_lost (creation answer)
+reply_loses (checkpoint answer) = is_lost (checkpoint answer)
+reply_loses (stream end) = is_lost (stream end)
+reply_loses (read end) = is_lost (read end)
+reply_loses (load result) = false

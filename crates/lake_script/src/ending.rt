@@ -1,34 +1,66 @@
 //! The reply to a job, by what its session told.
-ghost use Rattle.lake_script.specs.ReplyView.{reply_text};
+ghost use Rattle.lake_script.specs.ReplyView.{is_short, reply_text, says_lost};
+ghost use Rattle.table_jobs.specs.Jobs.{checkpoint, creation};
 ghost use Rattle.table_jobs.specs.Sessions.{end_view};
-ghost use Rattle.lake_script.specs.Endings.{IsReadReply, IsReplyOf, stream_reply};
+ghost use Rattle.lake_script.specs.Endings.{IsReadReply, IsReadShort, IsReplyOf, IsShortBy, checkpoint_wants, creation_wants, reply_loses, stream_loses, stream_reply, stream_wants};
+ghost use Rattle.commit_core.specs.CreateSessions.{tells_lost};
+ghost use Rattle.snapshot_core.specs.CheckpointSessions.{is_lost_checkpoint};
+ghost use Rattle.source_core.specs.SourceSessions.{loses};
 ghost use Rattle.std.specs.Prelude.{◌≡◌};
 
 use crate::faults::Fault;
 use crate::reply::LineReply;
+use commit_core::CreateFault;
 use sink_core::{SinkFault, SinkOutcome};
+use snapshot_core::{Checkpointed, SnapshotFault};
 use source_core::{ReadRows, TailFault, handed_text};
 use std::alloc::Global;
 use table_jobs::JobEnd;
 
 /// The reply to a line whose job told this. Where there is no room for rows, it tells so.
 pub fn reply_of(alloc: Global, end: JobEnd) -> LineReply
-    ensures { IsReplyOf (end_view end) (reply_text result) }
+    ensures told { IsReplyOf (end_view end) (reply_text result) }
+    // It is short just where the session told want of memory, or where there was no room for the rows' text, and it
+    // says that a call was lost just where the session told so.
+    ensures short { IsShortBy (end_view end) (reply_text result) (is_short result) }
+    ensures lost { says_lost result ≡ reply_loses (end_view end) }
 {
     match end {
-        JobEnd::Created(Ok(())) => LineReply::Created,
-        JobEnd::Created(Err(fault)) => LineReply::NotCreated(fault),
-        JobEnd::Checkpointed(Ok(put)) => LineReply::Checkpointed(put.version),
-        JobEnd::Checkpointed(Err(fault)) => LineReply::NoSnapshot(fault),
-        JobEnd::Streamed(told) => reply_of_stream(told.answer),
-        JobEnd::Read(told) => reply_of_rows(alloc, told.answer),
+        JobEnd::Created(answer) => reply_of_creation(answer),
+        JobEnd::Checkpointed(answer) => reply_of_checkpoint(answer),
+        JobEnd::Streamed(end) => reply_of_stream(end.answer),
+        JobEnd::Read(end) => reply_of_rows(alloc, end.answer),
         // No line asks for a load.
         JobEnd::Loaded(_result) => LineReply::Refused(Fault::NotYet),
     }
 }
 
+fn reply_of_creation(answer: Result<(), CreateFault>) -> LineReply
+    ensures told { IsReplyOf (creation answer) (reply_text result) }
+    ensures short { is_short result ≡ creation_wants answer }
+    ensures lost { says_lost result ≡ tells_lost answer }
+{
+    match answer {
+        Ok(()) => LineReply::Created,
+        Err(fault) => LineReply::NotCreated(fault),
+    }
+}
+
+fn reply_of_checkpoint(answer: Result<Checkpointed, SnapshotFault>) -> LineReply
+    ensures told { IsReplyOf (checkpoint answer) (reply_text result) }
+    ensures short { is_short result ≡ checkpoint_wants answer }
+    ensures lost { says_lost result ≡ is_lost_checkpoint answer }
+{
+    match answer {
+        Ok(put) => LineReply::Checkpointed(put.version),
+        Err(fault) => LineReply::NoSnapshot(fault),
+    }
+}
+
 fn reply_of_stream(answer: Result<SinkOutcome, SinkFault>) -> LineReply
-    ensures { reply_text result ≡ stream_reply answer }
+    ensures told { reply_text result ≡ stream_reply answer }
+    ensures short { is_short result ≡ stream_wants answer }
+    ensures lost { says_lost result ≡ stream_loses answer }
 {
     match answer {
         Ok(outcome) => LineReply::SinkTold(outcome),
@@ -37,7 +69,9 @@ fn reply_of_stream(answer: Result<SinkOutcome, SinkFault>) -> LineReply
 }
 
 fn reply_of_rows(alloc: Global, answer: Result<ReadRows, TailFault>) -> LineReply
-    ensures { IsReadReply answer (reply_text result) }
+    ensures told { IsReadReply answer (reply_text result) }
+    ensures short { IsReadShort answer (reply_text result) (is_short result) }
+    ensures lost { says_lost result ≡ loses answer }
 {
     match answer {
         Ok(handed) => match handed_text(alloc, &handed) {

@@ -1,11 +1,11 @@
 //! What lines ask for, as jobs.
-ghost use Rattle.std.specs.Prelude.{◌≡◌, ◌<◌, ◌≤◌, ◌^◌, IfOk, Ok, Some, option_map};
+ghost use Rattle.std.specs.Prelude.{◌≡◌, ◌<◌, ◌≤◌, ◌^◌, IfOk, Ok, Some, option_map, true};
 ghost use Rattle.std.specs.Str.{IsUtf8};
 ghost use Rattle.script_lines.specs.Lines.{IsTimelyTask, task, task_view};
 ghost use Rattle.sink_core.specs.SinkSessions as sinks;
 ghost use Rattle.table_jobs.specs.Views.{job_view, new_load, stream_view};
 ghost use Rattle.lake_script.specs.LineJobs.{IsOfText, job_of_creation, job_of_task};
-ghost use Rattle.lake_script.specs.ReplyView.{reply_text};
+ghost use Rattle.lake_script.specs.ReplyView.{is_short, reply_text};
 ghost use Rattle.lake_script.specs.Runs.{IsWantOfMemory};
 
 use crate::reply::LineReply;
@@ -99,7 +99,8 @@ fn stream_job<'r>(
 
 /// What is told of a job for which there is no memory.
 pub fn no_room_for(job: &lines::Job<'_>) -> LineReply
-    ensures { IsWantOfMemory (task (task_view job.now)) (reply_text result) }
+    ensures told { IsWantOfMemory (task (task_view job.now)) (reply_text result) }
+    ensures short { is_short result ≡ true }
 {
     match job {
         lines::Job::Append { .. } | lines::Job::Close { .. } => {

@@ -7,10 +7,10 @@ use Rattle.session_core.specs.Stores.{State, Talked}
 use Rattle.session_core.specs.Talks.{Asked, Told, told_names, told_object, told_put, told_lost, told_memory, Talk, CountsTalk, CountsTold, has_lost, is_lost}
 
 -- a talk goes on at its end
-pub talked_more : (answers : State → Asked → Told → State → Type 0) (old mid new : State) (talk : Talk) (asked : Asked) (told : Told) → Talked answers old talk mid → answers mid asked told new
+pub talked_more : {S : Type 0} → (answers : S → Asked → Told → S → Type 0) (old mid new : S) (talk : Talk) (asked : Asked) (told : Told) → Talked answers old talk mid → answers mid asked told new
     → Talked answers old (talk ++ (asked, told) ∷ []) new
-talked_more answers old mid new [] asked told is one = (new, subst (λ (s : State). answers s asked told new) is one, refl)
-talked_more answers old mid new (call ∷ talk) asked told is one = (is.0, is.1, talked_more answers is.0 mid new talk asked told is.2 one)
+talked_more {S} answers old mid new [] asked told is one = (new, subst (λ (s : S). answers s asked told new) is one, refl)
+talked_more {S} answers old mid new (call ∷ talk) asked told is one = (is.0, is.1, talked_more answers is.0 mid new talk asked told is.2 one)
 
 -- a call more that was asked for
 pub asked_more : (asks : Talk → Asked → Type 0) (before talk : Talk) (asked : Asked) (told : Told) → AllAsked asks before talk → asks (before ++ talk) asked → AllAsked asks before (talk ++ (asked, told) ∷ [])

@@ -33,10 +33,12 @@ AllAsked asks before (call ∷ talk) = asks before call.0 × AllAsked asks (befo
 -- How a session was driven over a store: by some talk of its own, which the store gave, in which it made just calls that its job
 -- asks for, and behind which the outcome is one that its job tells. What was known before it was told in the talk that goes
 -- before.
-pub record Drives {J O : Type 0} (asks : J → (before talk : Talk) → Asked → Type 0) (ends : J → (before talk : Talk) → O → Type 0) (lost : O → Bool) (is_reliable : Type 0) (job : J) (most : ℕ) (before : Talk) (outcome : O) (old new : State) (faults later : ℕ) : Type 0 where
+pub record Drives {J O : Type 0} (asks : J → (before talk : Talk) → Asked → Type 0) (ends : J → (before talk : Talk) → O → Type 0) (lost : O → Bool) (makes : Talk → Type 0) (is_reliable : Type 0) (job : J) (most : ℕ) (before : Talk) (outcome : O) (old new : State) (faults later : ℕ) : Type 0 where
   pub talk : Talk
   -- a store answers so, also one that loses calls
   pub talked : Talked MayAnswer old talk new
+  -- these calls were made, and no others
+  pub called : makes talk
   -- one that loses none answers exactly so
   pub exact : is_reliable → Talked Answers old talk new
   pub asked : AllAsked (asks job before) [] talk
@@ -50,13 +52,14 @@ pub record Drives {J O : Type 0} (asks : J → (before talk : Talk) → Asked �
   pub few : length talk ≤ most
 
 -- So far a session was driven by this talk, up to an answer that it hasn't taken.
-pub record IsDriven {N : Type 0} (fits : N → Talk → Option Asked → Type 0) (left : N → ℕ) (asks : Talk → Asked → Type 0) (is_reliable : Type 0) (first session : N) (reply : Option Told) (old now : State) (faults later : ℕ) : Type 0 where
+pub record IsDriven {N : Type 0} (fits : N → Talk → Option Asked → Type 0) (left : N → ℕ) (asks : Talk → Asked → Type 0) (makes : Talk → Type 0) (is_reliable : Type 0) (first session : N) (reply : Option Told) (old now : State) (faults later : ℕ) : Type 0 where
   pub talk : Talk
   pub taken : Talk
   pub asked : Option Asked
   pub fit : fits session taken asked
   pub all : heard taken asked reply ≡ talk
   pub talked : Talked MayAnswer old talk now
+  pub called : makes talk
   pub exact : is_reliable → Talked Answers old talk now
   pub asked_for : AllAsked asks [] talk
   pub counted : CountsTalk talk faults later

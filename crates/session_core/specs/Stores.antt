@@ -1,5 +1,5 @@
 -- What stores answer, and what a talk leaves of one.
-use Rattle.std.specs.Prelude.{◌≡◌, ℕ, List, [], ◌∷◌, Contains, Option, Some, None}
+use Rattle.std.specs.Prelude.{◌≡◌, ◌⊎◌, ℕ, List, [], ◌∷◌, Contains, Option, Some, None}
 use Rattle.store_core.specs.Calls.{Flight, HasLanded, IsUntouched, MayHaveLanded, StandsAfter, put_told}
 use Rattle.store_core.specs.Objects.{Objects, HasObjectsOf, names_of, object_at}
 use Rattle.store_core.specs.declared.store.Put.TheVariants.{Created}
@@ -56,6 +56,11 @@ MayAnswerAmid old asked told new =
     (now : State) × HasObjectsOf old.0 now.0 × ((put : List ℕ × List ℕ) → Contains old.1 put → Contains now.1 put) × MayAnswer now asked told new
 
 -- The calls of a talk were answered in this way one after the other, each from what the one before it left.
-abbrev pub Talked : (State → Asked → Told → State → Type 0) → State → Talk → State → Type 0
-Talked answers old [] new = new ≡ old
-Talked answers old (call ∷ talk) new = (mid : State) × answers old call.0 call.1 mid × Talked answers mid talk new
+abbrev pub Talked : {S : Type 0} → (S → Asked → Told → S → Type 0) → S → Talk → S → Type 0
+Talked {S} answers old [] new = new ≡ old
+Talked {S} answers old (call ∷ talk) new = (mid : S) × answers old call.0 call.1 mid × Talked answers mid talk new
+
+-- What a session asks for is one call of the store. Where there was no memory for a commit's name it may be none.
+abbrev pub MakesCall : {S : Type 0} → (makes : S → S → Type 0) → S → Asked → Told → S → Type 0
+MakesCall makes old (put_commit version bytes) told_memory new = (new ≡ old) ⊎ makes old new
+MakesCall makes old asked told new = makes old new

@@ -1,6 +1,6 @@
 //! One call of a store, as a session asks for it.
 ghost use Rattle.std.specs.Prelude.{◌≡◌};
-ghost use Rattle.session_core.specs.Stores.{Answers, AnswersPut, MayAnswer, MayAnswerPut};
+ghost use Rattle.session_core.specs.Stores.{Answers, AnswersPut, MakesCall, MayAnswer, MayAnswerPut};
 ghost use Rattle.session_core.specs.Talks.{CountsTold, IsAnswerOf, asked_view, fault_reply, kind_of, putting, told_view};
 
 use std::alloc::Global;
@@ -56,6 +56,7 @@ pub fn ask<S: Store>(alloc: Global, store: &mut S, request: Request) -> Reply
     ensures exact { S.is_reliable store.old → Answers (S.objects store.old, S.in_flight store.old) (asked_view request)
         (told_view result) (S.objects store.new, S.in_flight store.new) }
     ensures counted { CountsTold (told_view result) (S.fault_count store.old) (S.fault_count store.new) }
+    ensures called { MakesCall S.makes store.old (asked_view request) (told_view result) store.new }
     ensures reliable { S.is_reliable store.old → S.is_reliable store.new }
 {
     match request {
@@ -82,6 +83,7 @@ fn put<S: Store>(store: &mut S, name: &str, bytes: Vec<u8>) -> Reply
     ensures exact { S.is_reliable store.old → AnswersPut (S.objects store.old, S.in_flight store.old) name.now bytes.items
         (told_view result) (S.objects store.new, S.in_flight store.new) }
     ensures counted { CountsTold (told_view result) (S.fault_count store.old) (S.fault_count store.new) }
+    ensures called { S.makes store.old store.new }
     ensures reliable { S.is_reliable store.old → S.is_reliable store.new }
 {
     match store.put_absent(name, bytes) {

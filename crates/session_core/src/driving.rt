@@ -1,6 +1,7 @@
 //! The loop that drives a session over a store.
 ghost use Rattle.std.specs.Prelude.{◌≡◌, [], true, false, None};
 ghost use Rattle.session_core.specs.Sessions.{Drives};
+ghost use Rattle.session_core.specs.Stores.{MakesCall, Talked};
 ghost use Rattle.session_core.specs.Talks.{Talk};
 
 use crate::asking::ask;
@@ -17,7 +18,7 @@ pub fn drive<S: Store, N: Session>(alloc: Global, store: &mut S, session: &mut N
     requires new { N.awaits session.old ≡ None }
     requires unended { N.done session.old ≡ false }
     ensures driven { (before : Talk) → N.fits before session.old [] None
-        → Drives N.asks N.ends N.lost (S.is_reliable store.old) (N.job session.old) (N.left session.old) before result
+        → Drives N.asks N.ends N.lost (λ talk. Talked (MakesCall S.makes) store.old talk store.new) (S.is_reliable store.old) (N.job session.old) (N.left session.old) before result
         (S.objects store.old, S.in_flight store.old) (S.objects store.new, S.in_flight store.new)
         (S.fault_count store.old) (S.fault_count store.new) }
     ensures reliable { S.is_reliable store.old → S.is_reliable store.new }

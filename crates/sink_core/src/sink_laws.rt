@@ -48,8 +48,8 @@ pub fn a_contended_sink_tried_all()
 
 /// With an answer that it tells only behind its rules, a session hands back what it had learnt of the log: what was
 /// known at a point to which it came by a front of its talk. With another answer it may hand back less: where its job
-/// isn't fine, a commit is missing or can't be read, no commit has the version that it comes to, another call than a
-/// put of its commit was lost, or memory ran out.
+/// isn't fine it hands back what was known before; where a commit is missing or can't be read, no commit has the
+/// version that it comes to, a call of the load was lost, or memory ran out, maybe nothing.
 pub fn a_sink_hands_back_what_it_learnt()
     ensures { (job : SinkJob) (before talk : Talk) (end : SinkEnd) → SinkEnds job before talk end → IsBehindRules end.answer → HandsBack job before talk end.known }
 {}

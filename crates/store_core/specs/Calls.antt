@@ -1,7 +1,7 @@
 -- What a call of a store tells and leaves, also of a store that loses calls.
 -- Of a store two things are told: its objects, and its puts in flight. A put in flight was sent, its answer was lost,
 -- and it may take effect later, between two calls.
-use Rattle.std.specs.Prelude.{◌≡◌, ◌<◌, ◌+◌, ◌-◌, ◌^◌, ◌⊎◌, ◌++◌, ◌∷◌, ℕ, List, Option, None, Some, IsSome, Result, Ok, Err}
+use Rattle.std.specs.Prelude.{◌≡◌, ◌<◌, ◌+◌, ◌-◌, ◌^◌, ◌⊎◌, ◌++◌, ◌∷◌, ℕ, zero, suc, List, Option, None, Some, IsSome, Result, Ok, Err}
 use Rattle.store_core.specs.Objects.{Objects, with_object}
 use Rattle.store_core.specs.declared.store.Put.{Put}
 use Rattle.store_core.specs.declared.store.Put.TheVariants.{Created, Exists}
@@ -58,3 +58,8 @@ abbrev pub CountsOne : {X : Type 0} → Result X StoreFault → ℕ → ℕ → 
 CountsOne (Ok x) old new = new ≡ old
 CountsOne (Err Lost) old new = RisesByOne old new
 CountsOne (Err Memory) old new = new ≡ old
+
+-- So many calls were made, one behind the other, and nothing else was done: `makes` says what one call may make of a store.
+abbrev pub Made : {S : Type 0} → (makes : S → S → Type 0) → ℕ → S → S → Type 0
+Made {S} makes zero old new = new ≡ old
+Made {S} makes (suc more) old new = (mid : S) × makes old mid × Made makes more mid new

@@ -203,6 +203,8 @@ impl<S: Store> Store for Flaky<S> {
 
     ghost is_reliable = { λ flaky. (turns_left flaky ≡ []) × (flaky.armed ≡ None) × S.is_reliable flaky.store };
 
+    ghost makes = { λ _ _. Unit {0} };
+
     /// Where its turn is neither to pass nor to land twice, it is lost, and the store below isn't asked.
     fn list(&mut self) -> Result<Names, StoreFault>
         ensures names { IfOk result (λ names. listed names ≡ names_of (S.objects self.old.store)) }

@@ -65,6 +65,8 @@ impl Store for MemoryStore {
 
     ghost is_reliable = { λ _. Unit {0} };
 
+    ghost makes = { λ _ _. Unit {0} };
+
     /// Shares the names, in constant time. Only the first time they are copied, in time linear in their bytes, and
     /// behind a put while others shared them.
     fn list(&mut self) -> Result<Names, StoreFault> {

@@ -35,6 +35,10 @@ pub trait Store {
     /// The store answers as one of a single thread does: no call is lost or repeated.
     ghost is_reliable: { Self → Type 0 };
 
+    /// What one call may make of a store, whatever it tells. Code that is proved for any store has to say by it which
+    /// calls it makes; a store that doesn't care takes any two values.
+    ghost makes: { Self → Self → Type 0 };
+
     /// All names that stand, in the order of their bytes, each once.
     fn list(&mut self) -> Result<Names, StoreFault>
         ensures names { IfOk result (λ names. listed names ≡ names_of (objects self.old)) }
@@ -42,6 +46,7 @@ pub trait Store {
 
         ensures untouched { IsUntouched (objects self.old, in_flight self.old) (objects self.new, in_flight self.new) }
         ensures faults { CountsFault result (fault_count self.old) (fault_count self.new) }
+        ensures called { makes self.old self.new }
 
         ensures never_lost { is_reliable self.old → IsErrOf result StoreFault.Lost → ⊥ }
         ensures stays_reliable { is_reliable self.old → is_reliable self.new };
@@ -53,6 +58,7 @@ pub trait Store {
 
         ensures untouched { IsUntouched (objects self.old, in_flight self.old) (objects self.new, in_flight self.new) }
         ensures faults { CountsFault result (fault_count self.old) (fault_count self.new) }
+        ensures called { makes self.old self.new }
 
         ensures never_lost { is_reliable self.old → IsErrOf result StoreFault.Lost → ⊥ }
         ensures stays_reliable { is_reliable self.old → is_reliable self.new };
@@ -69,6 +75,7 @@ pub trait Store {
             (objects self.old, in_flight self.old) (objects self.new, in_flight self.new) }
 
         ensures faults { CountsFault result (fault_count self.old) (fault_count self.new) }
+        ensures called { makes self.old self.new }
 
         ensures told { is_reliable self.old → IfOk result (λ put. put ≡ put_told (object_at (objects self.old) name.now)) }
         ensures never_lost { is_reliable self.old → IsErrOf result StoreFault.Lost → ⊥ }

@@ -18,6 +18,7 @@ use Rattle.table_audit.specs.declared.verdict.Verdict.{Verdict}
 use Rattle.table_audit.specs.declared.verdict.Verdict.TheVariants.{Sound, Unsound}
 use Rattle.table_audit.specs.declared.walk.Walk.{Walk}
 use Rattle.table_audit.proofs.ListParts.{none_past}
+use Rattle.table_audit.proofs.GapParts.{gap_reason}
 
 pub lesser_below : (objects : Objects) (version last : ℕ) → version ≤ last → AreCheckpointsSoundBelow objects last → AreCheckpointsSoundBelow objects version
 lesser_below objects version last low below name at bytes told before there = below name at bytes told (omega (arith, low, before)) there
@@ -45,8 +46,11 @@ module _ (objects : Objects) (walk : Walk) (is : IsWalk objects walk) where
     walk_counted objects version end.0 (tree_of walk.schema) is.log (subst (λ (v : ℕ). IsWalked objects (tree_of walk.schema) v is.log) (sym same) is.walked) (omega (arith, low, fits)) ∙ sym end.1,
   )
   over_at_end version last (Unsound u) same low fits below none end = (
-    ends_below objects version (tree_of walk.schema) (creation ∷ is.walked.later) is.walked.stand is.walked.lawful (omega (arith, is.walked.at, same)) (lesser_below objects version last low below) u.version end,
-    gap_unsound objects version u.version none end,
+    (
+      ends_below objects version (tree_of walk.schema) (creation ∷ is.walked.later) is.walked.stand is.walked.lawful (omega (arith, is.walked.at, same)) (lesser_below objects version last low below) u.version end.0,
+      gap_unsound objects version u.version none end.0,
+    ),
+    gap_reason objects version u.version u.reason none end.0 end.1,
   )
 
   -- Where all versions were walked over the store is sound, and has all of them.
@@ -72,7 +76,7 @@ module _ (objects : Objects) (walk : Walk) (is : IsWalk objects walk) where
 
 pub empty_judged : (objects : Objects) (verdict : Verdict) → object_at objects (commit_name 0) ≡ None → IsEnd 0 (names_of objects) verdict → IsVerdictOf objects verdict
 empty_judged objects (Sound versions) none end = (nothing_sound objects end.0, nothing_counted objects end.0 ∙ sym end.1)
-empty_judged objects (Unsound u) none end = (nothing_below objects u.version end, gap_unsound objects 0 u.version none end)
+empty_judged objects (Unsound u) none end = ((nothing_below objects u.version end.0, gap_unsound objects 0 u.version none end.0), gap_reason objects 0 u.version u.reason none end.0 end.1)
 
 pub first_judged : (objects : Objects) → (IsSoundBelow objects 1 → ⊥) → IsFirstUnsound objects 0
 first_judged objects breaks = (zero_below objects, breaks)

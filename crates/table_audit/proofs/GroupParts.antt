@@ -119,6 +119,10 @@ pub none_weaker : {A : Type 0} (P Q : Type 0) → (P → Q) → (o : Option A) �
 none_weaker P Q follows None p = follows p
 none_weaker P Q follows (Some x) p = tt
 
+pub some_each : {A : Type 0} (P Q : A → Type 0) → ((x : A) → P x → Q x) → (o : Option A) → IfSome o P → IfSome o Q
+some_each P Q follows None p = tt
+some_each P Q follows (Some x) p = follows x p
+
 pub some_weaker : {A : Type 0} (P Q : Type 0) → (P → Q) → (o : Option A) → IfSome o (λ x. P) → IfSome o (λ x. Q)
 some_weaker P Q follows None p = tt
 some_weaker P Q follows (Some x) p = follows p

@@ -2,8 +2,11 @@ pub mod BesideParts
 pub mod CheckpointParts
 pub mod EndParts
 pub mod FileReads
+pub mod GapParts
 pub mod GroupParts
 pub mod LargeParts
 pub mod ListParts
+pub mod NameParts
 pub mod NumberParts
+pub mod ReasonParts
 pub mod WalkParts

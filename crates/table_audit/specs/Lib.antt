@@ -4,5 +4,7 @@ pub mod Faults
 pub mod LargeFiles
 pub mod Lines
 pub mod Listed
+pub mod ReasonTexts
+pub mod Reasons
 pub mod Verdicts
 pub mod Walks

@@ -9,6 +9,7 @@ use Rattle.delta_actions.specs.Commit.{IsCommit}
 use Rattle.delta_actions.specs.Printing.{IsPrintable}
 use Rattle.delta_checkpoint.specs.Checkpoints.{IsCheckpoint}
 use Rattle.table_check.specs.Lines.{AreLinesOf}
+use Rattle.table_audit.specs.Reasons.{IsOtherCheckpoint, IsUnread}
 use Rattle.table_audit.specs.declared.checkpoint.Found.{Found}
 use Rattle.table_audit.specs.declared.checkpoint.Found.TheVariants.{Same, Other, Bad}
 
@@ -27,5 +28,5 @@ AreOwnLines version log lines = (own : List ℕ) × HasLines own lines × IsChec
 -- what is found is told rightly
 abbrev pub IsCheckpointOf : Found → List ℕ → (version : ℕ) → List (List Action) → Type 0
 IsCheckpointOf Same bytes version log = IsCheckpoint bytes version log
-IsCheckpointOf Other bytes version log = IsCheckpoint bytes version log → ⊥
-IsCheckpointOf (Bad fault) bytes version log = IsCheckpoint bytes version log → ⊥
+IsCheckpointOf Other bytes version log = IsOtherCheckpoint version log bytes
+IsCheckpointOf (Bad fault) bytes version log = IsUnread fault bytes × (IsCheckpoint bytes version log → ⊥)

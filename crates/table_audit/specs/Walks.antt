@@ -7,6 +7,7 @@ use Rattle.store_core.specs.Objects.{Objects, names_of}
 use Rattle.table_check.specs.Below.{IsSoundBelow}
 use Rattle.table_check.specs.Named.{least_named}
 use Rattle.table_check.specs.Walked.{IsWalked}
+use Rattle.table_audit.specs.Reasons.{IsNamed, IsReasonOf}
 use Rattle.table_audit.specs.Verdicts.{IsVerdictOf}
 use Rattle.table_audit.specs.declared.verdict.Verdict.{Verdict}
 use Rattle.table_audit.specs.declared.verdict.Verdict.TheVariants.{Sound, Unsound}
@@ -26,20 +27,21 @@ pub record IsWalk (objects : Objects) (walk : Walk) : Type 0 where
 abbrev pub IsWalkOver : Objects → List (List ℕ) → Walk → Type 0
 IsWalkOver objects names walk = (names ≡ names_of objects) × IsWalk objects walk
 
--- a walk begins behind the creation, or the first commit breaks the store
+-- a walk begins behind the creation, or the first commit breaks the store, for this reason
 abbrev pub Begins : Objects → Beginning → Type 0
 Begins objects (Created walk) = IsWalk objects walk
-Begins objects (Wrong reason) = IsSoundBelow objects 1 → ⊥
+Begins objects (Wrong reason) = (IsSoundBelow objects 1 → ⊥) × IsReasonOf objects 0 reason
 
 -- the version that comes next is the second one
 abbrev pub IsBehindFirst : Beginning → Type 0
 IsBehindFirst (Created walk) = walk.next ≡ 1
 IsBehindFirst (Wrong reason) = Unit {0}
 
--- how a walk ends in front of a version: names tell none from there on, or this is the least that they tell
+-- how a walk ends in front of a version: names tell none from there on, or this is the least that they tell,
+-- for this reason
 abbrev pub IsEnd : (next : ℕ) → List (List ℕ) → Verdict → Type 0
 IsEnd next names (Sound versions) = (least_named next names ≡ None) × (versions ≡ next)
-IsEnd next names (Unsound unsound) = least_named next names ≡ Some unsound.version
+IsEnd next names (Unsound unsound) = (least_named next names ≡ Some unsound.version) × IsNamed names unsound.version unsound.reason
 
 -- a walk goes on, or it is known what the store is
 abbrev pub IsReached : Objects → Walk → Reached → Type 0

@@ -6,6 +6,7 @@ ghost use Rattle.store_core.specs.Objects.{object_at};
 ghost use Rattle.table_check.specs.Below.{IsSoundBelow};
 ghost use Rattle.table_log.specs.Restoring.{IsSoundCheckpoint, checkpoint_version};
 ghost use Rattle.table_audit.specs.LargeFiles.{TellsLarge, TellsLargeFile, TellsNoFile};
+ghost use Rattle.table_audit.specs.Reasons.{IsReasonOf};
 ghost use Rattle.table_audit.specs.Verdicts.{IsVerdictOf};
 ghost use Rattle.table_audit.specs.Walks.{IsWalk, IsWalkOver};
 
@@ -92,6 +93,8 @@ fn wrong_checkpoint<R: ObjectReader>(
     requires told { checkpoint_version (string_bytes checkpoint.now.name) ≡ Some checkpoint.now.version }
     ensures sound { R.is_steady reader.old → IsWalk (R.objects reader.old) walk.now → IfOk result (λ o. IfNone o ((bytes : List ℕ) → object_at (R.objects reader.old) (string_bytes checkpoint.now.name) ≡ Some bytes → IsSoundCheckpoint (R.objects reader.old) checkpoint.now.version bytes)) }
     ensures breaks { R.is_steady reader.old → IsWalk (R.objects reader.old) walk.now → IfOk result (λ o. IfSome o (λ reason. IsSoundBelow (R.objects reader.old) (suc checkpoint.now.version) → ⊥)) }
+    ensures why { R.is_steady reader.old → IsWalk (R.objects reader.old) walk.now → IfOk result (λ o. IfSome o (IsReasonOf (R.objects reader.old) checkpoint.now.version)) }
+    ensures called { R.makes reader.old reader.new }
     ensures untouched { R.is_steady reader.old → R.objects reader.new ≡ R.objects reader.old }
     ensures steady { R.is_steady reader.old → R.is_steady reader.new }
     ensures reliable { R.is_reliable reader.old → R.is_reliable reader.new }

@@ -1,6 +1,6 @@
 //! The names that stand beside a table.
 
-ghost use Rattle.std.specs.Prelude.{◌≡◌, ◌||◌, ◌&&◌, ℕ, List, filter, is_some, not, map, IfOk, IfErr, OnOk, IsErrOf, string_bytes};
+ghost use Rattle.std.specs.Prelude.{◌≡◌, ◌⊎◌, ◌||◌, ◌&&◌, ℕ, List, filter, is_some, not, map, IfOk, IfErr, OnOk, IsErrOf, string_bytes};
 ghost use Rattle.std.specs.BTreeSet.{contains_text};
 ghost use Rattle.std.specs.List.{list_any};
 ghost use Rattle.delta_actions.specs.Action.{path_view, view, views};
@@ -66,6 +66,7 @@ fn add_files_under<R: ObjectReader>(
     files: &mut BTreeSet<String>,
 ) -> Result<(), AuditError>
     ensures added { R.is_steady reader.old → OnOk result ((file : List ℕ) → contains_text files.new file ≡ (contains_text files.old file || name_adds (R.objects reader.old) file name.now)) }
+    ensures called { (reader.new ≡ reader.old) ⊎ R.makes reader.old reader.new }
     ensures untouched { R.is_steady reader.old → R.objects reader.new ≡ R.objects reader.old }
     ensures steady { R.is_steady reader.old → R.is_steady reader.new }
     ensures reliable { R.is_reliable reader.old → R.is_reliable reader.new }

@@ -1,7 +1,7 @@
 //! Whether bytes are the checkpoint of a version: its lines are those that the snapshot of the log is printed as, in
 //! any order.
 
-ghost use Rattle.std.specs.Prelude.{◌≡◌, ℕ, ◌<◌, ◌^◌, true, List, map, IfOk, IfErr, OnOk, Some};
+ghost use Rattle.std.specs.Prelude.{◌≡◌, ◌⊎◌, ℕ, ◌<◌, ◌^◌, true, List, map, IfOk, IfErr, OnOk, Some};
 ghost use Rattle.std.specs.Cmp.Lexicographic.{slice_cmp};
 ghost use Rattle.std.specs.List.{AllByRecursion};
 ghost use Rattle.std.specs.List.Sorted.{IsSorted};
@@ -15,6 +15,7 @@ ghost use Rattle.delta_checkpoint.specs.Checkpoints.{IsCheckpoint};
 ghost use Rattle.delta_replay.specs.Snapshots.{IsSnapshotOf};
 ghost use Rattle.table_check.specs.Lines.{AreLinesOf, ArePrintedOf};
 ghost use Rattle.table_audit.specs.Lines.{AreOwnLines, HasLines, IsCheckpointOf};
+ghost use Rattle.table_audit.specs.Reasons.{IsUnread};
 
 use delta_actions::{Action, ActionFault, print_line, read_commit};
 use delta_checkpoint::print_checkpoint;
@@ -71,6 +72,7 @@ fn own_lines(alloc: Global, snapshot: &Snapshot, version: u64) -> Result<Vec<Vec
 fn lines_in(alloc: Global, bytes: &[u8]) -> Result<Vec<Vec<u8>>, ActionFault>
     ensures found { IfOk result (λ lines. HasLines bytes.now (map (λ l. l.items) lines.items)) }
     ensures only { (actions : List kinds.Action) → IsCommit bytes.now actions → IfErr result (λ e. e ≡ faults.Memory) }
+    ensures fault { IfErr result (λ e. (e ≡ faults.Memory) ⊎ IsUnread e bytes.now) }
 {
     let actions = read_commit(alloc, bytes)?;
     let mut lines = lines_of(alloc, &actions)?;

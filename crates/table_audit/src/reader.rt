@@ -21,11 +21,16 @@ pub trait ObjectReader {
     /// No call is lost.
     ghost is_reliable: { Self → Type 0 };
 
+    /// What one call may make of a reader, whatever it tells. Code that is proved for any reader has to say by it which
+    /// calls it makes; a reader that doesn't care takes any two values.
+    ghost makes: { Self → Self → Type 0 };
+
     /// All names that stand, in the order of their bytes, each once.
     fn names(&mut self) -> Result<Vec<String>, StoreFault>
         ensures names { is_steady self.old → IfOk result (λ names. map string_bytes names.items ≡ names_of (objects self.old)) }
         ensures untouched { is_steady self.old → objects self.new ≡ objects self.old }
         ensures steady { is_steady self.old → is_steady self.new }
+        ensures called { makes self.old self.new }
         ensures never_lost { is_reliable self.old → IsErrOf result StoreFault.Lost → ⊥ }
         ensures stays_reliable { is_reliable self.old → is_reliable self.new };
 
@@ -34,6 +39,7 @@ pub trait ObjectReader {
         ensures object { is_steady self.old → IfOk result (λ found. option_map (λ bytes. bytes.items) found ≡ object_at (objects self.old) name.now) }
         ensures untouched { is_steady self.old → objects self.new ≡ objects self.old }
         ensures steady { is_steady self.old → is_steady self.new }
+        ensures called { makes self.old self.new }
         ensures never_lost { is_reliable self.old → IsErrOf result StoreFault.Lost → ⊥ }
         ensures stays_reliable { is_reliable self.old → is_reliable self.new };
 }
@@ -44,6 +50,8 @@ impl<S: Store> ObjectReader for S {
     ghost is_steady = { λ store. Unit {0} };
 
     ghost is_reliable = { λ store. S.is_reliable store };
+
+    ghost makes = { λ old new. S.makes old new };
 
     fn names(&mut self) -> Result<Vec<String>, StoreFault> {
         Ok(self.list()?.to_vec()?)

@@ -1,8 +1,8 @@
 //! What makes a store unsound.
 
-ghost use Rattle.std.specs.Prelude.{◌≡◌, IfOk};
-ghost use Rattle.serde_json.specs.Data.{string};
-ghost use Rattle.serde_json.specs.View.{view};
+ghost use Rattle.std.specs.Prelude.{IfOk, Some};
+ghost use Rattle.table_audit.specs.Reasons.{IsId};
+ghost use Rattle.table_audit.specs.ReasonTexts.{id_text, reason_text};
 
 use delta_actions::ActionFault;
 use parquet_footer::FileFault;
@@ -21,29 +21,31 @@ pub struct Unsound {
     pub reason: Reason,
 }
 
-/// The id of an application. It is printed as a JSON string, so on one line, whatever it contains.
+/// The id of an application, as a JSON string, so on one line, whatever it contains.
 #[derive(Debug, Drop)]
 pub struct ApplicationId {
-    text: Value,
+    text: String,
 }
 
 impl ApplicationId {
     /// The id that a text is.
     pub(crate) fn new(alloc: Global, id: &str) -> Result<ApplicationId, AllocError>
-        ensures { IfOk result (λ application. view application.text ≡ string id.now) }
+        ensures { IfOk result (λ application. IsId application id.now) }
     {
-        let text = Value::try_from_str(alloc, id)?;
+        let text = Value::try_from_str(alloc, id)?.to_string(alloc)?;
         Ok(ApplicationId { text })
     }
 }
 
 impl Display for ApplicationId {
+    ghost output = { λ application. Some (id_text application) };
+
     fn fmt<W: fmt::Write>(&self, f: &mut Formatter<W>) -> fmt::Result {
-        write!(f, "{}", self.text)
+        f.write_str(&self.text)
     }
 }
 
-/// What makes a version unsound.
+/// What makes a version unsound. Its texts are written by hand, so that contracts know them.
 #[derive(Debug, Drop, Error)]
 pub enum Reason {
     /// A line of the commit can't be read.
@@ -107,6 +109,8 @@ pub enum Reason {
 }
 
 impl Display for Reason {
+    ghost output = { λ reason. Some (reason_text reason) };
+
     fn fmt<W: fmt::Write>(&self, f: &mut Formatter<W>) -> fmt::Result {
         match self {
             Reason::BadCommit { version, fault } => write!(f, "commit {version}: {fault}"),

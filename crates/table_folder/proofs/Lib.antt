@@ -6,3 +6,4 @@ mod LoadLemmas
 mod LoadedLemmas
 mod NameLemmas
 mod SaveLemmas
+mod TraceLemmas

@@ -7,3 +7,4 @@ pub mod Names
 pub mod Orders
 pub mod Stops
 pub mod Texts
+pub mod Traces

@@ -81,6 +81,8 @@ impl<R: Files + AllocGlobal + Clone + Drop> Folder for DirFolder<R> {
 
     ghost is_reliable = { λ _. ⊥ };
 
+    ghost makes = { λ _ _ _. Unit {0} };
+
     /// Reads both folders and syncs them. Each name is a plain file name that doesn't begin with `.`, alone or behind
     /// `_delta_log/`.
     fn names(&mut self) -> Result<Vec<String>, FolderFault>

@@ -5,6 +5,7 @@ ghost use Rattle.std.specs.String.{string_bytes};
 ghost use Rattle.store_core.specs.Calls.{put_told};
 ghost use Rattle.store_core.specs.Objects.{Objects, object_at, names_of, with_object, IsInOrder};
 ghost use Rattle.table_folder.specs.Calls.{CountsFailure, FailsAmong, FailsAt, IsFailed, MayHaveMade};
+ghost use Rattle.table_folder.specs.Traces.{FolderCall, creates, finds, lists, looks, reads, told_by};
 
 use crate::FolderFault;
 use store_core::Put;
@@ -31,6 +32,10 @@ pub trait Folder {
     /// No call fails.
     ghost is_reliable: { Self → Type 0 };
 
+    /// What one call may make of a folder, with what it told. Code that is proved for any folder has to say by it which
+    /// calls it makes, on a disk that others write to as well; a folder that doesn't care takes any two values.
+    ghost makes: { Self → FolderCall → Self → Type 0 };
+
     /// All names that stand, in the order of their bytes, each once. Where it fails, the fault tells the folder's path
     /// or a name that stands.
     fn names(&mut self) -> Result<Vec<String>, FolderFault>
@@ -38,6 +43,7 @@ pub trait Folder {
             → IfOk result (λ names. map string_bytes names.items ≡ names_of (objects self.old)) }
         ensures untouched { is_steady self.old → objects self.new ≡ objects self.old }
         ensures steady { is_steady self.old → is_steady self.new }
+        ensures called { makes self.old (lists (told_by (λ names. map string_bytes names.items) result)) self.new }
 
         ensures named { is_steady self.old → FailsAmong (path self.old ∷ names_of (objects self.old)) result }
         ensures faults { CountsFailure result (fault_count self.old) (fault_count self.new) }
@@ -50,6 +56,7 @@ pub trait Folder {
             ≡ object_at (objects self.old) name.now) }
         ensures untouched { is_steady self.old → objects self.new ≡ objects self.old }
         ensures steady { is_steady self.old → is_steady self.new }
+        ensures called { makes self.old (reads name.now (told_by (option_map (λ bytes. bytes.items)) result)) self.new }
 
         ensures named { FailsAt name.now result }
         ensures faults { CountsFailure result (fault_count self.old) (fault_count self.new) }
@@ -62,6 +69,7 @@ pub trait Folder {
             ≡ object_at (objects self.old) name.now) }
         ensures untouched { is_steady self.old → objects self.new ≡ objects self.old }
         ensures steady { is_steady self.old → is_steady self.new }
+        ensures called { makes self.old (finds name.now (told_by (option_map (λ bytes. bytes.items)) result)) self.new }
 
         ensures named { FailsAt name.now result }
         ensures faults { CountsFailure result (fault_count self.old) (fault_count self.new) }
@@ -80,6 +88,7 @@ pub trait Folder {
         ensures memory { is_steady self.old → IsErrOf result FolderFault.Memory
             → objects self.new ≡ objects self.old }
         ensures steady { is_steady self.old → is_steady self.new }
+        ensures called { makes self.old (creates name.now bytes.items (told_by (λ put. put) result)) self.new }
 
         ensures named { FailsAt name.now result }
         ensures faults { CountsFailure result (fault_count self.old) (fault_count self.new) }
@@ -91,6 +100,7 @@ pub trait Folder {
     fn leftovers(&mut self) -> Result<Vec<String>, FolderFault>
         ensures untouched { is_steady self.old → objects self.new ≡ objects self.old }
         ensures steady { is_steady self.old → is_steady self.new }
+        ensures called { makes self.old looks self.new }
 
         ensures named { is_steady self.old → FailsAmong (path self.old ∷ names_of (objects self.old)) result }
         ensures faults { CountsFailure result (fault_count self.old) (fault_count self.new) }

@@ -98,6 +98,8 @@ impl Folder for MemoryFolder {
 
     ghost is_reliable = { λ folder. folder.stop ≡ Never };
 
+    ghost makes = { λ _ _ _. Unit {0} };
+
     /// Copies the names.
     fn names(&mut self) -> Result<Vec<String>, FolderFault> {
         match self.store.list() {

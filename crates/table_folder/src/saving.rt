@@ -7,6 +7,7 @@ ghost use Rattle.store_core.specs.Objects.{names_of, object_at, HasObjectsOf};
 ghost use Rattle.table_folder.specs.Copies.{AreAbsent, HasSavedFront, MayHaveSaved, new_names, saved_at, with_copies, with_copy};
 ghost use Rattle.table_folder.specs.Faults.{CountsLost, CountsSave, FailsWhereStood, IsNotSaved, SaveFailsAmong, SaveFailsAt};
 ghost use Rattle.table_folder.specs.Kinds.{is_checkpoint, is_commit, is_data, is_of};
+ghost use Rattle.table_folder.specs.Traces.{FolderCall, Saves, SavesOne, Traced};
 
 use crate::kind::{FileKind, is_of};
 use crate::{Folder, Reason, SaveFault};
@@ -39,6 +40,9 @@ pub fn save<F: Folder, S: Store>(
     // folder then, and nothing else.
     ensures same { F.is_steady folder.old → map string_bytes loaded.now ≡ names_of (F.objects folder.old)
         → HasObjectsOf (F.objects folder.old) (S.objects store.old) → OnOk result (F.objects folder.new ≡ S.objects store.old) }
+    // Just these calls are made of the folder, whoever else writes into it.
+    ensures called { (calls : List FolderCall) × Traced F.makes folder.old calls folder.new
+        × Saves (S.objects store.old) (new_names loaded.now (S.objects store.old)) result calls }
     ensures store { IsUntouched (S.objects store.old, S.in_flight store.old) (S.objects store.new, S.in_flight store.new) }
 
     ensures named { SaveFailsAmong (new_names loaded.now (S.objects store.old)) result }
@@ -90,6 +94,8 @@ fn save_one<F: Folder, S: Store>(
         (IsSome (object_at (S.objects store.old) name.now) → object_at (F.objects folder.old) name.now ≡ None) }
     ensures refused { F.is_steady folder.old → IsErr result
         → MayHaveSaved (S.objects store.old) name.now (F.objects folder.old) (F.objects folder.new) }
+    ensures called { (calls : List FolderCall) × Traced F.makes folder.old calls folder.new
+        × SavesOne (S.objects store.old) name.now result calls }
     ensures store { IsUntouched (S.objects store.old, S.in_flight store.old) (S.objects store.new, S.in_flight store.new) }
 
     ensures named { SaveFailsAt name.now result }

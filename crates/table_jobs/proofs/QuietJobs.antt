@@ -47,30 +47,30 @@ use Rattle.table_jobs.specs.declared.job_session.JobEnd.TheVariants as ends
 
 module _ (application : List ℕ) (number : ℕ) (items : Items) (at : ℕ) (use_checkpoints : Bool) (old new : Objects) where
   append_so : (tries most : ℕ) (known : Loaded) (end : SinkEnd) → 1 ≤ tries → IsUtf8 application → at < 2 ^ 63
-      → Drives SinkAsks SinkEnds is_lost_end (Unit {0}) (append_job application number items at tries use_checkpoints known) most (all_got old old) end (old, []) (new, []) 0 0 → IsAppended use_checkpoints application number at items old new end.answer
+      → Drives SinkAsks SinkEnds is_lost_end (λ talk. Unit {0}) (Unit {0}) (append_job application number items at tries use_checkpoints known) most (all_got old old) end (old, []) (new, []) 0 0 → IsAppended use_checkpoints application number at items old new end.answer
   append_so tries most known end some utf8 small driven =
       let job = append_job application number items at tries use_checkpoints known in
       let before = all_got old old in
       let bears = got_borne old in
-      let never = driven_never_lost job (Unit {0}) most before end.known end.answer (old, []) (new, []) 0 0 bears driven tt in
+      let never = driven_never_lost job (λ talk. Unit {0}) (Unit {0}) most before end.known end.answer (old, []) (new, []) 0 0 bears driven tt in
       let after = appended application number items at tries use_checkpoints known before (old, []) bears some utf8 small (new, []) driven.talk (driven.exact tt) driven.talked driven.asked end.answer never driven.ended.answer in
       record { told = after.told; left = after.left; short = after.short; well_put = after.well_put; grows = after.grows; unlost = never }
 
 module _ (application : List ℕ) (at : ℕ) (use_checkpoints : Bool) (old new : Objects) where
   close_so : (tries most : ℕ) (known : Loaded) (end : SinkEnd) → 1 ≤ tries
-      → Drives SinkAsks SinkEnds is_lost_end (Unit {0}) (close_job application at tries use_checkpoints known) most (all_got old old) end (old, []) (new, []) 0 0 → IsClosed use_checkpoints application at old new end.answer
+      → Drives SinkAsks SinkEnds is_lost_end (λ talk. Unit {0}) (Unit {0}) (close_job application at tries use_checkpoints known) most (all_got old old) end (old, []) (new, []) 0 0 → IsClosed use_checkpoints application at old new end.answer
   close_so tries most known end some driven =
       let job = close_job application at tries use_checkpoints known in
       let before = all_got old old in
       let bears = got_borne old in
-      let never = driven_never_lost job (Unit {0}) most before end.known end.answer (old, []) (new, []) 0 0 bears driven tt in
+      let never = driven_never_lost job (λ talk. Unit {0}) (Unit {0}) most before end.known end.answer (old, []) (new, []) 0 0 bears driven tt in
       let after = closed_so application at tries use_checkpoints known before (old, []) bears some (new, []) driven.talk (driven.exact tt) driven.talked driven.asked end.answer never driven.ended.answer in
       record { told = after.told; left = after.left; short = after.short; well_put = after.well_put; grows = after.grows; unlost = never }
 
 -- ---- a checkpoint, a load, a creation and a read
 
 checkpoint_so : (job : LoadJob) (most : ℕ) (outcome : Result Checkpointed SnapshotFault) (old new : Objects)
-    → Drives CheckpointAsks CheckpointEnds is_lost_checkpoint (Unit {0}) job most (all_got old old) outcome (old, []) (new, []) 0 0 → IsCheckpointed job.use_checkpoints old new outcome
+    → Drives CheckpointAsks CheckpointEnds is_lost_checkpoint (λ talk. Unit {0}) (Unit {0}) job most (all_got old old) outcome (old, []) (new, []) 0 0 → IsCheckpointed job.use_checkpoints old new outcome
 checkpoint_so job most (Ok put) old new driven = was_put job (Unit {0}) most (Ok put) (old, []) (new, []) 0 0 driven put refl
 checkpoint_so job most (Err fault) old new driven =
     let never = put_never_lost job (Unit {0}) most (Err fault) (old, []) (new, []) 0 0 driven tt in (
@@ -80,7 +80,7 @@ checkpoint_so job most (Err fault) old new driven =
     )
 
 load_so : (job : LoadJob) (most : ℕ) (outcome : Result Loaded LogFault) (old new : Objects)
-    → Drives LoadAsks LoadEnds is_lost_load (Unit {0}) job most (all_got old old) outcome (old, []) (new, []) 0 0 → IsLoadDone job.use_checkpoints old new outcome
+    → Drives LoadAsks LoadEnds is_lost_load (λ talk. Unit {0}) (Unit {0}) job most (all_got old old) outcome (old, []) (new, []) 0 0 → IsLoadDone job.use_checkpoints old new outcome
 load_so job most (Ok loaded) old new driven = (load_told job (Unit {0}) most (Ok loaded) (old, []) (new, []) 0 0 driven loaded refl, (load_untouched job (Unit {0}) most (Ok loaded) (old, []) (new, []) 0 0 driven).0)
 load_so job most (Err fault) old new driven = (
   load_refused job (Unit {0}) most (Err fault) (old, []) (new, []) 0 0 driven fault refl,
@@ -89,7 +89,7 @@ load_so job most (Err fault) old new driven = (
 )
 
 create_so : (job : CreateJob) (most : ℕ) (before : Talk) (outcome : Result (Unit {0}) CreateFault) (old new : Objects)
-    → Drives CreateAsks CreateEnds tells_lost (Unit {0}) job most before outcome (old, []) (new, []) 0 0 → IsCreationDone job.id job.at job.schema old new outcome
+    → Drives CreateAsks CreateEnds tells_lost (λ talk. Unit {0}) (Unit {0}) job most before outcome (old, []) (new, []) 0 0 → IsCreationDone job.id job.at job.schema old new outcome
 create_so job most before outcome old new driven = (
   creates job (old, []) (new, []) driven.talk (Unit {0}) driven.exact outcome driven.ended driven.talked,
   refused_leaves job (old, []) (new, []) driven.talk (Unit {0}) driven.exact outcome driven.ended tt,
@@ -103,11 +103,11 @@ create_so job most before outcome old new driven = (
         cc
 
 read_so : (job : SourceJob) (most : ℕ) (end : ReadEnd) (old new : Objects)
-    → Drives SourceAsks SourceEnds is_lost_read (Unit {0}) job most (all_got old old) end (old, []) (new, []) 0 0 → IsReadDone job old new end
+    → Drives SourceAsks SourceEnds is_lost_read (λ talk. Unit {0}) (Unit {0}) job most (all_got old old) end (old, []) (new, []) 0 0 → IsReadDone job old new end
 read_so job most end old new driven = record {
-  told = read_gives job (Unit {0}) most end.known end.file end.answer (old, []) (new, []) 0 0 driven;
-  same = (read_untouched job (Unit {0}) most end.known end.file end.answer (old, []) (new, []) 0 0 driven).0;
-  unlost = read_never_lost job (Unit {0}) most end.known end.file end.answer (old, []) (new, []) 0 0 driven tt;
+  told = read_gives job (λ talk. Unit {0}) (Unit {0}) most end.known end.file end.answer (old, []) (new, []) 0 0 driven;
+  same = (read_untouched job (λ talk. Unit {0}) (Unit {0}) most end.known end.file end.answer (old, []) (new, []) 0 0 driven).0;
+  unlost = read_never_lost job (λ talk. Unit {0}) (Unit {0}) most end.known end.file end.answer (old, []) (new, []) 0 0 driven tt;
 }
 
 -- ---- any job
@@ -115,11 +115,12 @@ read_so job most end old new driven = record {
 -- what the session of a job was driven by, in the words of its kind
 same_drive : {J O K P : Type 0} (asks : J → (before talk : Talk) → Asked → Type 0) (ends : J → (before talk : Talk) → O → Type 0) (lost : O → Bool)
     (own_asks : K → (before talk : Talk) → Asked → Type 0) (own_ends : K → (before talk : Talk) → P → Type 0) (own_lost : P → Bool) (job : J) (own : K) (most : ℕ) (before : Talk) (outcome : O) (told : P) (old new : State) (faults later : ℕ)
-    → (driven : Drives asks ends lost (Unit {0}) job most before outcome old new faults later) → AllAsked (own_asks own before) [] driven.talk → own_ends own before driven.talk told → own_lost told ≡ has_lost driven.talk
-    → Drives own_asks own_ends own_lost (Unit {0}) own most before told old new faults later
+    → (driven : Drives asks ends lost (λ talk. Unit {0}) (Unit {0}) job most before outcome old new faults later) → AllAsked (own_asks own before) [] driven.talk → own_ends own before driven.talk told → own_lost told ≡ has_lost driven.talk
+    → Drives own_asks own_ends own_lost (λ talk. Unit {0}) (Unit {0}) own most before told old new faults later
 same_drive asks ends lost own_asks own_ends own_lost job own most before outcome told old new faults later driven asked ended heard = record {
   talk = driven.talk;
   talked = driven.talked;
+  called = tt;
   exact = driven.exact;
   asked = asked;
   ended = ended;
@@ -133,14 +134,14 @@ same_drive asks ends lost own_asks own_ends own_lost job own most before outcome
 -- what the session of a job was driven by that puts nothing else in flight
 abbrev DrivesJob : (job : code.Job) (most : ℕ) (end : code_end.JobEnd) (old new : Objects) → Type 0
 DrivesJob job most end old new =
-    Drives Asks (λ job before talk outcome. Ends job before talk (end_view outcome)) (λ outcome. is_lost (end_view outcome)) (Unit {0}) (job_view job) most (all_got old old) end (old, []) (new, []) 0 0
+    Drives Asks (λ job before talk outcome. Ends job before talk (end_view outcome)) (λ outcome. is_lost (end_view outcome)) (λ talk. Unit {0}) (Unit {0}) (job_view job) most (all_got old old) end (old, []) (new, []) 0 0
 
 -- a log of which nothing is known
 abbrev knows_nothing : Loaded → Loaded
 knows_nothing known = record known { next = 0; checkpoint = None }
 
 task_so : (job : StreamJob) (task : SinkTask) (most : ℕ) (end : SinkEnd) (old new : Objects)
-    → Drives SinkAsks SinkEnds is_lost_end (Unit {0}) (stream_view (record job { task = task })) most (all_got old old) end (old, []) (new, []) 0 0 → IsTaskDone (task_view task) (stream_view (record job { task = task })) old new end.answer
+    → Drives SinkAsks SinkEnds is_lost_end (λ talk. Unit {0}) (Unit {0}) (stream_view (record job { task = task })) most (all_got old old) end (old, []) (new, []) 0 0 → IsTaskDone (task_view task) (stream_view (record job { task = task })) old new end.answer
 task_so job (tasks.Append number rows) most end old new driven =
     append_so (string_bytes job.application) number (rows_data rows) job.at job.use_checkpoints old new job.tries most (knows_nothing end.known) end job.some (IsUtf8-string_bytes job.application) job.timely driven
 task_so job tasks.Close most end old new driven = close_so (string_bytes job.application) job.at job.use_checkpoints old new job.tries most (knows_nothing end.known) end job.some driven

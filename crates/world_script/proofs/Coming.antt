@@ -1,5 +1,5 @@
 -- What a line comes to, from what the code of its kind does.
-use Rattle.std.proofs.Common.{◌≡◌, ◌∙◌, ℕ, List, [], ◌∷◌, Option, ◌≤◌, Some, None, refl, sym, ap, subst}
+use Rattle.std.proofs.Common.{◌≡◌, ◌∙◌, ℕ, Bool, false, List, [], ◌∷◌, Option, ◌≤◌, Some, None, refl, sym, ap, subst}
 use Rattle.std.specs.BTreeMap.{get_by_text}
 use Rattle.script_lines.specs.Lines as lines
 use Rattle.script_lines.specs.Lines.{Look, Task}
@@ -34,41 +34,42 @@ died stored n w new was = record {
   stands = was.stands;
 }
 
-module _ {S : Type 0} (stored : S → Objects) (s : Scene) (reply : List ℕ) (new : code.Scene S) where
-  pub of_until : (name : List ℕ) → ComesToNamed stored s name deeds.Until reply new → ComesTo stored s (lines.world (lines.until name)) reply new
-  of_until name came = record { events = came.events; outs = came.outs; later = came.later; does = came.does; stands = came.stands }
+module _ {S : Type 0} (stored : S → Objects) (s : Scene) (reply : List ℕ) (short : Bool) (new : code.Scene S) where
+  pub of_until : (name : List ℕ) → ComesToNamed stored s name deeds.Until reply short new → ComesTo stored s (lines.world (lines.until name)) reply short new
+  of_until name came = record { events = came.events; outs = came.outs; later = came.later; does = came.does; falls = came.falls; stands = came.stands }
 
-  pub of_step : (name : List ℕ) (kind : Kind) → ComesToNamed stored s name (deeds.Step kind) reply new → ComesTo stored s (lines.world (lines.step name kind)) reply new
-  of_step name kind came = record { events = came.events; outs = came.outs; later = came.later; does = came.does; stands = came.stands }
+  pub of_step : (name : List ℕ) (kind : Kind) → ComesToNamed stored s name (deeds.Step kind) reply short new → ComesTo stored s (lines.world (lines.step name kind)) reply short new
+  of_step name kind came = record { events = came.events; outs = came.outs; later = came.later; does = came.does; falls = came.falls; stands = came.stands }
 
-  pub of_finish : (name : List ℕ) → ComesToNamed stored s name deeds.Finish reply new → ComesTo stored s (lines.world (lines.finish name)) reply new
-  of_finish name came = record { events = came.events; outs = came.outs; later = came.later; does = came.does; stands = came.stands }
+  pub of_finish : (name : List ℕ) → ComesToNamed stored s name deeds.Finish reply short new → ComesTo stored s (lines.world (lines.finish name)) reply short new
+  of_finish name came = record { events = came.events; outs = came.outs; later = came.later; does = came.does; falls = came.falls; stands = came.stands }
 
-  pub of_die : (name : List ℕ) → ComesToNamed stored s name deeds.Die reply new → ComesTo stored s (lines.world (lines.die name)) reply new
-  of_die name came = record { events = came.events; outs = came.outs; later = came.later; does = came.does; stands = came.stands }
+  pub of_die : (name : List ℕ) → ComesToNamed stored s name deeds.Die reply short new → ComesTo stored s (lines.world (lines.die name)) reply short new
+  of_die name came = record { events = came.events; outs = came.outs; later = came.later; does = came.does; falls = came.falls; stands = came.stands }
 
-  pub of_start : (name : List ℕ) (job : Task) → ComesToStart stored s name job reply new → ComesTo stored s (lines.world (lines.start name job)) reply new
-  of_start name job came = record { events = came.events; outs = []; later = came.later; does = (refl, came.does); stands = came.stands }
+  pub of_start : (name : List ℕ) (job : Task) → ComesToStart stored s name job reply short new → ComesTo stored s (lines.world (lines.start name job)) reply short new
+  of_start name job came = record { events = came.events; outs = []; later = came.later; does = (refl, came.does); falls = came.falls; stands = came.stands }
 
-  pub of_create : (id : List ℕ) (at : ℕ) (schema : List ℕ) → ComesToAlone stored s (lines.create id at schema) (Some (job_of_creation id at schema)) reply new → ComesTo stored s (lines.create id at schema) reply new
-  of_create id at schema came = record { events = came.events; outs = came.outs; later = came.later; does = came.does; stands = came.stands }
+  pub of_create : (id : List ℕ) (at : ℕ) (schema : List ℕ) → ComesToAlone stored s (lines.create id at schema) (Some (job_of_creation id at schema)) reply short new → ComesTo stored s (lines.create id at schema) reply short new
+  of_create id at schema came = record { events = came.events; outs = came.outs; later = came.later; does = came.does; falls = came.falls; stands = came.stands }
 
-  pub of_task : (job : Task) → ComesToAlone stored s (lines.task job) (job_of_task s.use_checkpoints s.tries job) reply new → ComesTo stored s (lines.task job) reply new
-  of_task job came = record { events = came.events; outs = came.outs; later = came.later; does = came.does; stands = came.stands }
+  pub of_task : (job : Task) → ComesToAlone stored s (lines.task job) (job_of_task s.use_checkpoints s.tries job) reply short new → ComesTo stored s (lines.task job) reply short new
+  of_task job came = record { events = came.events; outs = came.outs; later = came.later; does = came.does; falls = came.falls; stands = came.stands }
 
-  pub of_look : (line : Look) → TellsIn stored s (lines.look line) reply new → ComesTo stored s (lines.look line) reply new
-  of_look line came = record { events = []; outs = []; later = came.later; does = (refl, refl, came.tells); stands = came.stands }
+  pub of_look : (line : Look) → TellsIn stored s (lines.look line) reply short new → ComesTo stored s (lines.look line) reply short new
+  of_look line came = record { events = []; outs = []; later = came.later; does = (refl, refl, came.tells); falls = came.falls; stands = came.stands }
 
-  pub of_foreign : (version : ℕ) (action : List ℕ) → TellsIn stored s (lines.foreign version action) reply new → ComesTo stored s (lines.foreign version action) reply new
-  of_foreign version action came = record { events = []; outs = []; later = came.later; does = (refl, refl, came.tells); stands = came.stands }
+  pub of_foreign : (version : ℕ) (action : List ℕ) → TellsIn stored s (lines.foreign version action) reply short new → ComesTo stored s (lines.foreign version action) reply short new
+  of_foreign version action came = record { events = []; outs = []; later = came.later; does = (refl, refl, came.tells); falls = came.falls; stands = came.stands }
 
 module _ {S : Type 0} (stored : S → Objects) (old : code.Scene S) (s : Scene) (stands : SceneStands stored old s) (new : code.Scene S) where
-  pub of_fault : (kind : Kind) → new.world ≡ old.world → new.parts ≡ old.parts → new.next ≡ old.next → new.tries ≡ old.tries → new.fault ≡ Some kind → new.use_checkpoints ≡ old.use_checkpoints → ComesTo stored s (lines.world (lines.fault kind)) [] new
+  pub of_fault : (kind : Kind) → new.world ≡ old.world → new.parts ≡ old.parts → new.next ≡ old.next → new.tries ≡ old.tries → new.fault ≡ Some kind → new.use_checkpoints ≡ old.use_checkpoints → ComesTo stored s (lines.world (lines.fault kind)) [] false new
   of_fault kind world parts next tries fault uses = record {
     events = [];
     outs = [];
     later = record s { fault = Some kind };
     does = (refl, refl, refl, refl);
+    falls = refl;
     stands = record {
       world_stands = subst (λ (v : code_world.World S). WorldStands stored v s.world) (sym world) stands.world_stands;
       part_so = λ name. ap (λ m. get_by_text m name) parts ∙ stands.part_so name;
@@ -79,12 +80,13 @@ module _ {S : Type 0} (stored : S → Objects) (old : code.Scene S) (s : Scene) 
     };
   }
 
-  pub of_tries : (count : ℕ) → new.world ≡ old.world → new.parts ≡ old.parts → new.next ≡ old.next → (1 ≤ count → new.tries ≡ count) → new.fault ≡ old.fault → new.use_checkpoints ≡ old.use_checkpoints → ComesTo stored s (lines.tries count) ok new
+  pub of_tries : (count : ℕ) → new.world ≡ old.world → new.parts ≡ old.parts → new.next ≡ old.next → (1 ≤ count → new.tries ≡ count) → new.fault ≡ old.fault → new.use_checkpoints ≡ old.use_checkpoints → ComesTo stored s (lines.tries count) ok false new
   of_tries count world parts next tries fault uses = record {
     events = [];
     outs = [];
     later = record s { tries = new.tries };
     does = (refl, refl, refl, (new.tries, tries, refl));
+    falls = refl;
     stands = record {
       world_stands = subst (λ (v : code_world.World S). WorldStands stored v s.world) (sym world) stands.world_stands;
       part_so = λ name. ap (λ m. get_by_text m name) parts ∙ stands.part_so name;

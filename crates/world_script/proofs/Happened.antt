@@ -23,7 +23,7 @@ use Rattle.world_script.specs.Acting.{GoesOn, Leads, LeadsThrough, Meets, Steps}
 use Rattle.world_script.specs.Lines as does
 use Rattle.world_script.specs.Lines.{IsNamed, Lands, LineDoes, RunsAlone, Starts, TellsOf, deed_does}
 use Rattle.world_script.specs.Playing as plays
-use Rattle.world_script.specs.Playing.{HasPlayed, HasPlayedText, IsSoOfTable, Plays, PlaysInPart, PlaysSo, PlaysText, StaysSo}
+use Rattle.world_script.specs.Playing.{HasPlayed, HasPlayedText, IsSoOfTable, Plays, PlaysInPart, PlaysShort, PlaysSo, PlaysText, StaysSo}
 use Rattle.world_script.specs.Scenes.{Scene, first_scene, part_for}
 use Rattle.lake_script.specs.Runs.{Tells}
 use Rattle.lake_script.specs.declared.engine.End.{End}
@@ -143,11 +143,11 @@ last_here : (front : List (List ℕ)) (line : List ℕ) → ArePutHere (front ++
 last_here [] line here = here.0
 last_here (other ∷ front) line here = last_here front line here.1
 
-pub plays_ran : (first : Scene) (those : List (List ℕ)) (written : List ℕ) (seen : List Event) (outs : List (Job × Outcome)) (last : Scene) → ArePutHere those → Plays first those written seen outs last → Ran first.world seen outs last.world
-plays_ran first _ _ _ _ _ here plays.at_first = events.at_first
-plays_ran first _ _ _ _ _ here (plays.skips_one those line written seen outs s played is) = plays_ran first those written seen outs s (front_here those (line ∷ []) here) played
-plays_ran first _ _ _ _ _ here (plays.plays_one those line written seen outs s statement more told reply later played is done) =
-    ran_on first.world seen outs s.world (plays_ran first those written seen outs s (front_here those (line ∷ []) here) played) more told later.world
+pub plays_ran : (first : Scene) (those : List (List ℕ)) (written : List ℕ) (seen : List Event) (outs : List (Job × Outcome)) (short : Bool) (last : Scene) → ArePutHere those → Plays first those written seen outs short last → Ran first.world seen outs last.world
+plays_ran first _ _ _ _ _ _ here plays.at_first = events.at_first
+plays_ran first _ _ _ _ _ _ here (plays.skips_one those line written seen outs short s played is) = plays_ran first those written seen outs short s (front_here those (line ∷ []) here) played
+plays_ran first _ _ _ _ _ _ here (plays.plays_one those line written seen outs short s statement more told reply falls later played is done fell) =
+    ran_on first.world seen outs s.world (plays_ran first those written seen outs short s (front_here those (line ∷ []) here) played) more told later.world
     (line_ran statement s more told reply later (subst IsPutHere is (last_here those line here)) done)
 
 -- ---- what is so of every world
@@ -158,10 +158,10 @@ IsSoundLaw = (seen : List Event) (outs : List (Job × Outcome)) (w : World) → 
 abbrev pub IsHeadlineLaw : Type 0
 IsHeadlineLaw = (seen : List Event) (outs : List (Job × Outcome)) (w : World) → IsWorldOf seen outs w → (schema : Schema) (entries : List Entry) → Holds w.objects schema entries → IsHeadline seen outs schema entries
 
-played_so : (uses : Bool) (those : List (List ℕ)) (written : List ℕ) (seen : List Event) (outs : List (Job × Outcome)) (objects : Objects) → IsSoundLaw → IsHeadlineLaw → ArePutHere those
-    → HasPlayed (first_scene [] uses) those written seen outs objects → IsSoOfTable seen outs objects
-played_so uses those written seen outs objects sound headline here played =
-    let of_world : IsWorldOf seen outs played.last.world = plays_ran (first_scene [] uses) those written seen outs played.last here played.plays in
+played_so : (uses : Bool) (those : List (List ℕ)) (written : List ℕ) (seen : List Event) (outs : List (Job × Outcome)) (short : Bool) (objects : Objects) → IsSoundLaw → IsHeadlineLaw → ArePutHere those
+    → HasPlayed (first_scene [] uses) those written seen outs short objects → IsSoOfTable seen outs objects
+played_so uses those written seen outs short objects sound headline here played =
+    let of_world : IsWorldOf seen outs played.last.world = plays_ran (first_scene [] uses) those written seen outs short played.last here played.plays in
     record {
       w = played.last.world;
       of_world = of_world;
@@ -170,22 +170,31 @@ played_so uses those written seen outs objects sound headline here played =
       headline = λ schema entries holds. headline seen outs played.last.world of_world schema entries (subst (λ (o : Objects). Holds o schema entries) (sym played.stand) holds);
     }
 
-text_so : (uses : Bool) (text written : List ℕ) (seen : List Event) (outs : List (Job × Outcome)) (objects : Objects) → IsSoundLaw → IsHeadlineLaw → ArePutHere (lines_of text)
-    → HasPlayedText (first_scene [] uses) text written seen outs objects → IsSoOfTable seen outs objects
-text_so uses text _ _ _ _ sound headline here (plays.to_end written seen outs objects played) = played_so uses (lines_of text) written seen outs objects sound headline here played
-text_so uses text _ _ _ _ sound headline here (plays.to_bad those line rest written seen outs objects are bad played) =
-    played_so uses those written seen outs objects sound headline (front_here those (line ∷ rest) (subst ArePutHere are here)) played
+text_so : (uses : Bool) (text written : List ℕ) (seen : List Event) (outs : List (Job × Outcome)) (short : Bool) (objects : Objects) → IsSoundLaw → IsHeadlineLaw → ArePutHere (lines_of text)
+    → HasPlayedText (first_scene [] uses) text written seen outs short objects → IsSoOfTable seen outs objects
+text_so uses text _ _ _ _ _ sound headline here (plays.to_end written seen outs short objects played) = played_so uses (lines_of text) written seen outs short objects sound headline here played
+text_so uses text _ _ _ _ _ sound headline here (plays.to_bad those line rest written seen outs short objects are bad played) =
+    played_so uses those written seen outs short objects sound headline (front_here those (line ∷ rest) (subst ArePutHere are here)) played
 
 -- what a text was told that was played over nothing is so
 pub script_so : (uses : Bool) (text written : List ℕ) (first objects : Objects) → IsSoundLaw → IsHeadlineLaw → ArePutHere (lines_of text) → first ≡ [] → PlaysText (first_scene first uses) text written objects → PlaysSo (first_scene [] uses) text written objects
 script_so uses text written first objects sound headline here nothing played =
     let over_nothing : PlaysText (first_scene [] uses) text written objects = subst (λ (o : Objects). PlaysText (first_scene o uses) text written objects) nothing played in
-    (over_nothing.0, over_nothing.1, over_nothing.2, text_so uses text written over_nothing.0 over_nothing.1 objects sound headline here over_nothing.2)
+    let played = over_nothing.1 in
+    (played.0, played.1, over_nothing.0, played.2, text_so uses text written played.0 played.1 over_nothing.0 objects sound headline here played.2)
 
 pub part_so : (uses : Bool) (text : List ℕ) (first objects : Objects) → IsSoundLaw → IsHeadlineLaw → ArePutHere (lines_of text) → first ≡ [] → PlaysInPart (first_scene first uses) text objects → StaysSo (first_scene [] uses) text objects
 part_so uses text first objects sound headline here nothing played =
     let part : PlaysInPart (first_scene [] uses) text objects = subst (λ (o : Objects). PlaysInPart (first_scene o uses) text objects) nothing played in
-    record { part = part; so = played_so uses part.lines part.written part.events part.outs objects sound headline (front_here part.lines part.rest (subst ArePutHere part.are here)) part.played }
+    record { part = part; so = played_so uses part.lines part.written part.events part.outs part.short objects sound headline (front_here part.lines part.rest (subst ArePutHere part.are here)) part.played }
+
+-- whether it was short or not
+pub finishes_text : (end : End) (old new : Option (List ℕ)) (first : Scene) (text : List ℕ) (short : Bool) (objects : Objects)
+    → Finishes end (λ _. Tells old new (λ written. PlaysShort first text written short objects)) → Finishes end (λ _. Tells old new (λ written. PlaysText first text written objects))
+finishes_text Done old new first text short objects told = (told.0, told.1, (short, told.2))
+finishes_text (BadLine number) old new first text short objects told = (told.0, told.1, (short, told.2))
+finishes_text NotRead old new first text short objects told = tt
+finishes_text NotWritten old new first text short objects told = tt
 
 -- the same of what was written
 pub finishes_so : (end : End) (old new : Option (List ℕ)) (uses : Bool) (text : List ℕ) (first objects : Objects) → IsSoundLaw → IsHeadlineLaw → ArePutHere (lines_of text) → first ≡ []

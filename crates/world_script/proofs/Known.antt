@@ -28,3 +28,8 @@ finishes_if Done A B has = has
 finishes_if (BadLine number) A B has = has
 finishes_if NotRead A B has = tt
 finishes_if NotWritten A B has = tt
+
+-- what is so of a thing that was kept, if one was, is so by a rule
+pub if_kept : {X : Type 0} (kept : Option X) (P Q : X → Type 0) → ((x : X) → P x → Q x) → IfSome kept P → IfSome kept Q
+if_kept None P Q rule has = tt
+if_kept (Some x) P Q rule has = rule x has

@@ -1,7 +1,7 @@
 -- What the code does to a scene by a line, in the words of what a line does.
-use Rattle.std.specs.Prelude.{◌≡◌, ◌⊎◌, ℕ, List, [], Option, None, Some, Result, Ok, Err}
+use Rattle.std.specs.Prelude.{◌≡◌, ◌⊎◌, ◌||◌, ℕ, Bool, true, false, List, [], Option, None, Some, Result, Ok, Err}
 use Rattle.std.specs.declared.alloc.AllocError.{AllocError}
-use Rattle.lake_script.specs.ReplyView.{reply_text}
+use Rattle.lake_script.specs.ReplyView.{is_short, reply_text}
 use Rattle.lake_script.specs.Replies.{bad_line}
 use Rattle.lake_script.specs.declared.reply.LineReply.{LineReply}
 use Rattle.script_lines.specs.Lines.{Reading, Statement, Task, asks, bad, skipped}
@@ -16,7 +16,8 @@ use Rattle.table_jobs.specs.declared.job_session.JobEnd as code_end
 use Rattle.stream_world.specs.declared.world.World as code_world
 use Rattle.world_script.specs.Acting.{LeadsThrough}
 use Rattle.lake_script.specs.LineJobs.{job_of_task}
-use Rattle.lake_script.specs.Endings.{IsReplyOf}
+use Rattle.lake_script.specs.Endings.{IsReplyOf, IsShortBy}
+use Rattle.world_script.specs.FallingShort.{IsLineShort, IsLookShort, IsToldShort, tells_want}
 use Rattle.world_script.specs.Lines.{IsNamed, LineDoes, RunsAlone, Starts, TellsOf, no_room, ok}
 use Rattle.world_script.specs.Scenes.{Scene, SceneStands}
 use Rattle.world_script.specs.declared.named.Deed.{Deed}
@@ -27,31 +28,43 @@ abbrev pub replied : Option LineReply → List ℕ
 replied None = []
 replied (Some reply) = reply_text reply
 
+abbrev pub replied_short : Option LineReply → Bool
+replied_short None = false
+replied_short (Some reply) = is_short reply
+
 -- the reply to a line by which an actor went on, and ended if there is an outcome
 abbrev pub IsReplyAs : Option code_end.JobEnd → List ℕ → Type 0
 IsReplyAs None reply = reply ≡ ok
 IsReplyAs (Some outcome) reply = IsReplyOf (end_view outcome) reply
 
--- What a line did to a scene and replied, for which the code stands now.
-pub record ComesTo {S : Type 0} (stored : S → Objects) (s : Scene) (statement : Statement) (reply : List ℕ) (scene : code.Scene S) : Type 0 where
+-- and whether that reply is short
+abbrev pub IsShortAs : Option code_end.JobEnd → (reply : List ℕ) → (short : Bool) → Type 0
+IsShortAs None reply short = short ≡ false
+IsShortAs (Some outcome) reply short = IsShortBy (end_view outcome) reply short
+
+-- What a line did to a scene and replied, and whether it was short, for which the code stands now.
+pub record ComesTo {S : Type 0} (stored : S → Objects) (s : Scene) (statement : Statement) (reply : List ℕ) (short : Bool) (scene : code.Scene S) : Type 0 where
   pub events : List Event
   pub outs : List (Job × Outcome)
   pub later : Scene
   pub does : LineDoes statement s events outs reply later
+  pub falls : IsLineShort statement s outs reply short later
   pub stands : SceneStands stored scene later
 
 -- the same of lines that name an actor, of those that start one, of jobs without an actor, and of lines that tell of the objects
-pub record ComesToNamed {S : Type 0} (stored : S → Objects) (s : Scene) (name : List ℕ) (deed : Deed) (reply : List ℕ) (scene : code.Scene S) : Type 0 where
+pub record ComesToNamed {S : Type 0} (stored : S → Objects) (s : Scene) (name : List ℕ) (deed : Deed) (reply : List ℕ) (short : Bool) (scene : code.Scene S) : Type 0 where
   pub events : List Event
   pub outs : List (Job × Outcome)
   pub later : Scene
   pub does : IsNamed s name deed events outs reply later
+  pub falls : IsToldShort outs reply short
   pub stands : SceneStands stored scene later
 
-pub record ComesToStart {S : Type 0} (stored : S → Objects) (s : Scene) (name : List ℕ) (job : Task) (reply : List ℕ) (scene : code.Scene S) : Type 0 where
+pub record ComesToStart {S : Type 0} (stored : S → Objects) (s : Scene) (name : List ℕ) (job : Task) (reply : List ℕ) (short : Bool) (scene : code.Scene S) : Type 0 where
   pub events : List Event
   pub later : Scene
   pub does : Starts s name (job_of_task s.use_checkpoints s.tries job) events reply later
+  pub falls : short ≡ tells_want reply
   pub stands : SceneStands stored scene later
 
 -- a start that succeeds is told so, and one that finds no memory that
@@ -59,19 +72,25 @@ abbrev pub start_reply : Result (Unit {0}) AllocError → List ℕ
 start_reply (Ok done) = ok
 start_reply (Err fault) = no_room
 
-abbrev pub StartsAs : {S : Type 0} → (stored : S → Objects) → Scene → (name : List ℕ) → Task → Result (Unit {0}) AllocError → code.Scene S → Type 0
-StartsAs stored s name job result scene = ComesToStart stored s name job (start_reply result) scene
+abbrev pub start_short : Result (Unit {0}) AllocError → Bool
+start_short (Ok done) = false
+start_short (Err fault) = true
 
-pub record ComesToAlone {S : Type 0} (stored : S → Objects) (s : Scene) (statement : Statement) (job : Option Job) (reply : List ℕ) (scene : code.Scene S) : Type 0 where
+abbrev pub StartsAs : {S : Type 0} → (stored : S → Objects) → Scene → (name : List ℕ) → Task → Result (Unit {0}) AllocError → code.Scene S → Type 0
+StartsAs stored s name job result scene = ComesToStart stored s name job (start_reply result) (start_short result) scene
+
+pub record ComesToAlone {S : Type 0} (stored : S → Objects) (s : Scene) (statement : Statement) (job : Option Job) (reply : List ℕ) (short : Bool) (scene : code.Scene S) : Type 0 where
   pub events : List Event
   pub outs : List (Job × Outcome)
   pub later : Scene
   pub does : RunsAlone s statement job events outs reply later
+  pub falls : IsToldShort outs reply short
   pub stands : SceneStands stored scene later
 
-pub record TellsIn {S : Type 0} (stored : S → Objects) (s : Scene) (statement : Statement) (reply : List ℕ) (scene : code.Scene S) : Type 0 where
+pub record TellsIn {S : Type 0} (stored : S → Objects) (s : Scene) (statement : Statement) (reply : List ℕ) (short : Bool) (scene : code.Scene S) : Type 0 where
   pub later : Scene
   pub tells : TellsOf s statement reply later
+  pub falls : IsLookShort s statement reply short later
   pub stands : SceneStands stored scene later
 
 -- An actor was led through a fault to its end, and told this.
@@ -84,7 +103,7 @@ pub record CameThrough {S : Type 0} (stored : S → Objects) (fault : Option Kin
   pub stands : WorldStands stored world later
 
 -- a job ran to its end and was told this; or there was no memory to begin it, and nothing happened
-pub record RanJob {S : Type 0} (stored : S → Objects) (s : Scene) (job : Job) (reply : List ℕ) (scene : code.Scene S) : Type 0 where
+pub record RanJob {S : Type 0} (stored : S → Objects) (s : Scene) (job : Job) (reply : List ℕ) (short : Bool) (scene : code.Scene S) : Type 0 where
   pub mid : World
   pub begins : Happens s.world (begin 0 job) None mid
   pub events : List Event
@@ -93,18 +112,20 @@ pub record RanJob {S : Type 0} (stored : S → Objects) (s : Scene) (job : Job) 
   pub w : World
   pub leads : LeadsThrough 0 s.fault mid events told left w
   pub tells : IsReplyOf told.1 reply
+  pub falls : IsShortBy told.1 reply short
   pub stands : SceneStands stored scene (record s { world = w; fault = left })
 
 abbrev pub RunsJob : {S : Type 0} → (stored : S → Objects) → Scene → Job → Result LineReply AllocError → code.Scene S → Type 0
-RunsJob stored s job (Ok reply) scene = RanJob stored s job (reply_text reply) scene
+RunsJob stored s job (Ok reply) scene = RanJob stored s job (reply_text reply) (is_short reply) scene
 RunsJob stored s job (Err fault) scene = SceneStands stored scene s
 
--- A line as it is read was answered so: nothing of one that is skipped, of a bad one that it is bad.
-abbrev pub Answers : {S : Type 0} → (stored : S → Objects) → (number : ℕ) → Scene → Reading → (written : List ℕ) → code.Scene S → Type 0
-Answers stored number s skipped written scene = (written ≡ []) × SceneStands stored scene s
-Answers stored number s bad written scene = (written ≡ bad_line number) × SceneStands stored scene s
-Answers stored number s (asks statement) written scene = ComesTo stored s statement written scene
+-- A line as it is read was answered so: nothing of one that is skipped, of a bad one that it is bad. A run was short before, and is so behind it where it
+-- was or the line is.
+abbrev pub Answers : {S : Type 0} → (stored : S → Objects) → (number : ℕ) → Scene → Reading → (written : List ℕ) → (before after : Bool) → code.Scene S → Type 0
+Answers stored number s skipped written before after scene = (written ≡ []) × SceneStands stored scene s × (after ≡ before)
+Answers stored number s bad written before after scene = (written ≡ bad_line number) × SceneStands stored scene s × (after ≡ before)
+Answers stored number s (asks statement) written before after scene = (short : Bool) × ComesTo stored s statement written short scene × (after ≡ (before || short))
 
 -- A line that wasn't answered to its end: it was played, or nothing was done.
-abbrev pub IsCutOff : {S : Type 0} → (stored : S → Objects) → (number : ℕ) → Scene → Reading → code.Scene S → Type 0
-IsCutOff stored number s reading scene = SceneStands stored scene s ⊎ ((written : List ℕ) × Answers stored number s reading written scene)
+abbrev pub IsCutOff : {S : Type 0} → (stored : S → Objects) → (number : ℕ) → Scene → Reading → (before after : Bool) → code.Scene S → Type 0
+IsCutOff stored number s reading before after scene = SceneStands stored scene s ⊎ ((written : List ℕ) × Answers stored number s reading written before after scene)

@@ -1,5 +1,7 @@
 pub mod Acting
 pub mod Doing
+pub mod FallingShort
+pub mod KeptLines
 pub mod Lines
 pub mod Playing
 pub mod Scenes

@@ -1,5 +1,5 @@
 -- What a script with actors comes to, line by line, and what is so of what it told.
-use Rattle.std.specs.Prelude.{◌≡◌, ◌+◌, ℕ, List, [], ◌∷◌, ◌++◌, length}
+use Rattle.std.specs.Prelude.{◌≡◌, ◌+◌, ◌||◌, ℕ, Bool, false, List, [], ◌∷◌, ◌++◌, length}
 use Rattle.delta_actions.specs.Commit.{lines_of}
 use Rattle.lake_script.specs.Replies.{bad_line}
 use Rattle.stream_world.specs.SoundStores.{IsSoundStore}
@@ -12,32 +12,38 @@ use Rattle.stream_world.specs.Headline.{IsHeadline}
 use Rattle.table_model.specs.Table.{Entry}
 use Rattle.table_store.specs.Holds.{Holds}
 use Rattle.table_store.specs.Schema.{Schema}
+use Rattle.world_script.specs.FallingShort.{IsLineShort}
 use Rattle.world_script.specs.Lines.{LineDoes}
 use Rattle.world_script.specs.Scenes.{Scene}
 
--- By these lines, one after the other, a scene came to another: what was written, the events, and what sessions told.
-pub data Plays (first : Scene) : (lines : List (List ℕ)) → (written : List ℕ) → List Event → (outs : List (Job × Outcome)) → Scene → Type 0 where
-  at_first : Plays first [] [] [] [] first
-  skips_one : (lines : List (List ℕ)) (line written : List ℕ) (events : List Event) (outs : List (Job × Outcome)) (s : Scene) → Plays first lines written events outs s → reading_of line ≡ skipped
-      → Plays first (lines ++ line ∷ []) written events outs s
-  plays_one : (lines : List (List ℕ)) (line written : List ℕ) (events : List Event) (outs : List (Job × Outcome)) (s : Scene) (statement : Statement) (more : List Event) (told : List (Job × Outcome)) (reply : List ℕ) (later : Scene)
-      → Plays first lines written events outs s → reading_of line ≡ asks statement → LineDoes statement s more told reply later → Plays first (lines ++ line ∷ []) (written ++ reply) (events ++ more) (outs ++ told) later
+-- By these lines, one after the other, a scene came to another: what was written, the events, what sessions told, and whether a line was short.
+pub data Plays (first : Scene) : (lines : List (List ℕ)) → (written : List ℕ) → List Event → (outs : List (Job × Outcome)) → (short : Bool) → Scene → Type 0 where
+  at_first : Plays first [] [] [] [] false first
+  skips_one : (lines : List (List ℕ)) (line written : List ℕ) (events : List Event) (outs : List (Job × Outcome)) (short : Bool) (s : Scene) → Plays first lines written events outs short s → reading_of line ≡ skipped
+      → Plays first (lines ++ line ∷ []) written events outs short s
+  plays_one : (lines : List (List ℕ)) (line written : List ℕ) (events : List Event) (outs : List (Job × Outcome)) (short : Bool) (s : Scene) (statement : Statement) (more : List Event) (told : List (Job × Outcome)) (reply : List ℕ) (falls : Bool) (later : Scene)
+      → Plays first lines written events outs short s → reading_of line ≡ asks statement → LineDoes statement s more told reply later → IsLineShort statement s told reply falls later
+      → Plays first (lines ++ line ∷ []) (written ++ reply) (events ++ more) (outs ++ told) (short || falls) later
 
 -- Some first lines of a text were played by these events, by which this was told, and these objects stand then.
-pub record HasPlayed (first : Scene) (lines : List (List ℕ)) (written : List ℕ) (events : List Event) (outs : List (Job × Outcome)) (objects : Objects) : Type 0 where
+pub record HasPlayed (first : Scene) (lines : List (List ℕ)) (written : List ℕ) (events : List Event) (outs : List (Job × Outcome)) (short : Bool) (objects : Objects) : Type 0 where
   pub last : Scene
-  pub plays : Plays first lines written events outs last
+  pub plays : Plays first lines written events outs short last
   pub stand : last.world.objects ≡ objects
 
 -- A text was played: all of its lines, or those in front of its first bad one, which ends it.
-pub data HasPlayedText (first : Scene) (text : List ℕ) : (written : List ℕ) → List Event → (outs : List (Job × Outcome)) → Objects → Type 0 where
-  to_end : (written : List ℕ) (events : List Event) (outs : List (Job × Outcome)) (objects : Objects) → HasPlayed first (lines_of text) written events outs objects → HasPlayedText first text written events outs objects
-  to_bad : (lines : List (List ℕ)) (line : List ℕ) (rest : List (List ℕ)) (written : List ℕ) (events : List Event) (outs : List (Job × Outcome)) (objects : Objects) → lines_of text ≡ lines ++ line ∷ rest → reading_of line ≡ bad
-      → HasPlayed first lines written events outs objects → HasPlayedText first text (written ++ bad_line (length lines + 1)) events outs objects
+pub data HasPlayedText (first : Scene) (text : List ℕ) : (written : List ℕ) → List Event → (outs : List (Job × Outcome)) → (short : Bool) → Objects → Type 0 where
+  to_end : (written : List ℕ) (events : List Event) (outs : List (Job × Outcome)) (short : Bool) (objects : Objects) → HasPlayed first (lines_of text) written events outs short objects → HasPlayedText first text written events outs short objects
+  to_bad : (lines : List (List ℕ)) (line : List ℕ) (rest : List (List ℕ)) (written : List ℕ) (events : List Event) (outs : List (Job × Outcome)) (short : Bool) (objects : Objects) → lines_of text ≡ lines ++ line ∷ rest → reading_of line ≡ bad
+      → HasPlayed first lines written events outs short objects → HasPlayedText first text (written ++ bad_line (length lines + 1)) events outs short objects
 
--- by some events, by which something was told
+-- by some events, by which something was told; the run is short just where one of its lines is
+abbrev pub PlaysShort : Scene → (text written : List ℕ) → (short : Bool) → Objects → Type 0
+PlaysShort first text written short objects = (events : List Event) × (outs : List (Job × Outcome)) × HasPlayedText first text written events outs short objects
+
+-- the same, whether it is short or not
 abbrev pub PlaysText : Scene → (text written : List ℕ) → Objects → Type 0
-PlaysText first text written objects = (events : List Event) × (outs : List (Job × Outcome)) × HasPlayedText first text written events outs objects
+PlaysText first text written objects = (short : Bool) × PlaysShort first text written short objects
 
 -- some first lines of a text were played, whatever of it was written
 pub record PlaysInPart (first : Scene) (text : List ℕ) (objects : Objects) : Type 0 where
@@ -47,7 +53,8 @@ pub record PlaysInPart (first : Scene) (text : List ℕ) (objects : Objects) : T
   pub written : List ℕ
   pub events : List Event
   pub outs : List (Job × Outcome)
-  pub played : HasPlayed first lines written events outs objects
+  pub short : Bool
+  pub played : HasPlayed first lines written events outs short objects
 
 -- These events led a world in which nothing stood to one with these objects. So its store is sound, and what was told by them is so of the table that
 -- it holds.
@@ -60,7 +67,7 @@ pub record IsSoOfTable (events : List Event) (outs : List (Job × Outcome)) (obj
 
 -- a text was played, and what was told is so
 abbrev pub PlaysSo : Scene → (text written : List ℕ) → Objects → Type 0
-PlaysSo first text written objects = (events : List Event) × (outs : List (Job × Outcome)) × HasPlayedText first text written events outs objects × IsSoOfTable events outs objects
+PlaysSo first text written objects = (events : List Event) × (outs : List (Job × Outcome)) × (short : Bool) × HasPlayedText first text written events outs short objects × IsSoOfTable events outs objects
 
 -- some first lines of it were, and what was told by them is so
 pub record StaysSo (first : Scene) (text : List ℕ) (objects : Objects) : Type 0 where

@@ -1,12 +1,12 @@
 //! The engine of any script: it reads its input to the end, then answers line by line.
-ghost use Rattle.std.specs.Prelude.{◌≡◌, ◌≢◌, ◌+◌, ◌≤◌, ◌^◌, ◌⊎◌, [], true, false, not, length, ⊤, OnOk, OnErr, IfOk};
+ghost use Rattle.std.specs.Prelude.{◌≡◌, ◌≢◌, ◌+◌, ◌≤◌, ◌^◌, ◌⊎◌, [], None, true, false, not, length, ⊤, OnOk, OnErr, IfOk};
 ghost use Rattle.delta_actions.specs.Commit.{lines_of};
 ghost use Rattle.lake_script.specs.Runs.{Tells};
 ghost use Rattle.lake_script.specs.Streams.{held, waiting, write_failed};
 ghost use Rattle.lake_script.specs.Told.{ArePutHere, Finishes, fell_short, first_bad, is_bad};
 ghost use Rattle.script_lines.specs.Lines.{reading_of};
 ghost use Rattle.world_script.specs.Doing.{Answers, IsCutOff};
-ghost use Rattle.world_script.specs.Playing.{PlaysInPart, PlaysSo, PlaysText, StaysSo};
+ghost use Rattle.world_script.specs.Playing.{PlaysInPart, PlaysShort, PlaysSo, PlaysText, StaysSo};
 ghost use Rattle.world_script.specs.Scenes as scenes;
 ghost use Rattle.world_script.specs.Scenes.{SceneStands, first_scene};
 
@@ -43,8 +43,8 @@ fn answer<S: Store, W: Write>(
     scratch: &mut Scratch,
 ) -> Result<bool, OutputError>
     ensures answers { S.is_reliable scene.old.world.store.store → (s : scenes.Scene) → SceneStands S.objects scene.old s
-        → OnOk result (Tells (held W.contents output.old) (held W.contents output.new) (λ written. Answers S.objects number s (reading_of line.now) written scene.new)) }
-    ensures cut_off { S.is_reliable scene.old.world.store.store → (s : scenes.Scene) → SceneStands S.objects scene.old s → OnErr result (IsCutOff S.objects number s (reading_of line.now) scene.new) }
+        → OnOk result (Tells (held W.contents output.old) (held W.contents output.new) (λ written. Answers S.objects number s (reading_of line.now) written is_short.old is_short.new scene.new)) }
+    ensures cut_off { S.is_reliable scene.old.world.store.store → (s : scenes.Scene) → SceneStands S.objects scene.old s → OnErr result (IsCutOff S.objects number s (reading_of line.now) is_short.old is_short.new scene.new) }
     ensures reliable { S.is_reliable scene.old.world.store.store → S.is_reliable scene.new.world.store.store }
     ensures goes_on { IfOk result (λ goes_on. goes_on ≡ not (is_bad (reading_of line.now))) }
     ensures behind { OnOk result (Tells (held W.contents output.old) (held W.contents output.new) (λ written. ⊤)) }
@@ -78,8 +78,8 @@ fn answer_all<S: Store, W: Write>(
     is_short: &mut bool,
 ) -> Result<Option<u64>, OutputError>
     requires { length text.now ≤ 2 ^ 30 }
-    ensures plays { S.is_reliable scene.old.world.store.store → (s : scenes.Scene) → SceneStands S.objects scene.old s
-        → OnOk result (Tells (held W.contents output.old) (held W.contents output.new) (λ written. PlaysText s text.now written (S.objects scene.new.world.store.store))) }
+    ensures plays { S.is_reliable scene.old.world.store.store → (s : scenes.Scene) → SceneStands S.objects scene.old s → is_short.old ≡ false
+        → OnOk result (Tells (held W.contents output.old) (held W.contents output.new) (λ written. PlaysShort s text.now written is_short.new (S.objects scene.new.world.store.store))) }
     ensures in_part { S.is_reliable scene.old.world.store.store → (s : scenes.Scene) → SceneStands S.objects scene.old s → PlaysInPart s text.now (S.objects scene.new.world.store.store) }
     ensures reliable { S.is_reliable scene.old.world.store.store → S.is_reliable scene.new.world.store.store }
     ensures bad { IfOk result (λ bad. bad ≡ first_bad text.now) }
@@ -110,8 +110,8 @@ fn answer_and_flush<S: Store, W: Write>(
     is_short: &mut bool,
 ) -> Result<Option<u64>, OutputError>
     requires { length text.now ≤ 2 ^ 30 }
-    ensures plays { S.is_reliable scene.old.world.store.store → (s : scenes.Scene) → SceneStands S.objects scene.old s
-        → OnOk result (Tells (held W.contents output.old) (W.contents output.new.writer) (λ written. PlaysText s text.now written (S.objects scene.new.world.store.store))) }
+    ensures plays { S.is_reliable scene.old.world.store.store → (s : scenes.Scene) → SceneStands S.objects scene.old s → is_short.old ≡ false
+        → OnOk result (Tells (held W.contents output.old) (W.contents output.new.writer) (λ written. PlaysShort s text.now written is_short.new (S.objects scene.new.world.store.store))) }
     ensures in_part { S.is_reliable scene.old.world.store.store → (s : scenes.Scene) → SceneStands S.objects scene.old s → PlaysInPart s text.now (S.objects scene.new.world.store.store) }
     ensures reliable { S.is_reliable scene.old.world.store.store → S.is_reliable scene.new.world.store.store }
     ensures through { OnOk result (waiting output.new ≡ []) }
@@ -134,8 +134,8 @@ fn answer_text<S: Store, W: Write>(
     use_checkpoints: bool,
 ) -> Ran<S>
     requires { length text.now ≤ 2 ^ 30 }
-    ensures plays { S.is_reliable store → Finishes result.outcome.end (λ _. Tells (held W.contents output.old) (W.contents output.new.writer)
-        (λ written. PlaysText (first_scene (S.objects store) use_checkpoints) text.now written (S.objects result.store))) }
+    ensures tells_short { S.is_reliable store → Finishes result.outcome.end (λ _. Tells (held W.contents output.old) (W.contents output.new.writer)
+        (λ written. PlaysShort (first_scene (S.objects store) use_checkpoints) text.now written (fell_short result.outcome) (S.objects result.store))) }
     ensures in_part { S.is_reliable store → PlaysInPart (first_scene (S.objects store) use_checkpoints) text.now (S.objects result.store) }
     ensures reliable { S.is_reliable store → S.is_reliable result.store }
     ensures nothing_waits { Finishes result.outcome.end (λ _. waiting output.new ≡ []) }
@@ -143,6 +143,7 @@ fn answer_text<S: Store, W: Write>(
     ensures finished { Finishes result.outcome.end (λ bad. (bad ≡ first_bad text.now) × (write_failed output.new ≡ write_failed output.old)) }
     ensures not_written { result.outcome.end ≡ End.NotWritten → (write_failed output.new ≡ true) ⊎ (fell_short result.outcome ≡ true) }
     ensures read { result.outcome.end ≢ End.NotRead }
+    ensures unkept { result.bad ≡ None }
 {
     let mut scene = Scene::new(alloc, store, use_checkpoints);
     let mut is_short = false;
@@ -175,6 +176,9 @@ pub fn play<S: Store, W: Write>(
     // Over a store that loses no call each line does what it asks for in a world, and is told that.
     ensures plays { S.is_reliable store → Finishes result.outcome.end (λ _. Tells (held W.contents output.old) (W.contents output.new.writer)
         (λ written. PlaysText (first_scene (S.objects store) use_checkpoints) text.now written (S.objects result.store))) }
+    // Then the run is short just where one of its lines is: a session told so, or there was no memory to begin.
+    ensures tells_short { S.is_reliable store → Finishes result.outcome.end (λ _. Tells (held W.contents output.old) (W.contents output.new.writer)
+        (λ written. PlaysShort (first_scene (S.objects store) use_checkpoints) text.now written (fell_short result.outcome) (S.objects result.store))) }
     // However it ends, some first lines did so.
     ensures in_part { S.is_reliable store → PlaysInPart (first_scene (S.objects store) use_checkpoints) text.now (S.objects result.store) }
     // Where nothing stood, and no line puts another tool's commit, the store that is left is sound, and what sessions
@@ -191,6 +195,7 @@ pub fn play<S: Store, W: Write>(
     ensures finished { Finishes result.outcome.end (λ bad. (bad ≡ first_bad text.now) × (write_failed output.new ≡ write_failed output.old)) }
     ensures not_written { result.outcome.end ≡ End.NotWritten → (write_failed output.new ≡ true) ⊎ (fell_short result.outcome ≡ true) }
     ensures read { result.outcome.end ≢ End.NotRead }
+    ensures unkept { result.bad ≡ None }
 {
     every_world();
     answer_text(alloc, text, store, output, use_checkpoints)

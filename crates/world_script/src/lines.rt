@@ -1,8 +1,8 @@
 //! What each line of a script does to a scene, and its reply.
 
-ghost use Rattle.lake_script.specs.ReplyView.{reply_text};
+ghost use Rattle.lake_script.specs.ReplyView.{is_short, reply_text};
 ghost use Rattle.script_lines.specs.Lines.{IsTimely, IsTimelyIn, land, statement_view, world, world_view};
-ghost use Rattle.world_script.specs.Doing.{ComesTo, TellsIn, replied};
+ghost use Rattle.world_script.specs.Doing.{ComesTo, TellsIn, replied, replied_short};
 ghost use Rattle.world_script.specs.Scenes as scenes;
 ghost use Rattle.world_script.specs.Scenes.{SceneStands};
 
@@ -18,7 +18,7 @@ use store_core::Store;
 
 /// A put in flight takes effect.
 fn land<S: Store>(scene: &mut Scene<S>, put: u64) -> LineReply
-    ensures comes { S.is_reliable scene.old.world.store.store → (s : scenes.Scene) → SceneStands S.objects scene.old s → ComesTo S.objects s (world (land put)) (reply_text result) scene.new }
+    ensures comes { S.is_reliable scene.old.world.store.store → (s : scenes.Scene) → SceneStands S.objects scene.old s → ComesTo S.objects s (world (land put)) (reply_text result) (is_short result) scene.new }
     ensures reliable { S.is_reliable scene.old.world.store.store → S.is_reliable scene.new.world.store.store }
 {
     match scene.world.land(put as usize) {
@@ -32,7 +32,7 @@ fn land<S: Store>(scene: &mut Scene<S>, put: u64) -> LineReply
 fn tell<S: Store>(alloc: Global, scene: &mut Scene<S>, line: Line<'_>) -> LineReply
     requires { IsTimely (statement_view line) }
     ensures tells { S.is_reliable scene.old.world.store.store → (s : scenes.Scene) → SceneStands S.objects scene.old s
-        → TellsIn S.objects s (statement_view line.entry) (reply_text result) scene.new }
+        → TellsIn S.objects s (statement_view line.entry) (reply_text result) (is_short result) scene.new }
     ensures reliable { S.is_reliable scene.old.world.store.store → S.is_reliable scene.new.world.store.store }
 {
     let mut tries = scene.tries;
@@ -54,7 +54,7 @@ fn change_world<S: Store>(
     scene: &mut Scene<S>,
 ) -> Option<LineReply>
     requires { IsTimelyIn (world_view line) }
-    ensures comes { S.is_reliable scene.old.world.store.store → (s : scenes.Scene) → SceneStands S.objects scene.old s → ComesTo S.objects s (world (world_view line.entry)) (replied result) scene.new }
+    ensures comes { S.is_reliable scene.old.world.store.store → (s : scenes.Scene) → SceneStands S.objects scene.old s → ComesTo S.objects s (world (world_view line.entry)) (replied result) (replied_short result) scene.new }
     ensures reliable { S.is_reliable scene.old.world.store.store → S.is_reliable scene.new.world.store.store }
 {
     match line {
@@ -78,7 +78,7 @@ pub(crate) fn do_line<S: Store>(
     scene: &mut Scene<S>,
 ) -> Option<LineReply>
     requires { IsTimely (statement_view line) }
-    ensures comes { S.is_reliable scene.old.world.store.store → (s : scenes.Scene) → SceneStands S.objects scene.old s → ComesTo S.objects s (statement_view line.entry) (replied result) scene.new }
+    ensures comes { S.is_reliable scene.old.world.store.store → (s : scenes.Scene) → SceneStands S.objects scene.old s → ComesTo S.objects s (statement_view line.entry) (replied result) (replied_short result) scene.new }
     ensures reliable { S.is_reliable scene.old.world.store.store → S.is_reliable scene.new.world.store.store }
 {
     match line {

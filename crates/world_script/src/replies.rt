@@ -1,6 +1,6 @@
 //! What is printed of an actor that goes on.
-ghost use Rattle.lake_script.specs.ReplyView.{reply_text};
-ghost use Rattle.world_script.specs.Doing.{IsReplyAs};
+ghost use Rattle.lake_script.specs.ReplyView.{is_short, reply_text};
+ghost use Rattle.world_script.specs.Doing.{IsReplyAs, IsShortAs};
 
 use lake_script::{LineReply, reply_of};
 use std::alloc::Global;
@@ -8,7 +8,8 @@ use table_jobs::JobEnd;
 
 /// The reply to a line by which an actor went on, and ended if there is an outcome.
 pub(crate) fn reply_in(alloc: Global, outcome: Option<JobEnd>) -> LineReply
-    ensures { IsReplyAs outcome (reply_text result) }
+    ensures told { IsReplyAs outcome (reply_text result) }
+    ensures short { IsShortAs outcome (reply_text result) (is_short result) }
 {
     match outcome {
         None => LineReply::Noted,

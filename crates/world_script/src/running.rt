@@ -1,5 +1,5 @@
 //! Any script: read to its end, and then answered in a world where it has actors, and else line by line.
-ghost use Rattle.std.specs.Prelude.{◌≡◌, ◌≢◌, ◌+◌, ◌≤◌, ◌<◌, ◌^◌, ◌⊎◌, suc, [], true, false, length, ⊤, IfSome};
+ghost use Rattle.std.specs.Prelude.{◌≡◌, ◌≢◌, ◌+◌, ◌≤◌, ◌<◌, ◌^◌, ◌⊎◌, suc, [], None, true, false, length, ⊤, IfSome};
 ghost use Rattle.delta_actions.specs.Commit.{lines_of};
 ghost use Rattle.store_core.specs.Names.{greatest_version};
 ghost use Rattle.lake_script.specs.Keeps.{Keeps, KeepsBeside};
@@ -11,7 +11,8 @@ ghost use Rattle.lake_script.specs.Tables.{State, entries_of};
 ghost use Rattle.lake_script.specs.Told.{ArePutHere, Finishes, fell_short, first_bad};
 ghost use Rattle.lake_script.specs.declared.inputs.TheConstants.{MOST_BYTES, MOST_READS};
 ghost use Rattle.table_log.specs.Restoring.{HasOnlySoundCheckpoints, RestoresWell};
-ghost use Rattle.world_script.specs.Playing.{PlaysSo, PlaysText, StaysSo};
+ghost use Rattle.world_script.specs.KeptLines.{IsBadKept, IsKeptOf};
+ghost use Rattle.world_script.specs.Playing.{PlaysShort, PlaysSo, PlaysText, StaysSo};
 ghost use Rattle.world_script.specs.Scenes.{first_scene};
 ghost use Rattle.world_script.specs.Words.{needs_world};
 
@@ -51,6 +52,8 @@ pub fn run_any<S: Store, W: Write>(
     // the run ends. All of this as `play` has it.
     ensures plays { needs_world text.now ≡ true → S.is_reliable store → Finishes result.outcome.end (λ _. Tells (held W.contents output.old) (W.contents output.new.writer)
         (λ written. PlaysText (first_scene (S.objects store) use_checkpoints) text.now written (S.objects result.store))) }
+    ensures tells_short { needs_world text.now ≡ true → S.is_reliable store → Finishes result.outcome.end (λ _. Tells (held W.contents output.old) (W.contents output.new.writer)
+        (λ written. PlaysShort (first_scene (S.objects store) use_checkpoints) text.now written (fell_short result.outcome) (S.objects result.store))) }
     ensures headline { needs_world text.now ≡ true → S.is_reliable store → S.objects store ≡ [] → ArePutHere (lines_of text.now) → Finishes result.outcome.end (λ _. Tells (held W.contents output.old) (W.contents output.new.writer)
         (λ written. PlaysSo (first_scene [] use_checkpoints) text.now written (S.objects result.store))) }
     ensures sound { needs_world text.now ≡ true → S.is_reliable store → S.objects store ≡ [] → ArePutHere (lines_of text.now) → StaysSo (first_scene [] use_checkpoints) text.now (S.objects result.store) }
@@ -61,6 +64,7 @@ pub fn run_any<S: Store, W: Write>(
     ensures finished { Finishes result.outcome.end (λ bad. (bad ≡ first_bad text.now) × (write_failed output.new ≡ write_failed output.old)) }
     ensures not_written { result.outcome.end ≡ End.NotWritten → (write_failed output.new ≡ true) ⊎ (fell_short result.outcome ≡ true) }
     ensures read { result.outcome.end ≢ End.NotRead }
+    ensures unkept { result.bad ≡ None }
 {
     if needs_world(text) {
         return play(alloc, text, store, output, use_checkpoints);
@@ -80,7 +84,8 @@ const MOST_KEPT: usize = 256;
 /// The part of a line that is kept: its first characters, or where it isn't UTF-8, the bytes from the first on that is
 /// no text.
 fn kept_part(line: &[u8]) -> &[u8]
-    ensures { length result.now ≤ 256 }
+    ensures few { length result.now ≤ 256 }
+    ensures part { IsKeptOf line.now result.now }
 {
     match str::from_utf8(line) {
         Ok(text) => text[..text.floor_char_boundary(MOST_KEPT)].as_bytes(),
@@ -93,7 +98,8 @@ fn kept_part(line: &[u8]) -> &[u8]
 
 /// What is kept of the bad line at which a run of a text ended.
 fn bad_line(alloc: Global, text: &[u8], end: End) -> Option<Vec<u8>>
-    ensures { IfSome result (λ kept. length kept.items ≤ 256) }
+    ensures few { IfSome result (λ kept. length kept.items ≤ 256) }
+    ensures bad { IfSome result (λ kept. IsBadKept end text.now kept.items) }
 {
     let End::BadLine(number) = end else {
         return None;
@@ -125,6 +131,9 @@ pub fn run<R: Read, W: Write, S: Store>(
         → IsScript state (held W.contents output.old) (W.contents output.new.writer) text (S.objects store) (S.objects result.store))) }
     ensures plays { S.is_reliable store → Finishes result.outcome.end (λ _. IfSome (unread R.remaining input.old) (λ text. needs_world text ≡ true
         → Tells (held W.contents output.old) (W.contents output.new.writer) (λ written. PlaysText (first_scene (S.objects store) use_checkpoints) text written (S.objects result.store)))) }
+    // Then it is short just where one of its lines is.
+    ensures tells_short { S.is_reliable store → Finishes result.outcome.end (λ _. IfSome (unread R.remaining input.old) (λ text. needs_world text ≡ true
+        → Tells (held W.contents output.old) (W.contents output.new.writer) (λ written. PlaysShort (first_scene (S.objects store) use_checkpoints) text written (fell_short result.outcome) (S.objects result.store)))) }
     // The sentence, of a script with actors over nothing.
     ensures headline { S.is_reliable store → S.objects store ≡ [] → Finishes result.outcome.end (λ _. IfSome (unread R.remaining input.old) (λ text. needs_world text ≡ true → ArePutHere (lines_of text)
         → Tells (held W.contents output.old) (W.contents output.new.writer) (λ written. PlaysSo (first_scene [] use_checkpoints) text written (S.objects result.store)))) }
@@ -143,8 +152,9 @@ pub fn run<R: Read, W: Write, S: Store>(
     ensures too_long { IfSome (unread R.remaining input.old) (λ text. MOST_BYTES < length text → result.outcome.end ≡ End.NotRead) }
     ensures not_written { result.outcome.end ≡ End.NotWritten → (write_failed output.new ≡ true) ⊎ (fell_short result.outcome ≡ true) }
     ensures broken_output { Finishes result.outcome.end (λ _. write_failed output.new ≡ write_failed output.old) }
-    // Of a bad line not much is kept, however long it is.
+    // Of a bad line not much is kept, however long it is: its front, where it is a text.
     ensures kept { IfSome result.bad (λ kept. length kept.items ≤ 256) }
+    ensures kept_of { IfSome result.bad (λ kept. IfSome (unread R.remaining input.old) (λ text. IsBadKept result.outcome.end text kept.items)) }
 {
     match input.read_to_end(alloc) {
         Ok(text) => {

@@ -1,7 +1,7 @@
 //! The line that starts an actor.
 ghost use Rattle.std.specs.Prelude.{◌≡◌, ℕ, List, OnOk, IfOk, IfErr, Some};
 ghost use Rattle.std.specs.BTreeMap.{get_by_text};
-ghost use Rattle.lake_script.specs.ReplyView.{reply_text};
+ghost use Rattle.lake_script.specs.ReplyView.{is_short, reply_text};
 ghost use Rattle.script_lines.specs.Lines.{IsTimelyTask, task_view};
 ghost use Rattle.world_script.specs.Doing.{ComesToStart, StartsAs};
 ghost use Rattle.world_script.specs.Scenes as scenes;
@@ -23,7 +23,7 @@ pub(crate) fn start<S: Store>(
     job: Job<'_>,
 ) -> LineReply
     requires { IsTimelyTask (task_view job) }
-    ensures comes { (s : scenes.Scene) → SceneStands S.objects scene.old s → ComesToStart S.objects s name.now (task_view job.entry) (reply_text result) scene.new }
+    ensures comes { (s : scenes.Scene) → SceneStands S.objects scene.old s → ComesToStart S.objects s name.now (task_view job.entry) (reply_text result) (is_short result) scene.new }
     ensures store { scene.new.world.store ≡ scene.old.world.store }
 {
     match begin_named(alloc, scene, name, job) {

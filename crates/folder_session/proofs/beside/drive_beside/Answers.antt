@@ -1,5 +1,5 @@
-use Rattle.std.proofs.Common.{◌≡◌, ℕ, List, Option, [], ◌∷◌, ◌++◌, Some, None, true, false, option_map, refl, sym, ap, subst, ◌∙◌, arith, length-append}
-use Rattle.std.specs.Prelude.{MatchOption}
+use Rattle.std.proofs.Common.{◌≡◌, ℕ, List, Option, [], ◌∷◌, ◌++◌, Some, None, true, false, map, option_map, refl, sym, ap, subst, ◌∙◌, arith, length-append}
+use Rattle.std.specs.Prelude.{MatchOption, string_bytes}
 use Rattle.store_core.specs.Listed.{listed}
 use Rattle.store_core.specs.Memory.{stored_objects}
 use Rattle.store_core.specs.Objects.{Objects, names_of}
@@ -7,14 +7,18 @@ use Rattle.store_core.specs.declared.names.Names.{Names}
 use Rattle.session_core.specs.Stores.{Answers, State, Talked}
 use Rattle.session_core.specs.Talks.{Asked, Talk, Told, asked_view, told_view, has_lost, heard}
 use Rattle.session_core.proofs.Callers.{asked_more, bears_grows, exact_never_lost, talk_alone, talk_borne, talk_grows}
-use Rattle.folder_session.specs.Beside.{AreApart, put_so, with_beside}
-use Rattle.folder_session.proofs.BesideLemmas.{answered_more, put_more, unlost_more}
+use Rattle.table_folder.specs.Traces.{FolderCall, MakeNone, Traced, lists}
+use Rattle.table_folder.proofs.Callers.{none_made_on, traced_on}
+use Rattle.folder_session.specs.Beside.{AreApart, Hears, put_so, with_beside}
+use Rattle.folder_session.proofs.BesideLemmas.{answered_more, for_fault, heard_more, hears_makes_none, looked_once, put_more, traced_once, unlost_more}
 use Rattle.folder_session.proofs.beside.drive_beside.Goals as goal
 
 pub calls-init : goal.calls-init
 calls-init g c =
     let objects : Objects = g.F.Folder.objects c.args.folder.now in
     let none = c.new-added.ensures in
+    let first = rising c.in_ok-names-2.field-0 c.in-Some.names _ c.in-Some.is c.in_ok-names-2.ensures in
+    let listed_first = subst (λ (ns : List (List ℕ)). g.F.Folder.makes c.args.folder.now (lists (Some ns)) c.names.new.self) (sym first) c.in_ok-names.ensures.called in
     let same : ◌≡◌ {A = State} (with_beside objects (stored_objects c.new-added.result), []) (objects, []) = λ i. (with_beside objects (none i), []) in
     record {
       unended = c.requires.unended;
@@ -37,7 +41,11 @@ calls-init g c =
         unlost = refl;
         few = omega arith;
         put = none;
+        calls = [];
+        heard_by = refl;
+        made = traced_once g.F.Folder.makes c.args.folder.now c.names.new.self (lists (Some (listed c.in-Some.names))) listed_first;
       };
+      looked = (lists (Some (listed c.in-Some.names)) ∷ [], traced_once g.F.Folder.makes c.args.folder.now c.names.new.self (lists (Some (listed c.in-Some.names))) listed_first, (tt, tt));
       driven = λ steady before fits. record {
         talk = [];
         taken = [];
@@ -45,6 +53,7 @@ calls-init g c =
         fit = fits;
         all = refl;
         talked = same;
+        called = tt;
         exact = λ reliable. same;
         asked_for = tt;
         counted = ((λ e. absurd cc), (λ e. refl));
@@ -64,6 +73,7 @@ returns-in-Done-clause-driven g c = λ steady before fits.
       drives = record {
         talk = i.talk;
         talked = i.talked;
+        called = tt;
         exact = i.exact;
         asked = i.asked_for;
         borne = talk_borne _ _ i.talk (talk_alone _ _ i.talk i.talked);
@@ -87,6 +97,10 @@ returns-in-Done-clause-talks g c = λ before fits.
       ended = rw c.calls.invariant.job at (rw i.all at step);
       few = omega (arith, i.few);
       put = i.put;
+      names = listed c.in-Some.names;
+      calls = i.calls;
+      heard = i.heard_by;
+      made = i.made;
     }
 
 pub calls-preserved : goal.calls-preserved
@@ -121,7 +135,15 @@ calls-preserved g c =
             unlost = unlost_more d.talk asked told d.unlost answered.never_lost;
             few = let longer = length-append d.talk ((asked, told) ∷ []) in omega (arith, d.few, steps.1, longer);
             put = answered.put ∙ (ap (λ (o : Objects). put_so o asked told) d.put ∙ sym (put_more [] d.talk asked told));
+            calls = d.calls ++ answered.heard.0;
+            heard_by = heard_more (listed c.in-Some.names) [] d.talk asked told d.calls answered.heard.0 d.heard_by (subst (λ (o : Objects). Hears (listed c.in-Some.names) o asked told answered.heard.0) d.put answered.heard.2);
+            made = traced_on g.F.Folder.makes c.args.folder.now c.calls.folder c.ask_beside.new.folder (lists (Some (listed c.in-Some.names)) ∷ d.calls) answered.heard.0 d.made answered.heard.1;
           };
+      looked = (
+        i.looked.0 ++ answered.heard.0,
+        traced_on g.F.Folder.makes c.args.folder.now c.calls.folder c.ask_beside.new.folder i.looked.0 answered.heard.0 i.looked.1 answered.heard.1,
+        none_made_on i.looked.0 answered.heard.0 i.looked.2 (hears_makes_none (listed c.in-Some.names) (stored_objects c.calls.added) asked told answered.heard.0 answered.heard.2),
+      );
       reliable = λ reliable. answered.stays_reliable (i.reliable reliable);
       driven = λ steady before fits.
           let d = i.driven steady before fits in
@@ -136,6 +158,7 @@ calls-preserved g c =
             asked = Some asked;
             fit = step.0;
             all = ap (λ (t : Talk). t ++ (asked, told) ∷ []) d.all;
+            called = tt;
             talked = c.a_store_answers_as_any_store_may.ensures _ _ talk exact;
             exact = λ reliable. exact;
             asked_for = asked_more (g.N.Session.asks (g.N.Session.job c.args.session.now) before) [] d.talk asked told d.asked_for (rw i.job at (rw d.all at step.1));
@@ -147,3 +170,23 @@ calls-preserved g c =
   where
     has_not : (talk : Talk) → has_lost talk ≡ false → has_lost talk ≡ true → ⊥
     has_not talk unlost lost = let wrong : false ≡ true = sym unlost ∙ lost in cc
+
+-- ---- where a call of the folder fails
+
+pub returns-in_err-names-clause-looked : goal.returns-in_err-names-clause-looked
+returns-in_err-names-clause-looked g c =
+    for_fault _ c.from_residual.result (looked_once g.F.Folder.makes c.args.folder.now c.names.new.self (lists None) c.in_err-names.ensures.called tt)
+
+pub returns-in_err-names-2-clause-looked : goal.returns-in_err-names-2-clause-looked
+returns-in_err-names-2-clause-looked g c =
+    for_fault _ c.from_residual-in_err-names-2.result (looked_once g.F.Folder.makes c.args.folder.now c.names.new.self (lists (Some (map string_bytes c.in_ok-names.field-0.items))) c.in_ok-names.ensures.called tt)
+
+pub returns-in_default-clause-looked : goal.returns-in_default-clause-looked
+returns-in_default-clause-looked g c = looked_once g.F.Folder.makes c.args.folder.now c.names.new.self (lists (Some (map string_bytes c.in_ok-names.field-0.items))) c.in_ok-names.ensures.called tt
+
+pub returns-in_err-ask_beside-in-Ask-clause-looked : goal.returns-in_err-ask_beside-in-Ask-clause-looked
+returns-in_err-ask_beside-in-Ask-clause-looked g c =
+    let before = c.calls.invariant.looked in
+    let behind = c.in_err-ask_beside-in-Ask.ensures.looked in
+    for_fault _ c.from_residual-in_err-ask_beside-in-Ask.result
+    (before.0 ++ behind.0, traced_on g.F.Folder.makes c.args.folder.now c.calls.folder c.ask_beside.new.folder before.0 behind.0 before.1 behind.1, none_made_on before.0 behind.0 before.2 behind.2)

@@ -1,8 +1,9 @@
-use Rattle.std.proofs.Common.{◌≡◌, ℕ, [], Result, Ok, Err, IfOk, subst}
+use Rattle.std.proofs.Common.{◌≡◌, ℕ, List, [], ◌∷◌, Some, Result, Ok, Err, IfOk, refl, subst}
 use Rattle.store_core.specs.Memory.{stored_objects}
 use Rattle.store_core.specs.Objects.{Objects}
 use Rattle.session_core.specs.Talks.{Talk}
 use Rattle.session_core.proofs.Callers.{all_got}
+use Rattle.table_folder.specs.Traces.{FolderCall, Traced, lists}
 use Rattle.table_folder.specs.declared.fault.LoadFault.{LoadFault}
 use Rattle.table_jobs.specs.Done.{IsJobDone}
 use Rattle.table_jobs.specs.Jobs.{Asks, Ends, Job, is_lost}
@@ -11,7 +12,8 @@ use Rattle.table_jobs.specs.Views.{job_view}
 use Rattle.table_jobs.specs.declared.job.Job as code
 use Rattle.table_jobs.specs.declared.job_session.JobEnd.{JobEnd}
 use Rattle.table_jobs.proofs.Callers.{quiet_job}
-use Rattle.folder_session.specs.Beside.{AreApart, DrivesBeside, RanBeside, TalksBeside, with_beside}
+use Rattle.folder_session.specs.Beside.{AreApart, DrivesBeside, TalksBeside, with_beside}
+use Rattle.folder_session.specs.Runs.{RanBeside}
 use Rattle.folder_session.specs.declared.beside.Beside.{Beside}
 use Rattle.folder_session.proofs.running.run.Goals as goal
 
@@ -33,17 +35,21 @@ apart : (own : Job) (most : ℕ) (objects : Objects) (result : Result (Beside Jo
 apart own most objects (Ok ended) driven = driven.apart
 apart own most objects (Err fault) driven = tt
 
-ran : (job : code.Job) (own : Job) (most : ℕ) (result : Result (Beside JobEnd) LoadFault) → own ≡ job_view job
-    → IfOk result (λ ended. TalksBeside Asks (λ job before talk outcome. Ends job before talk (end_view outcome)) own most [] ended.outcome (stored_objects ended.added))
-    → IfOk result (λ ended. RanBeside (job_view job) (end_view ended.outcome) (stored_objects ended.added))
-ran job own most (Ok ended) same talks =
-    subst (λ (j : Job). RanBeside j (end_view ended.outcome) (stored_objects ended.added)) same
-    (most, record { talk = talks.talk; asked = talks.asked; unlost = talks.unlost; ended = talks.ended; few = talks.few; put = talks.put })
-ran job own most (Err fault) same talks = tt
+ran : {F : Type 0} (makes : F → FolderCall → F → Type 0) (first now : F) (job : code.Job) (own : Job) (most : ℕ) (result : Result (Beside JobEnd) LoadFault) → own ≡ job_view job
+    → IfOk result (λ ended. TalksBeside Asks (λ job before talk outcome. Ends job before talk (end_view outcome)) (λ calls. Traced makes first calls now) own most [] ended.outcome (stored_objects ended.added))
+    → IfOk result (λ ended. (calls : List FolderCall) × Traced makes first calls now × RanBeside (job_view job) (end_view ended.outcome) (stored_objects ended.added) calls)
+ran makes first now job own most (Ok ended) same talks =
+    let calls = lists (Some talks.names) ∷ talks.calls in (
+      calls,
+      talks.made,
+      subst (λ (j : Job). RanBeside j (end_view ended.outcome) (stored_objects ended.added) calls) same
+          (most, record { talk = talks.talk; asked = talks.asked; unlost = talks.unlost; ended = talks.ended; few = talks.few; put = talks.put; names = talks.names; calls = talks.calls; heard = talks.heard; made = refl }),
+    )
+ran makes first now job own most (Err fault) same talks = tt
 
 pub returns-clause-ran : goal.returns-clause-ran
 returns-clause-ran g c =
-    ran c.args.job _ (left c.new-session.result) c.drive_beside.result c.new-session.ensures.job (c.drive_beside.ensures.talks [] (c.new-session.ensures.fits []))
+    ran g.F.Folder.makes c.args.folder.now c.drive_beside.new.folder c.args.job _ (left c.new-session.result) c.drive_beside.result c.new-session.ensures.job (c.drive_beside.ensures.talks [] (c.new-session.ensures.fits []))
 
 pub returns-clause-done : goal.returns-clause-done
 returns-clause-done g c = λ steady.

@@ -1,10 +1,12 @@
-use Rattle.std.proofs.Common.{◌∙◌, Some, ap, refl, sym, subst, ℕ, List, Ok}
+use Rattle.std.proofs.Common.{◌∙◌, ◌++◌, Some, ap, refl, sym, subst, ℕ, List, Ok}
 use Rattle.lake_script.specs.Streams.{read_failed, unread}
+use Rattle.table_folder.specs.Traces.{Traced}
+use Rattle.table_folder.proofs.Callers.{traced_on}
 use Rattle.lake_words.specs.Asked.{work_view}
-use Rattle.lake_command.specs.Again.{ComesOfRuns, last, not_there, runs}
+use Rattle.lake_command.specs.Again.{ComesOfRuns, not_there, runs}
 use Rattle.lake_command.specs.Failures.{CountsFolderFault}
 use Rattle.lake_command.specs.Folders.{IsTextOf, line_view}
-use Rattle.lake_command.proofs.AgainLemmas.{fails_with, folder_caused, input_alone, input_causes, input_leaves, input_told}
+use Rattle.lake_command.proofs.AgainLemmas.{fails_with, folder_caused, input_alone, input_causes, input_leaves, input_told, run_once, taken_puts}
 use Rattle.lake_command.proofs.CountLemmas.{asked_count, refused_by}
 use Rattle.lake_command.proofs.FolderLemmas.{fails_for_job, found_asked, may_leave, replies_to_job, sound_restores, stays_sound}
 use Rattle.lake_command.proofs.answering.answer.Goals as goal
@@ -101,7 +103,7 @@ returns-in_err-line-clause-counted g c = λ other.
 
 pub returns-in_err-text-clause-runs : goal.returns-in_err-text-clause-runs
 returns-in_err-text-clause-runs g c =
-    input_told c.from_residual.result c.in_err-text.field-0.0 (work_view c.args.command.job) (unread g.R.Read.remaining c.args.input.now) (read_failed c.text_for.new.input) c.args.command.use_checkpoints
+    input_told (λ calls. Traced g.F.Folder.makes c.args.folder.now calls c.args.folder.now) c.from_residual.result c.in_err-text.field-0.0 (work_view c.args.command.job) (unread g.R.Read.remaining c.args.input.now) (read_failed c.text_for.new.input) c.args.command.use_checkpoints
     (fails_with c.from_residual.result c.in_err-text.field-0.0 c.from_residual.ensures.1) c.in_err-text.ensures.failed
 
 pub returns-in_err-line-clause-runs : goal.returns-in_err-line-clause-runs
@@ -109,25 +111,35 @@ returns-in_err-line-clause-runs g c =
     let work = work_view c.args.command.job in
     let known = unread g.R.Read.remaining c.args.input.now in
     let is = subst (λ (bytes : List ℕ). IsTextOf work known bytes) (sym c.deref.ensures.value) c.in_ok-text.ensures.read in
-    input_told c.from_residual-in_err-line.result c.in_err-line.field-0.0 work known (read_failed c.text_for.new.input) c.args.command.use_checkpoints
+    input_told (λ calls. Traced g.F.Folder.makes c.args.folder.now calls c.args.folder.now) c.from_residual-in_err-line.result c.in_err-line.field-0.0 work known (read_failed c.text_for.new.input) c.args.command.use_checkpoints
     (fails_with c.from_residual-in_err-line.result c.in_err-line.field-0.0 c.from_residual-in_err-line.ensures.1) (c.in_err-line.ensures.failed known (read_failed c.text_for.new.input) is)
 
 pub returns-in_default-clause-runs : goal.returns-in_default-clause-runs
 returns-in_default-clause-runs g c = not_there _ (c.in_ok-line.ensures.later (ap Ok c.in_default.is)) refl
 
-pub run_again-requires-clause-first : goal.run_again-requires-clause-first
-run_again-requires-clause-first g c =
+pub run_again-requires-clause-puts : goal.run_again-requires-clause-puts
+run_again-requires-clause-puts g c =
     let text = c.deref-then-none_failed.result.now in
-    let same = c.deref.ensures.value ∙ sym c.deref-then-none_failed.ensures.value in
-    (line_view c.in-Some.line, found_asked c.in_ok-line.field-0 c.in-Some.line (work_view c.args.command.job) (Some text) c.in-Some.is (c.in_ok-line.ensures.asked (Some text) (λ reads. same)), c.execute_in-outcome.ensures.ran)
+    let same = c.deref.ensures.value ∙ sym c.deref-then-none_failed.ensures.value in (
+      line_view c.in-Some.line,
+      found_asked c.in_ok-line.field-0 c.in-Some.line (work_view c.args.command.job) (Some text) c.in-Some.is (c.in_ok-line.ensures.asked (Some text) (λ reads. same)),
+      taken_puts c.execute_in-outcome.result (line_view c.in-Some.line) c.execute_in-outcome.ensures.read (c.is_taken.ensures.0 c.if-is_taken.true),
+    )
 
 pub returns-then-none_failed-clause-runs : goal.returns-then-none_failed-clause-runs
 returns-then-none_failed-clause-runs g c =
     let work = work_view c.args.command.job in
     let known = unread g.R.Read.remaining c.args.input.now in
     let text = c.deref-then-none_failed.result.now in
+    let line = line_view c.in-Some.line in
+    let same = c.deref.ensures.value ∙ sym c.deref-then-none_failed.ensures.value in
     let is = subst (λ (bytes : List ℕ). IsTextOf work known bytes) (sym c.deref-then-none_failed.ensures.value) c.in_ok-text.ensures.read in
-    runs text c.run_again.result is (subst (λ (n : ℕ). ComesOfRuns work text c.args.command.use_checkpoints n c.run_again.result) c.tries_of-tries.ensures.same c.run_again.ensures.runs)
+    let asked = found_asked c.in_ok-line.field-0 c.in-Some.line work (Some text) c.in-Some.is (c.in_ok-line.ensures.asked (Some text) (λ reads. same)) in
+    let puts = taken_puts c.execute_in-outcome.result line c.execute_in-outcome.ensures.read (c.is_taken.ensures.0 c.if-is_taken.true) in
+    let one = c.execute_in-outcome.ensures.ran puts in
+    let more = c.run_again.ensures.runs line one.0 asked one.2 in
+    runs text c.run_again.result (one.0 ++ more.0) is (traced_on g.F.Folder.makes c.args.folder.now c.execute_in-outcome.new.folder c.run_again.new.folder one.0 more.0 one.1 more.1)
+    (subst (λ (n : ℕ). ComesOfRuns work text c.args.command.use_checkpoints n c.run_again.result (one.0 ++ more.0)) c.tries_of-tries.ensures.same more.2)
 
 pub returns-clause-runs : goal.returns-clause-runs
 returns-clause-runs g c =
@@ -136,5 +148,5 @@ returns-clause-runs g c =
     let text = c.deref.result.now in
     let is = subst (λ (bytes : List ℕ). IsTextOf work known bytes) (sym c.deref.ensures.value) c.in_ok-text.ensures.read in
     let asked = found_asked c.in_ok-line.field-0 c.in-Some.line work (Some text) c.in-Some.is (c.in_ok-line.ensures.asked (Some text) (λ reads. refl)) in
-    runs text c.execute_in-outcome.result is (subst (λ (n : ℕ). ComesOfRuns work text c.args.command.use_checkpoints n c.execute_in-outcome.result) c.tries_of-tries.ensures.same
-    (last _ (line_view c.in-Some.line) _ asked c.execute_in-outcome.ensures.ran))
+    run_once g.F.Folder.makes work known text (read_failed c.text_for.new.input) c.args.command.use_checkpoints c.tries_of-tries.result (line_view c.in-Some.line) c.execute_in-outcome.result c.args.folder.now c.execute_in-outcome.new.folder
+    c.tries_of-tries.ensures.same is asked c.execute_in-outcome.ensures.ran c.execute_in-outcome.ensures.read

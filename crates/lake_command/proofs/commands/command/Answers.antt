@@ -1,6 +1,7 @@
 use Rattle.std.proofs.Common.{rules, ◌≡◌, ◌≢◌, true, false, Some, refl, sym, ap, ◌∙◌}
 use Rattle.lake_script.specs.Tables.{nothing}
 use Rattle.lake_script.proofs.Callers.{well_of_empty}
+use Rattle.lake_words.specs.Asked.{check, command_view}
 use Rattle.lake_command.specs.Scripts.{script_uses_checkpoints}
 use Rattle.lake_command.specs.Status.{status_of}
 use Rattle.world_script.specs.Words.{needs_world}
@@ -52,3 +53,9 @@ returns-in-Ok-Explain-clause-status g c = λ command spells. absurd (no_other _ 
 
 pub returns-in-Ok-Explain-clause-refused : goal.returns-in-Ok-Explain-clause-refused
 returns-in-Ok-Explain-clause-refused g c = λ command spells. absurd (no_other _ command _ spells (sym c.in-Ok-Explain.field-0-is ∙ c.in-Ok-Explain.ensures.spelled command spells) refl)
+
+pub returns-in-Ok-Check-clause-checks : goal.returns-in-Ok-Check-clause-checks
+returns-in-Ok-Check-clause-checks g c = λ folder spells.
+    let same : check c.in-Ok-Check.folder.now ≡ check folder = sym (ap command_view c.in-Ok-Check.field-0-is) ∙ c.in-Ok-Check.ensures.job_spelled (check folder) spells in
+    let is : c.in-Ok-Check.folder.now ≡ folder = cc in
+    (refl, rw is at c.check_on_disk.ensures)

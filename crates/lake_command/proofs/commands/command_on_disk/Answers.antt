@@ -1,5 +1,6 @@
 use Rattle.std.proofs.Common.{inl, inr}
 use Rattle.lake_words.specs.Asked.{work_view}
+use Rattle.lake_command.proofs.AgainLemmas.{ran_so}
 use Rattle.lake_command.proofs.EndingLemmas.{short_told}
 use Rattle.lake_command.proofs.commands.command_on_disk.Goals as goal
 
@@ -11,3 +12,13 @@ returns-in-Ok-clause-counted g c = λ other. (c.table_command.ensures.counted ot
 
 pub returns-in-Err-clause-counted : goal.returns-in-Err-clause-counted
 returns-in-Err-clause-counted g c = λ other. inr (inl (short_told _ _ _ _ _ _ _ (c.tell_failure.ensures.ended (work_view c.args.command.job))).1)
+
+pub returns-in-Ok-clause-told : goal.returns-in-Ok-clause-told
+returns-in-Ok-clause-told g c =
+    let end = c.table_command.ensures.ended in
+    inr (record {
+      outcome = end.0;
+      cause = end.2.cause;
+      ran = ran_so _ _ _ _ _ _ end.0 (λ calls traced. (_, _, c.in-Ok.ensures.path, traced)) end.3;
+      told = end.4;
+    })

@@ -1,4 +1,4 @@
-use Rattle.std.proofs.Common.{◌≡◌, Some, sym, subst}
+use Rattle.std.proofs.Common.{◌≡◌, [], Some, refl, sym, subst}
 use Rattle.store_core.specs.Memory.{stored_objects}
 use Rattle.store_core.specs.Objects.{Objects}
 use Rattle.table_jobs.specs.Sessions.{end_view}
@@ -28,7 +28,7 @@ returns-in_default-clause-grows g c = λ steady well.
     subst (λ (added : Objects). MayPut old (line_view c.args.line) (with_beside old added)) (sym c.new.ensures) (unrun_grows old (line_view c.args.line) c.job_of_line-found.ensures.text)
 
 pub returns-in_default-clause-ran : goal.returns-in_default-clause-ran
-returns-in_default-clause-ran g c = short c.no_room_for-no_room.ensures c.new.ensures
+returns-in_default-clause-ran g c = ([], refl, short c.no_room_for-no_room.ensures c.new.ensures)
 
 -- ---- its job was run
 
@@ -37,7 +37,7 @@ returns-clause-told g c = λ steady well.
     let old : Objects = g.F.Folder.objects c.args.folder.now in
     let found : job_of_line c.args.use_checkpoints c.args.tries (line_view c.args.line) ≡ Some (job_view c.in-Ok-Some.job) = sym (rw c.in-Ok-Some.field-0-is at c.in-Ok-Some.ensures.job) in
     job_told c.args.use_checkpoints c.args.tries old (with_beside old (stored_objects c.in_ok-outcome.field-0.added)) well (line_view c.args.line) (job_view c.in-Ok-Some.job) (end_view c.in_ok-outcome.field-0.outcome) (reply_text c.reply_of.result)
-    found (c.in_ok-outcome.ensures.done steady) c.reply_of.ensures
+    found (c.in_ok-outcome.ensures.done steady) c.reply_of.ensures.told
 
 pub returns-clause-grows : goal.returns-clause-grows
 returns-clause-grows g c = λ steady well.
@@ -49,4 +49,5 @@ returns-clause-grows g c = λ steady well.
 pub returns-clause-ran : goal.returns-clause-ran
 returns-clause-ran g c =
     let found : job_of_line c.args.use_checkpoints c.args.tries (line_view c.args.line) ≡ Some (job_view c.in-Ok-Some.job) = sym (rw c.in-Ok-Some.field-0-is at c.in-Ok-Some.ensures.job) in
-    ran (job_view c.in-Ok-Some.job) (end_view c.in_ok-outcome.field-0.outcome) found c.in_ok-outcome.ensures.ran c.reply_of.ensures
+    let run = c.in_ok-outcome.ensures.ran in
+    (run.0, run.1, ran (job_view c.in-Ok-Some.job) (end_view c.in_ok-outcome.field-0.outcome) run.0 found run.2 c.reply_of.ensures.told)

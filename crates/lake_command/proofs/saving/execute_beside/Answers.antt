@@ -5,13 +5,12 @@ use Rattle.table_folder.specs.Copies.{HasSavedFront, to_save, with_copies}
 use Rattle.lake_script.specs.ReplyView.{reply_text}
 use Rattle.lake_script.specs.Runs.{Executes}
 use Rattle.lake_script.specs.declared.reply.LineReply.{LineReply}
-use Rattle.lake_command.specs.Again.{told}
 use Rattle.lake_command.specs.Failures.{NamesPut}
 use Rattle.lake_command.specs.Folders.{line_view}
 use Rattle.lake_command.specs.declared.failure.Failure.{Failure}
 use Rattle.lake_command.proofs.BesideLemmas.{line_left, named_beside, saved_beside}
 use Rattle.lake_command.proofs.FolderLemmas.{fails_as, saved_alone}
-use Rattle.lake_command.proofs.RunLemmas.{unread_run, unsaved_run}
+use Rattle.lake_command.proofs.RunLemmas.{saved_run, unread_run, unsaved_run}
 use Rattle.lake_command.proofs.saving.execute_beside.Goals as goal
 
 pub returns-clause-told : goal.returns-clause-told
@@ -70,12 +69,14 @@ returns-in_err-save-clause-kept g c = λ steady name bytes stands.
 
 pub returns-in_err-outcome-clause-ran : goal.returns-in_err-outcome-clause-ran
 returns-in_err-outcome-clause-ran g c =
-    unread_run c.args.use_checkpoints c.args.tries (line_view c.args.line) c.from_residual.result c.in_err-outcome.field-0.0 c.from_residual.ensures.1
+    unread_run g.F.Folder.makes c.args.use_checkpoints c.args.tries (line_view c.args.line) c.args.folder.now c.reply_beside.new.folder c.from_residual.result c.in_err-outcome.field-0.0 c.from_residual.ensures.1 c.in_err-outcome.ensures.looked
 
 pub returns-in_err-save-clause-ran : goal.returns-in_err-save-clause-ran
 returns-in_err-save-clause-ran g c =
-    unsaved_run c.args.use_checkpoints c.args.tries (line_view c.args.line) c.from_residual-in_err-save.result c.in_ok-outcome.field-0.outcome (stored_objects c.in_ok-outcome.field-0.added) c.in_err-save.field-0.0
-    c.from_residual-in_err-save.ensures.1 c.in_ok-outcome.ensures.ran c.in_err-save.ensures.named
+    unsaved_run g.F.Folder.makes c.args.use_checkpoints c.args.tries (line_view c.args.line) c.args.folder.now c.reply_beside.new.folder c.save.new.folder c.from_residual-in_err-save.result c.in_ok-outcome.field-0.outcome (stored_objects c.in_ok-outcome.field-0.added) c.in_err-save.field-0.0
+    c.from_residual-in_err-save.ensures.1 c.in_ok-outcome.ensures.ran c.in_err-save.ensures.named c.in_err-save.ensures.called
 
 pub returns-clause-ran : goal.returns-clause-ran
-returns-clause-ran g c = told c.in_ok-outcome.field-0.outcome (stored_objects c.in_ok-outcome.field-0.added) c.in_ok-outcome.ensures.ran
+returns-clause-ran g c =
+    saved_run g.F.Folder.makes c.args.use_checkpoints c.args.tries (line_view c.args.line) c.args.folder.now c.reply_beside.new.folder c.save.new.folder c.in_ok-outcome.field-0.outcome (stored_objects c.in_ok-outcome.field-0.added)
+    c.in_ok-outcome.ensures.ran c.in_ok-save.ensures.called

@@ -1,4 +1,3 @@
-use Rattle.lake_command.specs.Again.{looks}
 use Rattle.lake_command.proofs.saving.execute_in.Goals as goal
 
 pub returns-in-Job-Tail-clause-told : goal.returns-in-Job-Tail-clause-told
@@ -15,10 +14,10 @@ returns-in-History-clause-told g c = λ steady well. rw (c.in-History.is, c.hist
 -- ---- a line that puts nothing
 
 pub returns-in-Job-Tail-clause-ran : goal.returns-in-Job-Tail-clause-ran
-returns-in-Job-Tail-clause-ran g c = looks c.read_in.result (λ puts. let job = rw c.in-Job-Tail.is at c.in-Job-Tail.field-0-is in rw (c.in-Job-Tail.is, job) at puts)
+returns-in-Job-Tail-clause-ran g c = λ puts. absurd (let job = rw c.in-Job-Tail.is at c.in-Job-Tail.field-0-is in rw (c.in-Job-Tail.is, job) at puts)
 
 pub returns-in-Snapshot-clause-ran : goal.returns-in-Snapshot-clause-ran
-returns-in-Snapshot-clause-ran g c = looks c.snapshot_in.result (λ puts. rw c.in-Snapshot.is at puts)
+returns-in-Snapshot-clause-ran g c = λ puts. absurd (rw c.in-Snapshot.is at puts)
 
 pub returns-in-History-clause-ran : goal.returns-in-History-clause-ran
-returns-in-History-clause-ran g c = looks c.history_in.result (λ puts. rw c.in-History.is at puts)
+returns-in-History-clause-ran g c = λ puts. absurd (rw c.in-History.is at puts)

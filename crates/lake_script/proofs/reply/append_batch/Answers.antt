@@ -6,7 +6,7 @@ use Rattle.sink_core.specs.Appending.{with_append, MayAppend, MayHoldFile, PutsW
 use Rattle.batch_core.specs.Refusals.{refusal_view, says}
 use Rattle.sink_core.proofs.Callers.{appended_alike, append_plan_alike}
 use Rattle.lake_script.proofs.RestoredLemmas.{append_executed, append_refusal_executed, append_refusal_told, has_append, kept_memory}
-use Rattle.lake_script.proofs.RunsLemmas.{append_short}
+use Rattle.lake_script.proofs.RunsLemmas.{append_short, driven_somehow}
 use Rattle.log_reading.proofs.Callers.{kept_grown, past_grown}
 use Rattle.lake_script.proofs.AnyStoreLemmas.{sink_lost}
 use Rattle.lake_script.proofs.reply.append_batch.Goals as goal
@@ -100,10 +100,10 @@ returns-in-Err-clause-cache g c = record {
 }
 
 pub returns-in-Ok-clause-any : goal.returns-in-Ok-clause-any
-returns-in-Ok-clause-any g c = (_, Ok c.in-Ok.answer, refl, c.in-Ok.ensures.driven)
+returns-in-Ok-clause-any g c = (_, Ok c.in-Ok.answer, refl, driven_somehow _ _ _ _ _ _ _ _ _ c.in-Ok.ensures.driven)
 
 pub returns-in-Err-clause-any : goal.returns-in-Err-clause-any
-returns-in-Err-clause-any g c = (_, Err c.in-Err.fault, refl, c.in-Err.ensures.driven)
+returns-in-Err-clause-any g c = (_, Err c.in-Err.fault, refl, driven_somehow _ _ _ _ _ _ _ _ _ c.in-Err.ensures.driven)
 
 pub returns-in-Err-clause-told_lost : goal.returns-in-Err-clause-told_lost
 returns-in-Err-clause-told_lost g c = λ is. sink_lost c.in-Err.fault is

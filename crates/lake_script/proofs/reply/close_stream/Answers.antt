@@ -5,7 +5,7 @@ use Rattle.sink_core.specs.Closes.{with_close, ClosesWell, MayClose}
 use Rattle.batch_core.specs.Refusals.{refusal_view, says}
 use Rattle.sink_core.proofs.Callers.{closed_alike, close_plan_alike}
 use Rattle.lake_script.proofs.RestoredLemmas.{close_executed, close_refusal_executed, close_refusal_told, has_close, kept_memory}
-use Rattle.lake_script.proofs.RunsLemmas.{close_short, closes_small}
+use Rattle.lake_script.proofs.RunsLemmas.{close_short, closes_small, driven_somehow}
 use Rattle.log_reading.proofs.Callers.{kept_grown, past_grown}
 use Rattle.lake_script.proofs.AnyStoreLemmas.{sink_lost}
 use Rattle.lake_script.proofs.reply.close_stream.Goals as goal
@@ -77,7 +77,7 @@ pub returns-in-Err-clause-short : goal.returns-in-Err-clause-short
 returns-in-Err-clause-short g c = λ short.
     let application = c.args.application.now in
     close_short c.in-Err.fault (g.S.Store.objects c.args.store.now) application c.args.at short
-    (closes_small _ application c.args.at c.args.tries c.args.use_checkpoints c.args.cache.now.loaded _ _ _ _ _ c.in-Err.fault c.in-Err.ensures.driven)
+    (closes_small _ application c.args.at c.args.tries c.args.use_checkpoints c.args.cache.now.loaded _ _ _ _ _ c.in-Err.fault (driven_somehow _ _ _ _ _ _ _ _ _ c.in-Err.ensures.driven))
 
 pub returns-in-Ok-clause-cache : goal.returns-in-Ok-clause-cache
 returns-in-Ok-clause-cache g c = record {
@@ -94,10 +94,10 @@ returns-in-Err-clause-cache g c = record {
 }
 
 pub returns-in-Ok-clause-any : goal.returns-in-Ok-clause-any
-returns-in-Ok-clause-any g c = (_, Ok c.in-Ok.answer, refl, c.in-Ok.ensures.driven)
+returns-in-Ok-clause-any g c = (_, Ok c.in-Ok.answer, refl, driven_somehow _ _ _ _ _ _ _ _ _ c.in-Ok.ensures.driven)
 
 pub returns-in-Err-clause-any : goal.returns-in-Err-clause-any
-returns-in-Err-clause-any g c = (_, Err c.in-Err.fault, refl, c.in-Err.ensures.driven)
+returns-in-Err-clause-any g c = (_, Err c.in-Err.fault, refl, driven_somehow _ _ _ _ _ _ _ _ _ c.in-Err.ensures.driven)
 
 pub returns-in-Err-clause-told_lost : goal.returns-in-Err-clause-told_lost
 returns-in-Err-clause-told_lost g c = λ is. sink_lost c.in-Err.fault is

@@ -1,7 +1,7 @@
 use Rattle.std.proofs.Common.{◌≡◌, ◌+◌, ◌≤◌, ◌<◌, [], ◌∷◌, ◌++◌, length, Option, Some, None, option_map, Bool, refl, sym, ap, subst, ◌∙◌, arith, length-append}
 use Rattle.std.specs.Prelude.{◌||◌}
 use Rattle.session_core.specs.Sessions.{Drives}
-use Rattle.session_core.specs.Stores.{Answers, MayAnswer}
+use Rattle.session_core.specs.Stores.{Answers, MakesCall, MayAnswer}
 use Rattle.session_core.specs.Talks.{Asked, Talk, Told, asked_view, told_view, heard, is_lost}
 use Rattle.session_core.proofs.Bearing.{bears_grows, talk_alone, talk_borne, talk_grows}
 use Rattle.session_core.proofs.MoreCalls.{asked_more, talked_more, counted_more, lost_more}
@@ -20,6 +20,7 @@ calls-init g c = record {
     fit = fits;
     all = refl;
     talked = refl;
+    called = refl;
     exact = λ reliable. refl;
     asked_for = tt;
     counted = ((λ e. absurd cc), (λ e. refl));
@@ -35,6 +36,7 @@ returns-in-Done-clause-driven g c = λ before fits.
     record {
       talk = i.talk;
       talked = i.talked;
+      called = i.called;
       exact = i.exact;
       asked = i.asked_for;
       borne = talk_borne _ _ i.talk (talk_alone _ _ i.talk i.talked);
@@ -65,6 +67,7 @@ calls-preserved g c =
             fit = step.0;
             all = ap (λ (t : Talk). t ++ (asked, told) ∷ []) i.all;
             talked = talked_more MayAnswer _ _ _ i.talk asked told i.talked c.ask.ensures.answer;
+            called = talked_more (MakesCall g.S.Store.makes) _ _ _ i.talk asked told i.called c.ask.ensures.called;
             exact = λ reliable. talked_more Answers _ _ _ i.talk asked told (i.exact reliable) (c.ask.ensures.exact (c.calls.invariant.reliable reliable));
             asked_for = asked_more (g.N.Session.asks (g.N.Session.job c.args.session.now) before) [] i.talk asked told i.asked_for (rw c.calls.invariant.job at (rw i.all at step.1));
             counted = counted_more i.talk asked told _ _ _ i.counted c.ask.ensures.counted;

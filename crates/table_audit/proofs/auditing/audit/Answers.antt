@@ -3,6 +3,8 @@ use Rattle.std.proofs.lemmas.Result.{IfOk-weaker}
 use Rattle.store_core.specs.Names.{commit_name}
 use Rattle.store_core.specs.Objects.{Objects, names_of, object_at}
 use Rattle.table_store.proofs.HeldLemmas.{read_at}
+use Rattle.table_check.specs.Below.{IsSoundBelow}
+use Rattle.table_audit.specs.Reasons.{IsReasonOf}
 use Rattle.table_audit.specs.Verdicts.{IsVerdictOf}
 use Rattle.table_audit.specs.Walks.{IsEnd, IsWalk, IsWalkOver}
 use Rattle.table_audit.proofs.EndParts.{empty_judged, first_judged}
@@ -42,4 +44,5 @@ returns-clause-told g c = λ steady.
     let name : c.deref.result.now ≡ commit_name 0 = c.deref.ensures ∙ c.in_ok-commit_name.ensures in
     let there : object_at objects (commit_name 0) ≡ Some c.deref-2.result.now =
     read_at objects _ _ _ (Some c.in-Some.bytes) (rw before at (c.in_ok-bytes.ensures.object listed)) name c.in-Some.is ∙ ap (λ (b : List ℕ). Some b) (sym c.deref-2.ensures.value) in
-    first_judged objects (rw c.in-Wrong.is at (c.in_ok-walk.ensures.begins objects there))
+    let wrong : (IsSoundBelow objects 1 → ⊥) × IsReasonOf objects 0 c.in-Wrong.reason = rw c.in-Wrong.is at (c.in_ok-walk.ensures.begins objects there) in
+    (first_judged objects wrong.0, wrong.1)

@@ -3,6 +3,7 @@ use Rattle.store_core.specs.Names.{greatest_version}
 use Rattle.store_core.specs.Objects.{Objects}
 use Rattle.table_check.specs.Below.{AreCheckpointsSoundBelow, IsSoundBelow}
 use Rattle.table_audit.specs.Listed.{listed_view}
+use Rattle.table_audit.specs.Reasons.{IsReasonOf}
 use Rattle.table_audit.specs.Walks.{IsWalk, IsWalkOver}
 use Rattle.table_audit.proofs.EndParts.{breaks_last, whole_sound}
 use Rattle.table_audit.proofs.ListParts.{IsDone, ahead_more, all_listed, are_listed, below_all, below_at, done_more, first_ahead, small_at, told_at}
@@ -73,7 +74,10 @@ returns-in-Some-clause-told g c = λ steady over.
     let now : IsWalk (g.R.ObjectReader.objects c.walk_on.new.reader) c.walk_on.new.walk = subst (λ (o : Objects). IsWalk o c.walk_on.new.walk) (sym left) walk in
     let behind : c.walk_on.new.walk.next ≡ suc x.version = rw c.in-Behind.is at c.in_ok-walk_on.ensures.next in
     let breaks = rw c.in-Some.is at c.in_ok-reason.ensures.breaks in
-    breaks_last objects c.walk_on.new.walk walk x.version behind below (subst (λ (o : Objects). IsSoundBelow o (suc x.version) → ⊥) left (breaks after now))
+    let why = rw c.in-Some.is at c.in_ok-reason.ensures.why in (
+      breaks_last objects c.walk_on.new.walk walk x.version behind below (subst (λ (o : Objects). IsSoundBelow o (suc x.version) → ⊥) left (breaks after now)),
+      subst (λ (o : Objects). IsReasonOf o x.version c.in-Some.reason) left (why after now),
+    )
 
 pub loop-checkpoint-preserved : goal.loop-checkpoint-preserved
 loop-checkpoint-preserved g c =

@@ -4,7 +4,9 @@ use Rattle.store_core.specs.Objects.{object_at}
 use Rattle.table_log.proofs.Callers.{checkpoint_named}
 use Rattle.table_store.proofs.HeldLemmas.{read_at}
 use Rattle.table_store.proofs.HoldingOne.{some_is}
+use Rattle.table_audit.specs.Reasons.{IsOtherCheckpoint, IsUnread}
 use Rattle.table_audit.proofs.EndParts.{checkpoint_breaks, checkpoint_sound}
+use Rattle.table_audit.proofs.ReasonParts.{bad_checkpoint, other_checkpoint}
 use Rattle.table_audit.proofs.auditing.wrong_checkpoint.Goals as goal
 
 pub checkpoint_found-requires : goal.checkpoint_found-requires
@@ -23,13 +25,31 @@ returns-in-Other-clause-breaks g c = λ steady walk.
     let objects = g.R.ObjectReader.objects c.args.reader.now in
     let version = c.args.checkpoint.now.version in
     let there : object_at objects (string_bytes c.args.checkpoint.now.name) ≡ Some c.in-Some.bytes.items = read_at objects _ _ _ (Some c.in-Some.bytes) (c.in_ok-bytes.ensures.object steady) c.deref.ensures c.in-Some.is in
-    let other : IsCheckpoint c.in-Some.bytes.items version walk.log → ⊥ = rw (c.in-Other.is, c.deref-2.ensures.value) at (c.in_ok-checkpoint_found.ensures walk.log walk.snapshot walk.walked.printable) in
-    checkpoint_breaks objects c.args.walk.now walk version c.requires.next (string_bytes c.args.checkpoint.now.name) c.in-Some.bytes.items c.requires.told there other
+    let other : IsOtherCheckpoint version walk.log c.in-Some.bytes.items = rw (c.in-Other.is, c.deref-2.ensures.value) at (c.in_ok-checkpoint_found.ensures walk.log walk.snapshot walk.walked.printable) in
+    checkpoint_breaks objects c.args.walk.now walk version c.requires.next (string_bytes c.args.checkpoint.now.name) c.in-Some.bytes.items c.requires.told there other.1
 
 pub returns-clause-breaks : goal.returns-clause-breaks
 returns-clause-breaks g c = λ steady walk.
     let objects = g.R.ObjectReader.objects c.args.reader.now in
     let version = c.args.checkpoint.now.version in
     let there : object_at objects (string_bytes c.args.checkpoint.now.name) ≡ Some c.in-Some.bytes.items = read_at objects _ _ _ (Some c.in-Some.bytes) (c.in_ok-bytes.ensures.object steady) c.deref.ensures c.in-Some.is in
-    let other : IsCheckpoint c.in-Some.bytes.items version walk.log → ⊥ = rw (c.in-Bad.is, c.deref-2.ensures.value) at (c.in_ok-checkpoint_found.ensures walk.log walk.snapshot walk.walked.printable) in
-    checkpoint_breaks objects c.args.walk.now walk version c.requires.next (string_bytes c.args.checkpoint.now.name) c.in-Some.bytes.items c.requires.told there other
+    let bad : IsUnread c.in-Bad.fault c.in-Some.bytes.items × (IsCheckpoint c.in-Some.bytes.items version walk.log → ⊥) =
+    rw (c.in-Bad.is, c.deref-2.ensures.value) at (c.in_ok-checkpoint_found.ensures walk.log walk.snapshot walk.walked.printable) in
+    checkpoint_breaks objects c.args.walk.now walk version c.requires.next (string_bytes c.args.checkpoint.now.name) c.in-Some.bytes.items c.requires.told there bad.1
+
+pub returns-in-Other-clause-why : goal.returns-in-Other-clause-why
+returns-in-Other-clause-why g c = λ steady walk.
+    let objects = g.R.ObjectReader.objects c.args.reader.now in
+    let version = c.args.checkpoint.now.version in
+    let there : object_at objects (string_bytes c.args.checkpoint.now.name) ≡ Some c.in-Some.bytes.items = read_at objects _ _ _ (Some c.in-Some.bytes) (c.in_ok-bytes.ensures.object steady) c.deref.ensures c.in-Some.is in
+    let other : IsOtherCheckpoint version walk.log c.in-Some.bytes.items = rw (c.in-Other.is, c.deref-2.ensures.value) at (c.in_ok-checkpoint_found.ensures walk.log walk.snapshot walk.walked.printable) in
+    other_checkpoint objects version (string_bytes c.args.checkpoint.now.name) c.in-Some.bytes.items c.in_ok-name-in-Other.name c.in_ok-name-in-Other.ensures.cases c.requires.told there c.args.walk.now walk c.requires.next other
+
+pub returns-clause-why : goal.returns-clause-why
+returns-clause-why g c = λ steady walk.
+    let objects = g.R.ObjectReader.objects c.args.reader.now in
+    let version = c.args.checkpoint.now.version in
+    let there : object_at objects (string_bytes c.args.checkpoint.now.name) ≡ Some c.in-Some.bytes.items = read_at objects _ _ _ (Some c.in-Some.bytes) (c.in_ok-bytes.ensures.object steady) c.deref.ensures c.in-Some.is in
+    let bad : IsUnread c.in-Bad.fault c.in-Some.bytes.items × (IsCheckpoint c.in-Some.bytes.items version walk.log → ⊥) =
+    rw (c.in-Bad.is, c.deref-2.ensures.value) at (c.in_ok-checkpoint_found.ensures walk.log walk.snapshot walk.walked.printable) in
+    bad_checkpoint objects version (string_bytes c.args.checkpoint.now.name) c.in-Some.bytes.items c.in_ok-name-in-Bad.name c.in_ok-name-in-Bad.ensures.cases c.requires.told there c.in-Bad.fault bad.0

@@ -5,7 +5,9 @@ use Rattle.delta_actions.specs.Action.{views}
 use Rattle.delta_replay.specs.Snapshots.{IsSnapshotOf}
 use Rattle.schema_tree.specs.Schema.{tree_of}
 use Rattle.table_audit.specs.Entries.{Follows, GroupFollows}
-use Rattle.table_audit.proofs.GroupParts.{follows_close, follows_group, follows_none, none_weaker, some_weaker}
+use Rattle.table_audit.specs.Reasons.{IsNoClose, IsNoNext}
+use Rattle.table_audit.specs.declared.reason.Reason.{Reason}
+use Rattle.table_audit.proofs.GroupParts.{follows_close, follows_group, follows_none, none_weaker, some_each, some_weaker}
 use Rattle.table_audit.proofs.entry.wrong_entry.Goals as goal
 
 pub returns-in-Some-clause-follows : goal.returns-in-Some-clause-follows
@@ -30,3 +32,13 @@ returns-clause-breaks g c = λ steady.
     let P : Type 0 = (log : List (List kinds.Action)) → IsSnapshotOf log c.args.snapshot.now → GroupFollows objects schema log beside → ⊥ in
     let Q : Type 0 = (log : List (List kinds.Action)) → IsSnapshotOf log c.args.snapshot.now → Follows objects schema log beside → ⊥ in
     IfOk-weaker c.wrong_group.result _ _ (λ o h. some_weaker P Q (λ none log of. follows_none objects schema log beside no_close (none log of)) o h) (c.wrong_group.ensures.breaks steady)
+
+pub returns-clause-why : goal.returns-clause-why
+returns-clause-why g c = λ steady.
+    let objects = g.R.ObjectReader.objects c.args.reader.now in
+    let schema = tree_of c.args.schema.now in
+    let beside = views c.args.beside.now in
+    let no_close : IsNoClose beside = rw c.in_default.is at c.in_ok-_application.ensures.only in
+    let P : Reason → Type 0 = λ reason. (log : List (List kinds.Action)) → IsSnapshotOf log c.args.snapshot.now → IsNoNext objects schema c.args.version log beside reason in
+    let Q : Reason → Type 0 = λ reason. IsNoClose beside × ((log : List (List kinds.Action)) → IsSnapshotOf log c.args.snapshot.now → IsNoNext objects schema c.args.version log beside reason) in
+    IfOk-weaker c.wrong_group.result _ _ (λ o why. some_each P Q (λ reason is. (no_close, is)) o why) (c.wrong_group.ensures.why steady)

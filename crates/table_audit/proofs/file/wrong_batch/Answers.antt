@@ -1,4 +1,4 @@
-use Rattle.std.proofs.Common.{◌≡◌, true, ℕ, List, string_bytes, ap, ◌∙◌}
+use Rattle.std.proofs.Common.{◌≡◌, true, ℕ, List, string_bytes, ap, subst, ◌∙◌}
 use Rattle.std.proofs.lemmas.Result.{IfOk-weaker}
 use Rattle.delta_actions.specs.Action.{add_view}
 use Rattle.delta_actions.specs.Names.{data_file_name}
@@ -7,7 +7,10 @@ use Rattle.schema_tree.specs.Schema.{tree_of}
 use Rattle.table_store.specs.Holds.{Stands}
 use Rattle.table_store.specs.Schema.{IsFileOf}
 use Rattle.table_audit.specs.Entries.{HasFile}
-use Rattle.table_audit.proofs.GroupParts.{some_weaker}
+use Rattle.table_audit.specs.Reasons.{IsNoBatch, IsNoFile}
+use Rattle.table_audit.specs.declared.reason.Reason.{Reason}
+use Rattle.table_audit.proofs.GroupParts.{some_each, some_weaker}
+use Rattle.table_audit.proofs.ReasonParts.{batch_by_file}
 use Rattle.table_audit.proofs.file.wrong_batch.Goals as goal
 
 pub returns-clause-breaks : goal.returns-clause-breaks
@@ -20,3 +23,16 @@ returns-clause-breaks g c = λ steady.
     let P : Type 0 = (rows : List Row) → Stands objects c.deref-2.result.now (λ bytes. IsFileOf schema bytes rows) → ⊥ in
     let Q : Type 0 = (add_view c.args.add.now).path.key ≡ data_file_name (string_bytes t.app_id) t.version → c.args.add.now.data_change ≡ true → HasFile objects schema (string_bytes t.app_id, t.version) → ⊥ in
     IfOk-weaker c.wrong_file.result _ _ (λ o none. some_weaker P Q (λ never key new has. never has.0 (rw name has.1)) o none) (c.wrong_file.ensures.breaks steady)
+
+pub returns-clause-why : goal.returns-clause-why
+returns-clause-why g c = λ steady.
+    let t = c.args.txn.now in
+    let objects = g.R.ObjectReader.objects c.args.reader.now in
+    let schema = tree_of c.args.schema.now in
+    let file = add_view c.args.add.now in
+    let name : c.deref-2.result.now ≡ data_file_name (string_bytes t.app_id) t.version =
+    c.deref-2.ensures ∙ c.in_ok-name.ensures ∙ ap (λ (application : List ℕ). data_file_name application t.version) c.deref.ensures in
+    let P : Reason → Type 0 = IsNoFile objects schema c.deref-2.result.now in
+    let Q : Reason → Type 0 = IsNoBatch objects schema (string_bytes t.app_id, t.version) file in
+    IfOk-weaker c.wrong_file.result _ _
+    (λ o why. some_each P Q (λ reason is. batch_by_file objects schema (string_bytes t.app_id, t.version) file reason (subst (λ (text : List ℕ). IsNoFile objects schema text reason) name is)) o why) (c.wrong_file.ensures.why steady)

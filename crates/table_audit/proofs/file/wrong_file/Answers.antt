@@ -1,4 +1,6 @@
-use Rattle.std.proofs.Common.{◌≡◌, ℕ, List, Some, string_bytes, refl, sym, subst, ◌∙◌}
+use Rattle.std.proofs.Common.{◌≡◌, ◌≢◌, ℕ, List, Err, Some, string_bytes, refl, sym, subst, ◌∙◌}
+use Rattle.parquet_file.specs.Reading.{rows_at}
+use Rattle.parquet_footer.specs.declared.fault.FileFault.TheVariants.{TooLarge}
 use Rattle.schema_tree.specs.Schema.{tree_of}
 use Rattle.store_core.specs.Objects.{object_at}
 use Rattle.table_store.specs.Schema.{IsFileOf}
@@ -21,3 +23,11 @@ returns-clause-large g c = λ steady.
     let there : object_at objects c.args.name.now ≡ Some c.in-Some.bytes.items = read_at objects _ _ _ (Some c.in-Some.bytes) (c.in_ok-bytes.ensures.object steady) refl c.in-Some.is in
     let large = rw c.in-Err-Fault.field-0-is at c.in-Err-Fault.ensures.large in
     told_large objects (tree_of c.args.schema.now) c.args.name.now (string_bytes c.in_ok-name-in-Err-Fault.name) c.in-Some.bytes.items c.deref.result.now there c.deref.ensures.value c.in_ok-name-in-Err-Fault.ensures.ok large
+
+pub returns-in-Ok-Some-clause-why : goal.returns-in-Ok-Some-clause-why
+returns-in-Ok-Some-clause-why g c = λ steady.
+    let objects = g.R.ObjectReader.objects c.args.reader.now in
+    let schema = tree_of c.args.schema.now in
+    let there : object_at objects c.args.name.now ≡ Some c.in-Some.bytes.items = read_at objects _ _ _ (Some c.in-Some.bytes) (c.in_ok-bytes.ensures.object steady) refl c.in-Some.is in
+    let why : (c.in-Ok-Some.fault ≢ TooLarge) × (rows_at c.deref.result.now schema ≡ Err c.in-Ok-Some.fault) = rw c.in-Ok-Some.field-0-is at c.in-Ok-Some.ensures.why in
+    (c.in_ok-name-in-Ok-Some.ensures.ok, why.0, (c.in-Some.bytes.items, there, rw c.deref.ensures.value at why.1))

@@ -9,6 +9,7 @@ use Rattle.table_store.specs.Groups.{AreFilesOf}
 use Rattle.table_store.proofs.GroupLemmas.{all_push, files_count, files_push, map_turn}
 use Rattle.table_audit.specs.Entries.{HasFile}
 use Rattle.table_audit.proofs.GroupParts.{all_at, file_at, file_of, number_of}
+use Rattle.table_audit.proofs.ReasonParts.{one_no_file}
 use Rattle.table_audit.proofs.group.wrong_files.Goals as goal
 
 pub returns-then-txns-adds-clause-breaks : goal.returns-then-txns-adds-clause-breaks
@@ -75,3 +76,25 @@ returns-clause-stand g c = λ steady.
       subst (λ (ts : List (Bor Txn)). AreFilesOf (map number_of ts) (map file_of adds)) all_n (subst (λ (files : List (Bor Add)). AreFilesOf (map number_of (take c.loop-i.i txns)) (map file_of files)) all_f c.loop-i.invariant.named),
       subst (λ (ts : List (Bor Txn)). AllByRecursion (HasFile objects schema) (map number_of ts)) all_n (c.loop-i.invariant.stand steady),
     )
+
+pub returns-then-txns-adds-clause-why : goal.returns-then-txns-adds-clause-why
+returns-then-txns-adds-clause-why g c = λ steady. (refl, λ same. c.if-txns-adds.true (sym (length-map c.args.txns.now number_of) ∙ (same ∙ length-map c.args.adds.now file_of)))
+
+pub returns-in-Some-clause-why : goal.returns-in-Some-clause-why
+returns-in-Some-clause-why g c = λ steady.
+    let txns = c.args.txns.now in
+    let adds = c.args.adds.now in
+    let i = c.loop-i.i in
+    let x = c.index-txns-i.result in
+    let y = c.index-adds-i.result in
+    let objects = g.R.ObjectReader.objects c.args.reader.now in
+    let n = number_of x in
+    let file = file_of y in
+    let count : length txns ≡ length adds = omega (arith, c.if-txns-adds.false) in
+    let at_n : n ≡ get_or (map number_of txns) i n = ap number_of c.index-txns-i.is ∙ sym (get_or-map number_of txns i x n (omega (arith, c.loop-i-test.true))) in
+    let at_file : file ≡ get_or (map file_of adds) i file = ap file_of c.index-adds-i.is ∙ sym (get_or-map file_of adds i y file (omega (arith, c.loop-i-test.true, count))) in
+    let low : i < length (map number_of txns) = omega (arith, c.loop-i-test.true, length-map txns number_of) in
+    let low_file : i < length (map file_of adds) = omega (arith, c.loop-i-test.true, count, length-map adds file_of) in
+    let left = c.loop-i.invariant.untouched steady in
+    one_no_file objects (tree_of c.args.schema.now) c.args.version (map number_of txns) (map file_of adds) n file c.in-Some.reason (i, low, low_file, at_n, at_file)
+    (rw (c.in-Some.is, left) at (c.in_ok-reason.ensures.why (c.loop-i.invariant.steady steady)))

@@ -8,7 +8,10 @@ use Rattle.schema_tree.specs.Schema.{tree_of}
 use Rattle.table_check.specs.Following.{AreNewIn}
 use Rattle.table_store.specs.Groups.{added, numbers}
 use Rattle.table_audit.specs.Entries.{GroupFollows, HaveFiles}
-use Rattle.table_audit.proofs.GroupParts.{file_of, follows_picked, no_files_picked, none_new_picked, none_weaker, number_of, seen_numbers, some_weaker}
+use Rattle.table_audit.specs.Reasons.{AreNoFiles, IsNoNext}
+use Rattle.table_audit.specs.declared.reason.Reason.{Reason}
+use Rattle.table_audit.proofs.GroupParts.{file_of, follows_picked, no_files_picked, none_new_picked, none_weaker, number_of, seen_numbers, some_each, some_weaker}
+use Rattle.table_audit.proofs.ReasonParts.{next_by_files, next_by_numbers, no_files_seen, old_picked}
 use Rattle.table_audit.proofs.group.wrong_group.Given as given
 use Rattle.table_audit.proofs.group.wrong_group.Goals as goal
 use Rattle.table_audit.proofs.group.wrong_group.Goals.{After-drop-txns-2}
@@ -55,3 +58,29 @@ returns-clause-breaks g c = λ steady.
     let P : Type 0 = HaveFiles objects schema ns files → ⊥ in
     let Q : Type 0 = (log : List (List kinds.Action)) → IsSnapshotOf log c.args.snapshot.now → GroupFollows objects schema log beside → ⊥ in
     IfOk-weaker c.wrong_files.result _ _ (λ o h. some_weaker P Q (λ none log of. no_files_picked objects schema log beside ns files (picked_numbers g c) (picked_files g c) none) o h) (c.wrong_files.ensures.breaks steady)
+
+pub returns-then-not-are_txns_and_adds-clause-why : goal.returns-then-not-are_txns_and_adds-clause-why
+returns-then-not-are_txns_and_adds-clause-why g c = λ steady log of. (refl, λ bs some group. let yes = c.are_txns_and_adds.ensures.found group.only in let both = sym yes ∙ c.if-not-are_txns_and_adds.true in cc)
+
+pub returns-in-Some-clause-why : goal.returns-in-Some-clause-why
+returns-in-Some-clause-why g c = λ steady log of.
+    let beside = views c.args.beside.now in
+    let version = c.args.version in
+    let are_ns : numbers beside ≡ map number_of c.deref.result.now =
+    ap (map (λ (t : TxnAction). (t.app_id, t.version))) (sym c.in_ok-txns.ensures) ∙ (seen_numbers c.in_ok-txns.txns.items ∙ ap (map number_of) (sym c.deref.ensures.value)) in
+    next_by_numbers (g.R.ObjectReader.objects c.args.reader.now) (tree_of c.args.schema.now) version log beside c.in-Some.reason
+    (old_picked log version c.in-Some.reason (numbers beside) (map number_of c.deref.result.now) are_ns ((rw c.in-Some.is at c.in_ok-reason.ensures.why) log of))
+
+pub returns-clause-why : goal.returns-clause-why
+returns-clause-why g c = λ steady.
+    let objects = g.R.ObjectReader.objects c.args.reader.now in
+    let schema = tree_of c.args.schema.now in
+    let beside = views c.args.beside.now in
+    let version = c.args.version in
+    let ns = map number_of c.deref-2.result.now in
+    let files = map file_of c.deref-3.result.now in
+    let P : Reason → Type 0 = AreNoFiles objects schema version ns files in
+    let Q : Reason → Type 0 = λ reason. (log : List (List kinds.Action)) → IsSnapshotOf log c.args.snapshot.now → IsNoNext objects schema version log beside reason in
+    IfOk-weaker c.wrong_files.result _ _
+    (λ o why. some_each P Q (λ reason is log of. next_by_files objects schema version log beside reason (no_files_seen objects schema version reason (numbers beside) ns (added beside) files (picked_numbers g c) (picked_files g c) is)) o why)
+    (c.wrong_files.ensures.why steady)

@@ -4,9 +4,11 @@ use Rattle.std.specs.Prelude.{is_some, string_bytes, refl}
 use Rattle.std.proofs.lemmas.List.{take_all}
 use Rattle.table_folder.specs.Faults.{SaveFailsAt, CountsSave, FailsWhereStood}
 use Rattle.table_folder.specs.Copies.{MayHaveSaved, new_names, saved_at, to_save, with_copies, with_copy}
+use Rattle.table_folder.specs.Traces.{made_all}
 use Rattle.table_folder.specs.declared.fault.SaveFault.{SaveFault}
 use Rattle.table_folder.proofs.CopyLemmas.{all_saved, kept_by_copies, whole_saved}
 use Rattle.table_folder.proofs.SaveLemmas.{absent_more, copies_more, counts_before, found_before, front_after, is_err, is_stored, kept_by_front, stood_before}
+use Rattle.table_folder.proofs.TraceLemmas.{traced_more, unsaved_behind}
 use Rattle.table_folder.proofs.saving.save.Goals as goal
 
 pub loop-name-preserved : goal.loop-name-preserved
@@ -26,6 +28,8 @@ loop-name-preserved g c =
           ∙ c.in_ok-save_one.ensures.fresh (c.loop-name.invariant.steady steady)
           ((λ i. is_some (object_at (store i) (c.as_str.ensures.value i)))
           ∙ is_stored _ _ c.deref-name-items.result.now c.loop-name.name-index c.name-item.result c.loop-name-test.true c.name-item.is all));
+      called = traced_more g.F.Folder.makes c.args.folder.now c.loop-name.folder c.save_one.new.folder _ _ c.deref-name-items.result.now c.loop-name.name-index c.name-item.result c.as_str.result.now
+          c.loop-name.invariant.store c.as_str.ensures.value c.loop-name-test.true c.name-item.is c.loop-name.invariant.called c.in_ok-save_one.ensures.called;
       steady = search rules;
       reliable = search rules;
       counted = search rules;
@@ -91,3 +95,15 @@ returns-clause-same g c = λ steady loaded has.
     c.loop-name.invariant.copied steady
     ∙ ap (with_copies (g.S.Store.objects c.args.store.now) (g.F.Folder.objects c.args.folder.now)) (all ∙ ap (λ names. to_save names (names_of (g.S.Store.objects c.args.store.now))) loaded)
     ∙ all_saved (g.F.Folder.objects c.args.folder.now) (g.S.Store.objects c.args.store.now) (g.met.F.Folder.in_order c.args.folder.now) (g.met.S.Store.in_order c.args.store.now) has
+
+pub returns-in_err-save_one-clause-called : goal.returns-in_err-save_one-clause-called
+returns-in_err-save_one-clause-called g c =
+    unsaved_behind g.F.Folder.makes c.args.folder.now c.loop-name.folder c.save_one.new.folder _ _ c.deref-name-items.result.now _ c.loop-name.name-index c.name-item.result c.as_str.result.now c.in_err-save_one.field-0.0 c.from_residual-in_err-save_one.result
+    c.loop-name.invariant.store c.as_str.ensures.value c.loop-name-test.true c.name-item.is (ap (map string_bytes) c.deref-name-items.ensures.value ∙ c.in_ok-names.ensures.names)
+    (is_err _ c.in_err-save_one.field-0.0 c.from_residual-in_err-save_one.ensures.1) c.loop-name.invariant.called c.in_err-save_one.ensures.called
+
+pub returns-clause-called : goal.returns-clause-called
+returns-clause-called g c =
+    let all : map string_bytes (take c.loop-name.name-index c.deref-name-items.result.now) ≡ new_names c.args.loaded.now (g.S.Store.objects c.args.store.now) =
+    ap (map string_bytes) (take_all _ _ c.loop-name-test.false ∙ c.deref-name-items.ensures.value) ∙ c.in_ok-names.ensures.names in
+    (made_all (g.S.Store.objects c.args.store.now) (map string_bytes (take c.loop-name.name-index c.deref-name-items.result.now)), c.loop-name.invariant.called, ap (made_all (g.S.Store.objects c.args.store.now)) all)

@@ -14,8 +14,8 @@ returns-in-Some-clause-runs g c = λ reliable s stands.
     let objects = g.S.Store.objects in
     let begun = c.in_ok-begin.ensures.happens s.world stands.world_stands in
     let still = subst (λ st. g.S.Store.is_reliable st.store) (sym c.begin.ensures.store) reliable in
-    ran_job objects c.args.scene.now s stands (job_view c.args.job) c.begin.new.self begun c.begin.ensures.can _ c.in-Some.outcome _
-    (c.in-Some.ensures.came still begun.later begun.stands (begun_alive objects c.args.scene.now s stands (job_view c.args.job) c.begin.new.self begun c.begin.ensures.can)) c.reply_of.ensures refl refl refl refl
+    ran_job objects c.args.scene.now s stands (job_view c.args.job) c.begin.new.self begun c.begin.ensures.can _ c.in-Some.outcome _ _
+    (c.in-Some.ensures.came still begun.later begun.stands (begun_alive objects c.args.scene.now s stands (job_view c.args.job) c.begin.new.self begun c.begin.ensures.can)) c.reply_of.ensures.told c.reply_of.ensures.short refl refl refl refl
 
 pub returns-in-None-clause-runs : goal.returns-in-None-clause-runs
 returns-in-None-clause-runs g c = λ reliable s stands.

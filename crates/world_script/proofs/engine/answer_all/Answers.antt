@@ -16,7 +16,7 @@ split rest text line after h e = ap (λ r. lines_left (option_map (λ a. a.now) 
 
 pub loop-rest-init : goal.loop-rest-init
 loop-rest-init g c = record {
-  so_far = λ reliable s stands. ([], Appends-none _, so_far_none g.S.Store.objects s c.args.text.now c.args.scene.now stands);
+  so_far = λ reliable s stands. ([], Appends-none _, so_far_none g.S.Store.objects s c.args.text.now c.args.scene.now c.args.is_short.now stands);
   behind = ([], Appends-none _, tt);
   reliable = λ reliable. reliable;
   found = refl;
@@ -32,8 +32,8 @@ loop-rest-preserved g c =
     let goes_on = not-true _ (sym c.in_ok-answer.ensures.goes_on ∙ c.if-not-branch.false) in
     record {
       so_far = λ reliable s stands.
-          let so = subst (λ ls. Tells (held contents c.args.output.now) (held contents c.loop-rest.output) (SoFar objects s c.args.text.now c.loop-rest.number c.loop-rest.scene ls)) here (c.loop-rest.invariant.so_far reliable s stands) in
-          told_next objects s c.args.text.now _ _ _ _ _ _ _ _ goes_on so (c.in_ok-answer.ensures.answers (c.loop-rest.invariant.reliable reliable) so.2.s so.2.stands);
+          let so = subst (λ ls. Tells (held contents c.args.output.now) (held contents c.loop-rest.output) (SoFar objects s c.args.text.now c.loop-rest.number c.loop-rest.scene ls c.args.is_short.now c.loop-rest.is_short)) here (c.loop-rest.invariant.so_far reliable s stands) in
+          told_next objects s c.args.text.now _ _ _ _ _ _ _ _ _ _ _ goes_on so (c.in_ok-answer.ensures.answers (c.loop-rest.invariant.reliable reliable) so.2.s so.2.stands);
       behind = tells_on _ _ _ c.loop-rest.invariant.behind c.in_ok-answer.ensures.behind;
       reliable = λ reliable. c.in_ok-answer.ensures.reliable (c.loop-rest.invariant.reliable reliable);
       found = sym (first_bad_next _ _ _ goes_on) ∙ (ap (first_bad_from c.loop-rest.number) (sym here) ∙ c.loop-rest.invariant.found);
@@ -45,42 +45,42 @@ loop-rest-preserved g c =
     }
 
 pub returns-then-not-branch-clause-plays : goal.returns-then-not-branch-clause-plays
-returns-then-not-branch-clause-plays g c = λ reliable s stands.
+returns-then-not-branch-clause-plays g c = λ reliable s stands fine.
     let objects = g.S.Store.objects in
     let contents = g.W.Write.contents in
     let here = split c.loop-rest.rest c.in-Some.text c.first_line.result.0 c.first_line.result.1 c.in-Some.is c.first_line.ensures.lines in
     let ends = not-false _ (sym c.in_ok-answer.ensures.goes_on ∙ c.if-not-branch.true) in
-    let so = subst (λ ls. Tells (held contents c.args.output.now) (held contents c.loop-rest.output) (SoFar objects s c.args.text.now c.loop-rest.number c.loop-rest.scene ls)) here (c.loop-rest.invariant.so_far reliable s stands) in
-    told_stops objects s c.args.text.now _ _ _ _ _ _ _ _ ends so (c.in_ok-answer.ensures.answers (c.loop-rest.invariant.reliable reliable) so.2.s so.2.stands)
+    let so = subst (λ ls. Tells (held contents c.args.output.now) (held contents c.loop-rest.output) (SoFar objects s c.args.text.now c.loop-rest.number c.loop-rest.scene ls c.args.is_short.now c.loop-rest.is_short)) here (c.loop-rest.invariant.so_far reliable s stands) in
+    told_stops objects s c.args.text.now _ _ _ _ _ _ _ _ _ _ _ fine ends so (c.in_ok-answer.ensures.answers (c.loop-rest.invariant.reliable reliable) so.2.s so.2.stands)
 
 pub returns-clause-plays : goal.returns-clause-plays
-returns-clause-plays g c = λ reliable s stands.
+returns-clause-plays g c = λ reliable s stands fine.
     let objects = g.S.Store.objects in
     let contents = g.W.Write.contents in
-    told_done objects s c.args.text.now _ _ _ _
-    (subst (λ ls. Tells (held contents c.args.output.now) (held contents c.loop-rest.output) (SoFar objects s c.args.text.now c.loop-rest.number c.loop-rest.scene ls)) (lines_left_none c.loop-rest.rest c.in_default.not-Some) (c.loop-rest.invariant.so_far reliable s stands))
+    told_done objects s c.args.text.now _ _ _ _ _ _ fine
+    (subst (λ ls. Tells (held contents c.args.output.now) (held contents c.loop-rest.output) (SoFar objects s c.args.text.now c.loop-rest.number c.loop-rest.scene ls c.args.is_short.now c.loop-rest.is_short)) (lines_left_none c.loop-rest.rest c.in_default.not-Some) (c.loop-rest.invariant.so_far reliable s stands))
 
 pub returns-clause-in_part : goal.returns-clause-in_part
 returns-clause-in_part g c = λ reliable s stands.
     let so = c.loop-rest.invariant.so_far reliable s stands in
-    so_far_part g.S.Store.objects s c.args.text.now _ _ _ so.0 so.2
+    so_far_part g.S.Store.objects s c.args.text.now _ _ _ _ _ so.0 so.2
 
 pub returns-then-not-branch-clause-in_part : goal.returns-then-not-branch-clause-in_part
 returns-then-not-branch-clause-in_part g c = λ reliable s stands.
     let objects = g.S.Store.objects in
     let contents = g.W.Write.contents in
     let here = split c.loop-rest.rest c.in-Some.text c.first_line.result.0 c.first_line.result.1 c.in-Some.is c.first_line.ensures.lines in
-    let so = subst (λ ls. Tells (held contents c.args.output.now) (held contents c.loop-rest.output) (SoFar objects s c.args.text.now c.loop-rest.number c.loop-rest.scene ls)) here (c.loop-rest.invariant.so_far reliable s stands) in
+    let so = subst (λ ls. Tells (held contents c.args.output.now) (held contents c.loop-rest.output) (SoFar objects s c.args.text.now c.loop-rest.number c.loop-rest.scene ls c.args.is_short.now c.loop-rest.is_short)) here (c.loop-rest.invariant.so_far reliable s stands) in
     let told = c.in_ok-answer.ensures.answers (c.loop-rest.invariant.reliable reliable) so.2.s so.2.stands in
-    cut_part objects s c.args.text.now _ _ _ _ _ so.0 so.2 (inr (told.0, told.2))
+    cut_part objects s c.args.text.now _ _ _ _ _ _ _ _ so.0 so.2 (inr (told.0, told.2))
 
 pub returns-in_err-answer-clause-in_part : goal.returns-in_err-answer-clause-in_part
 returns-in_err-answer-clause-in_part g c = λ reliable s stands.
     let objects = g.S.Store.objects in
     let contents = g.W.Write.contents in
     let here = split c.loop-rest.rest c.in-Some.text c.first_line.result.0 c.first_line.result.1 c.in-Some.is c.first_line.ensures.lines in
-    let so = subst (λ ls. Tells (held contents c.args.output.now) (held contents c.loop-rest.output) (SoFar objects s c.args.text.now c.loop-rest.number c.loop-rest.scene ls)) here (c.loop-rest.invariant.so_far reliable s stands) in
-    cut_part objects s c.args.text.now _ _ _ _ _ so.0 so.2 (c.in_err-answer.ensures.cut_off (c.loop-rest.invariant.reliable reliable) so.2.s so.2.stands)
+    let so = subst (λ ls. Tells (held contents c.args.output.now) (held contents c.loop-rest.output) (SoFar objects s c.args.text.now c.loop-rest.number c.loop-rest.scene ls c.args.is_short.now c.loop-rest.is_short)) here (c.loop-rest.invariant.so_far reliable s stands) in
+    cut_part objects s c.args.text.now _ _ _ _ _ _ _ _ so.0 so.2 (c.in_err-answer.ensures.cut_off (c.loop-rest.invariant.reliable reliable) so.2.s so.2.stands)
 
 pub returns-then-not-branch-clause-bad : goal.returns-then-not-branch-clause-bad
 returns-then-not-branch-clause-bad g c =

@@ -14,7 +14,7 @@ invariant-loop-rest g l =
     let lines = option_map (λ text. text.now) l.rest in
     record {
       so_far : g.S.Store.is_reliable l.fn.scene.world.store.store → (s : Scene) → SceneStands g.S.Store.objects l.fn.scene s
-          → Tells (held g.W.Write.contents l.fn.output) (held g.W.Write.contents l.output) (SoFar g.S.Store.objects s l.fn.text l.number l.scene (lines_left lines));
+          → Tells (held g.W.Write.contents l.fn.output) (held g.W.Write.contents l.output) (SoFar g.S.Store.objects s l.fn.text l.number l.scene (lines_left lines) l.fn.is_short l.is_short);
       behind : Tells (held g.W.Write.contents l.fn.output) (held g.W.Write.contents l.output) (λ written. ⊤);
       reliable : g.S.Store.is_reliable l.fn.scene.world.store.store → g.S.Store.is_reliable l.scene.world.store.store;
       found : first_bad_from l.number (lines_left lines) ≡ first_bad l.fn.text;

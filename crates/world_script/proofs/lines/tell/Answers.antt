@@ -7,4 +7,4 @@ execute-requires-clause-cache g c = c.new-cache.ensures (g.S.Store.objects c.arg
 
 pub returns-clause-tells : goal.returns-clause-tells
 returns-clause-tells g c = λ reliable s stands.
-    tells_so g.S.Store.objects c.args.scene.now s stands _ _ _ (c.execute.ensures.told reliable) c.execute.ensures.looks refl refl refl refl refl refl refl
+    tells_so g.S.Store.objects c.args.scene.now s stands _ _ _ _ (c.execute.ensures.told reliable) c.execute.ensures.short (c.execute.ensures.whole reliable) c.execute.ensures.looks refl refl refl refl refl refl refl

@@ -7,7 +7,7 @@ returns-in_default-clause-comes g c = λ reliable s stands. named_unknown g.S.St
 
 pub returns-then-part-clause-comes : goal.returns-then-part-clause-comes
 returns-then-part-clause-comes g c = λ reliable s stands.
-    rw c.refusal_told.ensures (named_refused g.S.Store.objects c.args.scene.now s stands c.args.name.now c.args.deed c.in-Some.part (sym c.part_of.ensures ∙ c.in-Some.is) _ c.if-part.true refl c.set_refused.ensures.set c.set_refused.ensures.others refl refl refl refl)
+    rw (c.refusal_told.ensures.told, c.refusal_told.ensures.short) (named_refused g.S.Store.objects c.args.scene.now s stands c.args.name.now c.args.deed c.in-Some.part (sym c.part_of.ensures ∙ c.in-Some.is) _ c.if-part.true refl c.set_refused.ensures.set c.set_refused.ensures.others refl refl refl refl)
 
 pub returns-then-not-has_session-clause-comes : goal.returns-then-not-has_session-clause-comes
 returns-then-not-has_session-clause-comes g c = λ reliable s stands.
@@ -17,5 +17,5 @@ returns-then-not-has_session-clause-comes g c = λ reliable s stands.
 pub returns-clause-comes : goal.returns-clause-comes
 returns-clause-comes g c = λ reliable s stands.
     let alive = c.has_session.ensures.there c.if-not-has_session.false s.world stands.world_stands in
-    named_done g.S.Store.objects c.args.scene.now s stands c.args.name.now c.args.deed c.in-Some.part (sym c.part_of.ensures ∙ c.in-Some.is) _ c.do_deed-outcome.result _ c.if-part.false alive
-    (c.do_deed-outcome.ensures.came reliable s.world stands.world_stands alive) c.reply_in.ensures refl refl refl refl refl
+    named_done g.S.Store.objects c.args.scene.now s stands c.args.name.now c.args.deed c.in-Some.part (sym c.part_of.ensures ∙ c.in-Some.is) _ c.do_deed-outcome.result _ _ c.if-part.false alive
+    (c.do_deed-outcome.ensures.came reliable s.world stands.world_stands alive) c.reply_in.ensures.told c.reply_in.ensures.short refl refl refl refl refl
