@@ -2,8 +2,8 @@ PREFIX ?= $(HOME)/.local
 COUNT ?= 10000
 SEEDS ?= 1
 
-.PHONY: believed bench demo documents documents-check edits folder inspect install lake model paths refusals samples \
-	schedules test times
+.PHONY: believed bench demo documents documents-check edits folder inspect install lake model names paths refusals \
+	samples schedules test times
 
 # Runs the stored script of the program without a proof, and shows each line before its replies.
 demo:
@@ -47,6 +47,11 @@ documents:
 # a few seconds, with Python 3.11, without a package. `.ci/run` does it first.
 documents-check:
 	@python3 scripts/documents.py
+
+# Looks that what files import of definitions and proofs stands there, in seconds and without a proof; of CRATES alone,
+# where they are given.
+names:
+	@python3 scripts/names.py $(CRATES)
 
 # The same of the refusals alone: the table of docs/REFUSALS.md is the one in code, and explains just its codes.
 refusals:

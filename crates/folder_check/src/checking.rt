@@ -1,9 +1,12 @@
 //! The table in a folder, judged.
-ghost use Rattle.std.specs.Prelude.{◌≡◌, IfOk, IfErr, true};
+ghost use Rattle.std.specs.Prelude.{◌≡◌, List, IfOk, IfErr, map, string_bytes, true};
 ghost use Rattle.store_core.specs.Calls.{HasRisen};
 ghost use Rattle.store_core.specs.Objects.{Objects};
 ghost use Rattle.table_audit.specs.LargeFiles as audits;
 ghost use Rattle.table_audit.specs.Verdicts.{IsVerdictOf};
+ghost use Rattle.table_folder.specs.Traces.{FolderCall, Traced};
+ghost use Rattle.folder_check.specs.Beside.{AreBeside};
+ghost use Rattle.folder_check.specs.Calls.{Checks};
 ghost use Rattle.folder_check.specs.Faults.{ComesOfACall, TellsLargeFile, TellsNoFile};
 
 use crate::beside::lines_beside;
@@ -31,6 +34,10 @@ impl<F: Folder, P: Progress> FolderReader<F, P> {
     pub fn check(&mut self, alloc: Global) -> Result<Report, CheckFault>
         // Over a steady folder the verdict is that of its files.
         ensures told { F.is_steady self.old.folder → IfOk result (λ report. IsVerdictOf (F.objects self.old.folder) report.verdict) }
+        // So are the lines of what lies beside the table.
+        ensures lies { F.is_steady self.old.folder → IfOk result (λ report. IfOk report.beside (λ lines. AreBeside (F.objects self.old.folder) (map string_bytes lines.items))) }
+        // Over any folder, whoever else writes into it, these calls of it are made, and no others.
+        ensures called { (calls : List FolderCall) × Traced F.makes self.old.folder calls self.new.folder × Checks result calls }
         ensures untouched { F.is_steady self.old.folder → F.objects self.new.folder ≡ F.objects self.old.folder }
         ensures steady { F.is_steady self.old.folder → F.is_steady self.new.folder }
         // Where a call of the folder is told as failed, one did.

@@ -1,5 +1,7 @@
 //! A table's folder, as the objects that an audit reads.
 ghost use Rattle.std.specs.Prelude.{◌≡◌, IfErr, None};
+ghost use Rattle.table_folder.specs.Traces.{looks};
+ghost use Rattle.folder_check.specs.Calls.{folder_call};
 ghost use Rattle.folder_check.specs.Faults.{TellsNoFile};
 
 use crate::fault::CheckFault;
@@ -46,6 +48,7 @@ impl<F: Folder, P: Progress> FolderReader<F, P> {
     pub(crate) fn leftovers(&mut self) -> Result<Vec<String>, CheckFault>
         ensures untouched { F.is_steady self.old.folder → F.objects self.new.folder ≡ F.objects self.old.folder }
         ensures steady { F.is_steady self.old.folder → F.is_steady self.new.folder }
+        ensures called { F.makes self.old.folder looks self.new.folder }
         ensures no_file { IfErr result TellsNoFile }
     {
         match self.folder.leftovers() {
@@ -76,7 +79,7 @@ impl<F: Folder, P: Progress> ObjectReader for FolderReader<F, P> {
 
     ghost is_reliable = { λ reader. F.is_reliable reader.folder };
 
-    ghost makes = { λ _ _. Unit {0} };
+    ghost makes = { λ old call new. F.makes old.folder (folder_call call) new.folder };
 
     fn names(&mut self) -> Result<Vec<String>, StoreFault> {
         match self.folder.names() {

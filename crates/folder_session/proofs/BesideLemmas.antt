@@ -159,7 +159,7 @@ none_told view (Some file) is = absurd cc
 
 -- the calls of a session's call make no file
 opened_makes_none : (names : List (List ℕ)) (name : List ℕ) (found : Option (List ℕ)) (call : FolderCall) → IsOpened names name found call → MakesNone call
-opened_makes_none names name found call (inl is) = subst MakesNone (sym is) tt
+opened_makes_none names name found call (inl is) = subst MakesNone (sym is.1) tt
 opened_makes_none names name found call (inr is) = subst MakesNone (sym is.1) tt
 
 put_makes_none : (added : Objects) (name : List ℕ) (told : Told) (calls : List FolderCall) → HearsPut added name told calls → MakeNone calls

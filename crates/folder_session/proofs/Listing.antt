@@ -1,13 +1,16 @@
--- A name that isn't found by halving isn't listed.
+-- A name is listed just where it is found by halving.
 use Rattle.std.proofs.Common.{◌≡◌, ◌<◌, ℕ, zero, suc, List, [], ◌∷◌, Bool, true, false, String, Result, Ok, Err, refl, sym, ap, subst, ◌∙◌, inl, inr, ◌⊎◌, ◌≤◌, arith, map, length}
-use Rattle.std.specs.Prelude.{Contains, bytes_eq, is_ok, slice_index_or, string_bytes}
+use Rattle.std.specs.Prelude.{Contains, IfOk, bytes_eq, is_ok, slice_index_or, string_bytes}
 use Rattle.std.specs.Global.{Global}
-use Rattle.std.specs.List.{list_any}
-use Rattle.std.specs.List.Sorted.{IsBinarySearchResult, IsPartitionPoint, IsStrictlySortedBy}
+use Rattle.std.specs.List.{HoldsAt, list_any}
+use Rattle.std.specs.List.Sorted.{IsBinarySearchResult, IsPartitionPoint, IsSearchInRange, IsStrictlySortedBy}
 use Rattle.std.specs.Ordering.{ordering_reverse}
-use Rattle.std.specs.declared.cmp.Ordering.TheVariants.{Less, Greater}
+use Rattle.std.specs.declared.cmp.Ordering.TheVariants.{Less, Equal, Greater}
 use Rattle.std.specs.String.{string_cmp}
 use Rattle.std.proofs.lemmas.Cmp.{nat_list_cmp_total, nat_list_eq_equiv}
+use Rattle.std.proofs.lemmas.List.{get_or-map, length-map}
+use Rattle.std.proofs.lemmas.List.Elements.{Contains-get_or}
+use Rattle.std.proofs.lemmas.Map.Lookups.{exact_bytes}
 use Rattle.std.proofs.lemmas.Map.Views.{list_any-from_Contains}
 use Rattle.std.proofs.lemmas.Slice.Eq.{bytes_eq-Decides}
 use Rattle.store_core.specs.Objects.{name_order}
@@ -53,3 +56,9 @@ not_listed names name (Ok i) rising is none among = absurd cc
 not_listed names name (Err i) rising is none among =
     let not = not_among names (string_bytes name) (not_there names name i (is (searchable names name rising))) in
     let wrong : true ≡ false = sym (list_any-from_Contains nat_list_eq_equiv (string_bytes name) (map string_bytes names) among) ∙ not in absurd cc
+
+pub is_listed : (names : List (String Global)) (name : String Global) (found : Result ℕ ℕ) → IsSearchInRange found (length names) → IfOk found (HoldsAt (λ other. string_cmp other name ≡ Equal) names) → is_ok found ≡ true → Contains (map string_bytes names) (string_bytes name)
+is_listed names name (Ok i) within here is =
+    subst (Contains (map string_bytes names)) (get_or-map string_bytes names i name (string_bytes name) within ∙ exact_bytes (string_bytes (slice_index_or names i name)) (string_bytes name) (here name))
+    (Contains-get_or (map string_bytes names) i (string_bytes name) (subst (λ (n : ℕ). i < n) (sym (length-map names string_bytes)) within))
+is_listed names name (Err i) within here is = absurd cc

@@ -43,9 +43,9 @@ put_by added (call ∷ talk) = put_by (put_so added call.0 call.1) talk
 
 -- ---- what is heard of the folder
 
--- a file was opened, and this was found: one of these names, which were listed, as such
+-- a file was opened, and this was found: one of these names, which were listed, as such, and another one as one that may not be there
 abbrev pub IsOpened : (names : List (List ℕ)) → (name : List ℕ) → (found : Option (List ℕ)) → FolderCall → Type 0
-IsOpened names name found call = (call ≡ reads name (Some found)) ⊎ ((Contains names name → ⊥) × (call ≡ finds name (Some found)))
+IsOpened names name found call = (Contains names name × (call ≡ reads name (Some found))) ⊎ ((Contains names name → ⊥) × (call ≡ finds name (Some found)))
 
 -- of names that were listed just these are told, unless memory ran out
 abbrev pub TellsNames : (names : List (List ℕ)) → Told → Type 0

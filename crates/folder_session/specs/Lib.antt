@@ -2,3 +2,5 @@ pub mod Beside
 pub mod Driving
 pub mod Runs
 pub mod Snapshots
+pub mod Tails
+pub mod Visible

@@ -1,10 +1,12 @@
 //! The loop that drives a session over a folder.
-ghost use Rattle.std.specs.Prelude.{◌≡◌, [], false, true, None, IfOk};
+ghost use Rattle.std.specs.Prelude.{◌≡◌, [], false, true, None, IfOk, MatchResult};
 ghost use Rattle.session_core.specs.Shown.{IsRead};
 ghost use Rattle.session_core.specs.Talks.{Asked, Talk};
 ghost use Rattle.table_folder.specs.Faults.{CountsLoad, IsNotLoaded};
+ghost use Rattle.table_folder.specs.Traces.{Traced};
 ghost use Rattle.front_reads.specs.Fronts.{visible};
 ghost use Rattle.folder_session.specs.Driving.{AreNames, ReadsBy};
+ghost use Rattle.folder_session.specs.Visible.{StopsVisible, TalksVisible, given_names};
 
 use crate::asking::ask;
 use session_core::{Session, Step};
@@ -31,6 +33,11 @@ pub(crate) fn drive_visible<F: Folder, N: Session>(
     // Over a steady folder it was driven by a talk that shows the folder's objects, as far as they are visible.
     ensures driven { F.is_steady folder.old → AreNames names (F.objects folder.old) → (before : Talk) → N.fits before session.old [] None
         → IfOk result (λ outcome. ReadsBy N.asks N.ends (N.job session.old) (N.left session.old) before outcome (visible front (F.objects folder.old))) }
+    // Over any folder, whoever else writes into it, it was driven by a talk of its own, in which it was told what the
+    // folder's calls told, as far as it is visible, or up to a call that failed. No other call is made of the folder.
+    ensures talks { (before : Talk) → N.fits before session.old [] None → MatchResult result
+        (λ outcome. TalksVisible N.asks N.ends (λ calls. Traced F.makes folder.old calls folder.new) front (given_names names) (N.job session.old) (N.left session.old) before outcome)
+        (λ _. StopsVisible N.asks (λ calls. Traced F.makes folder.old calls folder.new) front (given_names names) (N.job session.old) (N.left session.old) before) }
     ensures ended { IfOk result (λ outcome. N.done session.new ≡ true) }
     ensures same { N.job session.new ≡ N.job session.old }
     ensures never_lost { IfOk result (λ outcome. N.lost outcome ≡ false) }

@@ -1,7 +1,8 @@
 //! The snapshot of the table in a folder.
-ghost use Rattle.std.specs.Prelude.{◌≡◌, IfOk};
+ghost use Rattle.std.specs.Prelude.{◌≡◌, List, IfOk, MatchResult};
 ghost use Rattle.table_folder.specs.Faults.{CountsLoad, IsNotLoaded};
-ghost use Rattle.folder_session.specs.Snapshots.{IsSnapshot};
+ghost use Rattle.table_folder.specs.Traces.{FolderCall, MakeNone, Traced};
+ghost use Rattle.folder_session.specs.Snapshots.{IsSnapshot, TellsBy};
 
 use crate::beside::{Beside, drive_beside};
 use snapshot_core::{SnapshotFault, snapshot_text};
@@ -18,6 +19,10 @@ pub fn snapshot<F: Folder>(
     use_checkpoints: bool,
 ) -> Result<Result<Vec<u8>, SnapshotFault>, LoadFault>
     ensures told { F.is_steady folder.old → IfOk result (λ told. IsSnapshot use_checkpoints (F.objects folder.old) told) }
+    // Over any folder, whoever else writes into it, a load was driven by just these calls, and what it told is told.
+    ensures looked { MatchResult result
+        (λ told. (calls : List FolderCall) × Traced F.makes folder.old calls folder.new × TellsBy use_checkpoints told calls)
+        (λ _. (calls : List FolderCall) × Traced F.makes folder.old calls folder.new × MakeNone calls) }
     ensures untouched { F.is_steady folder.old → F.objects folder.new ≡ F.objects folder.old }
     ensures steady { F.is_steady folder.old → F.is_steady folder.new }
     ensures faults { CountsLoad result (F.fault_count folder.old) (F.fault_count folder.new) }

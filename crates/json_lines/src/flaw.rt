@@ -1,36 +1,54 @@
-//! Why a text is no JSON object, for a message. Nothing is claimed of it.
+//! Why a text is no JSON object, for a message. Nothing is claimed of which flaw is found.
+ghost use Rattle.std.specs.Prelude.{Some};
+ghost use Rattle.json_lines.specs.FlawTexts.{flaw_text};
 
 use serde_json::Value;
 use std::alloc::Global;
-use std::str;
+use std::fmt::{Display, Formatter};
+use std::{fmt, str};
 use thiserror::Error;
 
 /// Why a text is no JSON object, as far as a look at it tells. It is printed as what is said of the text. Bytes and
-/// lines are counted from 1, but for a text that is told to fail in front of a line's first byte.
+/// lines are counted from 1, but for a text that is told to fail in front of a line's first byte. Its texts are written
+/// by hand, so that contracts know them.
 #[derive(Clone, Copy, Debug, PartialEq, Eq, Error)]
 pub enum Flaw {
     /// It has no bytes.
-    #[error("is empty")]
     Empty,
     /// What begins at this byte is no UTF-8.
-    #[error("isn't UTF-8 at byte {0}")]
     NoText(usize),
     /// It is the front of a text that could be read.
-    #[error("ends too early")]
     CutShort,
     /// At this byte the token begins that can't be read, however far behind its start the fault lies; or the reader
     /// stopped right in front of it.
-    #[error("can't be read as JSON near byte {0}")]
     NoJson(usize),
     /// The same of this byte of a line behind the first one.
-    #[error("can't be read as JSON near byte {byte} of its line {line}")]
     NoJsonBelow { line: usize, byte: usize },
     /// It is another value.
-    #[error("is JSON, but no object")]
     NoObject,
     /// A growth was refused at the look.
-    #[error("is no JSON object")]
     Unknown,
+}
+
+impl Display for Flaw {
+    ghost output = { λ flaw. Some (flaw_text flaw) };
+
+    fn fmt<W: fmt::Write>(&self, f: &mut Formatter<W>) -> fmt::Result {
+        match self {
+            Flaw::Empty => f.write_str("is empty"),
+            Flaw::NoText(byte) => write!(f, "isn't UTF-8 at byte {byte}"),
+            Flaw::CutShort => f.write_str("ends too early"),
+            Flaw::NoJson(byte) => write!(f, "can't be read as JSON near byte {byte}"),
+            Flaw::NoJsonBelow { line, byte } => {
+                write!(
+                    f,
+                    "can't be read as JSON near byte {byte} of its line {line}"
+                )
+            }
+            Flaw::NoObject => f.write_str("is JSON, but no object"),
+            Flaw::Unknown => f.write_str("is no JSON object"),
+        }
+    }
 }
 
 /// Looks why a text is no JSON object. It is read once more, in time linear in it.

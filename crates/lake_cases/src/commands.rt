@@ -6,6 +6,7 @@ use case_calls::{Run, Script, SharedFolder};
 use case_words::Transcript;
 use folder_check::{FolderReader, NoProgress};
 use lake_command::{check_command, command, table_command};
+use lake_hints::ErrorOutput;
 use lake_script::{Input, Output};
 use lake_words::{Command, read_words};
 use std::{fs, mem};
@@ -64,14 +65,14 @@ fn tell_run(
     told: &mut Transcript,
 ) -> MemoryFolder {
     let mut written = Vec::new(told.alloc);
-    let mut err = Vec::new(told.alloc);
+    let mut err = ErrorOutput::new(Vec::new(told.alloc));
     let words = words_of(run.words, told);
     let folder = SharedFolder::new(told.alloc, files, &run.rivals);
     let mut reader = FolderReader::new(folder, NoProgress);
     let status = run_command(rt, script, run, &words, &mut reader, &mut written, &mut err);
     tell_written(&written, script.number_of("last"), told);
     told.tell("status", &status);
-    tell_written(&err, usize::MAX, told);
+    tell_written(&err.writer, usize::MAX, told);
     reader.folder.into_files()
 }
 
@@ -83,7 +84,7 @@ fn run_command(
     words: &[String],
     reader: &mut FolderReader<SharedFolder<'_>, NoProgress>,
     written: &mut Vec<u8>,
-    err: &mut Vec<u8>,
+    err: &mut ErrorOutput<Vec<u8>>,
 ) -> u8 {
     let mut input = Input::new(script.source(&run.input));
     let mut output = Output::new(rt.alloc(), script.sink(written));

@@ -1,5 +1,5 @@
 -- A run that is repeated: its commit's name was taken, and no call of the folder failed.
-use Rattle.std.proofs.Common.{◌≡◌, ◌⊎◌, ◌<◌, ◌-◌, ◌++◌, [], append_assoc, append-nil, arith, inl, inr, ℕ, suc, Bool, true, List, length, Option, Some, None, Result, Ok, Err, IfErr, IfSome, refl, sym, ap, subst}
+use Rattle.std.proofs.Common.{◌≡◌, ◌⊎◌, ◌<◌, ◌-◌, ◌++◌, ◌∙◌, [], append_assoc, append-nil, arith, inl, inr, ℕ, suc, Bool, true, List, length, Option, Some, None, Result, Ok, Err, IfErr, IfSome, refl, sym, ap, subst}
 use Rattle.std.specs.Prelude.{IsErrAnd}
 use Rattle.store_core.specs.Calls.{HasRisen}
 use Rattle.store_core.specs.Objects.{Objects}
@@ -7,6 +7,7 @@ use Rattle.table_folder.specs.Traces.{FolderCall, MakeNone, Traced}
 use Rattle.table_folder.specs.declared.fault.LoadFault.{LoadFault}
 use Rattle.table_folder.specs.declared.fault.LoadFault.TheVariants as loads
 use Rattle.table_folder.specs.declared.fault.SaveFault.TheVariants as saves
+use Rattle.table_folder.specs.declared.reason.Reason.TheVariants.{Taken}
 use Rattle.table_folder.proofs.Callers.{traced_on}
 use Rattle.script_lines.specs.Lines.{Statement, append, checkpoint, close, create, foreign, look, tail, task}
 use Rattle.lake_script.specs.declared.inputs.TheConstants.{MOST_BYTES}
@@ -41,6 +42,32 @@ pub left_counts : (result outcome : Result LineReply Failure) (old mid new : ℕ
 left_counts result (Err (Loading fault)) old mid new taken level is counts =
     taken_counts result old new taken (subst (λ (n : ℕ). HasRisen n new ⊎ (new ≡ n)) level (load_counts fault mid new counts))
 left_counts result _ old mid new taken level is counts = absurd is
+
+-- where a call failed at a file or at the folder, the count rose
+pub unread_risen : (outcome : Result LineReply Failure) (old mid new : ℕ) → mid ≡ old → IsErrAnd outcome (λ failure. IsLoading failure) → (IsErrAnd outcome (λ failure. failure ≡ Loading loads.Memory) → ⊥) → CountsFolderFault outcome mid new
+    → HasRisen old new
+unread_risen (Err (Loading (loads.NotLoaded name reason))) old mid new level is room counts = subst (λ (n : ℕ). HasRisen n new) level counts
+unread_risen (Err (Loading loads.Memory)) old mid new level is room counts = absurd (room refl)
+unread_risen _ old mid new level is room counts = absurd is
+
+-- where no memory was left to load the table, it stayed
+pub short_level : (outcome : Result LineReply Failure) (old mid new : ℕ) → mid ≡ old → IsErrAnd outcome (λ failure. failure ≡ Loading loads.Memory) → CountsFolderFault outcome mid new → new ≡ old
+short_level (Ok reply) old mid new level is counts = absurd is
+short_level (Err failure) old mid new level is counts = (subst (λ (f : Failure). CountsFolderFault {X = LineReply} (Err f) mid new) is counts) ∙ level
+
+-- the table isn't loaded then
+pub short_unread : (outcome : Result LineReply Failure) → IsErrAnd outcome (λ failure. failure ≡ Loading loads.Memory) → IsErrAnd outcome (λ failure. IsLoading failure)
+short_unread (Ok reply) is = absurd is
+short_unread (Err failure) is = subst (λ (f : Failure). IsLoading f) (sym is) tt
+
+-- where a commit's name was taken and the job isn't run again, it rose: the counts of faults that are compared are those of the folder
+pub taken_risen : (outcome : Result LineReply Failure) (old mid new before after : ℕ) → before ≡ mid → after ≡ new → mid ≡ old → CountsFolderFault outcome mid new → (IsTaken outcome → after ≡ before → HasRisen before after) → IsTaken outcome → HasRisen old new
+taken_risen (Err (Saving (saves.NotSaved name reason))) old mid new before after is_before is_after level counts failed taken = subst (λ (n : ℕ). HasRisen n new) level (by_count counts)
+  where
+    by_count : HasRisen mid new ⊎ ((new ≡ mid) × (reason ≡ Taken)) → HasRisen mid new
+    by_count (inl risen) = risen
+    by_count (inr same) = subst (λ (n : ℕ). HasRisen n new) is_before (subst (λ (n : ℕ). HasRisen before n) is_after (failed taken (is_after ∙ same.0 ∙ sym is_before)))
+taken_risen _ old mid new before after is_before is_after level counts failed taken = absurd taken
 
 -- ---- causes
 
@@ -114,12 +141,12 @@ taken_is_loaded (Err (Loading fault)) taken is = taken
 taken_is_loaded _ taken is = absurd taken
 
 -- one run more in front of those that have a version less
-pub run_before : (work : Work) (text : List ℕ) (use_checkpoints : Bool) (left : ℕ) (first outcome : Result LineReply Failure) (statement : Statement) (calls more : List FolderCall) → 1 < left
+pub run_before : (work : Work) (text : List ℕ) (use_checkpoints : Bool) (old new left : ℕ) (first outcome : Result LineReply Failure) (statement : Statement) (calls more : List FolderCall) → 1 < left
     → IsAskedBy work (Some text) statement → IsRunOf use_checkpoints left statement first calls → IsTaken first
-    → (IsErrAnd outcome (λ failure. IsLoading failure) → ⊥) → ComesOfRuns work text use_checkpoints (left - 1) outcome more → ComesOfRuns work text use_checkpoints left outcome (calls ++ more)
-run_before work text use_checkpoints left first outcome statement calls more some asked run taken loaded runs =
+    → (IsErrAnd outcome (λ failure. IsLoading failure) → ⊥) → ComesOfRuns work text use_checkpoints old new (left - 1) outcome more → ComesOfRuns work text use_checkpoints old new left outcome (calls ++ more)
+run_before work text use_checkpoints old new left first outcome statement calls more some asked run taken loaded runs =
     let one : left ≡ suc (left - 1) = omega arith in
-    subst (λ (n : ℕ). ComesOfRuns work text use_checkpoints n outcome (calls ++ more)) (sym one)
+    subst (λ (n : ℕ). ComesOfRuns work text use_checkpoints old new n outcome (calls ++ more)) (sym one)
     (come.again (left - 1) statement first outcome calls more (omega arith) asked (subst (λ (n : ℕ). IsRunOf use_checkpoints n statement first calls) one run) taken loaded runs)
 
 -- a run that couldn't read the folder made no file
@@ -129,81 +156,106 @@ unread_makes_none use_checkpoints tries statement _ _ (come.unsaved reply added 
 unread_makes_none use_checkpoints tries statement _ _ (come.unread fault calls none) loading = none
 
 -- Where runs have come: by these calls of the folder so far, behind those of the run before, to one that was refused by the last of
--- these; and what comes of the runs that are left comes of all.
-pub record HasRun (made : List FolderCall → Type 0) (work : Work) (text : List ℕ) (use_checkpoints : Bool) (tries left : ℕ) (before : List FolderCall) (refused : Result LineReply Failure) : Type 0 where
+-- these; and what comes of the runs that are left comes of all, however many faults the folder has counted by then.
+pub record HasRun (made : List FolderCall → Type 0) (work : Work) (text : List ℕ) (use_checkpoints : Bool) (old tries left : ℕ) (before : List FolderCall) (refused : Result LineReply Failure) : Type 0 where
   pub so_far : List FolderCall
   pub is_made : made so_far
   pub statement : Statement
   pub calls : List FolderCall
   pub asked : IsAskedBy work (Some text) statement
   pub run : IsRunOf use_checkpoints left statement refused calls
-  pub whole : (outcome : Result LineReply Failure) (more : List FolderCall) → (IsErrAnd outcome (λ failure. IsLoading failure) → ⊥) → ComesOfRuns work text use_checkpoints left outcome (calls ++ more)
-      → ComesOfRuns work text use_checkpoints tries outcome (before ++ (so_far ++ more))
+  pub whole : (new : ℕ) (outcome : Result LineReply Failure) (more : List FolderCall) → (IsErrAnd outcome (λ failure. IsLoading failure) → ⊥) → ComesOfRuns work text use_checkpoints old new left outcome (calls ++ more)
+      → ComesOfRuns work text use_checkpoints old new tries outcome (before ++ (so_far ++ more))
 
 -- nothing was run behind it yet
-pub first_run : (made : List FolderCall → Type 0) (work : Work) (text : List ℕ) (use_checkpoints : Bool) (tries : ℕ) (refused : Result LineReply Failure) (statement : Statement) (calls : List FolderCall)
-    → made [] → IsAskedBy work (Some text) statement → IsRunOf use_checkpoints tries statement refused calls → HasRun made work text use_checkpoints tries tries calls refused
-first_run made work text use_checkpoints tries refused statement calls none asked run = record {
+pub first_run : (made : List FolderCall → Type 0) (work : Work) (text : List ℕ) (use_checkpoints : Bool) (old tries : ℕ) (refused : Result LineReply Failure) (statement : Statement) (calls : List FolderCall)
+    → made [] → IsAskedBy work (Some text) statement → IsRunOf use_checkpoints tries statement refused calls → HasRun made work text use_checkpoints old tries tries calls refused
+first_run made work text use_checkpoints old tries refused statement calls none asked run = record {
   so_far = [];
   is_made = none;
   statement = statement;
   calls = calls;
   asked = asked;
   run = run;
-  whole = λ outcome more loaded runs. runs;
+  whole = λ new outcome more loaded runs. runs;
 }
 
-module _ {F : Type 0} (makes : F → FolderCall → F → Type 0) (work : Work) (text : List ℕ) (use_checkpoints : Bool) (tries left : ℕ) (before : List FolderCall) (refused : Result LineReply Failure) (first now : F)
-    (been : HasRun (λ calls. Traced makes first calls now) work text use_checkpoints tries left before refused) (taken : IsTaken refused) where
-  -- the last that was refused is told, behind calls that make no file
-  pub refused_last : (new : F) (behind : List FolderCall) → Traced makes now behind new → MakeNone behind
-      → (more : List FolderCall) × Traced makes first more new × ComesOfRuns work text use_checkpoints tries refused (before ++ more)
-  refused_last new behind traced none = (
-    been.so_far ++ behind,
-    traced_on makes first now new been.so_far behind been.is_made traced,
-    been.whole refused behind (taken_is_loaded refused taken) (come.last left been.statement refused been.calls behind been.asked been.run none),
-  )
+module _ {F : Type 0} (makes : F → FolderCall → F → Type 0) (work : Work) (text : List ℕ) (use_checkpoints : Bool) (old tries left : ℕ) (before : List FolderCall) (refused : Result LineReply Failure) (first now : F)
+    (been : HasRun (λ calls. Traced makes first calls now) work text use_checkpoints old tries left before refused) (taken : IsTaken refused) where
+  -- the last that was refused is told, where no try is left
+  pub refused_last : (new : ℕ) → left ≡ 1 → (more : List FolderCall) × Traced makes first more now × ComesOfRuns work text use_checkpoints old new tries refused (before ++ more)
+  refused_last new none =
+      let behind = subst (λ (calls : List FolderCall). ComesOfRuns work text use_checkpoints old new left refused calls) (sym (append-nil been.calls)) (come.last left been.statement refused been.calls been.asked been.run (λ is. inl none)) in (
+        been.so_far ++ [],
+        traced_on makes first now now been.so_far [] been.is_made refl,
+        been.whole new refused [] (taken_is_loaded refused taken) behind,
+      )
+
+  -- or where a call failed behind it, and none made a file
+  pub refused_unread : (end : F) (new : ℕ) (behind : List FolderCall) → 1 < left → Traced makes now behind end → MakeNone behind → HasRisen old new
+      → (more : List FolderCall) × Traced makes first more end × ComesOfRuns work text use_checkpoints old new tries refused (before ++ more)
+  refused_unread end new behind some traced none risen =
+      let one : left ≡ suc (left - 1) = omega arith in
+      let run = subst (λ (n : ℕ). IsRunOf use_checkpoints n been.statement refused been.calls) one been.run in
+      let told = subst (λ (n : ℕ). ComesOfRuns work text use_checkpoints old new n refused (been.calls ++ behind)) (sym one) (come.unreadable (left - 1) been.statement refused been.calls behind (omega arith) been.asked run taken none risen) in (
+        been.so_far ++ behind,
+        traced_on makes first now end been.so_far behind been.is_made traced,
+        been.whole new refused behind (taken_is_loaded refused taken) told,
+      )
+
+  -- or memory ran out behind it, and this is told
+  pub short_behind : (end : F) (new : ℕ) (behind : List FolderCall) → 1 < left → Traced makes now behind end → MakeNone behind
+      → (more : List FolderCall) × Traced makes first more end × ComesOfRuns work text use_checkpoints old new tries (Err (Saving saves.Memory)) (before ++ more)
+  short_behind end new behind some traced none =
+      let one : left ≡ suc (left - 1) = omega arith in
+      let run = subst (λ (n : ℕ). IsRunOf use_checkpoints n been.statement refused been.calls) one been.run in
+      let told = subst (λ (n : ℕ). ComesOfRuns work text use_checkpoints old new n (Err (Saving saves.Memory)) (been.calls ++ behind)) (sym one) (come.no_room (left - 1) been.statement refused been.calls behind (omega arith) been.asked run taken none) in (
+        been.so_far ++ behind,
+        traced_on makes first now end been.so_far behind been.is_made traced,
+        been.whole new (Err (Saving saves.Memory)) behind (λ is. is) told,
+      )
 
   -- one more is run and told
-  pub told_last : (new : F) (outcome : Result LineReply Failure) (statement : Statement) → 1 < left → IsAskedBy work (Some text) statement → (IsErrAnd outcome (λ failure. IsLoading failure) → ⊥)
-      → (calls : List FolderCall) × Traced makes now calls new × IsRunOf use_checkpoints (left - 1) statement outcome calls
-      → (more : List FolderCall) × Traced makes first more new × ComesOfRuns work text use_checkpoints tries outcome (before ++ more)
-  told_last new outcome statement some asked loaded run =
-      let behind = subst (λ (calls : List FolderCall). ComesOfRuns work text use_checkpoints (left - 1) outcome calls) (append-nil run.0) (come.last (left - 1) statement outcome run.0 [] asked run.2 tt) in (
+  pub told_last : (end : F) (new : ℕ) (outcome : Result LineReply Failure) (statement : Statement) → 1 < left → IsAskedBy work (Some text) statement → (IsErrAnd outcome (λ failure. IsLoading failure) → ⊥) → (IsTaken outcome → HasRisen old new)
+      → (calls : List FolderCall) × Traced makes now calls end × IsRunOf use_checkpoints (left - 1) statement outcome calls
+      → (more : List FolderCall) × Traced makes first more end × ComesOfRuns work text use_checkpoints old new tries outcome (before ++ more)
+  told_last end new outcome statement some asked loaded risen run =
+      let behind : ComesOfRuns work text use_checkpoints old new (left - 1) outcome run.0 = come.last (left - 1) statement outcome run.0 asked run.2 (λ is. inr (risen is)) in (
         been.so_far ++ run.0,
-        traced_on makes first now new been.so_far run.0 been.is_made run.1,
-        been.whole outcome run.0 loaded (run_before work text use_checkpoints left refused outcome been.statement been.calls run.0 some been.asked been.run taken loaded behind),
+        traced_on makes first now end been.so_far run.0 been.is_made run.1,
+        been.whole new outcome run.0 loaded (run_before work text use_checkpoints old new left refused outcome been.statement been.calls run.0 some been.asked been.run taken loaded behind),
       )
 
   -- one more is run, and was refused too
-  pub more_run : (new : F) (outcome : Result LineReply Failure) (statement : Statement) → 1 < left → IsAskedBy work (Some text) statement
-      → (calls : List FolderCall) × Traced makes now calls new × IsRunOf use_checkpoints (left - 1) statement outcome calls
-      → HasRun (λ calls. Traced makes first calls new) work text use_checkpoints tries (left - 1) before outcome
-  more_run new outcome statement some asked run = record {
+  pub more_run : (end : F) (outcome : Result LineReply Failure) (statement : Statement) → 1 < left → IsAskedBy work (Some text) statement
+      → (calls : List FolderCall) × Traced makes now calls end × IsRunOf use_checkpoints (left - 1) statement outcome calls
+      → HasRun (λ calls. Traced makes first calls end) work text use_checkpoints old tries (left - 1) before outcome
+  more_run end outcome statement some asked run = record {
     so_far = been.so_far ++ run.0;
-    is_made = traced_on makes first now new been.so_far run.0 been.is_made run.1;
+    is_made = traced_on makes first now end been.so_far run.0 been.is_made run.1;
     statement = statement;
     calls = run.0;
     asked = asked;
     run = run.2;
-    whole = λ told more loaded runs.
-        subst (λ (calls : List FolderCall). ComesOfRuns work text use_checkpoints tries told (before ++ calls)) (sym (append_assoc been.so_far run.0 more))
-        (been.whole told (run.0 ++ more) loaded (run_before work text use_checkpoints left refused told been.statement been.calls (run.0 ++ more) some been.asked been.run taken loaded runs));
+    whole = λ new told more loaded runs.
+        subst (λ (calls : List FolderCall). ComesOfRuns work text use_checkpoints old new tries told (before ++ calls)) (sym (append_assoc been.so_far run.0 more))
+        (been.whole new told (run.0 ++ more) loaded (run_before work text use_checkpoints old new left refused told been.statement been.calls (run.0 ++ more) some been.asked been.run taken loaded runs));
   }
 
 -- where the input fails nothing is run
-pub input_told : (made : List FolderCall → Type 0) (result : Result LineReply Failure) (failure : Failure) (work : Work) (text : Option (List ℕ)) (is_broken use_checkpoints : Bool) → result ≡ Err failure → IsOfInput failure work text is_broken
-    → RanAsAsked made work text is_broken use_checkpoints result
-input_told made result failure work text is_broken use_checkpoints is of =
-    subst (λ (r : Result LineReply Failure). RanAsAsked made work text is_broken use_checkpoints r) (sym is) (come.refused failure of)
+pub input_told : (made : List FolderCall → Type 0) (result : Result LineReply Failure) (failure : Failure) (work : Work) (text : Option (List ℕ)) (is_broken use_checkpoints : Bool) (old new : ℕ) → result ≡ Err failure → IsOfInput failure work text is_broken
+    → RanAsAsked made work text is_broken use_checkpoints old new result
+input_told made result failure work text is_broken use_checkpoints old new is of =
+    subst (λ (r : Result LineReply Failure). RanAsAsked made work text is_broken use_checkpoints old new r) (sym is) (come.refused failure of)
 
--- what else holds of the calls
-pub ran_so : (made other : List FolderCall → Type 0) (work : Work) (text : Option (List ℕ)) (is_broken use_checkpoints : Bool) (outcome : Result LineReply Failure) → ((calls : List FolderCall) → made calls → other calls)
-    → RanAsAsked made work text is_broken use_checkpoints outcome → RanAsAsked other work text is_broken use_checkpoints outcome
-ran_so made other work text is_broken use_checkpoints _ weaker (come.refused failure of) = come.refused failure of
-ran_so made other work text is_broken use_checkpoints _ weaker (come.not_there reply is told) = come.not_there reply is told
-ran_so made other work text is_broken use_checkpoints _ weaker (come.runs bytes outcome calls is traced comes) = come.runs bytes outcome calls is (weaker calls traced) comes
-ran_so made other work text is_broken use_checkpoints _ weaker (come.looks bytes statement outcome is asked none failed) = come.looks bytes statement outcome is asked none failed
+-- what else holds of the calls, and where no fault was counted before
+pub ran_so : (made other : List FolderCall → Type 0) (work : Work) (text : Option (List ℕ)) (is_broken use_checkpoints : Bool) (from old new : ℕ) (outcome : Result LineReply Failure) → old ≡ from → ((calls : List FolderCall) → made calls → other calls)
+    → RanAsAsked made work text is_broken use_checkpoints old new outcome → RanAsAsked other work text is_broken use_checkpoints from new outcome
+ran_so made other work text is_broken use_checkpoints from old new _ same weaker (come.refused failure of) = come.refused failure of
+ran_so made other work text is_broken use_checkpoints from old new _ same weaker (come.not_there reply is told) = come.not_there reply is told
+ran_so made other work text is_broken use_checkpoints from old new _ same weaker (come.runs bytes outcome calls is traced comes) =
+    come.runs bytes outcome calls is (weaker calls traced) (subst (λ (n : ℕ). ComesOfRuns work bytes use_checkpoints n new (tries_in work) outcome calls) same comes)
+ran_so made other work text is_broken use_checkpoints from old new _ same weaker (come.looks bytes statement outcome is asked none failed) = come.looks bytes statement outcome is asked none failed
 
 -- ---- which lines put something
 
@@ -237,15 +289,15 @@ taken_puts (Err (Saving fault)) statement reads taken = by_case (puts_or_not sta
     by_case (inr none) = absurd (reads none)
 taken_puts _ statement reads taken = absurd taken
 
--- one run, of a line that puts something or of one that doesn't
-pub run_once : {F : Type 0} (makes : F → FolderCall → F → Type 0) (work : Work) (known : Option (List ℕ)) (text : List ℕ) (is_broken use_checkpoints : Bool) (tries : ℕ) (statement : Statement) (outcome : Result LineReply Failure) (first now : F)
+-- one run, of a line that puts something or of one that doesn't, which isn't to be run again
+pub run_once : {F : Type 0} (makes : F → FolderCall → F → Type 0) (work : Work) (known : Option (List ℕ)) (text : List ℕ) (is_broken use_checkpoints : Bool) (old new tries : ℕ) (statement : Statement) (outcome : Result LineReply Failure) (first now : F)
     → tries ≡ tries_in work → IsTextOf work known text → IsAskedBy work (Some text) statement → (IsPutter statement → (calls : List FolderCall) × Traced makes first calls now × IsRunOf use_checkpoints tries statement outcome calls)
-    → ((IsPutter statement → ⊥) → IfErr outcome (λ failure. IsLoading failure)) → RanAsAsked (λ calls. Traced makes first calls now) work known is_broken use_checkpoints outcome
-run_once {F} makes work known text is_broken use_checkpoints tries statement outcome first now same is asked ran reads = by_line (puts_or_not statement)
+    → ((IsPutter statement → ⊥) → IfErr outcome (λ failure. IsLoading failure)) → (IsTaken outcome → HasRisen old new) → RanAsAsked (λ calls. Traced makes first calls now) work known is_broken use_checkpoints old new outcome
+run_once {F} makes work known text is_broken use_checkpoints old new tries statement outcome first now same is asked ran reads risen = by_line (puts_or_not statement)
   where
-    by_line : IsPutter statement ⊎ (IsPutter statement → ⊥) → RanAsAsked (λ calls. Traced makes first calls now) work known is_broken use_checkpoints outcome
+    by_line : IsPutter statement ⊎ (IsPutter statement → ⊥) → RanAsAsked (λ calls. Traced makes first calls now) work known is_broken use_checkpoints old new outcome
     by_line (inl puts) =
         let one = ran puts in
-        let comes = subst (λ (calls : List FolderCall). ComesOfRuns work text use_checkpoints tries outcome calls) (append-nil one.0) (come.last tries statement outcome one.0 [] asked one.2 tt) in
-        come.runs text outcome one.0 is one.1 (subst (λ (n : ℕ). ComesOfRuns work text use_checkpoints n outcome one.0) same comes)
+        let comes : ComesOfRuns work text use_checkpoints old new tries outcome one.0 = come.last tries statement outcome one.0 asked one.2 (λ is. inr (risen is)) in
+        come.runs text outcome one.0 is one.1 (subst (λ (n : ℕ). ComesOfRuns work text use_checkpoints old new n outcome one.0) same comes)
     by_line (inr none) = come.looks text statement outcome is asked none (reads none)

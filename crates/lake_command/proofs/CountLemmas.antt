@@ -8,6 +8,7 @@ use Rattle.script_lines.specs.Lines.{Statement}
 use Rattle.lake_script.specs.Streams.{write_failed}
 use Rattle.lake_script.specs.declared.outputs.Output.{Output}
 use Rattle.lake_script.specs.declared.reply.LineReply.{LineReply}
+use Rattle.lake_hints.specs.declared.error_output.ErrorOutput.{ErrorOutput}
 use Rattle.lake_words.specs.Asked.{Work}
 use Rattle.lake_words.specs.Asked as words
 use Rattle.lake_command.specs.Endings.{EndsWith, IsMisused}
@@ -51,25 +52,25 @@ left_alone failure work text is_broken of (inl by) = absurd (not_by_folder failu
 left_alone failure work text is_broken of (inr same) = same
 
 -- the status of a failure of the input
-pub input_ended : {W E : Type 0} (contents : W → Option (List ℕ)) (failure : Failure) (work : Work) (text : Option (List ℕ)) (is_broken : Bool) (old new : Output W) (err_old err_new : E) (exit : Exit)
-    → IsOfInput failure work text is_broken → EndsWith contents work (Err failure) old new err_old err_new exit → IsMisused text is_broken (write_failed new) exit
-input_ended contents Misused work text is_broken old new err_old err_new exit of (inl told) = inl told.status
-input_ended contents Misused work text is_broken old new err_old err_new exit of (inr untold) = let none = untold.meant in cc
-input_ended contents NotRead work text is_broken old new err_old err_new exit (reads, inl broken) ended = inr (inr (inl broken))
-input_ended contents NotRead work text is_broken old new err_old err_new exit (reads, inr long) ended = inr (inr (inr (inr long)))
-input_ended contents (BadLine number flaw) work text is_broken old new err_old err_new exit of (inl told) = inl told.status
-input_ended contents (BadLine number flaw) work text is_broken old new err_old err_new exit of (inr untold) = by_cause untold.cause
+pub input_ended : {W E : Type 0} (contents : W → Option (List ℕ)) (contents_err : E → Option (List ℕ)) (failure : Failure) (work : Work) (rows : ℕ) (text : Option (List ℕ)) (is_broken : Bool) (old new : Output W) (err_old err_new : ErrorOutput E) (exit : Exit)
+    → IsOfInput failure work text is_broken → EndsWith contents contents_err work rows (Err failure) old new err_old err_new exit → IsMisused text is_broken (write_failed new) exit
+input_ended contents contents_err Misused work rows text is_broken old new err_old err_new exit of (inl told) = inl told.status
+input_ended contents contents_err Misused work rows text is_broken old new err_old err_new exit of (inr untold) = let none = untold.meant in cc
+input_ended contents contents_err NotRead work rows text is_broken old new err_old err_new exit (reads, inl broken) ended = inr (inr (inl broken))
+input_ended contents contents_err NotRead work rows text is_broken old new err_old err_new exit (reads, inr long) ended = inr (inr (inr (inr long)))
+input_ended contents contents_err (BadLine number flaw) work rows text is_broken old new err_old err_new exit of (inl told) = inl told.status
+input_ended contents contents_err (BadLine number flaw) work rows text is_broken old new err_old err_new exit of (inr untold) = by_cause untold.cause
   where
     by_cause : (write_failed new ≡ true) ⊎ (exit.is_short ≡ true) → IsMisused text is_broken (write_failed new) exit
     by_cause (inl failed) = inr (inr (inr (inl failed)))
     by_cause (inr short) = inr (inl short)
-input_ended contents (Miscounted rows found) work text is_broken old new err_old err_new exit of (inl told) = inl told.status
-input_ended contents (Miscounted rows found) work text is_broken old new err_old err_new exit of (inr untold) = let none = untold.meant in cc
-input_ended contents Memory work text is_broken old new err_old err_new exit of (inl told) = inr (inl told.short)
-input_ended contents Memory work text is_broken old new err_old err_new exit of (inr untold) = by_cause untold.cause
+input_ended contents contents_err (Miscounted said found) work rows text is_broken old new err_old err_new exit of (inl told) = inl told.status
+input_ended contents contents_err (Miscounted said found) work rows text is_broken old new err_old err_new exit of (inr untold) = let none = untold.meant in cc
+input_ended contents contents_err Memory work rows text is_broken old new err_old err_new exit of (inl told) = inr (inl told.short)
+input_ended contents contents_err Memory work rows text is_broken old new err_old err_new exit of (inr untold) = by_cause untold.cause
   where
     by_cause : (write_failed new ≡ true) ⊎ (exit.is_short ≡ true) → IsMisused text is_broken (write_failed new) exit
     by_cause (inl failed) = inr (inr (inr (inl failed)))
     by_cause (inr short) = inr (inl short)
-input_ended contents (Loading fault) work text is_broken old new err_old err_new exit of ended = absurd of
-input_ended contents (Saving fault) work text is_broken old new err_old err_new exit of ended = absurd of
+input_ended contents contents_err (Loading fault) work rows text is_broken old new err_old err_new exit of ended = absurd of
+input_ended contents contents_err (Saving fault) work rows text is_broken old new err_old err_new exit of ended = absurd of

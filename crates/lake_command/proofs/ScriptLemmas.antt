@@ -13,14 +13,17 @@ use Rattle.lake_script.specs.Runs.{FallsShort, MayBeTold, Runs, Tells}
 use Rattle.lake_script.specs.Sound.{IsScriptRun}
 use Rattle.lake_script.specs.Scripts.{IsScript, IsExpectedOver}
 use Rattle.lake_script.specs.Tables.{nothing, entries_of, AreOfTable, expected_output as expected_by_table}
-use Rattle.lake_script.specs.Told.{ArePrintedLines, ArePutHere, IsTold, expected_output, Finishes}
+use Rattle.lake_script.specs.Told.{ArePrintedLines, ArePutHere, IsTold, expected_output, first_bad, Finishes}
 use Rattle.lake_words.specs.Asked.{Spells, replaying, restoring}
 use Rattle.lake_words.specs.declared.command.Command.{Command}
 use Rattle.lake_words.specs.declared.command.Command.TheVariants.{Script, Table}
 use Rattle.lake_words.specs.declared.command.TableCommand.{TableCommand}
 use Rattle.lake_command.specs.Scripts.{IsPlayedOver, IsPlayedSo, WritesScript}
 use Rattle.world_script.specs.Words.{needs_world}
-use Rattle.lake_command.specs.Status.{status_of}
+use Rattle.lake_hints.specs.ErrorOutputs.{TellsSome}
+use Rattle.lake_hints.specs.declared.error_output.ErrorOutput.{ErrorOutput}
+use Rattle.lake_command.specs.ErrorTexts.{IsBadLineTold, IsEndTold}
+use Rattle.lake_command.specs.Status.{status_at, status_of}
 use Rattle.world_script.specs.Playing.{PlaysSo, PlaysText}
 use Rattle.world_script.specs.Scenes.{first_scene}
 
@@ -113,6 +116,17 @@ pub so_of_run : (end : End) (old new : Option (List ℕ)) (text : List ℕ) (aft
 so_of_run end old new text after uses fine run here =
     let told = has_told end _ fine run here in
     (told.0, told.1, (after, told.2))
+
+-- why the first bad line of one that isn't refused is bad is told on standard error
+pub bad_line_told : {E : Type 0} (contents : E → Option (List ℕ)) (end : End) (input : Option (List ℕ)) (status : ℕ) (old new : ErrorOutput E) → status_of end ≢ 1 → status ≡ status_of end
+    → Finishes end (λ bad. IfSome input (λ text. bad ≡ first_bad text)) → TellsSome contents (IsEndTold end) old new
+    → IfSome input (λ text. (status ≡ status_at (first_bad text)) × TellsSome contents (IsBadLineTold (first_bad text)) old new)
+bad_line_told contents Done None status old new fine is run told = tt
+bad_line_told contents Done (Some text) status old new fine is run told = (is ∙ ap status_at run, subst (λ (bad : Option ℕ). TellsSome contents (IsBadLineTold bad) old new) run told)
+bad_line_told contents (BadLine number) None status old new fine is run told = tt
+bad_line_told contents (BadLine number) (Some text) status old new fine is run told = (is ∙ ap status_at run, subst (λ (bad : Option ℕ). TellsSome contents (IsBadLineTold bad) old new) run told)
+bad_line_told contents NotRead input status old new fine is run told = absurd (fine refl)
+bad_line_told contents NotWritten input status old new fine is run told = absurd (fine refl)
 
 -- words that ask for a script ask for no job on a folder
 pub no_job : (words : List (List ℕ)) (c : Command) (t : TableCommand) → Spells words c → Table t ≡ c → ⊥

@@ -1,8 +1,9 @@
 -- What a job tells over any folder, whoever else writes into it meanwhile, and which calls it makes of it: those of runs of its
 -- line, each behind a talk of its session in which it was told what the folder's calls told. What is told as done was saved by
 -- calls that say so.
-use Rattle.std.specs.Prelude.{◌≡◌, ◌≤◌, ◌++◌, ℕ, zero, suc, Bool, IfErr, IsErrAnd, List, [], Option, Some, Result, Ok, Err, string_bytes}
+use Rattle.std.specs.Prelude.{◌≡◌, ◌⊎◌, ◌≤◌, ◌++◌, ℕ, zero, suc, Bool, IfErr, IsErrAnd, List, [], Option, Some, Result, Ok, Err, string_bytes}
 use Rattle.std.specs.List.{Contains}
+use Rattle.store_core.specs.Calls.{HasRisen}
 use Rattle.store_core.specs.Objects.{Objects, names_of}
 use Rattle.table_folder.specs.Copies.{to_save}
 use Rattle.table_folder.specs.Traces.{FolderCall, MakeNone, Saves}
@@ -56,21 +57,29 @@ tries_in (words.append application number at tries rows) = at_least_one tries
 tries_in (words.close application at tries) = at_least_one tries
 tries_in _ = 1
 
--- The runs of a job that puts something, whose words let it try so many versions, with its input's text. Each is a run of the
--- line that the job asks for; each one behind the first is made where the one before came to a commit's name that was taken,
--- and tries a version less. What is told is what came of the last. Behind it there may be calls of one more that couldn't
--- read the folder, and made no file. The calls of the folder are those of these runs, and no others.
-pub data ComesOfRuns (work : Work) (text : List ℕ) (use_checkpoints : Bool) : (tries : ℕ) → Result LineReply Failure → List FolderCall → Type 0 where
-  last : (tries : ℕ) (statement : Statement) (outcome : Result LineReply Failure) (calls behind : List FolderCall) → IsAskedBy work (Some text) statement → IsRunOf use_checkpoints tries statement outcome calls → MakeNone behind
-      → ComesOfRuns work text use_checkpoints tries outcome (calls ++ behind)
+-- The runs of a job that puts something, whose words let it try so many versions, with its input's text. The folder had counted
+-- so many faults before the first, and so many behind the last. Each is a run of the line that the job asks for; each one behind
+-- the first is made where the one before came to a commit's name that was taken, and tries a version less. What is told is what
+-- came of the last. One that came to a commit's name that was taken is the last only where it had no further try, or where a
+-- call of the folder failed; or memory ran out, and this is told then. Behind it there may be calls of one more that couldn't read
+-- the folder, and made no file. The calls of the folder are those of these runs, and no others.
+pub data ComesOfRuns (work : Work) (text : List ℕ) (use_checkpoints : Bool) (old new : ℕ) : (tries : ℕ) → Result LineReply Failure → List FolderCall → Type 0 where
+  last : (tries : ℕ) (statement : Statement) (outcome : Result LineReply Failure) (calls : List FolderCall) → IsAskedBy work (Some text) statement → IsRunOf use_checkpoints tries statement outcome calls
+      → (IsTaken outcome → (tries ≡ 1) ⊎ HasRisen old new) → ComesOfRuns work text use_checkpoints old new tries outcome calls
+  unreadable : (tries : ℕ) (statement : Statement) (outcome : Result LineReply Failure) (calls behind : List FolderCall) → 1 ≤ tries → IsAskedBy work (Some text) statement → IsRunOf use_checkpoints (suc tries) statement outcome calls → IsTaken outcome
+      → MakeNone behind → HasRisen old new → ComesOfRuns work text use_checkpoints old new (suc tries) outcome (calls ++ behind)
+  no_room : (tries : ℕ) (statement : Statement) (first : Result LineReply Failure) (calls behind : List FolderCall) → 1 ≤ tries → IsAskedBy work (Some text) statement → IsRunOf use_checkpoints (suc tries) statement first calls → IsTaken first
+      → MakeNone behind → ComesOfRuns work text use_checkpoints old new (suc tries) (Err (Saving saves.Memory)) (calls ++ behind)
   again : (tries : ℕ) (statement : Statement) (first outcome : Result LineReply Failure) (calls more : List FolderCall) → 1 ≤ tries → IsAskedBy work (Some text) statement → IsRunOf use_checkpoints (suc tries) statement first calls → IsTaken first
-      → (IsErrAnd outcome (λ failure. IsLoading failure) → ⊥) → ComesOfRuns work text use_checkpoints tries outcome more → ComesOfRuns work text use_checkpoints (suc tries) outcome (calls ++ more)
+      → (IsErrAnd outcome (λ failure. IsLoading failure) → ⊥) → ComesOfRuns work text use_checkpoints old new tries outcome more → ComesOfRuns work text use_checkpoints old new (suc tries) outcome (calls ++ more)
 
--- What came of a job over any folder: its words or its input are refused, or it isn't there yet; or its runs told it, by calls
--- of the folder of which this holds. Of a job that puts nothing it is said that its failures are of reading the folder.
-pub data RanAsAsked (made : List FolderCall → Type 0) (work : Work) (known : Option (List ℕ)) (is_broken : Bool) (use_checkpoints : Bool) : Result LineReply Failure → Type 0 where
-  refused : (failure : Failure) → IsOfInput failure work known is_broken → RanAsAsked made work known is_broken use_checkpoints (Err failure)
-  not_there : (reply : LineReply) → IsNotYet work → reply_text reply ≡ not_yet → RanAsAsked made work known is_broken use_checkpoints (Ok reply)
-  runs : (text : List ℕ) (outcome : Result LineReply Failure) (calls : List FolderCall) → IsTextOf work known text → made calls → ComesOfRuns work text use_checkpoints (tries_in work) outcome calls → RanAsAsked made work known is_broken use_checkpoints outcome
+-- What came of a job over any folder, which had counted so many faults before it and so many behind it: its words or its input are
+-- refused, or it isn't there yet; or its runs told it, by calls of the folder of which this holds. Of a job that puts nothing it is
+-- said that its failures are of reading the folder.
+pub data RanAsAsked (made : List FolderCall → Type 0) (work : Work) (known : Option (List ℕ)) (is_broken : Bool) (use_checkpoints : Bool) (old new : ℕ) : Result LineReply Failure → Type 0 where
+  refused : (failure : Failure) → IsOfInput failure work known is_broken → RanAsAsked made work known is_broken use_checkpoints old new (Err failure)
+  not_there : (reply : LineReply) → IsNotYet work → reply_text reply ≡ not_yet → RanAsAsked made work known is_broken use_checkpoints old new (Ok reply)
+  runs : (text : List ℕ) (outcome : Result LineReply Failure) (calls : List FolderCall) → IsTextOf work known text → made calls → ComesOfRuns work text use_checkpoints old new (tries_in work) outcome calls
+      → RanAsAsked made work known is_broken use_checkpoints old new outcome
   looks : (text : List ℕ) (statement : Statement) (outcome : Result LineReply Failure) → IsTextOf work known text → IsAskedBy work (Some text) statement → (IsPutter statement → ⊥) → IfErr outcome (λ failure. IsLoading failure)
-      → RanAsAsked made work known is_broken use_checkpoints outcome
+      → RanAsAsked made work known is_broken use_checkpoints old new outcome

@@ -8,10 +8,15 @@ use Rattle.lake_script.specs.ReplyView.{reply_text}
 use Rattle.lake_script.specs.Streams.{held, write_failed, StandsIn}
 use Rattle.lake_script.specs.declared.inputs.TheConstants.{MOST_READS}
 use Rattle.lake_script.specs.declared.outputs.Output.{Output}
+use Rattle.lake_script.specs.declared.outputs.OutputError.{OutputError}
+use Rattle.lake_script.specs.declared.outputs.OutputError.TheVariants as outputs
 use Rattle.lake_script.specs.declared.reply.LineReply.{LineReply}
 use Rattle.lake_words.specs.Asked.{Work}
+use Rattle.lake_hints.specs.ErrorOutputs.{Tells, TellsSome}
 use Rattle.lake_hints.specs.Rowless.{creates_rowless}
+use Rattle.lake_hints.specs.declared.error_output.ErrorOutput.{ErrorOutput}
 use Rattle.lake_command.specs.Again.{RanAsAsked}
+use Rattle.lake_command.specs.ErrorTexts.{IsErrText, IsUnwrittenTold, failure_line}
 use Rattle.lake_command.specs.Failures.{HasCause, Leaves, failure_text}
 use Rattle.lake_command.specs.Folders.{IsJobAnswer}
 use Rattle.lake_command.specs.Status.{is_want_of_memory, refuses, status_of_failure}
@@ -53,28 +58,47 @@ is_explained work (Err (BadLine number flaw)) = true
 is_explained work (Err _) = false
 
 -- With a text: it is on the output, behind what was there, and standard error is as it was unless something is told
--- there. Without one the output is as it was, and standard error isn't looked at.
-abbrev pub IsWritten : {W E : Type 0} → (W → Option (List ℕ)) → Option (List ℕ) → (is_explained : Bool) → (old new : Output W) → (err_old err_new : E) → Type 0
+-- there. Without one the output is as it was.
+abbrev pub IsWritten : {W E : Type 0} → (W → Option (List ℕ)) → Option (List ℕ) → (is_explained : Bool) → (old new : Output W) → (err_old err_new : ErrorOutput E) → Type 0
 IsWritten contents (Some text) is_explained old new err_old err_new = Appends (held contents old) (contents new.writer) text × (is_explained ≡ false → err_new ≡ err_old)
 IsWritten contents None is_explained old new err_old err_new = new ≡ old
 
--- what came of a job is told, and the status is its own
-pub record IsToldWhole {W E : Type 0} (contents : W → Option (List ℕ)) (work : Work) (outcome : Result LineReply Failure) (old new : Output W) (err_old err_new : E) (exit : Exit) : Type 0 where
+-- What came of a job, which had so many rows, is told on both outputs, and the status is its own.
+pub record IsToldWhole {W E : Type 0} (contents : W → Option (List ℕ)) (contents_err : E → Option (List ℕ)) (work : Work) (rows : ℕ) (outcome : Result LineReply Failure) (old new : Output W) (err_old err_new : ErrorOutput E) (exit : Exit) : Type 0 where
   pub written : IsWritten contents (output_of outcome) (is_explained work outcome) old new err_old err_new
+  pub err_told : TellsSome contents_err (IsErrText work rows outcome) err_old err_new
   pub status : exit.status ≡ status_of_outcome work outcome
   pub short : exit.is_short ≡ is_short_outcome outcome
 
--- What came of a job isn't told, or not to its end: a write failed or a growth was refused, and the status is 1.
-pub record IsUntold {W : Type 0} (contents : W → Option (List ℕ)) (outcome : Result LineReply Failure) (old new : Output W) (exit : Exit) : Type 0 where
+-- What came of a job isn't told, or not to its end: a write failed or a growth was refused, which is told on standard error, and
+-- the status is 1.
+pub record IsUntold {W E : Type 0} (contents : W → Option (List ℕ)) (contents_err : E → Option (List ℕ)) (outcome : Result LineReply Failure) (old new : Output W) (err_old err_new : ErrorOutput E) (exit : Exit) : Type 0 where
   pub text : List ℕ
   pub meant : output_of outcome ≡ Some text
   pub front : StandsIn (held contents old) (contents new.writer) text
+  pub err_told : TellsSome contents_err IsUnwrittenTold err_old err_new
   pub cause : (write_failed new ≡ true) ⊎ (exit.is_short ≡ true)
   pub status : exit.status ≡ 1
 
-abbrev pub EndsWith : {W E : Type 0} → (W → Option (List ℕ)) → Work → Result LineReply Failure → (old new : Output W) → (err_old err_new : E) → Exit → Type 0
-EndsWith contents work outcome old new err_old err_new exit =
-    IsToldWhole contents work outcome old new err_old err_new exit ⊎ IsUntold contents outcome old new exit
+abbrev pub EndsWith : {W E : Type 0} → (W → Option (List ℕ)) → (E → Option (List ℕ)) → Work → (rows : ℕ) → Result LineReply Failure → (old new : Output W) → (err_old err_new : ErrorOutput E) → Exit → Type 0
+EndsWith contents contents_err work rows outcome old new err_old err_new exit =
+    IsToldWhole contents contents_err work rows outcome old new err_old err_new exit ⊎ IsUntold contents contents_err outcome old new err_old err_new exit
+
+-- the line of a failure is told where it belongs
+pub record IsLineTold {W E : Type 0} (contents : W → Option (List ℕ)) (contents_err : E → Option (List ℕ)) (failure : Failure) (old new : Output W) (err_old err_new : ErrorOutput E) : Type 0 where
+  pub written : IsWritten contents (output_of (Err failure)) true old new err_old err_new
+  pub err_told : Tells contents_err err_old err_new (failure_line failure)
+
+-- or not to its end on the output, where it is told
+pub record IsLineUntold {W E : Type 0} (contents : W → Option (List ℕ)) (failure : Failure) (old new : Output W) (err_old err_new : ErrorOutput E) : Type 0 where
+  pub meant : output_of (Err failure) ≡ Some (with_newline (failure_text failure))
+  pub front : StandsIn (held contents old) (contents new.writer) (with_newline (failure_text failure))
+  pub silent : err_new ≡ err_old
+
+-- a growth was refused
+abbrev pub is_memory : OutputError → Bool
+is_memory outputs.Memory = true
+is_memory outputs.Broken = false
 
 -- The status is that of words or of an input that can't be read, unless a read or a write failed, the input may have taken
 -- too many reads, or memory ran out.
@@ -82,19 +106,22 @@ abbrev pub IsMisused : (text : Option (List ℕ)) → (is_broken is_unwritten : 
 IsMisused text is_broken is_unwritten exit =
     (exit.status ≡ 2) ⊎ ((exit.is_short ≡ true) ⊎ ((is_broken ≡ true) ⊎ ((is_unwritten ≡ true) ⊎ IfSome text (λ bytes. MOST_READS ≤ length bytes))))
 
--- these calls were made of a folder of that path
-abbrev pub AreCallsAt : {F : Type 0} → (path_of : F → List ℕ) → (makes : F → FolderCall → F → Type 0) → (path : List ℕ) → List FolderCall → Type 0
-AreCallsAt {F} path_of makes path calls = (old new : F) × (path_of old ≡ path) × Traced makes old calls new
+-- these calls were made of a folder of that path, which had counted no fault before them, and so many behind them
+abbrev pub AreCallsAt : {F : Type 0} → (path_of : F → List ℕ) → (count_of : F → ℕ) → (makes : F → FolderCall → F → Type 0) → (path : List ℕ) → (faults : ℕ) → List FolderCall → Type 0
+AreCallsAt {F} path_of count_of makes path faults calls = (old new : F) × (path_of old ≡ path) × (count_of old ≡ 0) × (count_of new ≡ faults) × Traced makes old calls new
 
 -- What comes of a job, some reply or a failure, is told; a failure has its cause in the words or the input, or comes
--- from the folder, and what is told is what runs of what the words ask for tell, by calls of the folder of which this holds.
-pub record IsJobTold {W E : Type 0} (contents : W → Option (List ℕ)) (made : List FolderCall → Type 0) (use_checkpoints : Bool) (work : Work) (text : Option (List ℕ)) (is_broken : Bool) (old new : Output W) (err_old err_new : E) (exit : Exit) : Type 0 where
+-- from the folder, and what is told is what runs of what the words ask for tell, by calls of the folder of which this holds,
+-- with the count of its faults by then.
+pub record IsJobTold {W E : Type 0} (contents : W → Option (List ℕ)) (contents_err : E → Option (List ℕ)) (made : (faults : ℕ) → List FolderCall → Type 0) (use_checkpoints : Bool) (work : Work) (text : Option (List ℕ)) (is_broken : Bool) (old new : Output W) (err_old err_new : ErrorOutput E) (exit : Exit) : Type 0 where
   pub outcome : Result LineReply Failure
+  pub rows : ℕ
   pub cause : IfErr outcome (λ failure. HasCause failure work text is_broken)
-  pub ran : RanAsAsked made work text is_broken use_checkpoints outcome
-  pub told : EndsWith contents work outcome old new err_old err_new exit
+  pub faults : ℕ
+  pub ran : RanAsAsked (made faults) work text is_broken use_checkpoints 0 faults outcome
+  pub told : EndsWith contents contents_err work rows outcome old new err_old err_new exit
 
 -- or memory ran out, and nothing more is said
-abbrev pub TellsJob : {W E : Type 0} → (W → Option (List ℕ)) → (made : List FolderCall → Type 0) → (use_checkpoints : Bool) → Work → (text : Option (List ℕ)) → (is_broken : Bool) → (old new : Output W) → (err_old err_new : E) → Exit → Type 0
-TellsJob contents made use_checkpoints work text is_broken old new err_old err_new exit =
-    ((exit.status ≡ 1) × (exit.is_short ≡ true)) ⊎ IsJobTold contents made use_checkpoints work text is_broken old new err_old err_new exit
+abbrev pub TellsJob : {W E : Type 0} → (W → Option (List ℕ)) → (E → Option (List ℕ)) → (made : (faults : ℕ) → List FolderCall → Type 0) → (use_checkpoints : Bool) → Work → (text : Option (List ℕ)) → (is_broken : Bool) → (old new : Output W) → (err_old err_new : ErrorOutput E) → Exit → Type 0
+TellsJob contents contents_err made use_checkpoints work text is_broken old new err_old err_new exit =
+    ((exit.status ≡ 1) × (exit.is_short ≡ true)) ⊎ IsJobTold contents contents_err made use_checkpoints work text is_broken old new err_old err_new exit

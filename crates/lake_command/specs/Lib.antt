@@ -7,3 +7,5 @@ pub mod Scripts
 pub mod Checks
 pub mod Explaining
 pub mod Counts
+pub mod Codes
+pub mod ErrorTexts

@@ -26,17 +26,17 @@ use lake_words::{Job, TableCommand};
 use std::alloc::Global;
 use std::io::Read;
 use store_core::is_commit;
-use table_folder::{Folder, Reason, SaveFault};
+use table_folder::{Folder, LoadFault, Reason, SaveFault};
 
 /// The last moment there is, in milliseconds.
 const LAST_MOMENT: u64 = 999_999_999_999_999;
 
 /// Does a job on the table in a folder, and finds its reply. An append reads its rows from the input, one JSON object a
 /// line. Where saving is refused since another process put an append's or a close's commit meanwhile, the job is run
-/// again over the folder as it stands by then, as long as it has tries left: behind the last one, and where the table
-/// can't be read again, the failure is `Saving`. Each run takes time for the folder's names and the files that it
-/// opens. Loads aren't there yet. Where a reply comes of an append, `rows` is set to the count of its rows, for a
-/// message.
+/// again over the folder as it stands by then, as long as it has tries left: behind the last one, and where a further
+/// run can't read the table or finds no memory for it, the failure is `Saving`. Each run takes time for the folder's
+/// names and the files that it opens. Loads aren't there yet. Where a reply comes of an append, `rows` is set to the
+/// count of its rows, for a message.
 pub fn answer<F: Folder, R: Read>(
     alloc: Global,
     folder: &mut F,
@@ -73,8 +73,11 @@ pub fn answer<F: Folder, R: Read>(
     ensures input_untouched { reads_input (work_view command.entry.job) ≡ false → input.new ≡ input.old }
     // Over any folder, whoever else writes into it, runs of the line that this job asks for were made, with the rows of
     // this input, of which each but the last lost its version, and what is told is what came of the last; or the words or
-    // the input are refused. What is told as done was saved, by calls of the folder that say that they made it.
-    ensures runs { RanAsAsked (λ calls. Traced F.makes folder.old calls folder.new) (work_view command.entry.job) (unread R.remaining input.old) (read_failed input.new) command.entry.use_checkpoints result }
+    // the input are refused. What is told as done was saved, by calls of the folder that say that they made it. A run that
+    // lost its version is the last only where no try was left, or a call of the folder failed; or memory ran out, which is
+    // told then.
+    ensures runs { RanAsAsked (λ calls. Traced F.makes folder.old calls folder.new) (work_view command.entry.job) (unread R.remaining input.old) (read_failed input.new) command.entry.use_checkpoints
+        (F.fault_count folder.old) (F.fault_count folder.new) result }
     // What isn't there yet is told as such, without a look at the folder.
     ensures later { IsNotYet (work_view command.entry.job)
         → IsOkAnd result (λ reply. reply_text reply ≡ not_yet) × (folder.new ≡ folder.old) }
@@ -95,15 +98,16 @@ pub fn answer<F: Folder, R: Read>(
     let tries = tries_of(&command.job);
     let before = folder.faults();
     let outcome = execute_in(alloc, folder, line, tries, command.use_checkpoints);
-    if is_taken(&outcome) && none_failed(before, folder.faults()) {
+    if is_lost_race(&outcome, before, folder.faults()) {
         return run_again(alloc, folder, command, &text, tries, outcome);
     }
     outcome
 }
 
 /// Runs a job again whose commit's name was taken, over the folder as it stands by then: so many runs in all, each with
-/// the tries that are left, and the last one is told. Where the table isn't loaded, or no memory is left for the rows,
-/// the refusal of the run before is told, whose data file may stand. Each run costs as much as the first.
+/// the tries that are left, and the last one is told. Where a call of the folder fails while the table is loaded, the
+/// refusal of the run before is told, whose data file may stand; where no memory is left for the rows or the table, it
+/// is told that what was put isn't saved for want of memory. Each run costs as much as the first.
 fn run_again<F: Folder>(
     alloc: Global,
     folder: &mut F,
@@ -115,10 +119,12 @@ fn run_again<F: Folder>(
     requires taken { IsTaken refused }
     requires puts { (statement : Statement) × IsAskedBy (work_view command.job) (Some text.now) statement × IsPutter statement }
     requires tries { tries ≡ tries_in (work_view command.job) }
-    // Behind the run that was refused, by these calls, just those of further runs are made.
+    requires some { 1 ≤ tries }
+    // Behind the run that was refused, by these calls, just those of further runs are made: as long as tries are left, no
+    // call fails and memory suffices.
     ensures runs { (statement : Statement) (calls : List FolderCall) → IsAskedBy (work_view command.entry.job) (Some text.now) statement
         → IsRunOf command.entry.use_checkpoints tries statement refused calls → (more : List FolderCall) × Traced F.makes folder.old more folder.new
-        × ComesOfRuns (work_view command.entry.job) text.now command.entry.use_checkpoints tries result (calls ++ more) }
+        × ComesOfRuns (work_view command.entry.job) text.now command.entry.use_checkpoints (F.fault_count folder.old) (F.fault_count folder.new) tries result (calls ++ more) }
     // What a run has put may stand, so it isn't told that the folder can't be read.
     ensures loaded { IsErrAnd result (λ failure. IsLoading failure) → ⊥ }
     ensures caused { IfErr result (λ failure. IsByFolder failure) }
@@ -132,19 +138,33 @@ fn run_again<F: Folder>(
     while left > 1 {
         left -= 1;
         let Ok(Some(line)) = line_for(alloc, command.job, text) else {
-            return refused;
+            return Err(Failure::Saving(SaveFault::Memory));
         };
         let before = folder.faults();
         let outcome = execute_in(alloc, folder, line, left, command.use_checkpoints);
+        if has_no_room(&outcome) {
+            return Err(Failure::Saving(SaveFault::Memory));
+        }
         if is_unloaded(&outcome) {
             return refused;
         }
-        if !is_taken(&outcome) || !none_failed(before, folder.faults()) {
+        if !is_lost_race(&outcome, before, folder.faults()) {
             return outcome;
         }
         refused = outcome;
     }
     refused
+}
+
+/// Whether a job is to be run again: saving was refused since a commit's name is taken, and no call of the folder
+/// failed between two counts of its faults.
+fn is_lost_race(outcome: &Result<LineReply, Failure>, before: u64, after: u64) -> bool
+    ensures taken { result ≡ true → IsTaken outcome.now }
+    ensures same { result ≡ true → after ≡ before }
+    ensures none { result ≡ true → HasRisen before after → ⊥ }
+    ensures failed { result ≡ false → IsTaken outcome.now → after ≡ before → HasRisen before after }
+{
+    is_taken(outcome) && none_failed(before, after)
 }
 
 /// Whether saving was refused since a commit's name is taken.
@@ -164,6 +184,13 @@ fn is_taken(outcome: &Result<LineReply, Failure>) -> bool
     }
 }
 
+/// Whether no memory was left to load the table.
+fn has_no_room(outcome: &Result<LineReply, Failure>) -> bool
+    ensures { IsTrue result ↔ IsErrAnd outcome.now (λ failure. failure ≡ Failure.Loading LoadFault.Memory) }
+{
+    matches!(outcome, Err(Failure::Loading(LoadFault::Memory)))
+}
+
 /// Whether the table isn't loaded.
 fn is_unloaded(outcome: &Result<LineReply, Failure>) -> bool
     ensures { IsTrue result ↔ IsErrAnd outcome.now (λ failure. IsLoading failure) }
@@ -176,6 +203,7 @@ fn is_unloaded(outcome: &Result<LineReply, Failure>) -> bool
 fn none_failed(before: u64, after: u64) -> bool
     ensures same { result ≡ true → after ≡ before }
     ensures none { result ≡ true → HasRisen before after → ⊥ }
+    ensures failed { result ≡ false → after ≡ before → HasRisen before after }
 {
     after == before && before < u64::MAX
 }

@@ -1,15 +1,18 @@
 //! Whether the table in a folder is sound, told, and the exit status.
-ghost use Rattle.std.specs.Prelude.{◌≡◌, Err, IfOk, OnErr, OnOk, true};
+ghost use Rattle.std.specs.Prelude.{◌≡◌, Err, IfOk, OnErr, OnOk, codes, map, true};
 ghost use Rattle.std.specs.Io.KnownBytes.{Appends};
 ghost use Rattle.std.specs.String.{string_bytes};
 ghost use Rattle.lake_script.specs.Streams.{held, write_failed, StandsIn};
-ghost use Rattle.lake_command.specs.Checks.{Checks, IsOfVerdict, IsTextTold, status_of_verdict, too_large_text};
+ghost use Rattle.lake_hints.specs.ErrorOutputs.{Tells, TellsSome};
+ghost use Rattle.lake_hints.specs.Meanings.{IsMeaning};
+ghost use Rattle.lake_command.specs.Checks.{Checks, IsBeside, IsNothing, IsOfVerdict, IsTextTold, status_of_verdict, too_large_text};
+ghost use Rattle.lake_command.specs.ErrorTexts.{IsBesideFault, lines_text};
 
 use crate::exit::{DONE, Exit, REFUSED};
 use crate::failure::Failure;
 use crate::telling::{not_written, tell_failure};
 use folder_check::{CheckFault, FolderReader, Progress, Report};
-use lake_hints::explain;
+use lake_hints::{ErrorOutput, explain};
 use lake_script::{Output, OutputError};
 use std::alloc::{AllocError, Global};
 use std::io::Write;
@@ -24,12 +27,12 @@ pub fn check_command<F: Folder, P: Progress, W: Write, E: Write>(
     alloc: Global,
     reader: &mut FolderReader<F, P>,
     output: &mut Output<W>,
-    err: &mut E,
+    err: &mut ErrorOutput<E>,
 ) -> Exit
-    // The verdict is told, over a steady folder that of its files; or there is a reason why none is. A data file that is
-    // told as too large is, over a steady folder.
-    ensures ended { Checks W.contents (F.is_steady reader.old.folder) (F.objects reader.old.folder)
-        (F.fault_count reader.old.folder) (F.fault_count reader.new.folder) output.old output.new result }
+    // The verdict is told, over a steady folder that of its files, and on standard error what lies beside the table; or
+    // there is a reason why none is, which is told. A data file that is told as too large is, over a steady folder.
+    ensures ended { Checks W.contents E.contents (F.is_steady reader.old.folder) (F.objects reader.old.folder)
+        (F.fault_count reader.old.folder) (F.fault_count reader.new.folder) output.old output.new err.old err.new result }
     ensures untouched { F.is_steady reader.old.folder → F.objects reader.new.folder ≡ F.objects reader.old.folder }
     ensures steady { F.is_steady reader.old.folder → F.is_steady reader.new.folder }
 {
@@ -45,17 +48,30 @@ fn tell_report<W: Write, E: Write>(
     alloc: Global,
     report: &Report,
     output: &mut Output<W>,
-    err: &mut E,
+    err: &mut ErrorOutput<E>,
 ) -> Exit
-    ensures { IsTextTold W.contents (IsOfVerdict report.now.verdict) (status_of_verdict report.now.verdict)
-        output.old output.new result }
+    ensures { IsTextTold W.contents E.contents (IsOfVerdict report.now.verdict) (IsBeside report.now.beside)
+        (status_of_verdict report.now.verdict) output.old output.new err.old err.new result }
 {
-    let exit = match text_of(alloc, &report.verdict) {
-        Ok(text) => tell_text(&text, status_of(&report.verdict), output, err),
-        Err(_error) => not_written(OutputError::Memory, true, err),
-    };
+    let exit = tell_verdict(alloc, &report.verdict, output, err);
     tell_beside(&report.beside, err);
     exit
+}
+
+/// Tells a verdict.
+fn tell_verdict<W: Write, E: Write>(
+    alloc: Global,
+    verdict: &Verdict,
+    output: &mut Output<W>,
+    err: &mut ErrorOutput<E>,
+) -> Exit
+    ensures { IsTextTold W.contents E.contents (IsOfVerdict verdict.now) IsNothing (status_of_verdict verdict.now)
+        output.old output.new err.old err.new result }
+{
+    match text_of(alloc, verdict) {
+        Ok(text) => tell_text(&text, status_of(verdict), output, err),
+        Err(_error) => not_written(OutputError::Memory, true, err),
+    }
 }
 
 /// What is told of a verdict.
@@ -81,21 +97,33 @@ fn status_of(verdict: &Verdict) -> u8
     }
 }
 
-/// Tells that a data file is too large.
+/// Tells that a data file is too large, and what that means.
 fn tell_large<W: Write, E: Write>(
     alloc: Global,
     name: &str,
     output: &mut Output<W>,
-    err: &mut E,
+    err: &mut ErrorOutput<E>,
 ) -> Exit
-    ensures { IsTextTold W.contents (λ text. text ≡ too_large_text name.now) 1 output.old output.new result }
+    ensures { IsTextTold W.contents E.contents (λ text. text ≡ too_large_text name.now) (IsMeaning (codes "P9")) 1
+        output.old output.new err.old err.new result }
+{
+    let exit = tell_large_name(alloc, name, output, err);
+    explain("P9", err);
+    exit
+}
+
+/// Tells that a data file is too large.
+fn tell_large_name<W: Write, E: Write>(
+    alloc: Global,
+    name: &str,
+    output: &mut Output<W>,
+    err: &mut ErrorOutput<E>,
+) -> Exit
+    ensures { IsTextTold W.contents E.contents (λ text. text ≡ too_large_text name.now) IsNothing 1
+        output.old output.new err.old err.new result }
 {
     match format!(in alloc; "refused P9 TooLarge {name}\n") {
-        Ok(text) => {
-            let exit = tell_text(&text, REFUSED, output, err);
-            explain("P9", err);
-            exit
-        }
+        Ok(text) => tell_text(&text, REFUSED, output, err),
         Err(_error) => not_written(OutputError::Memory, true, err),
     }
 }
@@ -105,9 +133,10 @@ fn tell_text<W: Write, E: Write>(
     text: &str,
     status: u8,
     output: &mut Output<W>,
-    err: &mut E,
+    err: &mut ErrorOutput<E>,
 ) -> Exit
-    ensures { IsTextTold W.contents (λ bytes. bytes ≡ text.now) status output.old output.new result }
+    ensures { IsTextTold W.contents E.contents (λ bytes. bytes ≡ text.now) IsNothing status
+        output.old output.new err.old err.new result }
 {
     match give_text(text, output) {
         Ok(()) => Exit {
@@ -128,17 +157,29 @@ fn give_text<W: Write>(text: &str, output: &mut Output<W>) -> Result<(), OutputE
     output.flush()
 }
 
-/// Tells what lies beside a table, or why that isn't known. Where this fails, nothing is left to tell it on.
-fn tell_beside<E: Write>(beside: &Result<Vec<String>, CheckFault>, err: &mut E) {
+/// Tells what lies beside a table, or why that isn't known.
+fn tell_beside<E: Write>(beside: &Result<Vec<String>, CheckFault>, err: &mut ErrorOutput<E>)
+    ensures { TellsSome E.contents (IsBeside beside.now) err.old err.new }
+{
     match beside {
-        Ok(lines) => {
-            for line in lines {
-                let _ = err.writeln(line);
-            }
-        }
-        Err(fault) => {
-            let _ = err.writeln(format_args!("refused {fault}"));
-            explain("F1", err);
-        }
+        Ok(lines) => tell_lines(lines, err),
+        Err(fault) => tell_beside_fault(fault, err),
     }
+}
+
+/// Tells lines.
+fn tell_lines<E: Write>(lines: &[String], err: &mut ErrorOutput<E>)
+    ensures { Tells E.contents err.old err.new (lines_text (map string_bytes lines.now)) }
+{
+    for line in lines {
+        err.say(line);
+    }
+}
+
+/// Tells why it isn't known what lies beside a table, and what that means.
+fn tell_beside_fault<E: Write>(fault: &CheckFault, err: &mut ErrorOutput<E>)
+    ensures { TellsSome E.contents (IsBesideFault fault.now) err.old err.new }
+{
+    err.say(format_args!("refused {fault}"));
+    explain("F1", err)
 }

@@ -10,23 +10,25 @@ ghost use Rattle.lake_words.specs.Asked.{Spells, Work, check, explain, table, wo
 ghost use Rattle.lake_words.specs.Spelling.{SpellsJob};
 ghost use Rattle.lake_command.specs.Checks.{ChecksDisk};
 ghost use Rattle.lake_command.specs.Endings.{AreCallsAt, IsMisused, TellsJob};
-ghost use Rattle.lake_command.specs.Explaining.{IsExplained};
+ghost use Rattle.lake_command.specs.ErrorTexts.{IsBadLineTold, IsEndTold, IsScriptRefusal};
+ghost use Rattle.lake_command.specs.Explaining.{Explains};
 ghost use Rattle.lake_command.specs.Folders.{IsMiscounted, reads_input};
 ghost use Rattle.lake_command.specs.Scripts.{WritesScript, script_uses_checkpoints};
 ghost use Rattle.lake_words.specs.Words.{commands};
+ghost use Rattle.lake_hints.specs.ErrorOutputs.{TellsSome};
 
 use crate::checking::check_command;
 use crate::exit::{DONE, Exit, MISUSED, REFUSED};
 use crate::explaining::explain_command;
 use crate::failure::Failure;
-use crate::telling::{table_command, tell_failure};
+use crate::telling::{table_command, tell_failure, tell_fault};
 use clap::Error;
 use clap::error::ErrorKind;
 use folder_check::{FolderReader, Progress};
-use lake_hints::{explain, tell_bad_line};
-use lake_script::{End, Fault, Input, Output, RefusalText};
+use lake_hints::{ErrorOutput, tell_bad_line};
+use lake_script::{End, Fault, Input, Output};
 use lake_words::{Command, TableCommand, read_words};
-use std::alloc::AllocError;
+use std::alloc::{AllocError, Global};
 use std::convert::AsStr;
 use std::io::{Read, Write};
 use std::rt::Files;
@@ -46,23 +48,26 @@ fn misused(error: &Error) -> u8
 }
 
 /// The status of a script that ended so. Why a line is bad, by what was kept of it, and a fault of the program itself
-/// are told on `err`; where that fails too, nothing is left to tell it on.
-fn ended<E: Write>(end: End, kept: Option<&[u8]>, err: &mut E) -> u8
-    ensures { result ≡ status_of end }
+/// are told on `err`.
+fn ended<E: Write>(alloc: Global, end: End, kept: Option<&[u8]>, err: &mut ErrorOutput<E>) -> u8
+    ensures status { result ≡ status_of end }
+    ensures told { TellsSome E.contents (IsEndTold end) err.old err.new }
 {
-    let fault = match end {
-        End::Done => return DONE,
+    match end {
+        End::Done => DONE,
         End::BadLine(number) => {
-            tell_bad_line(number, kept, err);
-            return MISUSED;
+            tell_bad_line(alloc, number, kept, err);
+            MISUSED
         }
-        End::NotRead => Fault::NotRead,
-        End::NotWritten => Fault::NotWritten,
-    };
-    let code = if fault == Fault::NotRead { "F3" } else { "F4" };
-    let _ = err.writeln(RefusalText(fault));
-    explain(code, err);
-    REFUSED
+        End::NotRead => {
+            tell_fault(Fault::NotRead, "F3", err);
+            REFUSED
+        }
+        End::NotWritten => {
+            tell_fault(Fault::NotWritten, "F4", err);
+            REFUSED
+        }
+    }
 }
 
 /// The folder of that path on the disk.
@@ -82,9 +87,9 @@ fn command_on_disk<H: Files + AllocGlobal + Clone + Drop, R: Read, W: Write, E: 
     command: TableCommand<'_>,
     input: &mut Input<R>,
     output: &mut Output<W>,
-    err: &mut E,
+    err: &mut ErrorOutput<E>,
 ) -> Exit
-    ensures told { TellsJob W.contents (AreCallsAt ⟦<DirFolder<H> as Folder>⟧.path ⟦<DirFolder<H> as Folder>⟧.makes command.entry.folder.now)
+    ensures told { TellsJob W.contents E.contents (AreCallsAt ⟦<DirFolder<H> as Folder>⟧.path ⟦<DirFolder<H> as Folder>⟧.fault_count ⟦<DirFolder<H> as Folder>⟧.makes command.entry.folder.now)
         command.entry.use_checkpoints (work_view command.entry.job) (unread R.remaining input.old) (read_failed input.new)
         output.old output.new err.old err.new result }
     ensures counted { IsMiscounted (work_view command.entry.job) (unread R.remaining input.old)
@@ -106,10 +111,10 @@ fn check_on_disk<H: Files + AllocGlobal + Clone + Drop, P: Progress + Drop, W: W
     path: &str,
     progress: P,
     output: &mut Output<W>,
-    err: &mut E,
+    err: &mut ErrorOutput<E>,
 ) -> Exit
-    ensures { ChecksDisk W.contents ⟦<DirFolder<H> as Folder>⟧.path ⟦<DirFolder<H> as Folder>⟧.fault_count path.now
-        output.old output.new result }
+    ensures { ChecksDisk W.contents E.contents ⟦<DirFolder<H> as Folder>⟧.path ⟦<DirFolder<H> as Folder>⟧.fault_count path.now
+        output.old output.new err.old err.new result }
 {
     match open(rt, path) {
         Ok(folder) => {
@@ -137,7 +142,7 @@ pub fn command<
     words: &[S],
     input: &mut Input<R>,
     output: &mut Output<W>,
-    err: &mut E,
+    err: &mut ErrorOutput<E>,
     progress: P,
 ) -> Exit
     // A script that isn't refused writes what it is told.
@@ -145,7 +150,7 @@ pub fn command<
         → IfSome (unread R.remaining input.old) (λ text. WritesScript (script_uses_checkpoints c) text result.is_short
         (held W.contents output.old) (W.contents output.new.writer)) }
     ensures status { (c : Command) → Spells (map S.text words.now) c → result.status ≢ REFUSED
-        → IfSome (unread R.remaining input.old) (λ text. result.status ≡ status_at (first_bad text)) }
+        → IfSome (unread R.remaining input.old) (λ text. (result.status ≡ status_at (first_bad text)) × TellsSome E.contents (IsBadLineTold (first_bad text)) err.old err.new) }
 
     // A script is refused where its input or its output fails, or a growth was refused, and nowhere
     // else; an input that passes its limits is one that fails.
@@ -157,7 +162,7 @@ pub fn command<
     // cause there, unless memory runs out; all else is what runs of what the words ask for tell, over the folder that
     // they name. What it leaves in a folder on the disk isn't claimed.
     ensures job { (folder : List ℕ) (use_checkpoints : Bool) (work : Work) → SpellsJob (map S.text words.now) (table folder use_checkpoints work)
-        → TellsJob W.contents (AreCallsAt ⟦<DirFolder<H> as Folder>⟧.path ⟦<DirFolder<H> as Folder>⟧.makes folder)
+        → TellsJob W.contents E.contents (AreCallsAt ⟦<DirFolder<H> as Folder>⟧.path ⟦<DirFolder<H> as Folder>⟧.fault_count ⟦<DirFolder<H> as Folder>⟧.makes folder)
         use_checkpoints work (unread R.remaining input.old) (read_failed input.new) output.old output.new err.old err.new result }
     // An append whose input has another count of lines than its words say has the status 2, by the same rule.
     ensures counted { (folder : List ℕ) (use_checkpoints : Bool) (work : Work) → SpellsJob (map S.text words.now) (table folder use_checkpoints work)
@@ -169,11 +174,11 @@ pub fn command<
     // A check leaves the input alone, and tells a verdict with its status, or a reason why it tells none. That the
     // verdict is right of a folder on the disk isn't claimed.
     ensures checks { (folder : List ℕ) → SpellsJob (map S.text words.now) (check folder) → (input.new ≡ input.old)
-        × ChecksDisk W.contents ⟦<DirFolder<H> as Folder>⟧.path ⟦<DirFolder<H> as Folder>⟧.fault_count folder output.old output.new result }
+        × ChecksDisk W.contents E.contents ⟦<DirFolder<H> as Folder>⟧.path ⟦<DirFolder<H> as Folder>⟧.fault_count folder output.old output.new err.old err.new result }
 
     // What a code means is told, or that no refusal has it.
     ensures explains { (code : List ℕ) → SpellsJob (map S.text words.now) (explain code) → (input.new ≡ input.old)
-        × IsExplained W.contents code output.old output.new result }
+        × Explains W.contents E.contents code output.old output.new err.old err.new result }
 
     // Words that can't be read have the status of what is wrong with them, and run nothing.
     ensures misused { fault_of commands (map S.text words.now) ≢ [] → IsStatusOf (fault_of commands (map S.text words.now)) result.status result.is_short }
@@ -188,14 +193,14 @@ pub fn command<
             let store = MemoryStore::new(alloc);
             let ran = run(alloc, input, output, store, use_checkpoints);
             Exit {
-                status: ended(ran.outcome.end, ran.bad.as_deref(), err),
+                status: ended(alloc, ran.outcome.end, ran.bad.as_deref(), err),
                 is_short: ran.outcome.is_short(),
             }
         }
         Err(error) => {
             let status = misused(&error);
             let is_short = error.kind() == ErrorKind::OutOfMemory;
-            let _ = err.write_fmt(error);
+            err.show(error);
             Exit { status, is_short }
         }
     }

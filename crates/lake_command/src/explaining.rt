@@ -3,12 +3,14 @@ ghost use Rattle.std.specs.Prelude.{◌≡◌, Err, IfSome, OnOk, option_map, tr
 ghost use Rattle.std.specs.Io.KnownBytes.{Appends};
 ghost use Rattle.outcomes.specs.Lines.{with_newline};
 ghost use Rattle.lake_script.specs.Streams.{held, write_failed};
-ghost use Rattle.lake_command.specs.Explaining.{IsExplained, TellsCode, code_in};
+ghost use Rattle.lake_command.specs.Codes.{TellsCode, code_in};
+ghost use Rattle.lake_command.specs.Explaining.{IsExplained};
 ghost use Rattle.refusal_texts.specs.Texts.{refusal_text};
 
 use crate::exit::{DONE, Exit, MISUSED};
 use crate::failure::Failure;
 use crate::telling::not_written;
+use lake_hints::ErrorOutput;
 use lake_script::{Output, OutputError};
 use refusal_texts::{Refusal, refusal_named};
 use std::io::Write;
@@ -34,12 +36,12 @@ pub(crate) fn code_of(failure: &Failure) -> Option<&'static str>
 pub(crate) fn explain_command<W: Write, E: Write>(
     code: &str,
     output: &mut Output<W>,
-    err: &mut E,
+    err: &mut ErrorOutput<E>,
 ) -> Exit
-    ensures { IsExplained W.contents code.now output.old output.new result }
+    ensures { IsExplained W.contents E.contents code.now output.old output.new err.old err.new result }
 {
     let Some(refusal) = refusal_named(code) else {
-        let _ = err.writeln(format_args!("error: no refusal has the code '{code}'"));
+        err.say(format_args!("error: no refusal has the code '{code}'"));
         return Exit {
             status: MISUSED,
             is_short: false,

@@ -1,6 +1,6 @@
 //! The reply to a job on the table in a folder, told, and the exit status.
 ghost use Rattle.outcomes.specs.Lines.{with_newline};
-ghost use Rattle.std.specs.Prelude.{◌≡◌, ◌≢◌, ◌⊎◌, ◌||◌, ◌<◌, ℕ, List, true, false, Some, Result, Ok, Err, OnOk, OnErr};
+ghost use Rattle.std.specs.Prelude.{◌≡◌, ◌≢◌, ◌⊎◌, ◌||◌, ◌<◌, ℕ, List, true, false, Some, Result, Ok, Err, OnOk, OnErr, option_map};
 ghost use Rattle.std.specs.Io.KnownBytes.{Appends};
 ghost use Rattle.store_core.specs.Objects.{AreBytes, object_at};
 ghost use Rattle.lake_script.specs.SoundStores.{IsSoundStore};
@@ -9,8 +9,11 @@ ghost use Rattle.table_log.specs.Restoring.{RestoresWell};
 ghost use Rattle.lake_words.specs.Asked.{Work, work_view};
 ghost use Rattle.lake_script.specs.ReplyView.{reply_text};
 ghost use Rattle.lake_script.specs.Streams.{held, read_failed, unread, write_failed, StandsIn};
+ghost use Rattle.lake_hints.specs.ErrorOutputs.{AreInTurn, Tells, TellsSome};
 ghost use Rattle.lake_command.specs.Again.{RanAsAsked};
-ghost use Rattle.lake_command.specs.Endings.{EndsWith, IsMisused, IsOutcome};
+ghost use Rattle.lake_command.specs.Codes.{code_in};
+ghost use Rattle.lake_command.specs.Endings.{EndsWith, IsLineTold, IsLineUntold, IsMisused, IsOutcome, is_memory};
+ghost use Rattle.lake_command.specs.ErrorTexts.{IsFaultTold, IsMeaningIn, IsUnwrittenTold, failure_hint, is_told_as_reply};
 ghost use Rattle.lake_command.specs.Failures.{ComesOfACall, IsCaused, failure_text};
 ghost use Rattle.lake_command.specs.Status.{ends_early, has_refusal, is_refusal, is_want_of_memory, refuses, status_of_failure};
 ghost use Rattle.lake_command.specs.Folders.{IsAnsweredJob, IsMiscounted, reads_input};
@@ -19,7 +22,7 @@ use crate::answering::answer;
 use crate::exit::{DONE, Exit, MISUSED, REFUSED};
 use crate::explaining::code_of;
 use crate::failure::Failure;
-use lake_hints::{explain, explain_reply, hint_reason, hint_refusal, note_rowless};
+use lake_hints::{ErrorOutput, explain, explain_reply, hint_reason, hint_refusal, note_rowless};
 use lake_script::{Fault, Input, LineReply, Output, OutputError, RefusalText};
 use lake_words::{Job, TableCommand};
 use std::alloc::Global;
@@ -34,7 +37,7 @@ pub fn table_command<F: Folder, R: Read, W: Write, E: Write>(
     command: TableCommand<'_>,
     input: &mut Input<R>,
     output: &mut Output<W>,
-    err: &mut E,
+    err: &mut ErrorOutput<E>,
 ) -> Exit
     // Over a steady folder whose checkpoints are sound, or with all commits read, a job that is done writes the reply
     // of the same line of a script over the folder's objects, and the folder then holds what that line leaves.
@@ -43,15 +46,17 @@ pub fn table_command<F: Folder, R: Read, W: Write, E: Write>(
         (held W.contents output.old) (W.contents output.new.writer) (F.objects folder.new) }
     // However it ends, there is a reply, or a failure that has its cause; over such a folder it is the answer, or
     // leaves what it may, and over any folder it is what runs of what the words ask for tell. It is told where it belongs,
-    // with its status, or a write failed or a growth was refused, and the status is 1.
-    ensures ended { (outcome : Result LineReply Failure)
+    // and on standard error what it means and what to do, with its status, or a write failed or a growth was refused,
+    // which is told there, and the status is 1.
+    ensures ended { (outcome : Result LineReply Failure) × (rows : ℕ)
         × (F.is_steady folder.old → RestoresWell command.entry.use_checkpoints (F.objects folder.old)
         → IsOutcome outcome (work_view command.entry.job) (unread R.remaining input.old) (F.objects folder.old) (F.objects folder.new)
         × ComesOfACall outcome (F.fault_count folder.old) (F.fault_count folder.new))
         × IsCaused outcome (work_view command.entry.job) (unread R.remaining input.old) (read_failed input.new)
         (F.fault_count folder.old) (F.fault_count folder.new)
-        × RanAsAsked (λ calls. Traced F.makes folder.old calls folder.new) (work_view command.entry.job) (unread R.remaining input.old) (read_failed input.new) command.entry.use_checkpoints outcome
-        × EndsWith W.contents (work_view command.entry.job) outcome output.old output.new err.old err.new result }
+        × RanAsAsked (λ calls. Traced F.makes folder.old calls folder.new) (work_view command.entry.job) (unread R.remaining input.old) (read_failed input.new) command.entry.use_checkpoints
+        (F.fault_count folder.old) (F.fault_count folder.new) outcome
+        × EndsWith W.contents E.contents (work_view command.entry.job) rows outcome output.old output.new err.old err.new result }
     // An append whose input has another count of lines than its words say isn't run: the folder isn't touched, and the
     // status is 2, unless the input can't be read, its bad line can't be written or memory runs out.
     ensures counted { IsMiscounted (work_view command.entry.job) (unread R.remaining input.old) → (folder.new ≡ folder.old)
@@ -81,12 +86,12 @@ fn tell<W: Write, E: Write>(
     job: Job<'_>,
     rows: u64,
     output: &mut Output<W>,
-    err: &mut E,
+    err: &mut ErrorOutput<E>,
 ) -> Exit
     ensures told { result.status ≡ DONE
         → Appends (held W.contents output.old) (W.contents output.new.writer) (reply_text reply.now) }
     ensures done { result.status ≡ DONE → refuses (work_view job.entry) reply.now ≡ false }
-    ensures ended { EndsWith W.contents (work_view job.entry) (Ok reply.now) output.old output.new err.old err.new result }
+    ensures ended { EndsWith W.contents E.contents (work_view job.entry) rows (Ok reply.now) output.old output.new err.old err.new result }
 {
     let is_short = reply.is_short();
     if let Err(error) = give(reply, output) {
@@ -117,17 +122,36 @@ fn give<W: Write>(reply: &LineReply, output: &mut Output<W>) -> Result<(), Outpu
     output.flush()
 }
 
-/// Tells that a reply wasn't written. Where this fails too, nothing is left to tell it on.
-pub(crate) fn not_written<E: Write>(error: OutputError, is_short: bool, err: &mut E) -> Exit
+/// Tells that a reply wasn't written.
+pub(crate) fn not_written<E: Write>(
+    error: OutputError,
+    is_short: bool,
+    err: &mut ErrorOutput<E>,
+) -> Exit
     ensures status { result.status ≡ REFUSED }
-    ensures short { (result.is_short ≡ true) ⊎ (error ≡ OutputError.Broken) }
+    ensures short { result.is_short ≡ (is_short || is_memory error) }
+    ensures told { TellsSome E.contents IsUnwrittenTold err.old err.new }
 {
-    let _ = err.writeln(RefusalText(Fault::NotWritten));
-    explain("F4", err);
+    tell_fault(Fault::NotWritten, "F4", err);
     Exit {
         status: REFUSED,
-        is_short: is_short || error == OutputError::Memory,
+        is_short: is_short || is_memory(error),
     }
+}
+
+/// Whether a growth was refused.
+fn is_memory(error: OutputError) -> bool
+    ensures { result ≡ is_memory error }
+{
+    matches!(error, OutputError::Memory)
+}
+
+/// Tells a fault of the program itself, and what its code means.
+pub(crate) fn tell_fault<E: Write>(fault: Fault, code: &str, err: &mut ErrorOutput<E>)
+    ensures { TellsSome E.contents (IsFaultTold fault code.now) err.old err.new }
+{
+    err.say(RefusalText(fault));
+    explain(code, err)
 }
 
 /// Tells why there is no reply, and what that means. A bad line goes where replies go, and what is wrong with it to
@@ -135,18 +159,14 @@ pub(crate) fn not_written<E: Write>(error: OutputError, is_short: bool, err: &mu
 pub(crate) fn tell_failure<W: Write, E: Write>(
     failure: &Failure,
     output: &mut Output<W>,
-    err: &mut E,
+    err: &mut ErrorOutput<E>,
 ) -> Exit
     ensures status { result.status ≢ DONE }
-    ensures ended { (work : Work) → EndsWith W.contents work (Err failure.now) output.old output.new err.old err.new result }
+    ensures ended { (work : Work) (rows : ℕ) → EndsWith W.contents E.contents work rows (Err failure.now) output.old output.new err.old err.new result }
 {
     let is_short = is_want_of_memory(failure);
-    if matches!(failure, Failure::BadLine(..) | Failure::Memory) {
-        if let Err(error) = say(failure, output) {
-            return not_written(error, is_short, err);
-        }
-    } else {
-        let _ = err.writeln(failure);
+    if let Err(error) = tell_line(failure, output, err) {
+        return not_written(error, is_short, err);
     }
     explain_failure(failure, err);
     Exit {
@@ -155,23 +175,56 @@ pub(crate) fn tell_failure<W: Write, E: Write>(
     }
 }
 
+/// Tells the line of a failure, where replies go or on `err`.
+fn tell_line<W: Write, E: Write>(
+    failure: &Failure,
+    output: &mut Output<W>,
+    err: &mut ErrorOutput<E>,
+) -> Result<(), OutputError>
+    ensures told { OnOk result (IsLineTold W.contents E.contents failure.now output.old output.new err.old err.new) }
+    ensures untold { OnErr result (IsLineUntold W.contents failure.now output.old output.new err.old err.new) }
+    ensures broken { result ≡ Err OutputError.Broken → write_failed output.new ≡ true }
+{
+    if is_told_as_reply(failure) {
+        return say(failure, output);
+    }
+    err.say(failure);
+    Ok(())
+}
+
+/// Whether the line of a failure goes where replies go.
+fn is_told_as_reply(failure: &Failure) -> bool
+    ensures { result ≡ is_told_as_reply failure.now }
+{
+    matches!(failure, Failure::BadLine(..) | Failure::Memory)
+}
+
 /// Tells what a failure means that is a refusal, and what more there is to say.
-fn explain_failure<E: Write>(failure: &Failure, err: &mut E) {
-    if let Some(code) = code_of(failure) {
+fn explain_failure<E: Write>(failure: &Failure, err: &mut ErrorOutput<E>)
+    ensures { TellsSome E.contents (AreInTurn (IsMeaningIn (code_in failure.now)) (λ hint. hint ≡ failure_hint failure.now)) err.old err.new }
+{
+    explain_code(code_of(failure), err);
+    hint(failure, err)
+}
+
+/// Tells what a code means, where there is one.
+fn explain_code<E: Write>(code: Option<&'static str>, err: &mut ErrorOutput<E>)
+    ensures { TellsSome E.contents (IsMeaningIn (option_map (λ code. code.now) code.entry)) err.old err.new }
+{
+    if let Some(code) = code {
         explain(code, err);
     }
-    hint(failure, err);
 }
 
 /// Says what is wrong with a bad line, and what to do about the folder, where it tells why it failed and there is
 /// something to do.
-fn hint<E: Write>(failure: &Failure, err: &mut E) {
+fn hint<E: Write>(failure: &Failure, err: &mut ErrorOutput<E>)
+    ensures { Tells E.contents err.old err.new (failure_hint failure.now) }
+{
     match failure {
-        Failure::BadLine(_number, flaw) => {
-            let _ = err.writeln(format_args!("hint: the line {flaw}"));
-        }
-        Failure::Loading(LoadFault::NotLoaded { reason, .. })
-        | Failure::Saving(SaveFault::NotSaved { reason, .. }) => hint_reason(*reason, err),
+        Failure::BadLine(_number, flaw) => err.say(format_args!("hint: the line {flaw}")),
+        Failure::Loading(LoadFault::NotLoaded { reason, .. }) => hint_reason(*reason, err),
+        Failure::Saving(SaveFault::NotSaved { reason, .. }) => hint_reason(*reason, err),
         _ => {}
     }
 }

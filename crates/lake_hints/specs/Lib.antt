@@ -1,1 +1,4 @@
+pub mod ErrorOutputs
+pub mod Hints
+pub mod Meanings
 pub mod Rowless

@@ -1,5 +1,6 @@
--- Which tables take no rows.
-use Rattle.std.specs.Prelude.{Bool, false, Result, Ok, Err, is_some}
+-- Which tables take no rows, and what is told of them.
+use Rattle.std.specs.Prelude.{◌≡◌, ◌⊎◌, ◌++◌, ℕ, Bool, true, false, List, [], Result, Ok, Err, codes, is_some}
+use Rattle.outcomes.specs.Lines.{with_newline}
 use Rattle.row_core.specs.Unsupported.{unsupported}
 use Rattle.schema_tree.specs.Fault.{Fault}
 use Rattle.schema_tree.specs.Reading.{schema_of}
@@ -16,3 +17,8 @@ has_rowless (Err fault) = false
 abbrev pub creates_rowless : Work → Bool
 creates_rowless (words.create id schema at) = has_rowless (schema_of schema)
 creates_rowless work = false
+
+-- That a table takes no rows, and why, is told of one that takes none, unless memory runs out for it.
+abbrev pub IsRowlessNote : (creates_rowless : Bool) → List ℕ → Type 0
+IsRowlessNote creates_rowless text =
+    (text ≡ []) ⊎ ((creates_rowless ≡ true) × ((why : List ℕ) × (text ≡ with_newline (codes "note: the table takes no rows, since " ++ why))))

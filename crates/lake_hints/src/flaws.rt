@@ -1,7 +1,11 @@
-//! Why a line of a script is bad, told on standard error. Nothing is claimed of it.
+//! Why a line of a script is bad, told on standard error.
+ghost use Rattle.lake_hints.specs.ErrorOutputs.{TellsSome};
+ghost use Rattle.lake_hints.specs.Hints.{IsBadLineHint};
 
+use crate::error_output::ErrorOutput;
+use std::alloc::Global;
 use std::io::Write;
-use std::{io, str};
+use std::str;
 
 /// The words that a line begins with, and what each takes. A form is told behind its word.
 const FORMS: [(&str, &str); 18] = [
@@ -43,31 +47,56 @@ const FORMS: [(&str, &str); 18] = [
     ("foreign", "takes V LINE: V is a number below 2^64"),
 ];
 
-/// Tells in one line why the script's line of that number is bad, as far as what was kept of it shows. Where that can't
-/// be written, nothing is left to tell it on.
-pub fn tell_bad_line<E: Write>(number: u64, kept: Option<&[u8]>, err: &mut E) {
-    let _ = match kept {
-        Some(line) => tell_flaw(number, line, err),
-        None => err.writeln(format_args!("line {number}: it is no line of a script")),
-    };
+/// Tells in one line why the script's line of that number is bad, as far as what was kept of it shows.
+pub fn tell_bad_line<E: Write>(
+    alloc: Global,
+    number: u64,
+    kept: Option<&[u8]>,
+    err: &mut ErrorOutput<E>,
+)
+    ensures { TellsSome E.contents (IsBadLineHint number) err.old err.new }
+{
+    match kept {
+        Some(line) => tell_flaw(alloc, number, line, err),
+        None => err.say(format_args!("line {number}: it is no line of a script")),
+    }
 }
 
 /// Tells what is wrong with a line: it is no text, or no line begins with its first word, or what is behind that isn't
 /// what such a line takes.
-fn tell_flaw<E: Write>(number: u64, line: &[u8], err: &mut E) -> io::Result<()> {
+fn tell_flaw<E: Write>(alloc: Global, number: u64, line: &[u8], err: &mut ErrorOutput<E>)
+    ensures { TellsSome E.contents (IsBadLineHint number) err.old err.new }
+{
     let Ok(text) = str::from_utf8(line) else {
-        return err.writeln(format_args!("line {number}: it isn't UTF-8"));
+        err.say(format_args!("line {number}: it isn't UTF-8"));
+        return;
     };
     let word = first_word(text);
+    match form_of(word) {
+        Some(form) => err.say(format_args!("line {number}: `{word}` {form}")),
+        None => tell_unknown(alloc, number, word, err),
+    }
+}
+
+/// Tells that no line begins with a word. It is named unless memory runs out for that.
+fn tell_unknown<E: Write>(alloc: Global, number: u64, word: &str, err: &mut ErrorOutput<E>)
+    ensures { TellsSome E.contents (IsBadLineHint number) err.old err.new }
+{
+    if word.is_empty() {
+        err.say(format_args!("line {number}: no line begins with a space"));
+        return;
+    }
+    match format!(in alloc; "{}", word.escape_debug()) {
+        Ok(word) => err.say(format_args!("line {number}: no line begins with `{word}`")),
+        Err(_error) => err.say(format_args!("line {number}: no line begins so")),
+    }
+}
+
+/// What a line takes that begins with a word, where there are such lines.
+fn form_of(word: &str) -> Option<&'static str> {
     match FORMS.iter().find(|(begins, _form)| *begins == word) {
-        Some((_begins, form)) => err.writeln(format_args!("line {number}: `{word}` {form}")),
-        None if word.is_empty() => {
-            err.writeln(format_args!("line {number}: no line begins with a space"))
-        }
-        None => err.writeln(format_args!(
-            "line {number}: no line begins with `{}`",
-            word.escape_debug()
-        )),
+        Some((_begins, form)) => Some(*form),
+        None => None,
     }
 }
 

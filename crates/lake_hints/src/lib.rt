@@ -3,12 +3,14 @@
 //! line of a script what is wrong with it.
 #![tactic(auto)]
 
+mod error_output;
 mod flaws;
 mod hinting;
 mod meanings;
 mod noting;
 mod remedies;
 
+pub use error_output::ErrorOutput;
 pub use flaws::tell_bad_line;
 pub use hinting::hint_refusal;
 pub use meanings::{explain, explain_reply};

@@ -1,10 +1,12 @@
 //! What is told of a table that was created and takes no rows.
 ghost use Rattle.std.specs.Prelude.{◌≡◌, IfSome, false, true};
+ghost use Rattle.lake_hints.specs.ErrorOutputs.{TellsSome};
 ghost use Rattle.row_core.specs.Unsupported.{has_values};
 ghost use Rattle.schema_tree.specs.Reading.{schema_of};
 ghost use Rattle.lake_words.specs.Asked.{work_view};
-ghost use Rattle.lake_hints.specs.Rowless.{creates_rowless, has_rowless};
+ghost use Rattle.lake_hints.specs.Rowless.{IsRowlessNote, creates_rowless, has_rowless};
 
+use crate::error_output::ErrorOutput;
 use lake_words::Job;
 use row_core::unsupported;
 use schema_tree::{Field, Node, Primitive, Schema};
@@ -16,24 +18,23 @@ use std::io::Write;
 /// How many columns without rows are named.
 const MOST_NAMED: u64 = 10;
 
-/// Tells of a table that was created and takes no rows which of its columns are of a type that has none. Where that
-/// can't be written, nothing is left to tell it on. Takes time linear in the schema's text.
-pub fn note_rowless<E: Write>(alloc: Global, job: Job<'_>, err: &mut E)
-    ensures { creates_rowless (work_view job.entry) ≡ false → err.new ≡ err.old }
+/// Tells of a table that was created and takes no rows which of its columns are of a type that has none. Takes time
+/// linear in the schema's text.
+pub fn note_rowless<E: Write>(alloc: Global, job: Job<'_>, err: &mut ErrorOutput<E>)
+    ensures silent { creates_rowless (work_view job.entry) ≡ false → err.new ≡ err.old }
+    ensures told { TellsSome E.contents (IsRowlessNote (creates_rowless (work_view job.entry))) err.old err.new }
 {
     let Job::Create { schema, .. } = job else {
         return;
     };
     if let Some(columns) = rowless(alloc, schema) {
-        let _ = err.writeln(format_args!(
-            "note: the table takes no rows, since {columns} none here"
-        ));
+        err.say(format_args!("note: the table takes no rows, since {columns} none here"));
     }
 }
 
 /// The columns that have no rows, where there are some. They are looked for once more than the first of them, so that
 /// what a table takes is said by the same function as where its rows are read.
-fn rowless(alloc: Global, schema: &str) -> Option<NamedColumns>
+fn rowless(alloc: Global, schema: &str) -> Option<String>
     ensures { IfSome result (λ _. has_rowless (schema_of schema.now) ≡ true) }
 {
     match Schema::from_text(alloc, schema) {
@@ -45,14 +46,15 @@ fn rowless(alloc: Global, schema: &str) -> Option<NamedColumns>
     }
 }
 
-/// The columns of a schema that have no rows. Of many the first are named alone, so the time is linear in the schema.
-fn rowless_of(alloc: Global, schema: &Schema<Global>) -> Result<NamedColumns, AllocError> {
+/// The columns of a schema that have no rows, as they are told. Of many the first are named alone, so the time is linear
+/// in the schema.
+fn rowless_of(alloc: Global, schema: &Schema<Global>) -> Result<String, AllocError> {
     let mut columns = NamedColumns {
         names: String::new(alloc),
         count: 0,
     };
     add_fields(schema.fields(), &mut Vec::new(alloc), &mut columns)?;
-    Ok(columns)
+    format!(in alloc; "{columns}")
 }
 
 /// The columns of a table that have no rows.

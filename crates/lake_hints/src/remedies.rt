@@ -1,19 +1,34 @@
-//! What to do about a call of a folder that failed. Nothing is claimed of it.
+//! What to do about a call of a folder that failed.
+ghost use Rattle.std.specs.Prelude.{◌≡◌, option_map};
+ghost use Rattle.lake_hints.specs.ErrorOutputs.{Tells};
+ghost use Rattle.lake_hints.specs.Hints.{hint_line, hint_of, remedy_in};
 
+use crate::error_output::ErrorOutput;
 use std::io::Write;
 use table_folder::Reason;
 
 /// Says what to do about a call of a folder that failed for that reason, in one plain sentence, where there is
-/// something to say. Where that can't be written, nothing is left to tell it on.
-pub fn hint_reason<E: Write>(reason: Reason, err: &mut E) {
-    if let Some(remedy) = remedy_of(reason) {
-        let _ = err.writeln(format_args!("hint: {remedy}"));
+/// something to say.
+pub fn hint_reason<E: Write>(reason: Reason, err: &mut ErrorOutput<E>)
+    ensures { Tells E.contents err.old err.new (hint_of reason) }
+{
+    hint(remedy_of(reason), err)
+}
+
+/// Tells a hint, where there is one.
+pub(crate) fn hint<E: Write>(what: Option<&'static str>, err: &mut ErrorOutput<E>)
+    ensures { Tells E.contents err.old err.new (hint_line (option_map (λ what. what.now) what.entry)) }
+{
+    if let Some(what) = what {
+        err.say(format_args!("hint: {what}"));
     }
 }
 
 /// What to do about it. A folder that isn't there may be one where a table is to be created, or one where a table is
 /// looked for.
-fn remedy_of(reason: Reason) -> Option<&'static str> {
+fn remedy_of(reason: Reason) -> Option<&'static str>
+    ensures { option_map (λ remedy. remedy.now) result ≡ remedy_in reason }
+{
     let remedy = match reason {
         Reason::Missing => {
             "there is no such folder or file; a table's folder is made with mkdir, and the table in it with lake create"

@@ -10,7 +10,7 @@ use Rattle.log_rows.specs.declared.tail_fault.TailFault.TheVariants as tailing
 use Rattle.sink_core.specs.SinkSessions.{is_lost_end}
 use Rattle.sink_core.specs.declared.sink_state.SinkEnd.{SinkEnd}
 use Rattle.sink_core.specs.declared.sink_state.SinkOutcome.{SinkOutcome}
-use Rattle.snapshot_core.specs.CheckpointSessions.{is_lost_checkpoint}
+use Rattle.snapshot_core.specs.CheckpointSessions.{is_lost_answer}
 use Rattle.snapshot_core.specs.declared.fault.SnapshotFault.{SnapshotFault}
 use Rattle.snapshot_core.specs.declared.fault.SnapshotFault.TheVariants as snapshots
 use Rattle.source_core.specs.SourceSessions.{loses}
@@ -75,7 +75,7 @@ creation_loses creating.Memory = refl
 creation_loses creating.Lost = refl
 creation_loses creating.TooLarge = refl
 
-pub checkpoint_loses : (fault : SnapshotFault) → says_lost (NoSnapshot fault) ≡ is_lost_checkpoint (Err fault)
+pub checkpoint_loses : (fault : SnapshotFault) → says_lost (NoSnapshot fault) ≡ is_lost_answer (Err fault)
 checkpoint_loses snapshots.Lost = refl
 checkpoint_loses snapshots.Memory = refl
 checkpoint_loses (snapshots.BadLog version) = refl

@@ -18,7 +18,6 @@ use Rattle.sink_core.specs.Appending.{MayAppend, MayHoldFile, with_append}
 use Rattle.sink_core.specs.Closes.{MayClose, with_close}
 use Rattle.sink_core.specs.declared.sink_state.SinkOutcome.{SinkOutcome}
 use Rattle.sink_core.proofs.Callers.{append_plan_alike, appended_alike, close_plan_alike, closed_alike}
-use Rattle.snapshot_core.specs.declared.checkpoint_session.Checkpointed.{Checkpointed}
 use Rattle.snapshot_core.specs.declared.fault.SnapshotFault.{SnapshotFault}
 use Rattle.snapshot_core.proofs.Callers.{puts_alike, refusal_alike}
 use Rattle.schema_tree.specs.Tree.{Tree}
@@ -40,7 +39,7 @@ use Rattle.table_jobs.specs.Jobs.{IsValidJob, Job, Outcome}
 use Rattle.script_lines.specs.Lines as lines
 use Rattle.script_lines.specs.Lines.{Statement, Task}
 use Rattle.lake_script.specs.LineJobs.{IsOfText, job_of_creation, job_of_line, job_of_task}
-use Rattle.lake_script.specs.Endings.{IsReadReply, IsReplyOf, stream_reply}
+use Rattle.lake_script.specs.Endings.{IsReadReply, IsReplyOf, checkpoint_reply, stream_reply}
 use Rattle.lake_script.specs.Growth.{MayPut}
 use Rattle.lake_script.specs.Replies.{created}
 use Rattle.lake_script.specs.ReplyView.{reply_text}
@@ -155,18 +154,18 @@ module _ (use_checkpoints : Bool) (old new : Objects) (well : RestoresWell use_c
 
   -- ---- a checkpoint
 
-  checkpoint_told : (answer : Result Checkpointed SnapshotFault) → IsReplyOf (jobs.checkpoint answer) reply → IsCheckpointed use_checkpoints old new answer → Executes old (lines.task lines.checkpoint) reply new
-  checkpoint_told (Ok put) is done =
-      let puts = puts_alike use_checkpoints old well put.version done.name done.bytes done.puts in
+  checkpoint_told : (answer : Result ℕ SnapshotFault) → reply ≡ checkpoint_reply answer → IsCheckpointed use_checkpoints old new answer → Executes old (lines.task lines.checkpoint) reply new
+  checkpoint_told (Ok version) is done =
+      let puts = puts_alike use_checkpoints old well version done.name done.bytes done.puts in
       subst (λ (r : List ℕ). Executes old (lines.task lines.checkpoint) r new) (sym is)
-      (has_executed old (lines.task lines.checkpoint) _ new (put_executed old put.version done.name done.bytes puts new done.put))
+      (has_executed old (lines.task lines.checkpoint) _ new (put_executed old version done.name done.bytes puts new done.put))
   checkpoint_told (Err fault) is done =
       subst (λ (r : List ℕ). Executes old (lines.task lines.checkpoint) r new) (sym is)
       (subst (λ (o : Objects). Executes old (lines.task lines.checkpoint) (reply_text (NoSnapshot fault)) o) (sym done.1)
       (refusal_told old fault (refusal_alike use_checkpoints old well fault done.0) done.2))
 
   checkpoint_so : (tries : ℕ) (end : Outcome) → IsDoneOf (job_of_task use_checkpoints tries lines.checkpoint) old new end → IsReplyOf end reply → Executes old (lines.task lines.checkpoint) reply new
-  checkpoint_so tries (jobs.checkpoint answer) done is = checkpoint_told answer is done
+  checkpoint_so tries (jobs.checkpoint end) done is = checkpoint_told end.answer is done
   checkpoint_so tries _ done is = absurd done
 
   -- ---- a read
@@ -243,20 +242,20 @@ module _ (use_checkpoints : Bool) (tries : ℕ) (old new : Objects) (well : Rest
   close_grows application at (jobs.stream end) text done = (text, subst (λ plan. MayClose application at plan old new) (close_plan_alike use_checkpoints old well application) done.grows)
   close_grows application at _ text done = absurd done
 
-  checkpoint_may : (answer : Result Checkpointed SnapshotFault) → IsCheckpointed use_checkpoints old new answer → MayPut old (lines.task lines.checkpoint) new
-  checkpoint_may (Ok put) done = inr (
-    put.version,
+  checkpoint_may : (answer : Result ℕ SnapshotFault) → IsCheckpointed use_checkpoints old new answer → MayPut old (lines.task lines.checkpoint) new
+  checkpoint_may (Ok version) done = inr (
+    version,
     record {
       name = done.name;
       bytes = done.bytes;
-      puts = puts_alike use_checkpoints old well put.version done.name done.bytes done.puts;
+      puts = puts_alike use_checkpoints old well version done.name done.bytes done.puts;
       put = done.put;
     },
   )
   checkpoint_may (Err fault) done = inl done.1
 
   checkpoint_grows : (end : Outcome) → IsDoneOf (job_of_task use_checkpoints tries lines.checkpoint) old new end → MayPut old (lines.task lines.checkpoint) new
-  checkpoint_grows (jobs.checkpoint answer) done = checkpoint_may answer done
+  checkpoint_grows (jobs.checkpoint end) done = checkpoint_may end.answer done
   checkpoint_grows _ done = absurd done
 
   -- a read puts nothing

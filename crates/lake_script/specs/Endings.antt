@@ -21,7 +21,6 @@ use Rattle.batch_core.specs.declared.fault.SinkFault.TheVariants as sink
 use Rattle.commit_core.specs.declared.fault.CreateFault.{CreateFault}
 use Rattle.commit_core.specs.declared.fault.CreateFault.TheVariants as creating
 use Rattle.log_rows.specs.declared.tail_fault.TailFault.TheVariants as tailing
-use Rattle.snapshot_core.specs.declared.checkpoint_session.Checkpointed.{Checkpointed}
 use Rattle.snapshot_core.specs.declared.fault.SnapshotFault.{SnapshotFault}
 use Rattle.snapshot_core.specs.declared.fault.SnapshotFault.TheVariants as snapshot_faults
 
@@ -29,6 +28,11 @@ use Rattle.snapshot_core.specs.declared.fault.SnapshotFault.TheVariants as snaps
 abbrev pub stream_reply : Result SinkOutcome SinkFault → List ℕ
 stream_reply (Ok outcome) = with_newline (outcome_text outcome)
 stream_reply (Err fault) = with_newline (refused (refusal_text (refusal_view fault)))
+
+-- the version of which a checkpoint was put, or why none was
+abbrev pub checkpoint_reply : Result ℕ SnapshotFault → List ℕ
+checkpoint_reply (Ok version) = with_newline (checkpointed_at version)
+checkpoint_reply (Err fault) = with_newline (refused (snapshots.fault_text fault))
 
 -- of rows that were handed out their lines, and where the next read begins; or that there was no room for that text
 abbrev pub IsReadReply : Result ReadRows TailFault → List ℕ → Type 0
@@ -39,8 +43,7 @@ IsReadReply (Err fault) reply = reply ≡ with_newline (refused (tails.refusal_t
 abbrev pub IsReplyOf : Outcome → List ℕ → Type 0
 IsReplyOf (creation (Ok done)) reply = reply ≡ with_newline created
 IsReplyOf (creation (Err fault)) reply = reply ≡ with_newline (refused (create_fault_text fault))
-IsReplyOf (checkpoint (Ok put)) reply = reply ≡ with_newline (checkpointed_at put.version)
-IsReplyOf (checkpoint (Err fault)) reply = reply ≡ with_newline (refused (snapshots.fault_text fault))
+IsReplyOf (checkpoint end) reply = reply ≡ checkpoint_reply end.answer
 IsReplyOf (stream end) reply = reply ≡ stream_reply end.answer
 IsReplyOf (read end) reply = IsReadReply end.answer reply
 IsReplyOf (load result) reply = reply ≡ not_yet
@@ -53,7 +56,7 @@ creation_wants (Err creating.Memory) = true
 creation_wants (Err creating.TooLarge) = true
 creation_wants answer = false
 
-abbrev pub checkpoint_wants : Result Checkpointed SnapshotFault → Bool
+abbrev pub checkpoint_wants : Result ℕ SnapshotFault → Bool
 checkpoint_wants (Err snapshot_faults.Memory) = true
 checkpoint_wants (Err snapshot_faults.TooLarge) = true
 checkpoint_wants answer = false
@@ -76,7 +79,7 @@ IsReadShort (Err fault) reply short = short ≡ read_wants (Err fault)
 -- So is each other reply just where the session tells so. No line asks for a load, and its reply is never short.
 abbrev pub IsShortBy : Outcome → (reply : List ℕ) → (short : Bool) → Type 0
 IsShortBy (creation answer) reply short = short ≡ creation_wants answer
-IsShortBy (checkpoint answer) reply short = short ≡ checkpoint_wants answer
+IsShortBy (checkpoint end) reply short = short ≡ checkpoint_wants end.answer
 IsShortBy (stream end) reply short = short ≡ stream_wants end.answer
 IsShortBy (read end) reply short = IsReadShort end.answer reply short
 IsShortBy (load result) reply short = short ≡ false
@@ -89,7 +92,7 @@ stream_loses answer = false
 -- whether the reply says that a call was lost: just where the session tells so, but for a load
 abbrev pub reply_loses : Outcome → Bool
 reply_loses (creation answer) = is_lost (creation answer)
-reply_loses (checkpoint answer) = is_lost (checkpoint answer)
+reply_loses (checkpoint end) = is_lost (checkpoint end)
 reply_loses (stream end) = is_lost (stream end)
 reply_loses (read end) = is_lost (read end)
 reply_loses (load result) = false

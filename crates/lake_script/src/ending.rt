@@ -1,10 +1,10 @@
 //! The reply to a job, by what its session told.
 ghost use Rattle.lake_script.specs.ReplyView.{is_short, reply_text, says_lost};
-ghost use Rattle.table_jobs.specs.Jobs.{checkpoint, creation};
+ghost use Rattle.table_jobs.specs.Jobs.{creation};
 ghost use Rattle.table_jobs.specs.Sessions.{end_view};
-ghost use Rattle.lake_script.specs.Endings.{IsReadReply, IsReadShort, IsReplyOf, IsShortBy, checkpoint_wants, creation_wants, reply_loses, stream_loses, stream_reply, stream_wants};
+ghost use Rattle.lake_script.specs.Endings.{IsReadReply, IsReadShort, IsReplyOf, IsShortBy, checkpoint_reply, checkpoint_wants, creation_wants, reply_loses, stream_loses, stream_reply, stream_wants};
 ghost use Rattle.commit_core.specs.CreateSessions.{tells_lost};
-ghost use Rattle.snapshot_core.specs.CheckpointSessions.{is_lost_checkpoint};
+ghost use Rattle.snapshot_core.specs.CheckpointSessions.{is_lost_answer};
 ghost use Rattle.source_core.specs.SourceSessions.{loses};
 ghost use Rattle.std.specs.Prelude.{◌≡◌};
 
@@ -12,7 +12,7 @@ use crate::faults::Fault;
 use crate::reply::LineReply;
 use commit_core::CreateFault;
 use sink_core::{SinkFault, SinkOutcome};
-use snapshot_core::{Checkpointed, SnapshotFault};
+use snapshot_core::SnapshotFault;
 use source_core::{ReadRows, TailFault, handed_text};
 use std::alloc::Global;
 use table_jobs::JobEnd;
@@ -27,7 +27,7 @@ pub fn reply_of(alloc: Global, end: JobEnd) -> LineReply
 {
     match end {
         JobEnd::Created(answer) => reply_of_creation(answer),
-        JobEnd::Checkpointed(answer) => reply_of_checkpoint(answer),
+        JobEnd::Checkpointed(end) => reply_of_checkpoint(end.answer),
         JobEnd::Streamed(end) => reply_of_stream(end.answer),
         JobEnd::Read(end) => reply_of_rows(alloc, end.answer),
         // No line asks for a load.
@@ -46,13 +46,13 @@ fn reply_of_creation(answer: Result<(), CreateFault>) -> LineReply
     }
 }
 
-fn reply_of_checkpoint(answer: Result<Checkpointed, SnapshotFault>) -> LineReply
-    ensures told { IsReplyOf (checkpoint answer) (reply_text result) }
+fn reply_of_checkpoint(answer: Result<u64, SnapshotFault>) -> LineReply
+    ensures told { reply_text result ≡ checkpoint_reply answer }
     ensures short { is_short result ≡ checkpoint_wants answer }
-    ensures lost { says_lost result ≡ is_lost_checkpoint answer }
+    ensures lost { says_lost result ≡ is_lost_answer answer }
 {
     match answer {
-        Ok(put) => LineReply::Checkpointed(put.version),
+        Ok(version) => LineReply::Checkpointed(version),
         Err(fault) => LineReply::NoSnapshot(fault),
     }
 }

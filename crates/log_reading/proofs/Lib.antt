@@ -5,6 +5,7 @@ pub mod KnownLemmas
 pub mod LaterLemmas
 pub mod ListingLemmas
 pub mod LogLemmas
+pub mod OftenLemmas
 pub mod PastLemmas
 pub mod ReadLemmas
 pub mod SearchLemmas

@@ -18,9 +18,8 @@ use Rattle.table_log.specs.declared.fault.LogFault.{LogFault}
 use Rattle.table_log.specs.declared.fault.LogFault.TheVariants as load_faults
 use Rattle.table_log.specs.declared.loading.Loaded.{Loaded}
 use Rattle.table_store.specs.Schema.{Schema}
-use Rattle.snapshot_core.specs.CheckpointSessions.{CheckpointAsks, CheckpointEnds, IsPutBehind, IsRefusedBehind, is_lost_checkpoint}
+use Rattle.snapshot_core.specs.CheckpointSessions.{AnswerEnds, CheckpointAsks, IsPutBehind, IsRefusedBehind, is_lost_answer}
 use Rattle.snapshot_core.specs.Taking.{IsTableId}
-use Rattle.snapshot_core.specs.declared.checkpoint_session.Checkpointed.{Checkpointed}
 use Rattle.snapshot_core.specs.declared.fault.SnapshotFault.{SnapshotFault}
 use Rattle.snapshot_core.specs.declared.fault.SnapshotFault.TheVariants as checkpoint_faults
 use Rattle.commit_core.specs.SoundStores.{IsSoundStore}
@@ -73,25 +72,25 @@ module _ (objects : Objects) (sound : IsSoundStore objects) (job : LoadJob) (bef
   checkpoint_asks schema talk (put_commit version bytes) borne asks = absurd asks
 
   -- what was told behind the put
-  put_row : (talk : Talk) (checkpointed : Checkpointed) → Bears objects talk → IsPutBehind job before talk checkpointed → HasCheckpoint objects talk checkpointed
-  put_row talk checkpointed borne ends =
+  put_row : (talk : Talk) (version : ℕ) (known : Loaded) → Bears objects talk → IsPutBehind job before talk version known → HasCheckpoint objects talk version known
+  put_row talk version known borne ends =
       let told = ends.told in
-      let both = told_stands objects job before talk checkpointed.version ends.put borne told in
+      let both = told_stands objects job before talk version ends.put borne told in
       let same : next_version talk ≡ next_version told.front = ap next_version told.talked ∙ file_next told.front told.name told.bytes (told_put ends.put) in
       let row = loaded_row told.front ends.loaded both.0 ends.behind in
-      let known = known_same job.use_checkpoints ends.put told.name ends.loaded checkpointed.loaded ends.known in
+      let kept = known_same job.use_checkpoints ends.put told.name ends.loaded known ends.kept in
       let puts = told.puts.front objects known_before both.0 in
-      let newest : suc checkpointed.version ≡ next_version told.front = told.puts.newest ∙ sym (listed_next told.front told.puts.names told.puts.listed) in
-      let log = front_log objects sound (suc checkpointed.version) puts.from puts.r puts.commits puts.checkpoint puts.read in
+      let newest : suc version ≡ next_version told.front = told.puts.newest ∙ sym (listed_next told.front told.puts.names told.puts.listed) in
+      let log = front_log objects sound (suc version) puts.from puts.r puts.commits puts.checkpoint puts.read in
       let one : log.0 ≡ row.log = one_log objects log.0 row.log (sym log.1 ∙ (ap (λ (n : ℕ). commits_in 0 (versions_from n 0 objects)) newest ∙ row.stand.1)) in
       let of_table : IsTableId log.0 puts.is.id = record { meta_data = puts.is.of_table.meta_data; newest = sym (same_values puts.commits log.0 log.2).metadata ∙ puts.is.of_table.newest; is = puts.is.of_table.is } in
       record {
         newest = newest ∙ sym same;
         loaded = record {
-          next = known.1 ∙ (row.next ∙ sym same);
+          next = kept.1 ∙ (row.next ∙ sym same);
           log = row.log;
           stand = subst (λ (n : ℕ). (0 < n) × (commits_in 0 (versions_from n 0 objects) ≡ Ok row.log)) (sym same) row.stand;
-          snapshot = subst (λ (s : Snapshot). IsSnapshotOf row.log s) (sym known.0) row.snapshot;
+          snapshot = subst (λ (s : Snapshot). IsSnapshotOf row.log s) (sym kept.0) row.snapshot;
         };
         id = puts.is.id;
         of_table = subst (λ (l : List (List Action)). IsTableId l puts.is.id) one of_table;
@@ -134,11 +133,16 @@ module _ (objects : Objects) (sound : IsSoundStore objects) (job : LoadJob) (bef
         },
       )
 
-  pub checkpoint_tells : (talk : Talk) (result : Result Checkpointed SnapshotFault) → Bears objects talk → AllAsked (CheckpointAsks job before) [] talk → CheckpointEnds job before talk result → is_lost_checkpoint result ≡ ends_lost talk → MayTellOfCheckpoint objects talk result
-  checkpoint_tells talk (Ok checkpointed) borne asked ends lost = put_row talk checkpointed borne ends
-  checkpoint_tells talk (Err (checkpoint_faults.BadLog version)) borne asked ends lost =
+  pub checkpoint_tells : (talk : Talk) (known : Loaded) (answer : Result ℕ SnapshotFault) → Bears objects talk → AllAsked (CheckpointAsks job before) [] talk → AnswerEnds job before talk known answer → is_lost_answer answer ≡ ends_lost talk
+      → MayTellOfCheckpoint objects talk known answer
+  checkpoint_tells talk known (Ok version) borne asked ends lost = put_row talk version known borne ends
+  checkpoint_tells talk known (Err (checkpoint_faults.BadLog version)) borne asked ends lost =
       load_lacks objects sound talk borne job before version (λ front found talked. asked_last (CheckpointAsks job before) [] front (get_object (commit_name version), told_object found) (subst (AllAsked (CheckpointAsks job before) []) talked asked)) ends
-  checkpoint_tells talk (Err (checkpoint_faults.Unsupported fault)) borne asked ends lost = unsupported_row talk fault borne ends
-  checkpoint_tells talk (Err checkpoint_faults.TooLarge) borne asked ends lost = large_row talk borne ends
-  checkpoint_tells talk (Err checkpoint_faults.Lost) borne asked ends lost = sym lost
-  checkpoint_tells talk (Err checkpoint_faults.Memory) borne asked ends lost = tt
+  checkpoint_tells talk known (Err (checkpoint_faults.Unsupported fault)) borne asked ends lost =
+      let row = unsupported_row talk fault borne ends.0 in
+      (loaded_row talk known borne ends.1, row.0, row.1, row.2)
+  checkpoint_tells talk known (Err checkpoint_faults.TooLarge) borne asked ends lost =
+      let row = large_row talk borne ends.0 in
+      (loaded_row talk known borne ends.1, row.0, row.1, row.2)
+  checkpoint_tells talk known (Err checkpoint_faults.Lost) borne asked ends lost = sym lost
+  checkpoint_tells talk known (Err checkpoint_faults.Memory) borne asked ends lost = tt

@@ -32,7 +32,6 @@ use Rattle.table_store.specs.Schema.{Schema, IsFileOf}
 use Rattle.table_store.specs.Sound.{IsAdmissible}
 use Rattle.commit_core.specs.SoundStores.{IsSoundStore}
 use Rattle.snapshot_core.specs.Taking.{IsLargeFor, IsTableId}
-use Rattle.snapshot_core.specs.declared.checkpoint_session.Checkpointed.{Checkpointed}
 use Rattle.snapshot_core.specs.declared.fault.SnapshotFault.{SnapshotFault}
 use Rattle.snapshot_core.specs.declared.fault.SnapshotFault.TheVariants as checkpoint_faults
 use Rattle.commit_core.specs.Commits.{commit_text}
@@ -154,12 +153,12 @@ MayTellOfLoad objects talk (Err load_faults.Memory) = Unit {0}
 
 -- The newest version that was listed has a checkpoint under its own name, that of the version for the table's id; and what was loaded is
 -- the snapshot of the commits up to it.
-pub record HasCheckpoint (objects : Objects) (talk : Talk) (checkpointed : Checkpointed) : Type 0 where
-  pub newest : suc checkpointed.version ≡ next_version talk
-  pub loaded : IsLoadedBehind objects talk checkpointed.loaded
+pub record HasCheckpoint (objects : Objects) (talk : Talk) (version : ℕ) (known : Loaded) : Type 0 where
+  pub newest : suc version ≡ next_version talk
+  pub loaded : IsLoadedBehind objects talk known
   pub id : List ℕ
   pub of_table : IsTableId loaded.log id
-  pub stands : IsSome (object_at objects (checkpoint_name checkpointed.version id))
+  pub stands : IsSome (object_at objects (checkpoint_name version id))
 
 -- the checkpoint of the last of these commits, as it would be put, passes 64 MiB
 pub record IsTooLargeCheckpoint (next : ℕ) (log : List (List Action)) : Type 0 where
@@ -168,14 +167,18 @@ pub record IsTooLargeCheckpoint (next : ℕ) (log : List (List Action)) : Type 0
   pub bytes : List ℕ
   pub large : IsLargeFor log version bytes
 
-abbrev pub MayTellOfCheckpoint : Objects → Talk → Result Checkpointed SnapshotFault → Type 0
-MayTellOfCheckpoint objects talk (Ok checkpointed) = HasCheckpoint objects talk checkpointed
-MayTellOfCheckpoint objects talk (Err (checkpoint_faults.BadLog version)) = LacksCommit talk version
-MayTellOfCheckpoint objects talk (Err (checkpoint_faults.Unsupported fault)) = (log : List (List Action)) × IsLogBehind objects talk log × (checkpointable log ≡ Err (fault_of fault))
-MayTellOfCheckpoint objects talk (Err checkpoint_faults.TooLarge) = (log : List (List Action)) × IsLogBehind objects talk log × IsTooLargeCheckpoint (next_version talk) log
-MayTellOfCheckpoint objects talk (Err checkpoint_faults.Lost) = ends_lost talk ≡ true
+-- What it tells, where this is known from then on: also where the commits that were listed have no checkpoint that is put, it is their
+-- snapshot.
+abbrev pub MayTellOfCheckpoint : Objects → Talk → (known : Loaded) → Result ℕ SnapshotFault → Type 0
+MayTellOfCheckpoint objects talk known (Ok version) = HasCheckpoint objects talk version known
+MayTellOfCheckpoint objects talk known (Err (checkpoint_faults.BadLog version)) = LacksCommit talk version
+MayTellOfCheckpoint objects talk known (Err (checkpoint_faults.Unsupported fault)) =
+    IsLoadedBehind objects talk known × (log : List (List Action)) × IsLogBehind objects talk log × (checkpointable log ≡ Err (fault_of fault))
+MayTellOfCheckpoint objects talk known (Err checkpoint_faults.TooLarge) =
+    IsLoadedBehind objects talk known × (log : List (List Action)) × IsLogBehind objects talk log × IsTooLargeCheckpoint (next_version talk) log
+MayTellOfCheckpoint objects talk known (Err checkpoint_faults.Lost) = ends_lost talk ≡ true
 -- of want of memory nothing is said
-MayTellOfCheckpoint objects talk (Err checkpoint_faults.Memory) = Unit {0}
+MayTellOfCheckpoint objects talk known (Err checkpoint_faults.Memory) = Unit {0}
 
 -- ---- what a stream's session tells
 

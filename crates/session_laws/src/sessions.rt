@@ -10,8 +10,7 @@ ghost use Rattle.table_log.specs.LoadSessions.{LoadAsks, LoadJob};
 ghost use Rattle.table_log.specs.declared.fault.LogFault.{LogFault};
 ghost use Rattle.table_log.specs.declared.loading.Loaded.{Loaded};
 ghost use Rattle.snapshot_core.specs.CheckpointSessions.{CheckpointAsks};
-ghost use Rattle.snapshot_core.specs.declared.checkpoint_session.Checkpointed.{Checkpointed};
-ghost use Rattle.snapshot_core.specs.declared.fault.SnapshotFault.{SnapshotFault};
+ghost use Rattle.snapshot_core.specs.declared.checkpoint_session.CheckpointEnd.{CheckpointEnd};
 ghost use Rattle.sink_core.specs.SinkSessions.{SinkAsks, SinkEnds, SinkJob};
 ghost use Rattle.sink_core.specs.declared.sink_state.SinkEnd.{SinkEnd};
 ghost use Rattle.source_core.specs.SourceSessions.{SourceAsks, SourceJob};
@@ -35,12 +34,13 @@ pub fn what_a_load_may()
 
 /// The put of a checkpoint asks, besides, that a checkpoint is put: one of the log's commits up to its version, under a
 /// name of such. It tells the newest version that was listed, which has an object under such a name, with the snapshot
-/// of the commits up to it; a commit that is lacked; or why the commits that were listed have no checkpoint.
+/// of the commits up to it; a commit that is lacked; or why the commits that were listed have no checkpoint, with their
+/// snapshot.
 pub fn what_a_checkpoint_may()
     ensures asks { (objects : Objects) (schema : Schema) (entries : List Entry) (job : LoadJob) (before talk : Talk) (asked : Asked) → BearsSession objects schema entries (checkpoints job) before talk
         → CheckpointAsks job before talk asked → MayAsk objects schema (checkpoints job) talk asked }
-    ensures tells { (objects : Objects) (schema : Schema) (entries : List Entry) (job : LoadJob) (before talk : Talk) (result : Result Checkpointed SnapshotFault) → BearsSession objects schema entries (checkpoints job) before talk
-        → Does (checkpoints job) before talk (tells (checkpoint result)) → MayTellOfCheckpoint objects talk result }
+    ensures tells { (objects : Objects) (schema : Schema) (entries : List Entry) (job : LoadJob) (before talk : Talk) (end : CheckpointEnd) → BearsSession objects schema entries (checkpoints job) before talk
+        → Does (checkpoints job) before talk (tells (checkpoint end)) → MayTellOfCheckpoint objects talk end.known end.answer }
 {}
 
 /// The append of a batch asks that a file of its rows is put under the batch's name, and then its commit, to the byte,

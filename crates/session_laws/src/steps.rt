@@ -19,7 +19,7 @@ use crate::what_a_session_may;
 use commit_core::{CreateFault, CreateSession};
 use session_core::{Reply, Session, Step};
 use sink_core::{SinkEnd, SinkSession};
-use snapshot_core::{CheckpointSession, Checkpointed, SnapshotFault};
+use snapshot_core::{CheckpointEnd, CheckpointSession};
 use source_core::{ReadEnd, SourceSession};
 use table_log::{LoadSession, Loaded, LogFault};
 
@@ -61,10 +61,7 @@ pub fn load_step(session: &mut LoadSession, reply: Option<Reply>) -> Step<Result
 }
 
 /// The next step of a checkpoint's put.
-pub fn checkpoint_step(
-    session: &mut CheckpointSession,
-    reply: Option<Reply>,
-) -> Step<Result<Checkpointed, SnapshotFault>>
+pub fn checkpoint_step(session: &mut CheckpointSession, reply: Option<Reply>) -> Step<CheckpointEnd>
     requires unended { checkpoint_sessions.is_ended session.old.stage session.old.load ≡ false }
     requires answered { IsReplyTo (checkpoint_sessions.awaited_at session.old.stage session.old.load) (option_map told_view reply) }
     ensures steps { Steps (λ s. checkpoint_sessions.awaited_at s.stage s.load) (λ s. checkpoint_sessions.left_at s.stage s.load) (λ s. checkpoint_sessions.is_ended s.stage s.load) session.old session.new result }

@@ -6,6 +6,7 @@ pub mod DrivenClose
 pub mod DrivenPlans
 pub mod FileSteps
 pub mod Kept
+pub mod LoadSteps
 pub mod LogEnd
 pub mod Quiet
 pub mod RaceSteps

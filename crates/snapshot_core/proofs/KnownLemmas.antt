@@ -23,7 +23,6 @@ use Rattle.table_log.proofs.LoadLemmas.{found_again}
 use Rattle.table_log.proofs.RestoreLemmas.{reads_well}
 use Rattle.snapshot_core.specs.CheckpointSessions.{IsKnownBehind, IsPutBehind}
 use Rattle.snapshot_core.specs.Taking.{HasPut, IsCheckpointFor, IsMadeOf, KnowsLog}
-use Rattle.snapshot_core.specs.declared.checkpoint_session.Checkpointed.{Checkpointed}
 
 -- ---- a checkpoint that stands
 
@@ -80,14 +79,14 @@ known_same true Exists name loaded known is = (ap (λ (l : Loaded). l.snapshot) 
 known_same false put name loaded known is = (ap (λ (l : Loaded). l.snapshot) is, ap (λ (l : Loaded). l.next) is)
 
 -- What is known stands in each store that bears the talk.
-pub known_front : (job : LoadJob) (before talk : Talk) (checkpointed : Checkpointed) → IsPutBehind job before talk checkpointed → (objects : Objects) → Bears objects before → Bears objects talk → IsFront objects checkpointed.loaded
-known_front job before talk checkpointed ends objects known borne =
+pub known_front : (job : LoadJob) (before talk : Talk) (version : ℕ) (known : Loaded) → IsPutBehind job before talk version known → (objects : Objects) → Bears objects before → Bears objects talk → IsFront objects known
+known_front job before talk version known ends objects earlier borne =
     let told = ends.told in
     let all = bears_more objects told.front (put_file told.name told.bytes) (told_put ends.put) (subst (Bears objects) told.talked borne) in
-    by_put job.use_checkpoints ends.put (ends.behind.front objects known all.0) all.1 ends.known
+    by_put job.use_checkpoints ends.put (ends.behind.front objects earlier all.0) all.1 ends.kept
   where
-    by_put : (use_checkpoints : Bool) (put : Put) → IsFront objects ends.loaded → StandsAfter put ends.told.bytes (object_at objects ends.told.name) → IsKnownBehind use_checkpoints put ends.told.name ends.loaded checkpointed.loaded → IsFront objects checkpointed.loaded
-    by_put true Created front stands is = known_from objects ends.loaded checkpointed.loaded checkpointed.version ends.told.name ends.told.bytes front ends.made stands is.0 is.1 is.2
+    by_put : (use_checkpoints : Bool) (put : Put) → IsFront objects ends.loaded → StandsAfter put ends.told.bytes (object_at objects ends.told.name) → IsKnownBehind use_checkpoints put ends.told.name ends.loaded known → IsFront objects known
+    by_put true Created front stands is = known_from objects ends.loaded known version ends.told.name ends.told.bytes front ends.made stands is.0 is.1 is.2
     by_put true Exists front stands is = subst (λ (l : Loaded). IsFront objects l) (sym is) front
     by_put false put front stands is = subst (λ (l : Loaded). IsFront objects l) (sym is) front
 

@@ -12,7 +12,7 @@ use Rattle.delta_replay.specs.declared.kept.Snapshot.{Snapshot}
 use Rattle.delta_checkpoint.specs.Checkpoints.{IsCheckpoint}
 use Rattle.delta_checkpoint.specs.Names.{IsCheckpointName, checkpoint_name}
 use Rattle.table_log.specs.Counts.{commit_count}
-use Rattle.table_log.specs.Loads.{IsFrom, IsFrontFrom, checkpoint_of, replayed_below}
+use Rattle.table_log.specs.Loads.{IsFrom, IsFrontFrom, IsLoaded, checkpoint_of, replayed_below}
 use Rattle.table_log.specs.Restoring.{Restored, replayed, restored_if}
 use Rattle.table_log.specs.declared.loading.Loaded.{Loaded}
 use Rattle.snapshot_core.specs.Faults.{checked, says}
@@ -120,6 +120,15 @@ pub record LosesPut (use_checkpoints : Bool) (old new : Objects × Flight) : Typ
 -- a call was lost: before the put, or the put
 abbrev pub MayHavePutCheckpoint : (use_checkpoints : Bool) → Objects × Flight → Objects × Flight → Type 0
 MayHavePutCheckpoint use_checkpoints old new = IsUntouched old new ⊎ LosesPut use_checkpoints old new
+
+-- What is known of a log whose checkpoint isn't put, for what the table has or lacks or as it is too large: all of it, as
+-- it was loaded. So it is where the put was lost; a call that was lost before it changed nothing. Nothing is said where
+-- the log wasn't loaded, or memory ran out.
+abbrev pub KeepsLog : (use_checkpoints : Bool) → SnapshotFault → (old new : Objects × Flight) (known : Loaded) → Type 0
+KeepsLog use_checkpoints (faults.Unsupported why) old new known = IsLoaded use_checkpoints old.0 known
+KeepsLog use_checkpoints faults.TooLarge old new known = IsLoaded use_checkpoints old.0 known
+KeepsLog use_checkpoints faults.Lost old new known = IsUntouched old new ⊎ (LosesPut use_checkpoints old new × IsLoaded use_checkpoints old.0 known)
+KeepsLog use_checkpoints fault old new known = Unit {0}
 
 -- The checkpoint of the newest version may be put, but passes 64 MiB.
 pub record IsTooLarge (use_checkpoints : Bool) (objects : Objects) : Type 0 where

@@ -10,7 +10,7 @@ mod making;
 mod telling;
 
 pub use checkpoint_laws::{a_checkpoint_asks_for_little, what_is_known_stands};
-pub use checkpoint_session::{CheckpointSession, CheckpointStage, Checkpointed};
+pub use checkpoint_session::{CheckpointEnd, CheckpointSession, CheckpointStage};
 pub use checkpointing::checkpoint;
 pub use fault::SnapshotFault;
 pub use telling::{snapshot, snapshot_text};

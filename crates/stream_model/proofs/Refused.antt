@@ -14,7 +14,7 @@ use Rattle.log_laws.proofs.Callers.{count_held, log_checkpointable}
 use Rattle.session_laws.specs.May.{MayTell}
 use Rattle.source_core.specs.SourceSessions.{SourceJob}
 use Rattle.source_core.specs.declared.source_session.ReadEnd.{ReadEnd}
-use Rattle.session_laws.specs.Rows.{IsLogBehind, Lists, MayTellOfRead, MayTellOfStream, TellsOfListed, next_version}
+use Rattle.session_laws.specs.Rows.{IsLogBehind, Lists, MayTellOfCheckpoint, MayTellOfRead, MayTellOfStream, TellsOfListed, next_version}
 use Rattle.session_laws.specs.Jobs.{Job, Outcome, checkpoints, creates, loads, read, reads, streams}
 use Rattle.session_laws.specs.Moves.{HasAsked, tells}
 use Rattle.session_laws.proofs.Callers.{IsFrontOf, front_of, listed_count}
@@ -51,19 +51,19 @@ module _ (laws : AreLaws) (events : List Event) (outs : List (Job × Outcome)) (
 
       by_job : (job : Job) (outcome : Outcome) → MayTell w.objects table.schema table.entries job [] actor.talk outcome → TellsBadLog outcome → ⊥
       by_job (loads job) outcome told (bad_load version) = none_lacked actor.talk own.told listed version told
-      by_job (checkpoints job) outcome told (bad_checkpoint version) = none_lacked actor.talk own.told listed version told
+      by_job (checkpoints job) outcome told (bad_checkpoint end version is) = none_lacked actor.talk own.told listed version (subst (MayTellOfCheckpoint w.objects actor.talk end.known) is told)
       by_job (streams job) outcome told (bad_stream end version is) = none_lacked actor.talk own.told listed version (subst (MayTellOfStream w.objects table.schema table.entries job actor.talk) is told)
-      by_job (loads job) outcome told (bad_checkpoint version) = told
+      by_job (loads job) outcome told (bad_checkpoint end version is) = told
       by_job (loads job) outcome told (bad_stream end version is) = told
       by_job (checkpoints job) outcome told (bad_load version) = told
       by_job (checkpoints job) outcome told (bad_stream end version is) = told
       by_job (streams job) outcome told (bad_load version) = told
-      by_job (streams job) outcome told (bad_checkpoint version) = told
+      by_job (streams job) outcome told (bad_checkpoint end version is) = told
       by_job (creates job) outcome told (bad_load version) = told
-      by_job (creates job) outcome told (bad_checkpoint version) = told
+      by_job (creates job) outcome told (bad_checkpoint end version is) = told
       by_job (creates job) outcome told (bad_stream end version is) = told
       by_job (reads job) outcome told (bad_load version) = told
-      by_job (reads job) outcome told (bad_checkpoint version) = told
+      by_job (reads job) outcome told (bad_checkpoint end version is) = told
       by_job (reads job) outcome told (bad_stream end version is) = told
 
   -- It didn't tell that a winner changed the schema.
@@ -106,11 +106,13 @@ module _ (laws : AreLaws) (events : List Event) (outs : List (Job × Outcome)) (
     schema_invariants barred = by_job actor.job outcome (may schema entries holds) barred
       where
         by_job : (job : Job) (outcome : Outcome) → MayTell w.objects schema entries job [] actor.talk outcome → TellsUnsupported outcome → has_key_inside (codes "delta.invariants") schema ≡ true
-        by_job (checkpoints job) outcome told (unsupported fault) = checkpoint_barred told.0 told.1 (fault_of fault) told.2
-        by_job (loads job) outcome told (unsupported fault) = absurd told
-        by_job (streams job) outcome told (unsupported fault) = absurd told
-        by_job (creates job) outcome told (unsupported fault) = absurd told
-        by_job (reads job) outcome told (unsupported fault) = absurd told
+        by_job (checkpoints job) outcome told (unsupported end fault is) =
+            let row = subst (MayTellOfCheckpoint w.objects actor.talk end.known) is told in
+            checkpoint_barred row.1 row.2 (fault_of fault) row.3
+        by_job (loads job) outcome told (unsupported end fault is) = absurd told
+        by_job (streams job) outcome told (unsupported end fault is) = absurd told
+        by_job (creates job) outcome told (unsupported end fault is) = absurd told
+        by_job (reads job) outcome told (unsupported end fault is) = absurd told
 
 -- What a read told that listed names is so of the versions that were listed: it told none of the refusals but two, that version 0 is missing
 -- where none was listed, that a call was lost, or that memory ran out.

@@ -6,6 +6,7 @@ use Rattle.row_core.specs.Views.{row_views}
 use Rattle.table_log.specs.Counts.{count_in}
 use Rattle.table_log.specs.declared.fault.LogFault.TheVariants as load_faults
 use Rattle.delta_replay.specs.declared.support.SupportFault.{SupportFault}
+use Rattle.snapshot_core.specs.declared.checkpoint_session.CheckpointEnd.{CheckpointEnd}
 use Rattle.snapshot_core.specs.declared.fault.SnapshotFault.TheVariants as checkpoint_faults
 use Rattle.table_model.specs.Appends.{TellsClose}
 use Rattle.table_model.specs.Lawful.{IsLawful}
@@ -44,7 +45,7 @@ ListsCommit talk = (names : List (List ℕ)) × Lists talk names × (0 < count_i
 -- the outcome tells that a version's commit is missing or can't be read
 pub data TellsBadLog : Outcome → Type 0 where
   bad_load : (version : ℕ) → TellsBadLog (load (Err (load_faults.BadLog version)))
-  bad_checkpoint : (version : ℕ) → TellsBadLog (checkpoint (Err (checkpoint_faults.BadLog version)))
+  bad_checkpoint : (end : CheckpointEnd) (version : ℕ) → end.answer ≡ Err (checkpoint_faults.BadLog version) → TellsBadLog (checkpoint end)
   bad_stream : (end : SinkEnd) (version : ℕ) → end.answer ≡ Err (faults.BadLog version) → TellsBadLog (stream end)
 
 -- What a read told that listed these names is so of the table's first versions, as many as were listed, which all stand: a part of them, or
@@ -61,7 +62,7 @@ pub data TellsSchemaChanged : Outcome → Type 0 where
 
 -- that the table is one whose checkpoint isn't put
 pub data TellsUnsupported : Outcome → Type 0 where
-  unsupported : (fault : SupportFault) → TellsUnsupported (checkpoint (Err (checkpoint_faults.Unsupported fault)))
+  unsupported : (end : CheckpointEnd) (fault : SupportFault) → end.answer ≡ Err (checkpoint_faults.Unsupported fault) → TellsUnsupported (checkpoint end)
 
 -- ---- what is so of the table
 

@@ -1,4 +1,5 @@
 pub mod BesideParts
+pub mod CallParts
 pub mod CheckpointParts
 pub mod EndParts
 pub mod FileReads
@@ -9,4 +10,5 @@ pub mod ListParts
 pub mod NameParts
 pub mod NumberParts
 pub mod ReasonParts
+pub mod TraceParts
 pub mod WalkParts

@@ -59,6 +59,9 @@ module _ (names : List (List ℕ)) (before after : List (ℕ × List ℕ)) (is :
       let own : AllByRecursion IsTold before = subst (AllByRecursion IsTold) (sym is) (kept_all told IsTold (λ name p tells. own_told name p (checkpoint_version name) refl tells) names) in
       all_from IsTold after (λ p among. each_among IsTold p before own (among_from p before (Contains-permutation after before p (IsPermutation-sym before after same) (among_to p after among))))
 
+  pub sorted_same : IsPermutation (filter_map told names) after
+  sorted_same = subst (λ (ps : List (ℕ × List ℕ)). IsPermutation ps after) is same
+
 -- ---- those of versions below one
 
 among_parts : {A : Type 0} (x : A) (xs ys : List A) → Among x (xs ++ ys) → Among x xs ⊎ Among x ys
@@ -189,3 +192,11 @@ module _ (objects : Objects) (items : List Listed) (all : AreAll (names_of objec
 
     pub done_more : AllByRecursion (IsDone objects) (map listed_view (take i items)) → IsDone objects (listed_view x) → AllByRecursion (IsDone objects) (map listed_view (take (i + 1) items))
     done_more done one = subst (AllByRecursion (IsDone objects)) (sym (map_turn listed_view items i (i + 1) x more refl at)) (all_push (IsDone objects) (map listed_view (take i items)) (listed_view x) done one)
+
+-- the checkpoints among names, seen where they are
+pub all_same : (names : List (List ℕ)) (items seen : List Listed) → seen ≡ items → IsPermutation (filter_map told names) (map listed_view items) → IsPermutation (filter_map told names) (map listed_view seen)
+all_same names items seen same are = subst (λ (ls : List Listed). IsPermutation (filter_map told names) (map listed_view ls)) (sym same) are
+
+-- the checkpoint at a place, and those behind it
+pub here_at : (items : List Listed) (i : ℕ) (x : Listed) → i < length items → x ≡ get_or items i x → map listed_view (drop i items) ≡ listed_view x ∷ map listed_view (drop (i + 1) items)
+here_at items i x more at = ap (map listed_view) (drop_more items i x more ∙ ap (λ (y : Listed). y ∷ drop (i + 1) items) (sym at))

@@ -1,4 +1,6 @@
+pub mod Audits
 pub mod Beside
+pub mod Calls
 pub mod Entries
 pub mod Faults
 pub mod LargeFiles

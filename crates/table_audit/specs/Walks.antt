@@ -52,3 +52,8 @@ IsReached objects walk (Over verdict) = IsVerdictOf objects verdict
 abbrev pub IsBehind : (last : ℕ) → Walk → Reached → Type 0
 IsBehind last walk Behind = walk.next ≡ suc last
 IsBehind last walk (Over verdict) = Unit {0}
+
+-- this is so of a walk that goes on
+abbrev pub IfBehind : Type 0 → Reached → Type 0
+IfBehind so Behind = so
+IfBehind so (Over verdict) = Unit {0}

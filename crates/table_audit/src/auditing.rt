@@ -1,10 +1,12 @@
 //! Whether the objects of a store, or of whatever else is read as one, are sound.
 
-ghost use Rattle.std.specs.Prelude.{◌≡◌, ℕ, suc, List, Some, map, IfOk, IfErr, IfSome, IfNone, IsErrOf, string_bytes};
+ghost use Rattle.std.specs.Prelude.{◌≡◌, ℕ, suc, List, Option, Some, map, IfOk, IfErr, IfSome, IfNone, IsErrOf, string_bytes};
 ghost use Rattle.schema_tree.specs.Schema.{tree_of};
 ghost use Rattle.store_core.specs.Objects.{object_at};
 ghost use Rattle.table_check.specs.Below.{IsSoundBelow};
 ghost use Rattle.table_log.specs.Restoring.{IsSoundCheckpoint, checkpoint_version};
+ghost use Rattle.table_audit.specs.Audits.{AreCheckpointsOf, Audits, ReadLog};
+ghost use Rattle.table_audit.specs.Calls.{ReaderCall, Traced, reads};
 ghost use Rattle.table_audit.specs.LargeFiles.{TellsLarge, TellsLargeFile, TellsNoFile};
 ghost use Rattle.table_audit.specs.Reasons.{IsReasonOf};
 ghost use Rattle.table_audit.specs.Verdicts.{IsVerdictOf};
@@ -32,6 +34,8 @@ use store_core::{GREATEST_VERSION, commit_name};
 /// read of one: nothing is told then.
 pub fn audit<R: ObjectReader>(alloc: Global, reader: &mut R) -> Result<Verdict, AuditError>
     ensures told { R.is_steady reader.old → IfOk result (λ verdict. IsVerdictOf (R.objects reader.old) verdict) }
+    // These calls are made of the reader, and no others.
+    ensures called { (calls : List ReaderCall) × Traced R.makes reader.old calls reader.new × Audits calls }
     ensures untouched { R.is_steady reader.old → R.objects reader.new ≡ R.objects reader.old }
     ensures steady { R.is_steady reader.old → R.is_steady reader.new }
     ensures reliable { R.is_reliable reader.old → R.is_reliable reader.new }
@@ -57,6 +61,8 @@ fn audit_walk<R: ObjectReader>(
 ) -> Result<Verdict, AuditError>
     requires { walk.next ≡ 1 }
     ensures told { R.is_steady reader.old → IsWalkOver (R.objects reader.old) (map string_bytes names.now) walk → IfOk result (λ verdict. IsVerdictOf (R.objects reader.old) verdict) }
+    ensures called { (calls : List ReaderCall) × (checkpoints : List (ℕ × List ℕ)) × Traced R.makes reader.old calls reader.new
+        × AreCheckpointsOf (map string_bytes names.now) checkpoints × ReadLog checkpoints walk.next calls }
     ensures untouched { R.is_steady reader.old → R.objects reader.new ≡ R.objects reader.old }
     ensures steady { R.is_steady reader.old → R.is_steady reader.new }
     ensures reliable { R.is_reliable reader.old → R.is_reliable reader.new }
@@ -94,7 +100,7 @@ fn wrong_checkpoint<R: ObjectReader>(
     ensures sound { R.is_steady reader.old → IsWalk (R.objects reader.old) walk.now → IfOk result (λ o. IfNone o ((bytes : List ℕ) → object_at (R.objects reader.old) (string_bytes checkpoint.now.name) ≡ Some bytes → IsSoundCheckpoint (R.objects reader.old) checkpoint.now.version bytes)) }
     ensures breaks { R.is_steady reader.old → IsWalk (R.objects reader.old) walk.now → IfOk result (λ o. IfSome o (λ reason. IsSoundBelow (R.objects reader.old) (suc checkpoint.now.version) → ⊥)) }
     ensures why { R.is_steady reader.old → IsWalk (R.objects reader.old) walk.now → IfOk result (λ o. IfSome o (IsReasonOf (R.objects reader.old) checkpoint.now.version)) }
-    ensures called { R.makes reader.old reader.new }
+    ensures called { (told : Option (Option (List ℕ))) × R.makes reader.old (reads (string_bytes checkpoint.now.name) told) reader.new }
     ensures untouched { R.is_steady reader.old → R.objects reader.new ≡ R.objects reader.old }
     ensures steady { R.is_steady reader.old → R.is_steady reader.new }
     ensures reliable { R.is_reliable reader.old → R.is_reliable reader.new }

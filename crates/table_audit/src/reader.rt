@@ -4,6 +4,7 @@ ghost use Rattle.std.specs.Prelude.{◌≡◌, map, IfOk, IsErrOf};
 ghost use Rattle.std.specs.Option.{option_map};
 ghost use Rattle.std.specs.String.{string_bytes};
 ghost use Rattle.store_core.specs.Objects.{Objects, names_of, object_at};
+ghost use Rattle.table_audit.specs.Calls.{ReaderCall, lists, reads, told_by};
 
 use store_core::{Store, StoreFault};
 
@@ -21,16 +22,16 @@ pub trait ObjectReader {
     /// No call is lost.
     ghost is_reliable: { Self → Type 0 };
 
-    /// What one call may make of a reader, whatever it tells. Code that is proved for any reader has to say by it which
+    /// What one call may make of a reader, with what it told. Code that is proved for any reader has to say by it which
     /// calls it makes; a reader that doesn't care takes any two values.
-    ghost makes: { Self → Self → Type 0 };
+    ghost makes: { Self → ReaderCall → Self → Type 0 };
 
     /// All names that stand, in the order of their bytes, each once.
     fn names(&mut self) -> Result<Vec<String>, StoreFault>
         ensures names { is_steady self.old → IfOk result (λ names. map string_bytes names.items ≡ names_of (objects self.old)) }
         ensures untouched { is_steady self.old → objects self.new ≡ objects self.old }
         ensures steady { is_steady self.old → is_steady self.new }
-        ensures called { makes self.old self.new }
+        ensures called { makes self.old (lists (told_by (λ names. map string_bytes names.items) result)) self.new }
         ensures never_lost { is_reliable self.old → IsErrOf result StoreFault.Lost → ⊥ }
         ensures stays_reliable { is_reliable self.old → is_reliable self.new };
 
@@ -39,7 +40,7 @@ pub trait ObjectReader {
         ensures object { is_steady self.old → IfOk result (λ found. option_map (λ bytes. bytes.items) found ≡ object_at (objects self.old) name.now) }
         ensures untouched { is_steady self.old → objects self.new ≡ objects self.old }
         ensures steady { is_steady self.old → is_steady self.new }
-        ensures called { makes self.old self.new }
+        ensures called { makes self.old (reads name.now (told_by (option_map (λ bytes. bytes.items)) result)) self.new }
         ensures never_lost { is_reliable self.old → IsErrOf result StoreFault.Lost → ⊥ }
         ensures stays_reliable { is_reliable self.old → is_reliable self.new };
 }
@@ -51,7 +52,7 @@ impl<S: Store> ObjectReader for S {
 
     ghost is_reliable = { λ store. S.is_reliable store };
 
-    ghost makes = { λ old new. S.makes old new };
+    ghost makes = { λ old _ new. S.makes old new };
 
     fn names(&mut self) -> Result<Vec<String>, StoreFault> {
         Ok(self.list()?.to_vec()?)

@@ -1,11 +1,14 @@
--- Traces that go on, and what saving makes of one name more.
+-- Traces that go on, and what saving and loading make of one name more.
 use Rattle.std.proofs.Common.{◌≡◌, ◌<◌, ◌+◌, ◌++◌, ◌∷◌, [], ℕ, List, String, Option, Some, None, Result, Ok, Err, IsErrAnd, refl, sym, ap, subst, ◌∙◌, inl, inr, map, length, take, get_or, append_assoc, append-nil}
-use Rattle.std.specs.Prelude.{slice_get, string_bytes}
+use Rattle.std.specs.Prelude.{OnOk, string_bytes}
 use Rattle.std.specs.Global.{Global}
 use Rattle.std.proofs.lemmas.List.{take-map}
 use Rattle.std.proofs.lemmas.Option.{slice_get_read}
+use Rattle.store_core.specs.Memory.{Stored}
 use Rattle.store_core.specs.Objects.{Objects, object_at}
-use Rattle.table_folder.specs.Traces.{FolderCall, MakeNone, SavesOne, Saves, Traced, creates, made_all, made_of}
+use Rattle.table_folder.specs.Copies.{with_found}
+use Rattle.table_folder.specs.Traces.{FolderCall, Loads, MakeNone, ReadsAll, ReadsFront, ReadsInto, SavesOne, Saves, Traced, creates, lists, made_all, made_of, reads, told_objects}
+use Rattle.table_folder.specs.declared.fault.LoadFault.{LoadFault}
 use Rattle.table_folder.specs.declared.fault.SaveFault.{SaveFault}
 use Rattle.table_folder.proofs.NameLemmas.{below_map, name_at, names_more}
 
@@ -58,3 +61,70 @@ unsaved_behind {F} makes old mid new objects now names all i name key fault resu
       subst (λ (r : Result (Unit {0}) SaveFault). Saves objects all r (made_all objects (map string_bytes (take i names)) ++ one.0)) (sym is_err)
           (subst (λ (ns : List (List ℕ)). Saves objects ns (Err fault) (made_all objects (map string_bytes (take i names)) ++ one.0)) is_all saves),
     )
+
+-- ---- loading
+
+-- what would be so of an answer, where there is none
+pub on_fault : {X E : Type 0} (P : E → Type 0) (Q : Type 0) (result : Result X E) → IsErrAnd result P → OnOk result Q
+on_fault P Q (Ok x) is = absurd is
+on_fault P Q (Err fault) is = tt
+
+-- one file more was read
+reads_more : (names : List (List ℕ)) (name : List ℕ) (found : Option (List ℕ)) (calls : List FolderCall) → ReadsAll names calls → ReadsAll (names ++ name ∷ []) (calls ++ reads name (Some found) ∷ [])
+reads_more [] name found calls is = (found, [], refl, ap (λ (c : List FolderCall). c ++ reads name (Some found) ∷ []) is)
+reads_more (first ∷ names) name found calls is =
+    (is.0, is.1 ++ reads name (Some found) ∷ [], reads_more names name found is.1 is.2, ap (λ (c : List FolderCall). c ++ reads name (Some found) ∷ []) is.3)
+
+-- and what was told of it is there
+told_more : (objects : Objects) (calls : List FolderCall) (name : List ℕ) (found : Option (List ℕ)) → told_objects objects (calls ++ reads name (Some found) ∷ []) ≡ with_found (told_objects objects calls) name found
+told_more objects [] name found = refl
+told_more objects (reads other (Some told) ∷ calls) name found = told_more (with_found objects other told) calls name found
+told_more objects (call ∷ calls) name found = told_more objects calls name found
+
+-- the files of these names were read on top of these objects
+abbrev pub HasRead : {F : Type 0} → (makes : F → FolderCall → F → Type 0) (old : F) → (names : List (List ℕ)) → (objects before : Objects) → F → Type 0
+HasRead makes old names objects before new = (calls : List FolderCall) × Traced makes old calls new × ReadsAll names calls × (before ≡ told_objects objects calls)
+
+pub read_more : {F : Type 0} → (makes : F → FolderCall → F → Type 0) (old mid new : F) (objects before after : Objects) (names : List (String Global)) (i : ℕ) (name : String Global) (key : List ℕ)
+    → key ≡ string_bytes name → i < length names → name ≡ get_or names i name
+    → HasRead makes old (map string_bytes (take i names)) objects before mid
+    → (told : Option (Option (List ℕ))) × makes mid (reads key told) new × ((found : Option (List ℕ)) × (told ≡ Some found) × (after ≡ with_found before key found))
+    → HasRead makes old (map string_bytes (take (i + 1) names)) objects after new
+read_more {F} makes old mid new objects before after names i name key is_key h e front one =
+    let found : Option (List ℕ) = one.2.0 in
+    let call : FolderCall = reads (string_bytes name) (Some found) in
+    let made : makes mid call new =
+    subst (λ (k : List ℕ). makes mid (reads k (Some found)) new) is_key (subst (λ (told : Option (Option (List ℕ))). makes mid (reads key told) new) one.2.1 one.1) in (
+      front.0 ++ call ∷ [],
+      traced_on makes old mid new front.0 (call ∷ []) front.1 (new, made, refl),
+      subst (λ (ns : List (List ℕ)). ReadsAll ns (front.0 ++ call ∷ [])) (sym (names_more names i name h e)) (reads_more (map string_bytes (take i names)) (string_bytes name) found front.0 front.2),
+      one.2.2 ∙ (λ j. with_found (front.3 j) (is_key j) found) ∙ sym (told_more objects front.0 (string_bytes name) found),
+    )
+
+-- those in front of a name were read, and of that one something was told, or nothing
+pub unread_behind : {F : Type 0} → (makes : F → FolderCall → F → Type 0) (old mid new : F) (objects before after : Objects) (names : List (String Global)) (i : ℕ) (name : String Global) (key : List ℕ) (told : Option (Option (List ℕ))) (P : LoadFault → Type 0) (result : Result (Unit {0}) LoadFault)
+    → IsErrAnd result P → key ≡ string_bytes name → i < length names → name ≡ get_or names i name
+    → HasRead makes old (map string_bytes (take i names)) objects before mid → makes mid (reads key told) new
+    → (calls : List FolderCall) × Traced makes old calls new × ReadsInto (map string_bytes names) objects after result calls
+unread_behind {F} makes old mid new objects before after names i name key told P (Ok done) is is_key h e front made = absurd is
+unread_behind {F} makes old mid new objects before after names i name key told P (Err fault) is is_key h e front made =
+    let call : FolderCall = reads (string_bytes name) told in
+    let at = slice_get_read (map string_bytes names) (length (map string_bytes names)) i (string_bytes name) refl (below_map names i h) (name_at names i name h e) in (
+      front.0 ++ call ∷ [],
+      traced_on makes old mid new front.0 (call ∷ []) front.1 (new, subst (λ (k : List ℕ). makes mid (reads k told) new) is_key made, refl),
+      (i, string_bytes name, told, front.0, at, subst (λ (ns : List (List ℕ)). ReadsAll ns front.0) (sym (take-map string_bytes i names)) front.2, refl),
+    )
+
+-- a load that ended at its listing, behind it, or in a read
+pub not_listed : (wanted : List (List ℕ) → List (List ℕ)) (P : LoadFault → Type 0) (result : Result Stored LoadFault) → IsErrAnd result P → Loads wanted result (lists None ∷ [])
+not_listed wanted P (Ok store) is = absurd is
+not_listed wanted P (Err fault) is = inl refl
+
+pub only_listed : (wanted : List (List ℕ) → List (List ℕ)) (P : LoadFault → Type 0) (result : Result Stored LoadFault) (names : List (List ℕ)) → IsErrAnd result P → Loads wanted result (lists (Some names) ∷ [])
+only_listed wanted P (Ok store) names is = absurd is
+only_listed wanted P (Err fault) names is = inr (names, [], inl refl, refl)
+
+pub front_loaded : (wanted : List (List ℕ) → List (List ℕ)) (P : LoadFault → Type 0) (result : Result Stored LoadFault) (names : List (List ℕ)) (calls : List FolderCall) → IsErrAnd result P → ReadsFront (wanted names) calls
+    → Loads wanted result (lists (Some names) ∷ calls)
+front_loaded wanted P (Ok store) names calls is front = absurd is
+front_loaded wanted P (Err fault) names calls is front = inr (names, calls, inr front, refl)

@@ -1,11 +1,14 @@
 -- Which calls were made of a folder, with what they told: its trace. It says what was done, also of a folder of which nothing
 -- else is known, on a disk that others write to.
 use Rattle.std.specs.Prelude.{◌≡◌, ◌++◌, ◌⊎◌, ℕ, List, [], ◌∷◌, Option, None, Some, Result, Ok, Err, slice_get, take, string_bytes}
+use Rattle.store_core.specs.Memory.{Stored, stored_objects}
 use Rattle.store_core.specs.Objects.{Objects, object_at}
 use Rattle.store_core.specs.declared.store.Put.{Put}
 use Rattle.store_core.specs.declared.store.Put.TheVariants.{Created, Exists}
+use Rattle.table_folder.specs.Copies.{with_found}
 use Rattle.table_folder.specs.Faults.{IsNotSaved}
 use Rattle.table_folder.specs.declared.fault.FolderFault.{FolderFault}
+use Rattle.table_folder.specs.declared.fault.LoadFault.{LoadFault}
 use Rattle.table_folder.specs.declared.fault.SaveFault.{SaveFault}
 use Rattle.table_folder.specs.declared.fault.SaveFault.TheVariants as saves
 use Rattle.table_folder.specs.declared.reason.Reason.TheVariants.{Taken}
@@ -75,3 +78,36 @@ Saves objects names (Ok done) calls = calls ≡ made_all objects names
 Saves objects names (Err fault) calls = ((calls ≡ []) × (IsNotSaved {X = Unit {0}} (Err fault) → ⊥))
     ⊎ ((n : ℕ) × (name : List ℕ) × (last : List FolderCall) × (slice_get names n ≡ Some name) × SavesOne objects name (Err fault) last
     × (calls ≡ made_all objects (take n names) ++ last))
+
+-- ---- what loading makes
+
+-- The files of these names were read, each once, in this order, and each call told what it found.
+abbrev pub ReadsAll : (names : List (List ℕ)) → List FolderCall → Type 0
+ReadsAll [] calls = calls ≡ []
+ReadsAll (name ∷ names) calls = (found : Option (List ℕ)) × (more : List FolderCall) × ReadsAll names more × (calls ≡ reads name (Some found) ∷ more)
+
+-- The files in front of one of these names were read so, and then that one as the last, whatever was told of it.
+abbrev pub ReadsFront : (names : List (List ℕ)) → List FolderCall → Type 0
+ReadsFront names calls =
+    (n : ℕ) × (name : List ℕ) × (told : Option (Option (List ℕ))) × (front : List FolderCall) × (slice_get names n ≡ Some name) × ReadsAll (take n names) front
+    × (calls ≡ front ++ reads name told ∷ [])
+
+-- the objects, with what reads of files found
+abbrev pub told_objects : Objects → List FolderCall → Objects
+told_objects objects [] = objects
+told_objects objects (reads name (Some found) ∷ calls) = told_objects (with_found objects name found) calls
+told_objects objects (call ∷ calls) = told_objects objects calls
+
+-- The calls that read the files of these names into a store: all of them, of which it has then what was told; or a front of them,
+-- where that failed.
+abbrev pub ReadsInto : (names : List (List ℕ)) → (old new : Objects) → Result (Unit {0}) LoadFault → List FolderCall → Type 0
+ReadsInto names old new (Ok done) calls = ReadsAll names calls × (new ≡ told_objects old calls)
+ReadsInto names old new (Err fault) calls = ReadsFront names calls
+
+-- The calls that loaded the files of those names that are wanted, of all that one listing told: the listing, and then a read of each
+-- one. What was loaded is what was told. Where it failed, that was the listing; or a front of the wanted files was read, or none.
+abbrev pub Loads : (wanted : List (List ℕ) → List (List ℕ)) → Result Stored LoadFault → List FolderCall → Type 0
+Loads wanted (Ok store) calls =
+    (names : List (List ℕ)) × (more : List FolderCall) × ReadsAll (wanted names) more × (stored_objects store ≡ told_objects [] more) × (calls ≡ lists (Some names) ∷ more)
+Loads wanted (Err fault) calls = (calls ≡ lists None ∷ [])
+    ⊎ ((names : List (List ℕ)) × (more : List FolderCall) × ((more ≡ []) ⊎ ReadsFront (wanted names) more) × (calls ≡ lists (Some names) ∷ more))

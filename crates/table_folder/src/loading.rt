@@ -1,10 +1,11 @@
 //! Making a store of a folder's files: of all, or of those of its log.
-ghost use Rattle.std.specs.Prelude.{◌≡◌, ◌∷◌, [], IfOk, OnOk, filter, map, string_bytes};
+ghost use Rattle.std.specs.Prelude.{◌≡◌, ◌∷◌, [], ℕ, List, IfOk, OnOk, Option, Some, filter, map, string_bytes};
 ghost use Rattle.store_core.specs.Memory.{stored_objects};
 ghost use Rattle.store_core.specs.Objects.{names_of};
-ghost use Rattle.table_folder.specs.Copies.{with_copies, with_copy};
+ghost use Rattle.table_folder.specs.Copies.{with_copies, with_copy, with_found};
 ghost use Rattle.table_folder.specs.Faults.{CountsLoad, IsNotLoaded, LoadFailsAmong, LoadFailsAt};
 ghost use Rattle.table_folder.specs.Loads.{is_of_log, loaded};
+ghost use Rattle.table_folder.specs.Traces.{FolderCall, Loads, ReadsInto, Traced, reads};
 
 use crate::{Folder, LoadFault};
 use std::alloc::{AllocError, Global};
@@ -16,6 +17,8 @@ pub fn load<F: Folder>(alloc: Global, folder: &mut F) -> Result<MemoryStore, Loa
     ensures loaded { F.is_steady folder.old → IfOk result (λ store. stored_objects store ≡ F.objects folder.old) }
     ensures untouched { F.is_steady folder.old → F.objects folder.new ≡ F.objects folder.old }
     ensures steady { F.is_steady folder.old → F.is_steady folder.new }
+    // Just these calls are made of the folder, whoever else writes into it, and what is loaded is what they told.
+    ensures called { (calls : List FolderCall) × Traced F.makes folder.old calls folder.new × Loads (λ names. names) result calls }
 
     ensures named { F.is_steady folder.old → LoadFailsAmong (F.path folder.old ∷ names_of (F.objects folder.old)) result }
     ensures faults { CountsLoad result (F.fault_count folder.old) (F.fault_count folder.new) }
@@ -34,6 +37,8 @@ pub fn load_log<F: Folder>(alloc: Global, folder: &mut F) -> Result<MemoryStore,
     ensures loaded { F.is_steady folder.old → IfOk result (λ store. stored_objects store ≡ loaded [] (F.objects folder.old)) }
     ensures untouched { F.is_steady folder.old → F.objects folder.new ≡ F.objects folder.old }
     ensures steady { F.is_steady folder.old → F.is_steady folder.new }
+    // Just these calls are made of the folder, whoever else writes into it, and what is loaded is what they told.
+    ensures called { (calls : List FolderCall) × Traced F.makes folder.old calls folder.new × Loads (filter is_of_log) result calls }
 
     ensures named { F.is_steady folder.old → LoadFailsAmong (F.path folder.old ∷ names_of (F.objects folder.old)) result }
     ensures faults { CountsLoad result (F.fault_count folder.old) (F.fault_count folder.new) }
@@ -78,6 +83,8 @@ fn copy_files<F: Folder>(
         (stored_objects store.new ≡ with_copies (F.objects folder.old) (stored_objects store.old) (map string_bytes names.now)) }
     ensures untouched { F.is_steady folder.old → F.objects folder.new ≡ F.objects folder.old }
     ensures steady { F.is_steady folder.old → F.is_steady folder.new }
+    ensures called { (calls : List FolderCall) × Traced F.makes folder.old calls folder.new
+        × ReadsInto (map string_bytes names.now) (stored_objects store.old) (stored_objects store.new) result calls }
 
     ensures named { LoadFailsAmong (map string_bytes names.now) result }
     ensures faults { CountsLoad result (F.fault_count folder.old) (F.fault_count folder.new) }
@@ -96,17 +103,19 @@ fn load_one<F: Folder>(folder: &mut F, store: &mut MemoryStore, name: &str) -> R
         (stored_objects store.new ≡ with_copy (F.objects folder.old) (stored_objects store.old) name.now) }
     ensures untouched { F.is_steady folder.old → F.objects folder.new ≡ F.objects folder.old }
     ensures steady { F.is_steady folder.old → F.is_steady folder.new }
+    ensures called { (told : Option (Option (List ℕ))) × F.makes folder.old (reads name.now told) folder.new
+        × OnOk result ((found : Option (List ℕ)) × (told ≡ Some found) × (stored_objects store.new ≡ with_found (stored_objects store.old) name.now found)) }
 
     ensures named { LoadFailsAt name.now result }
     ensures faults { CountsLoad result (F.fault_count folder.old) (F.fault_count folder.new) }
     ensures never_fails { F.is_reliable folder.old → IsNotLoaded result → ⊥ }
     ensures stays_reliable { F.is_reliable folder.old → F.is_reliable folder.new }
 {
-    if let Some(bytes) = folder.read(name)? {
-        let put = store.put_absent(name, bytes);
-        if put.is_err() {
-            return Err(LoadFault::Memory);
-        }
+    let Some(bytes) = folder.read(name)? else {
+        return Ok(());
+    };
+    match store.put_absent(name, bytes) {
+        Ok(_put) => Ok(()),
+        Err(_fault) => Err(LoadFault::Memory),
     }
-    Ok(())
 }

@@ -26,9 +26,7 @@ use Rattle.sink_core.proofs.Driven.{driven_never_lost}
 use Rattle.sink_core.proofs.DrivenAppend.{appended}
 use Rattle.sink_core.proofs.DrivenClose.{closed_so}
 use Rattle.snapshot_core.specs.CheckpointSessions.{CheckpointAsks, CheckpointEnds, is_lost_checkpoint}
-use Rattle.snapshot_core.specs.declared.checkpoint_session.Checkpointed.{Checkpointed}
 use Rattle.snapshot_core.specs.declared.fault.SnapshotFault.{SnapshotFault}
-use Rattle.snapshot_core.specs.declared.fault.SnapshotFault.TheVariants as snapshots
 use Rattle.snapshot_core.proofs.CheckpointTalks.{put_never_lost, put_refused, put_untouched, was_put}
 use Rattle.source_core.specs.SourceSessions.{SourceAsks, SourceEnds, SourceJob, is_lost_read}
 use Rattle.source_core.specs.declared.source_session.ReadEnd.{ReadEnd}
@@ -69,13 +67,13 @@ module _ (application : List ℕ) (at : ℕ) (use_checkpoints : Bool) (old new :
 
 -- ---- a checkpoint, a load, a creation and a read
 
-checkpoint_so : (job : LoadJob) (most : ℕ) (outcome : Result Checkpointed SnapshotFault) (old new : Objects)
-    → Drives CheckpointAsks CheckpointEnds is_lost_checkpoint (λ talk. Unit {0}) (Unit {0}) job most (all_got old old) outcome (old, []) (new, []) 0 0 → IsCheckpointed job.use_checkpoints old new outcome
-checkpoint_so job most (Ok put) old new driven = was_put job (Unit {0}) most (Ok put) (old, []) (new, []) 0 0 driven put refl
-checkpoint_so job most (Err fault) old new driven =
-    let never = put_never_lost job (Unit {0}) most (Err fault) (old, []) (new, []) 0 0 driven tt in (
-      put_refused job (Unit {0}) most (Err fault) (old, []) (new, []) 0 0 driven fault refl,
-      put_untouched job (Unit {0}) most (Err fault) (old, []) (new, []) 0 0 driven never fault refl,
+checkpoint_so : (job : LoadJob) (most : ℕ) (known : Loaded) (answer : Result ℕ SnapshotFault) (old new : Objects)
+    → Drives CheckpointAsks CheckpointEnds is_lost_checkpoint (λ talk. Unit {0}) (Unit {0}) job most (all_got old old) (record { known = known; answer = answer }) (old, []) (new, []) 0 0 → IsCheckpointed job.use_checkpoints old new answer
+checkpoint_so job most known (Ok version) old new driven = was_put job (Unit {0}) most known (Ok version) (old, []) (new, []) 0 0 driven version refl
+checkpoint_so job most known (Err fault) old new driven =
+    let never = put_never_lost job (Unit {0}) most known (Err fault) (old, []) (new, []) 0 0 driven tt in (
+      put_refused job (Unit {0}) most known (Err fault) (old, []) (new, []) 0 0 driven fault refl,
+      put_untouched job (Unit {0}) most known (Err fault) (old, []) (new, []) 0 0 driven never fault refl,
       (λ lost. never (ap (λ (f : SnapshotFault). Err f) lost)),
     )
 
@@ -150,7 +148,8 @@ task_so job tasks.Close most end old new driven = close_so (string_bytes job.app
 pub quiet_job : (job : code.Job) (most : ℕ) (end : code_end.JobEnd) (old new : Objects) → DrivesJob job most end old new → IsJobDone (job_view job) old new (end_view end)
 quiet_job (jobs.Create job) most (ends.Created answer) old new driven = create_so _ most _ answer old new (same_drive Asks _ _ CreateAsks CreateEnds tells_lost _ _ most _ _ answer _ _ 0 0 driven driven.asked driven.ended driven.told)
 quiet_job (jobs.Load use_checkpoints) most (ends.Loaded result) old new driven = load_so _ most result old new (same_drive Asks _ _ LoadAsks LoadEnds is_lost_load _ _ most _ _ result _ _ 0 0 driven driven.asked driven.ended driven.told)
-quiet_job (jobs.Checkpoint use_checkpoints) most (ends.Checkpointed result) old new driven = checkpoint_so _ most result old new (same_drive Asks _ _ CheckpointAsks CheckpointEnds is_lost_checkpoint _ _ most _ _ result _ _ 0 0 driven driven.asked driven.ended driven.told)
+quiet_job (jobs.Checkpoint use_checkpoints) most (ends.Checkpointed end) old new driven =
+    checkpoint_so _ most end.known end.answer old new (same_drive Asks _ _ CheckpointAsks CheckpointEnds is_lost_checkpoint _ _ most _ _ end _ _ 0 0 driven driven.asked driven.ended driven.told)
 quiet_job (jobs.Stream job) most (ends.Streamed end) old new driven =
     task_so job job.task most end old new (same_drive Asks _ _ SinkAsks SinkEnds is_lost_end _ (stream_view job) most _ _ end _ _ 0 0 driven driven.asked driven.ended driven.told)
 quiet_job (jobs.Read place max use_checkpoints) most (ends.Read end) old new driven = read_so _ most end old new (same_drive Asks _ _ SourceAsks SourceEnds is_lost_read _ _ most _ _ end _ _ 0 0 driven driven.asked driven.ended driven.told)

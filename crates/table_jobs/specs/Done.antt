@@ -20,7 +20,6 @@ use Rattle.sink_core.specs.Closes.{ClosesWell, MayClose, close_plan, closed_by, 
 use Rattle.sink_core.specs.SinkSessions.{SinkJob, SinkTask, appends, closes}
 use Rattle.sink_core.specs.declared.sink_state.SinkOutcome.{SinkOutcome}
 use Rattle.snapshot_core.specs.Taking.{HasPut, IsRefusal}
-use Rattle.snapshot_core.specs.declared.checkpoint_session.Checkpointed.{Checkpointed}
 use Rattle.snapshot_core.specs.declared.fault.SnapshotFault.{SnapshotFault}
 use Rattle.snapshot_core.specs.declared.fault.SnapshotFault.TheVariants as snapshots
 use Rattle.log_rows.specs.TailFaults.{ReadGives}
@@ -53,8 +52,8 @@ abbrev pub IsCreationDone : (id : List ℕ) (at : ℕ) (schema : List ℕ) (old 
 IsCreationDone id at schema old new answer = Creates (Unit {0}) id at schema answer old new × OnErr answer (new ≡ old) × (answer ≢ Err creations.Lost)
 
 -- and a checkpoint of the newest version was put, or nothing, for a reason
-abbrev pub IsCheckpointed : (use_checkpoints : Bool) (old new : Objects) → Result Checkpointed SnapshotFault → Type 0
-IsCheckpointed use_checkpoints old new (Ok put) = HasPut use_checkpoints put.version old new
+abbrev pub IsCheckpointed : (use_checkpoints : Bool) (old new : Objects) → Result ℕ SnapshotFault → Type 0
+IsCheckpointed use_checkpoints old new (Ok version) = HasPut use_checkpoints version old new
 IsCheckpointed use_checkpoints old new (Err fault) = IsRefusal use_checkpoints fault old × (new ≡ old) × (fault ≢ snapshots.Lost)
 
 -- and a log was loaded, or not
@@ -77,7 +76,7 @@ IsTaskDone closes job old new answer = IsClosed job.load.use_checkpoints job.app
 abbrev pub IsJobDone : Job → (old new : Objects) → Outcome → Type 0
 IsJobDone (creates job) old new (creation answer) = IsCreationDone job.id job.at job.schema old new answer
 IsJobDone (loads job) old new (load result) = IsLoadDone job.use_checkpoints old new result
-IsJobDone (checkpoints job) old new (checkpoint result) = IsCheckpointed job.use_checkpoints old new result
+IsJobDone (checkpoints job) old new (checkpoint end) = IsCheckpointed job.use_checkpoints old new end.answer
 IsJobDone (streams job) old new (stream end) = IsTaskDone job.task job old new end.answer
 IsJobDone (reads job) old new (read end) = IsReadDone job old new end
 IsJobDone job old new outcome = ⊥

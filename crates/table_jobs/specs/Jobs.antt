@@ -6,8 +6,7 @@ use Rattle.table_log.specs.LoadSessions.{LoadAsks, LoadEnds, LoadJob, is_lost_lo
 use Rattle.table_log.specs.declared.fault.LogFault.{LogFault}
 use Rattle.table_log.specs.declared.loading.Loaded.{Loaded}
 use Rattle.snapshot_core.specs.CheckpointSessions.{CheckpointAsks, CheckpointEnds, is_lost_checkpoint}
-use Rattle.snapshot_core.specs.declared.checkpoint_session.Checkpointed.{Checkpointed}
-use Rattle.snapshot_core.specs.declared.fault.SnapshotFault.{SnapshotFault}
+use Rattle.snapshot_core.specs.declared.checkpoint_session.CheckpointEnd.{CheckpointEnd}
 use Rattle.commit_core.specs.CreateSessions.{CreateAsks, CreateEnds, CreateJob, tells_lost}
 use Rattle.commit_core.specs.declared.fault.CreateFault.{CreateFault}
 use Rattle.sink_core.specs.SinkSessions.{SinkAsks, SinkEnds, SinkJob, is_lost_end}
@@ -28,7 +27,7 @@ pub data Job : Type 0 where
 pub data Outcome : Type 0 where
   creation : Result (Unit {0}) CreateFault → Outcome
   load : Result Loaded LogFault → Outcome
-  checkpoint : Result Checkpointed SnapshotFault → Outcome
+  checkpoint : CheckpointEnd → Outcome
   stream : SinkEnd → Outcome
   read : ReadEnd → Outcome
 
@@ -44,7 +43,7 @@ Asks (reads job) before talk asked = SourceAsks job before talk asked
 abbrev pub Ends : Job → (before talk : Talk) → Outcome → Type 0
 Ends (creates job) before talk (creation result) = CreateEnds job before talk result
 Ends (loads job) before talk (load result) = LoadEnds job before talk result
-Ends (checkpoints job) before talk (checkpoint result) = CheckpointEnds job before talk result
+Ends (checkpoints job) before talk (checkpoint end) = CheckpointEnds job before talk end
 Ends (streams job) before talk (stream end) = SinkEnds job before talk end
 Ends (reads job) before talk (read end) = SourceEnds job before talk end
 Ends job before talk outcome = ⊥
@@ -53,7 +52,7 @@ Ends job before talk outcome = ⊥
 abbrev pub is_lost : Outcome → Bool
 is_lost (creation result) = tells_lost result
 is_lost (load result) = is_lost_load result
-is_lost (checkpoint result) = is_lost_checkpoint result
+is_lost (checkpoint end) = is_lost_checkpoint end
 is_lost (stream end) = is_lost_end end
 is_lost (read end) = is_lost_read end
 

@@ -57,6 +57,6 @@ is_ended (Read session) = reading.is_ended session.stage
 abbrev pub end_view : JobEnd → Outcome
 end_view (ends.Created result) = creation result
 end_view (ends.Loaded result) = load result
-end_view (ends.Checkpointed result) = checkpoint result
+end_view (ends.Checkpointed end) = checkpoint end
 end_view (ends.Streamed end) = stream end
 end_view (ends.Read end) = read end

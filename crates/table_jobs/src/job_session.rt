@@ -3,7 +3,7 @@
 use commit_core::{CreateFault, CreateSession};
 use session_core::{Reply, Session, Step};
 use sink_core::{SinkEnd, SinkSession};
-use snapshot_core::{CheckpointSession, Checkpointed, SnapshotFault};
+use snapshot_core::{CheckpointEnd, CheckpointSession};
 use source_core::{ReadEnd, SourceSession};
 use table_log::{LoadSession, Loaded, LogFault};
 
@@ -26,7 +26,7 @@ pub enum JobSession<'r> {
 pub enum JobEnd {
     Created(Result<(), CreateFault>),
     Loaded(Result<Loaded, LogFault>),
-    Checkpointed(Result<Checkpointed, SnapshotFault>),
+    Checkpointed(CheckpointEnd),
     Streamed(SinkEnd),
     Read(ReadEnd),
 }

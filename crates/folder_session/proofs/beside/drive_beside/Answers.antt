@@ -7,7 +7,7 @@ use Rattle.store_core.specs.declared.names.Names.{Names}
 use Rattle.session_core.specs.Stores.{Answers, State, Talked}
 use Rattle.session_core.specs.Talks.{Asked, Talk, Told, asked_view, told_view, has_lost, heard}
 use Rattle.session_core.proofs.Callers.{asked_more, bears_grows, exact_never_lost, talk_alone, talk_borne, talk_grows}
-use Rattle.table_folder.specs.Traces.{FolderCall, MakeNone, Traced, lists}
+use Rattle.table_folder.specs.Traces.{lists}
 use Rattle.table_folder.proofs.Callers.{none_made_on, traced_on}
 use Rattle.folder_session.specs.Beside.{AreApart, Hears, put_so, with_beside}
 use Rattle.folder_session.proofs.BesideLemmas.{answered_more, for_fault, heard_more, hears_makes_none, looked_once, put_more, traced_once, unlost_more}

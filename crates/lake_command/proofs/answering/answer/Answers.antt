@@ -6,7 +6,7 @@ use Rattle.lake_words.specs.Asked.{work_view}
 use Rattle.lake_command.specs.Again.{ComesOfRuns, not_there, runs}
 use Rattle.lake_command.specs.Failures.{CountsFolderFault}
 use Rattle.lake_command.specs.Folders.{IsTextOf, line_view}
-use Rattle.lake_command.proofs.AgainLemmas.{fails_with, folder_caused, input_alone, input_causes, input_leaves, input_told, run_once, taken_puts}
+use Rattle.lake_command.proofs.AgainLemmas.{fails_with, folder_caused, input_alone, input_causes, input_leaves, input_told, run_once, taken_puts, taken_risen}
 use Rattle.lake_command.proofs.CountLemmas.{asked_count, refused_by}
 use Rattle.lake_command.proofs.FolderLemmas.{fails_for_job, found_asked, may_leave, replies_to_job, sound_restores, stays_sound}
 use Rattle.lake_command.proofs.answering.answer.Goals as goal
@@ -48,12 +48,12 @@ returns-clause-caused g c =
     folder_caused c.execute_in-outcome.result work known _ (line_view c.in-Some.line) _ _ (found_asked c.in_ok-line.field-0 c.in-Some.line _ _ c.in-Some.is (c.in_ok-line.ensures.asked known is)) c.execute_in-outcome.ensures.caused
     c.in_ok-text.ensures.broken c.in_ok-text.ensures.too_long c.execute_in-outcome.ensures.faults
 
-pub returns-then-none_failed-clause-caused : goal.returns-then-none_failed-clause-caused
-returns-then-none_failed-clause-caused g c =
+pub returns-then-is_lost_race-clause-caused : goal.returns-then-is_lost_race-clause-caused
+returns-then-is_lost_race-clause-caused g c =
     let work = work_view c.args.command.job in
     let known = unread g.R.Read.remaining c.args.input.now in
     let is = subst (λ (bytes : List ℕ). IsTextOf work known bytes) (sym c.deref.ensures.value) c.in_ok-text.ensures.read in
-    let level = sym c.faults.ensures ∙ c.none_failed.ensures.same c.if-none_failed.true ∙ c.faults-before.ensures in
+    let level = sym c.faults.ensures ∙ c.is_lost_race.ensures.same c.if-is_lost_race.true ∙ c.faults-before.ensures in
     folder_caused c.run_again.result work known _ (line_view c.in-Some.line) _ _ (found_asked c.in_ok-line.field-0 c.in-Some.line _ _ c.in-Some.is (c.in_ok-line.ensures.asked known is)) c.run_again.ensures.caused
     c.in_ok-text.ensures.broken c.in_ok-text.ensures.too_long
     (subst (λ (n : ℕ). CountsFolderFault c.run_again.result n (g.F.Folder.fault_count c.run_again.new.folder)) level c.run_again.ensures.faults)
@@ -87,8 +87,8 @@ returns-clause-counted g c = λ other.
     let is = subst (λ (bytes : List ℕ). IsTextOf work known bytes) (sym c.deref.ensures.value) c.in_ok-text.ensures.read in
     absurd (asked_count work known (line_view c.in-Some.line) (found_asked c.in_ok-line.field-0 c.in-Some.line _ _ c.in-Some.is (c.in_ok-line.ensures.asked known is)) other)
 
-pub returns-then-none_failed-clause-counted : goal.returns-then-none_failed-clause-counted
-returns-then-none_failed-clause-counted g c = λ other.
+pub returns-then-is_lost_race-clause-counted : goal.returns-then-is_lost_race-clause-counted
+returns-then-is_lost_race-clause-counted g c = λ other.
     let work = work_view c.args.command.job in
     let known = unread g.R.Read.remaining c.args.input.now in
     let is = subst (λ (bytes : List ℕ). IsTextOf work known bytes) (sym c.deref.ensures.value) c.in_ok-text.ensures.read in
@@ -103,7 +103,7 @@ returns-in_err-line-clause-counted g c = λ other.
 
 pub returns-in_err-text-clause-runs : goal.returns-in_err-text-clause-runs
 returns-in_err-text-clause-runs g c =
-    input_told (λ calls. Traced g.F.Folder.makes c.args.folder.now calls c.args.folder.now) c.from_residual.result c.in_err-text.field-0.0 (work_view c.args.command.job) (unread g.R.Read.remaining c.args.input.now) (read_failed c.text_for.new.input) c.args.command.use_checkpoints
+    input_told (λ calls. Traced g.F.Folder.makes c.args.folder.now calls c.args.folder.now) c.from_residual.result c.in_err-text.field-0.0 (work_view c.args.command.job) (unread g.R.Read.remaining c.args.input.now) (read_failed c.text_for.new.input) c.args.command.use_checkpoints _ _
     (fails_with c.from_residual.result c.in_err-text.field-0.0 c.from_residual.ensures.1) c.in_err-text.ensures.failed
 
 pub returns-in_err-line-clause-runs : goal.returns-in_err-line-clause-runs
@@ -111,7 +111,7 @@ returns-in_err-line-clause-runs g c =
     let work = work_view c.args.command.job in
     let known = unread g.R.Read.remaining c.args.input.now in
     let is = subst (λ (bytes : List ℕ). IsTextOf work known bytes) (sym c.deref.ensures.value) c.in_ok-text.ensures.read in
-    input_told (λ calls. Traced g.F.Folder.makes c.args.folder.now calls c.args.folder.now) c.from_residual-in_err-line.result c.in_err-line.field-0.0 work known (read_failed c.text_for.new.input) c.args.command.use_checkpoints
+    input_told (λ calls. Traced g.F.Folder.makes c.args.folder.now calls c.args.folder.now) c.from_residual-in_err-line.result c.in_err-line.field-0.0 work known (read_failed c.text_for.new.input) c.args.command.use_checkpoints _ _
     (fails_with c.from_residual-in_err-line.result c.in_err-line.field-0.0 c.from_residual-in_err-line.ensures.1) (c.in_err-line.ensures.failed known (read_failed c.text_for.new.input) is)
 
 pub returns-in_default-clause-runs : goal.returns-in_default-clause-runs
@@ -119,27 +119,30 @@ returns-in_default-clause-runs g c = not_there _ (c.in_ok-line.ensures.later (ap
 
 pub run_again-requires-clause-puts : goal.run_again-requires-clause-puts
 run_again-requires-clause-puts g c =
-    let text = c.deref-then-none_failed.result.now in
-    let same = c.deref.ensures.value ∙ sym c.deref-then-none_failed.ensures.value in (
+    let text = c.deref-then-is_lost_race.result.now in
+    let same = c.deref.ensures.value ∙ sym c.deref-then-is_lost_race.ensures.value in (
       line_view c.in-Some.line,
       found_asked c.in_ok-line.field-0 c.in-Some.line (work_view c.args.command.job) (Some text) c.in-Some.is (c.in_ok-line.ensures.asked (Some text) (λ reads. same)),
-      taken_puts c.execute_in-outcome.result (line_view c.in-Some.line) c.execute_in-outcome.ensures.read (c.is_taken.ensures.0 c.if-is_taken.true),
+      taken_puts c.execute_in-outcome.result (line_view c.in-Some.line) c.execute_in-outcome.ensures.read (c.is_lost_race.ensures.taken c.if-is_lost_race.true),
     )
 
-pub returns-then-none_failed-clause-runs : goal.returns-then-none_failed-clause-runs
-returns-then-none_failed-clause-runs g c =
+pub returns-then-is_lost_race-clause-runs : goal.returns-then-is_lost_race-clause-runs
+returns-then-is_lost_race-clause-runs g c =
     let work = work_view c.args.command.job in
     let known = unread g.R.Read.remaining c.args.input.now in
-    let text = c.deref-then-none_failed.result.now in
+    let text = c.deref-then-is_lost_race.result.now in
     let line = line_view c.in-Some.line in
-    let same = c.deref.ensures.value ∙ sym c.deref-then-none_failed.ensures.value in
-    let is = subst (λ (bytes : List ℕ). IsTextOf work known bytes) (sym c.deref-then-none_failed.ensures.value) c.in_ok-text.ensures.read in
+    let same = c.deref.ensures.value ∙ sym c.deref-then-is_lost_race.ensures.value in
+    let is = subst (λ (bytes : List ℕ). IsTextOf work known bytes) (sym c.deref-then-is_lost_race.ensures.value) c.in_ok-text.ensures.read in
     let asked = found_asked c.in_ok-line.field-0 c.in-Some.line work (Some text) c.in-Some.is (c.in_ok-line.ensures.asked (Some text) (λ reads. same)) in
-    let puts = taken_puts c.execute_in-outcome.result line c.execute_in-outcome.ensures.read (c.is_taken.ensures.0 c.if-is_taken.true) in
+    let puts = taken_puts c.execute_in-outcome.result line c.execute_in-outcome.ensures.read (c.is_lost_race.ensures.taken c.if-is_lost_race.true) in
     let one = c.execute_in-outcome.ensures.ran puts in
     let more = c.run_again.ensures.runs line one.0 asked one.2 in
+    let level = sym c.faults.ensures ∙ c.is_lost_race.ensures.same c.if-is_lost_race.true ∙ c.faults-before.ensures in
+    let faults = g.F.Folder.fault_count c.run_again.new.folder in
+    let comes = subst (λ (n : ℕ). ComesOfRuns work text c.args.command.use_checkpoints n faults c.tries_of-tries.result c.run_again.result (one.0 ++ more.0)) level more.2 in
     runs text c.run_again.result (one.0 ++ more.0) is (traced_on g.F.Folder.makes c.args.folder.now c.execute_in-outcome.new.folder c.run_again.new.folder one.0 more.0 one.1 more.1)
-    (subst (λ (n : ℕ). ComesOfRuns work text c.args.command.use_checkpoints n c.run_again.result (one.0 ++ more.0)) c.tries_of-tries.ensures.same more.2)
+    (subst (λ (n : ℕ). ComesOfRuns work text c.args.command.use_checkpoints (g.F.Folder.fault_count c.args.folder.now) faults n c.run_again.result (one.0 ++ more.0)) c.tries_of-tries.ensures.same comes)
 
 pub returns-clause-runs : goal.returns-clause-runs
 returns-clause-runs g c =
@@ -148,5 +151,6 @@ returns-clause-runs g c =
     let text = c.deref.result.now in
     let is = subst (λ (bytes : List ℕ). IsTextOf work known bytes) (sym c.deref.ensures.value) c.in_ok-text.ensures.read in
     let asked = found_asked c.in_ok-line.field-0 c.in-Some.line work (Some text) c.in-Some.is (c.in_ok-line.ensures.asked (Some text) (λ reads. refl)) in
-    run_once g.F.Folder.makes work known text (read_failed c.text_for.new.input) c.args.command.use_checkpoints c.tries_of-tries.result (line_view c.in-Some.line) c.execute_in-outcome.result c.args.folder.now c.execute_in-outcome.new.folder
+    run_once g.F.Folder.makes work known text (read_failed c.text_for.new.input) c.args.command.use_checkpoints _ _ c.tries_of-tries.result (line_view c.in-Some.line) c.execute_in-outcome.result c.args.folder.now c.execute_in-outcome.new.folder
     c.tries_of-tries.ensures.same is asked c.execute_in-outcome.ensures.ran c.execute_in-outcome.ensures.read
+    (taken_risen c.execute_in-outcome.result _ _ _ _ _ c.faults-before.ensures c.faults.ensures refl c.execute_in-outcome.ensures.faults (c.is_lost_race.ensures.failed c.if-is_lost_race.false))

@@ -7,4 +7,4 @@ pub returns-in-Ok : goal.returns-in-Ok
 returns-in-Ok g c = inr (c.in-Ok.folder, _, c.in-Ok.ensures.path, c.in-Ok.ensures.faults, rw (c.new-reader.ensures) at c.check_command.ensures.ended)
 
 pub returns-in-Err : goal.returns-in-Err
-returns-in-Err g c = inl (folder_unopened g.W.Write.contents snapshot _ _ _ _ _ (c.tell_failure.ensures.ended snapshot))
+returns-in-Err g c = inl (folder_unopened g.W.Write.contents g.E.Write.contents snapshot 0 _ _ _ _ _ (c.tell_failure.ensures.ended snapshot 0))

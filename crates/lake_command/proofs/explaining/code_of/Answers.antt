@@ -4,7 +4,7 @@ use Rattle.table_folder.specs.declared.fault.LoadFault.{LoadFault}
 use Rattle.table_folder.specs.declared.fault.LoadFault.TheVariants as loads
 use Rattle.table_folder.specs.declared.fault.SaveFault.{SaveFault}
 use Rattle.table_folder.specs.declared.fault.SaveFault.TheVariants as saves
-use Rattle.lake_command.specs.Explaining.{TellsCode, code_in}
+use Rattle.lake_command.specs.Codes.{TellsCode, code_in}
 use Rattle.lake_command.specs.declared.failure.Failure.{Failure}
 use Rattle.lake_command.specs.declared.failure.Failure.TheVariants.{BadLine, Loading, Memory, Miscounted, Misused, NotRead, Saving}
 use Rattle.lake_command.proofs.explaining.code_of.Goals as goal

@@ -12,10 +12,10 @@ returns-in-Ok-clause-done g c = λ steady restores done. record {
 }
 
 pub returns-in-Ok-clause-ended : goal.returns-in-Ok-clause-ended
-returns-in-Ok-clause-ended g c = (Ok c.in-Ok.reply, (λ steady restores. (c.in-Ok.ensures.told steady restores, tt)), c.in-Ok.ensures.caused, c.in-Ok.ensures.runs, c.tell.ensures.ended)
+returns-in-Ok-clause-ended g c = (Ok c.in-Ok.reply, _, (λ steady restores. (c.in-Ok.ensures.told steady restores, tt)), c.in-Ok.ensures.caused, c.in-Ok.ensures.runs, c.tell.ensures.ended)
 
 pub returns-in-Err-clause-ended : goal.returns-in-Err-clause-ended
-returns-in-Err-clause-ended g c = (Err c.in-Err.failure, (λ steady restores. (c.in-Err.ensures.failed steady restores, c.in-Err.ensures.alone steady restores)), c.in-Err.ensures.caused, c.in-Err.ensures.runs, c.tell_failure.ensures.ended (work_view c.args.command.job))
+returns-in-Err-clause-ended g c = (Err c.in-Err.failure, 0, (λ steady restores. (c.in-Err.ensures.failed steady restores, c.in-Err.ensures.alone steady restores)), c.in-Err.ensures.caused, c.in-Err.ensures.runs, c.tell_failure.ensures.ended (work_view c.args.command.job) 0)
 
 pub returns-in-Ok-clause-counted : goal.returns-in-Ok-clause-counted
 returns-in-Ok-clause-counted g c = λ other. absurd (c.in-Ok.ensures.counted other)
@@ -24,4 +24,4 @@ pub returns-in-Err-clause-counted : goal.returns-in-Err-clause-counted
 returns-in-Err-clause-counted g c = λ other.
     let work = work_view c.args.command.job in
     let of = c.in-Err.ensures.counted other in
-    (left_alone c.in-Err.failure work _ _ of c.in-Err.ensures.first, input_ended _ c.in-Err.failure work _ _ _ _ _ _ _ of (c.tell_failure.ensures.ended work))
+    (left_alone c.in-Err.failure work _ _ of c.in-Err.ensures.first, input_ended _ _ c.in-Err.failure work 0 _ _ _ _ _ _ _ of (c.tell_failure.ensures.ended work 0))

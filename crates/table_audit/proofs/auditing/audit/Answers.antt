@@ -1,4 +1,4 @@
-use Rattle.std.proofs.Common.{◌≡◌, ℕ, List, String, Global, None, Some, map, string_bytes, sym, ap, subst, ◌∙◌}
+use Rattle.std.proofs.Common.{◌≡◌, ℕ, List, String, Global, None, Some, map, string_bytes, sym, ap, subst, ◌∙◌, [], ◌∷◌, refl}
 use Rattle.std.proofs.lemmas.Result.{IfOk-weaker}
 use Rattle.store_core.specs.Names.{commit_name}
 use Rattle.store_core.specs.Objects.{Objects, names_of, object_at}
@@ -8,6 +8,9 @@ use Rattle.table_audit.specs.Reasons.{IsReasonOf}
 use Rattle.table_audit.specs.Verdicts.{IsVerdictOf}
 use Rattle.table_audit.specs.Walks.{IsEnd, IsWalk, IsWalkOver}
 use Rattle.table_audit.proofs.EndParts.{empty_judged, first_judged}
+use Rattle.table_audit.specs.Calls.{lists}
+use Rattle.table_audit.proofs.CallParts.{traced_once}
+use Rattle.table_audit.proofs.TraceParts.{audits, audits_first, audits_more, reads_none}
 use Rattle.table_audit.proofs.auditing.audit.Goals as goal
 
 pub returns-in_default-clause-told : goal.returns-in_default-clause-told
@@ -46,3 +49,30 @@ returns-clause-told g c = λ steady.
     read_at objects _ _ _ (Some c.in-Some.bytes) (rw before at (c.in_ok-bytes.ensures.object listed)) name c.in-Some.is ∙ ap (λ (b : List ℕ). Some b) (sym c.deref-2.ensures.value) in
     let wrong : (IsSoundBelow objects 1 → ⊥) × IsReasonOf objects 0 c.in-Wrong.reason = rw c.in-Wrong.is at (c.in_ok-walk.ensures.begins objects there) in
     (first_judged objects wrong.0, wrong.1)
+
+-- ---- which calls were made
+
+pub returns-in_err-names-clause-called : goal.returns-in_err-names-clause-called
+returns-in_err-names-clause-called g c = (lists None ∷ [], traced_once g.R.ObjectReader.makes _ _ (lists None) c.in_err-names.ensures.called, (None, [], refl, refl))
+
+pub returns-in_err-commit_name-clause-called : goal.returns-in_err-commit_name-clause-called
+returns-in_err-commit_name-clause-called g c = audits g.R.ObjectReader.makes _ _ _ _ c.in_ok-names.ensures.called (reads_none g.R.ObjectReader.makes _ _ 0)
+
+pub returns-in_err-bytes-clause-called : goal.returns-in_err-bytes-clause-called
+returns-in_err-bytes-clause-called g c = let name : c.deref.result.now ≡ commit_name 0 = c.deref.ensures ∙ c.in_ok-commit_name.ensures in audits_first g.R.ObjectReader.makes _ _ _ _ _ _ c.in_ok-names.ensures.called name c.in_err-bytes.ensures.called
+
+pub returns-in_default-clause-called : goal.returns-in_default-clause-called
+returns-in_default-clause-called g c = let name : c.deref.result.now ≡ commit_name 0 = c.deref.ensures ∙ c.in_ok-commit_name.ensures in audits_first g.R.ObjectReader.makes _ _ _ _ _ _ c.in_ok-names.ensures.called name c.in_ok-bytes.ensures.called
+
+pub returns-in_err-walk-clause-called : goal.returns-in_err-walk-clause-called
+returns-in_err-walk-clause-called g c = let name : c.deref.result.now ≡ commit_name 0 = c.deref.ensures ∙ c.in_ok-commit_name.ensures in audits_first g.R.ObjectReader.makes _ _ _ _ _ _ c.in_ok-names.ensures.called name c.in_ok-bytes.ensures.called
+
+pub returns-clause-called : goal.returns-clause-called
+returns-clause-called g c = let name : c.deref.result.now ≡ commit_name 0 = c.deref.ensures ∙ c.in_ok-commit_name.ensures in audits_first g.R.ObjectReader.makes _ _ _ _ _ _ c.in_ok-names.ensures.called name c.in_ok-bytes.ensures.called
+
+pub returns-in-Created-clause-called : goal.returns-in-Created-clause-called
+returns-in-Created-clause-called g c =
+    let name : c.deref.result.now ≡ commit_name 0 = c.deref.ensures ∙ c.in_ok-commit_name.ensures in
+    let next : c.in-Created.walk.next ≡ 1 = rw c.in-Created.is at c.in_ok-walk.ensures.next in
+    let same : map string_bytes c.deref-in-Created.result.now ≡ map string_bytes c.in_ok-names.names.items = ap (λ (ns : List (String Global)). map string_bytes ns) c.deref-in-Created.ensures.value in
+    audits_more g.R.ObjectReader.makes _ _ _ _ _ _ _ c.in-Some.bytes.items _ c.in_ok-names.ensures.called name (rw c.in-Some.is at c.in_ok-bytes.ensures.called) same next c.audit_walk.ensures.called

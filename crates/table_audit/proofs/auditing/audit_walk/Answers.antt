@@ -1,4 +1,4 @@
-use Rattle.std.proofs.Common.{◌≡◌, suc, map, string_bytes, refl, sym, subst, ◌∙◌, arith}
+use Rattle.std.proofs.Common.{◌≡◌, suc, map, string_bytes, refl, sym, subst, ◌∙◌, arith, ◌+◌, [], drop}
 use Rattle.store_core.specs.Names.{greatest_version}
 use Rattle.store_core.specs.Objects.{Objects}
 use Rattle.table_check.specs.Below.{AreCheckpointsSoundBelow, IsSoundBelow}
@@ -6,7 +6,8 @@ use Rattle.table_audit.specs.Listed.{listed_view}
 use Rattle.table_audit.specs.Reasons.{IsReasonOf}
 use Rattle.table_audit.specs.Walks.{IsWalk, IsWalkOver}
 use Rattle.table_audit.proofs.EndParts.{breaks_last, whole_sound}
-use Rattle.table_audit.proofs.ListParts.{IsDone, ahead_more, all_listed, are_listed, below_all, below_at, done_more, first_ahead, small_at, told_at}
+use Rattle.table_audit.proofs.ListParts.{IsDone, ahead_more, all_listed, are_listed, below_all, below_at, done_more, first_ahead, small_at, told_at, all_same, here_at}
+use Rattle.table_audit.proofs.TraceParts.{goes_on, reads_ended, reads_none, reads_to_end}
 use Rattle.table_audit.proofs.auditing.audit_walk.Goals as goal
 
 pub loop-checkpoint-init : goal.loop-checkpoint-init
@@ -18,6 +19,7 @@ loop-checkpoint-init g c = record {
   schema = refl;
   most = omega (arith, c.requires);
   seen = λ steady over. tt;
+  called = ([], refl, λ more log. log);
   ahead = first_ahead c.args.walk.next c.requires (map listed_view c.deref-checkpoint-items.result.now);
 }
 
@@ -120,6 +122,10 @@ loop-checkpoint-preserved g c =
           let now : IsWalk (g.R.ObjectReader.objects c.walk_on.new.reader) c.walk_on.new.walk = subst (λ (o : Objects). IsWalk o c.walk_on.new.walk) (sym left) walk in
           let one : IsDone objects (listed_view x) = subst (λ (o : Objects). IsDone o (listed_view x)) left (sound after now) in
           done_more objects items all i x c.loop-checkpoint-test.true c.checkpoint-item.is (c.loop-checkpoint.invariant.seen steady over) one;
+      called =
+          let walked = rw c.in-Behind.is at c.in_ok-walk_on.ensures.gone in
+          goes_on g.R.ObjectReader.makes (map string_bytes c.args.names.now) _ _ _ _ (listed_view x) (map listed_view (drop i items)) (map listed_view (drop (i + 1) items)) (map listed_view items) c.loop-checkpoint.walk.next c.args.walk.next walked.0
+          c.walk_on.new.walk.next walked.1 (here_at items i x c.loop-checkpoint-test.true c.checkpoint-item.is) c.loop-checkpoint.invariant.called walked.2 walked.3 walked.4 behind c.in_ok-reason.ensures.called;
       ahead = ahead_more items listed i x c.loop-checkpoint-test.true c.checkpoint-item.is c.walk_on.new.walk.next behind;
     }
 
@@ -153,3 +159,67 @@ returns-clause-told g c = λ steady over.
     let low : AreCheckpointsSoundBelow (g.R.ObjectReader.objects c.loop-checkpoint.reader) greatest_version =
     subst (λ (o : Objects). AreCheckpointsSoundBelow o greatest_version) (sym same) (below_all objects items all i greatest_version c.loop-checkpoint-test.false (c.loop-checkpoint.invariant.seen steady over)) in
     rw (c.in-Over-2.is, same) at (c.in_ok-walk_on-2.ensures.reached here begun low)
+
+-- ---- which calls were made
+
+pub returns-in_err-checkpoints-clause-called : goal.returns-in_err-checkpoints-clause-called
+returns-in_err-checkpoints-clause-called g c = reads_none g.R.ObjectReader.makes (map string_bytes c.args.names.now) _ c.args.walk.next
+
+pub returns-in_err-walk_on-clause-called : goal.returns-in_err-walk_on-clause-called
+returns-in_err-walk_on-clause-called g c =
+    let items = c.deref-checkpoint-items.result.now in
+    let i = c.loop-checkpoint.checkpoint-index in
+    let are = all_same (map string_bytes c.args.names.now) c.in_ok-checkpoints.checkpoints.items items c.deref-checkpoint-items.ensures.value c.in_ok-checkpoints.ensures.same in
+    reads_to_end g.R.ObjectReader.makes (map string_bytes c.args.names.now) _ _ (map listed_view (drop i items)) (map listed_view items) c.loop-checkpoint.walk.next c.args.walk.next are c.loop-checkpoint.invariant.called _ c.in_err-walk_on.ensures.called
+
+pub returns-in-Over-clause-called : goal.returns-in-Over-clause-called
+returns-in-Over-clause-called g c =
+    let items = c.deref-checkpoint-items.result.now in
+    let i = c.loop-checkpoint.checkpoint-index in
+    let are = all_same (map string_bytes c.args.names.now) c.in_ok-checkpoints.checkpoints.items items c.deref-checkpoint-items.ensures.value c.in_ok-checkpoints.ensures.same in
+    reads_to_end g.R.ObjectReader.makes (map string_bytes c.args.names.now) _ _ (map listed_view (drop i items)) (map listed_view items) c.loop-checkpoint.walk.next c.args.walk.next are c.loop-checkpoint.invariant.called _ c.in_ok-walk_on.ensures.called
+
+pub returns-in_err-reason-clause-called : goal.returns-in_err-reason-clause-called
+returns-in_err-reason-clause-called g c =
+    let names = map string_bytes c.args.names.now in
+    let items = c.deref-checkpoint-items.result.now in
+    let i = c.loop-checkpoint.checkpoint-index in
+    let x = c.checkpoint-item.result in
+    let are = all_same names c.in_ok-checkpoints.checkpoints.items items c.deref-checkpoint-items.ensures.value c.in_ok-checkpoints.ensures.same in
+    let walked = rw c.in-Behind.is at c.in_ok-walk_on.ensures.gone in
+    reads_ended g.R.ObjectReader.makes names _ _ (map listed_view (drop (i + 1) items)) (map listed_view items) (suc x.version) c.args.walk.next are
+    (goes_on g.R.ObjectReader.makes names _ _ _ _ (listed_view x) (map listed_view (drop i items)) (map listed_view (drop (i + 1) items)) (map listed_view items) c.loop-checkpoint.walk.next c.args.walk.next walked.0
+    (suc x.version) walked.1 (here_at items i x c.loop-checkpoint-test.true c.checkpoint-item.is) c.loop-checkpoint.invariant.called walked.2 walked.3 walked.4 refl c.in_err-reason.ensures.called)
+
+pub returns-in-Some-clause-called : goal.returns-in-Some-clause-called
+returns-in-Some-clause-called g c =
+    let names = map string_bytes c.args.names.now in
+    let items = c.deref-checkpoint-items.result.now in
+    let i = c.loop-checkpoint.checkpoint-index in
+    let x = c.checkpoint-item.result in
+    let are = all_same names c.in_ok-checkpoints.checkpoints.items items c.deref-checkpoint-items.ensures.value c.in_ok-checkpoints.ensures.same in
+    let walked = rw c.in-Behind.is at c.in_ok-walk_on.ensures.gone in
+    reads_ended g.R.ObjectReader.makes names _ _ (map listed_view (drop (i + 1) items)) (map listed_view items) (suc x.version) c.args.walk.next are
+    (goes_on g.R.ObjectReader.makes names _ _ _ _ (listed_view x) (map listed_view (drop i items)) (map listed_view (drop (i + 1) items)) (map listed_view items) c.loop-checkpoint.walk.next c.args.walk.next walked.0
+    (suc x.version) walked.1 (here_at items i x c.loop-checkpoint-test.true c.checkpoint-item.is) c.loop-checkpoint.invariant.called walked.2 walked.3 walked.4 refl c.in_ok-reason.ensures.called)
+
+pub returns-in_err-walk_on-2-clause-called : goal.returns-in_err-walk_on-2-clause-called
+returns-in_err-walk_on-2-clause-called g c =
+    let items = c.deref-checkpoint-items.result.now in
+    let i = c.loop-checkpoint.checkpoint-index in
+    let are = all_same (map string_bytes c.args.names.now) c.in_ok-checkpoints.checkpoints.items items c.deref-checkpoint-items.ensures.value c.in_ok-checkpoints.ensures.same in
+    reads_to_end g.R.ObjectReader.makes (map string_bytes c.args.names.now) _ _ (map listed_view (drop i items)) (map listed_view items) c.loop-checkpoint.walk.next c.args.walk.next are c.loop-checkpoint.invariant.called _ c.in_err-walk_on-2.ensures.called
+
+pub returns-in-Behind-2-clause-called : goal.returns-in-Behind-2-clause-called
+returns-in-Behind-2-clause-called g c =
+    let items = c.deref-checkpoint-items.result.now in
+    let i = c.loop-checkpoint.checkpoint-index in
+    let are = all_same (map string_bytes c.args.names.now) c.in_ok-checkpoints.checkpoints.items items c.deref-checkpoint-items.ensures.value c.in_ok-checkpoints.ensures.same in
+    reads_to_end g.R.ObjectReader.makes (map string_bytes c.args.names.now) _ _ (map listed_view (drop i items)) (map listed_view items) c.loop-checkpoint.walk.next c.args.walk.next are c.loop-checkpoint.invariant.called _ c.in_ok-walk_on-2.ensures.called
+
+pub returns-clause-called : goal.returns-clause-called
+returns-clause-called g c =
+    let items = c.deref-checkpoint-items.result.now in
+    let i = c.loop-checkpoint.checkpoint-index in
+    let are = all_same (map string_bytes c.args.names.now) c.in_ok-checkpoints.checkpoints.items items c.deref-checkpoint-items.ensures.value c.in_ok-checkpoints.ensures.same in
+    reads_to_end g.R.ObjectReader.makes (map string_bytes c.args.names.now) _ _ (map listed_view (drop i items)) (map listed_view items) c.loop-checkpoint.walk.next c.args.walk.next are c.loop-checkpoint.invariant.called _ c.in_ok-walk_on-2.ensures.called

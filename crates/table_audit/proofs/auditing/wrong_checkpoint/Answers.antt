@@ -7,6 +7,7 @@ use Rattle.table_store.proofs.HoldingOne.{some_is}
 use Rattle.table_audit.specs.Reasons.{IsOtherCheckpoint, IsUnread}
 use Rattle.table_audit.proofs.EndParts.{checkpoint_breaks, checkpoint_sound}
 use Rattle.table_audit.proofs.ReasonParts.{bad_checkpoint, other_checkpoint}
+use Rattle.table_audit.proofs.TraceParts.{read_named}
 use Rattle.table_audit.proofs.auditing.wrong_checkpoint.Goals as goal
 
 pub checkpoint_found-requires : goal.checkpoint_found-requires
@@ -53,3 +54,27 @@ returns-clause-why g c = λ steady walk.
     let bad : IsUnread c.in-Bad.fault c.in-Some.bytes.items × (IsCheckpoint c.in-Some.bytes.items version walk.log → ⊥) =
     rw (c.in-Bad.is, c.deref-2.ensures.value) at (c.in_ok-checkpoint_found.ensures walk.log walk.snapshot walk.walked.printable) in
     bad_checkpoint objects version (string_bytes c.args.checkpoint.now.name) c.in-Some.bytes.items c.in_ok-name-in-Bad.name c.in_ok-name-in-Bad.ensures.cases c.requires.told there c.in-Bad.fault bad.0
+
+pub returns-in_err-bytes-clause-called : goal.returns-in_err-bytes-clause-called
+returns-in_err-bytes-clause-called g c = read_named g.R.ObjectReader.makes _ _ _ _ _ c.deref.ensures c.in_err-bytes.ensures.called
+
+pub returns-in_default-clause-called : goal.returns-in_default-clause-called
+returns-in_default-clause-called g c = read_named g.R.ObjectReader.makes _ _ _ _ _ c.deref.ensures c.in_ok-bytes.ensures.called
+
+pub returns-in_err-checkpoint_found-clause-called : goal.returns-in_err-checkpoint_found-clause-called
+returns-in_err-checkpoint_found-clause-called g c = read_named g.R.ObjectReader.makes _ _ _ _ _ c.deref.ensures c.in_ok-bytes.ensures.called
+
+pub returns-in-Same-clause-called : goal.returns-in-Same-clause-called
+returns-in-Same-clause-called g c = read_named g.R.ObjectReader.makes _ _ _ _ _ c.deref.ensures c.in_ok-bytes.ensures.called
+
+pub returns-in_err-name-in-Other-clause-called : goal.returns-in_err-name-in-Other-clause-called
+returns-in_err-name-in-Other-clause-called g c = read_named g.R.ObjectReader.makes _ _ _ _ _ c.deref.ensures c.in_ok-bytes.ensures.called
+
+pub returns-in-Other-clause-called : goal.returns-in-Other-clause-called
+returns-in-Other-clause-called g c = read_named g.R.ObjectReader.makes _ _ _ _ _ c.deref.ensures c.in_ok-bytes.ensures.called
+
+pub returns-in_err-name-in-Bad-clause-called : goal.returns-in_err-name-in-Bad-clause-called
+returns-in_err-name-in-Bad-clause-called g c = read_named g.R.ObjectReader.makes _ _ _ _ _ c.deref.ensures c.in_ok-bytes.ensures.called
+
+pub returns-clause-called : goal.returns-clause-called
+returns-clause-called g c = read_named g.R.ObjectReader.makes _ _ _ _ _ c.deref.ensures c.in_ok-bytes.ensures.called

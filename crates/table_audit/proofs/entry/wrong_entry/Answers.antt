@@ -1,4 +1,4 @@
-use Rattle.std.proofs.Common.{List, string_bytes}
+use Rattle.std.proofs.Common.{List, string_bytes, [], refl}
 use Rattle.std.proofs.lemmas.Result.{IfOk-weaker}
 use Rattle.delta_actions.specs.Action as kinds
 use Rattle.delta_actions.specs.Action.{views}
@@ -8,6 +8,7 @@ use Rattle.table_audit.specs.Entries.{Follows, GroupFollows}
 use Rattle.table_audit.specs.Reasons.{IsNoClose, IsNoNext}
 use Rattle.table_audit.specs.declared.reason.Reason.{Reason}
 use Rattle.table_audit.proofs.GroupParts.{follows_close, follows_group, follows_none, none_weaker, some_each, some_weaker}
+use Rattle.table_audit.proofs.CallParts.{front_none}
 use Rattle.table_audit.proofs.entry.wrong_entry.Goals as goal
 
 pub returns-in-Some-clause-follows : goal.returns-in-Some-clause-follows
@@ -42,3 +43,9 @@ returns-clause-why g c = λ steady.
     let P : Reason → Type 0 = λ reason. (log : List (List kinds.Action)) → IsSnapshotOf log c.args.snapshot.now → IsNoNext objects schema c.args.version log beside reason in
     let Q : Reason → Type 0 = λ reason. IsNoClose beside × ((log : List (List kinds.Action)) → IsSnapshotOf log c.args.snapshot.now → IsNoNext objects schema c.args.version log beside reason) in
     IfOk-weaker c.wrong_group.result _ _ (λ o why. some_each P Q (λ reason is. (no_close, is)) o why) (c.wrong_group.ensures.why steady)
+
+pub returns-in_err-_application-clause-called : goal.returns-in_err-_application-clause-called
+returns-in_err-_application-clause-called g c = ([], refl, front_none _)
+
+pub returns-in-Some-clause-called : goal.returns-in-Some-clause-called
+returns-in-Some-clause-called g c = ([], refl, front_none _)

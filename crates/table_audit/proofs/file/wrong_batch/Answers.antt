@@ -1,5 +1,7 @@
-use Rattle.std.proofs.Common.{◌≡◌, true, ℕ, List, string_bytes, ap, subst, ◌∙◌}
+use Rattle.std.proofs.Common.{sym, ◌≡◌, Bool, true, false, not, ℕ, List, string_bytes, ap, subst, ◌∙◌, inr, refl}
+use Rattle.std.specs.Str.{bytes_eq}
 use Rattle.std.proofs.lemmas.Result.{IfOk-weaker}
+use Rattle.std.proofs.lemmas.Slice.Eq.{bytes_eq-Decides}
 use Rattle.delta_actions.specs.Action.{add_view}
 use Rattle.delta_actions.specs.Names.{data_file_name}
 use Rattle.row_core.specs.Rows.{Row}
@@ -11,7 +13,11 @@ use Rattle.table_audit.specs.Reasons.{IsNoBatch, IsNoFile}
 use Rattle.table_audit.specs.declared.reason.Reason.{Reason}
 use Rattle.table_audit.proofs.GroupParts.{some_each, some_weaker}
 use Rattle.table_audit.proofs.ReasonParts.{batch_by_file}
+use Rattle.table_audit.proofs.CallParts.{if_none}
+use Rattle.table_audit.proofs.TraceParts.{read_named}
+use Rattle.table_audit.proofs.file.wrong_batch.Given as given
 use Rattle.table_audit.proofs.file.wrong_batch.Goals as goal
+use Rattle.table_audit.proofs.file.wrong_batch.Goals.{After-drop-name-2}
 
 pub returns-clause-breaks : goal.returns-clause-breaks
 returns-clause-breaks g c = λ steady.
@@ -36,3 +42,20 @@ returns-clause-why g c = λ steady.
     let Q : Reason → Type 0 = IsNoBatch objects schema (string_bytes t.app_id, t.version) file in
     IfOk-weaker c.wrong_file.result _ _
     (λ o why. some_each P Q (λ reason is. batch_by_file objects schema (string_bytes t.app_id, t.version) file reason (subst (λ (text : List ℕ). IsNoFile objects schema text reason) name is)) o why) (c.wrong_file.ensures.why steady)
+
+not_not : (b : Bool) → not b ≡ false → b ≡ true
+not_not true e = refl
+not_not false e = absurd cc
+
+-- the file that was read is the one that is added
+same_name : (g : given.Over) (c : After-drop-name-2 g) → c.deref-2.result.now ≡ (add_view c.args.add.now).path.key
+same_name g c =
+    let texts : bytes_eq c.as_str.result.now c.as_str-else-not-add.result.now ≡ true = not_not _ (sym c.ne.ensures ∙ c.if-ne.false) in
+    let same : c.as_str.result.now ≡ c.as_str-else-not-add.result.now = (bytes_eq-Decides c.as_str.result.now c.as_str-else-not-add.result.now).0 texts in
+    c.deref-2.ensures ∙ (sym c.as_str-else-not-add.ensures.value ∙ (sym same ∙ (c.as_str.ensures.value ∙ c.in_ok-key.ensures)))
+
+pub returns-clause-called : goal.returns-clause-called
+returns-clause-called g c = inr (read_named g.R.ObjectReader.makes _ _ _ _ _ (same_name g c) c.wrong_file.ensures.called.1)
+
+pub returns-clause-read : goal.returns-clause-read
+returns-clause-read g c = if_none _ c.wrong_file.result (read_named g.R.ObjectReader.makes _ _ _ _ _ (same_name g c) c.wrong_file.ensures.called.1)

@@ -31,3 +31,30 @@ returns-in-Ok-Some-clause-why g c = λ steady.
     let there : object_at objects c.args.name.now ≡ Some c.in-Some.bytes.items = read_at objects _ _ _ (Some c.in-Some.bytes) (c.in_ok-bytes.ensures.object steady) refl c.in-Some.is in
     let why : (c.in-Ok-Some.fault ≢ TooLarge) × (rows_at c.deref.result.now schema ≡ Err c.in-Ok-Some.fault) = rw c.in-Ok-Some.field-0-is at c.in-Ok-Some.ensures.why in
     (c.in_ok-name-in-Ok-Some.ensures.ok, why.0, (c.in-Some.bytes.items, there, rw c.deref.ensures.value at why.1))
+
+pub returns-in_err-bytes-clause-called : goal.returns-in_err-bytes-clause-called
+returns-in_err-bytes-clause-called g c = (_, c.in_err-bytes.ensures.called)
+
+pub returns-in_err-name-clause-called : goal.returns-in_err-name-clause-called
+returns-in_err-name-clause-called g c = (_, c.in_ok-bytes.ensures.called)
+
+pub returns-in_default-clause-called : goal.returns-in_default-clause-called
+returns-in_default-clause-called g c = (_, c.in_ok-bytes.ensures.called)
+
+pub returns-in-Ok-None-clause-called : goal.returns-in-Ok-None-clause-called
+returns-in-Ok-None-clause-called g c = (_, c.in_ok-bytes.ensures.called)
+
+pub returns-in_err-name-in-Ok-Some-clause-called : goal.returns-in_err-name-in-Ok-Some-clause-called
+returns-in_err-name-in-Ok-Some-clause-called g c = (_, c.in_ok-bytes.ensures.called)
+
+pub returns-in-Ok-Some-clause-called : goal.returns-in-Ok-Some-clause-called
+returns-in-Ok-Some-clause-called g c = (_, c.in_ok-bytes.ensures.called)
+
+pub returns-in-Err-Memory-clause-called : goal.returns-in-Err-Memory-clause-called
+returns-in-Err-Memory-clause-called g c = (_, c.in_ok-bytes.ensures.called)
+
+pub returns-in_err-name-in-Err-Fault-clause-called : goal.returns-in_err-name-in-Err-Fault-clause-called
+returns-in_err-name-in-Err-Fault-clause-called g c = (_, c.in_ok-bytes.ensures.called)
+
+pub returns-clause-called : goal.returns-clause-called
+returns-clause-called g c = (_, c.in_ok-bytes.ensures.called)

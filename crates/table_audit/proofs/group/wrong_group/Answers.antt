@@ -1,7 +1,7 @@
-use Rattle.std.proofs.Common.{◌≡◌, List, Bor, map, refl, sym, ap, subst, ◌∙◌}
+use Rattle.std.proofs.Common.{◌≡◌, List, Bor, map, refl, sym, ap, subst, ◌∙◌, []}
 use Rattle.std.proofs.lemmas.Result.{IfOk-weaker}
 use Rattle.delta_actions.specs.Action as kinds
-use Rattle.delta_actions.specs.Action.{TxnAction, views}
+use Rattle.delta_actions.specs.Action.{TxnAction, views, AddAction}
 use Rattle.delta_actions.specs.declared.action.Txn.{Txn}
 use Rattle.delta_replay.specs.Snapshots.{IsSnapshotOf}
 use Rattle.schema_tree.specs.Schema.{tree_of}
@@ -12,6 +12,9 @@ use Rattle.table_audit.specs.Reasons.{AreNoFiles, IsNoNext}
 use Rattle.table_audit.specs.declared.reason.Reason.{Reason}
 use Rattle.table_audit.proofs.GroupParts.{file_of, follows_picked, no_files_picked, none_new_picked, none_weaker, number_of, seen_numbers, some_each, some_weaker}
 use Rattle.table_audit.proofs.ReasonParts.{next_by_files, next_by_numbers, no_files_seen, old_picked}
+use Rattle.table_audit.specs.Audits.{ReadFront, names_in}
+use Rattle.table_audit.specs.Calls.{ReaderCall, Traced}
+use Rattle.table_audit.proofs.CallParts.{front_none}
 use Rattle.table_audit.proofs.group.wrong_group.Given as given
 use Rattle.table_audit.proofs.group.wrong_group.Goals as goal
 use Rattle.table_audit.proofs.group.wrong_group.Goals.{After-drop-txns-2}
@@ -84,3 +87,22 @@ returns-clause-why g c = λ steady.
     IfOk-weaker c.wrong_files.result _ _
     (λ o why. some_each P Q (λ reason is log of. next_by_files objects schema version log beside reason (no_files_seen objects schema version reason (numbers beside) ns (added beside) files (picked_numbers g c) (picked_files g c) is)) o why)
     (c.wrong_files.ensures.why steady)
+
+pub returns-then-not-are_txns_and_adds-clause-called : goal.returns-then-not-are_txns_and_adds-clause-called
+returns-then-not-are_txns_and_adds-clause-called g c = ([], refl, front_none _)
+
+pub returns-in_err-txns-clause-called : goal.returns-in_err-txns-clause-called
+returns-in_err-txns-clause-called g c = ([], refl, front_none _)
+
+pub returns-in_err-adds-clause-called : goal.returns-in_err-adds-clause-called
+returns-in_err-adds-clause-called g c = ([], refl, front_none _)
+
+pub returns-in_err-reason-clause-called : goal.returns-in_err-reason-clause-called
+returns-in_err-reason-clause-called g c = ([], refl, front_none _)
+
+pub returns-in-Some-clause-called : goal.returns-in-Some-clause-called
+returns-in-Some-clause-called g c = ([], refl, front_none _)
+
+pub returns-clause-called : goal.returns-clause-called
+returns-clause-called g c =
+    subst (λ (files : List AddAction). (calls : List ReaderCall) × Traced g.R.ObjectReader.makes c.args.reader.now calls c.wrong_files.new.reader × ReadFront (names_in files) calls) (sym (picked_files g c)) c.wrong_files.ensures.called

@@ -1,0 +1,2 @@
+pub mod CallParts
+pub mod LineParts

@@ -1,0 +1,3 @@
+pub mod Callers
+pub mod ErrorLemmas
+pub mod MeaningLemmas
