@@ -18,6 +18,7 @@ use Rattle.lake_command.specs.Again.{ComesOfRuns, IsRunOf, RanAsAsked, tries_in}
 use Rattle.lake_command.specs.Again as come
 use Rattle.lake_command.specs.Failures.{ComesOfACall, CountsFolderFault, HasCause, IsByFolder, IsCaused, IsLoading, IsOfInput, IsTaken, Leaves}
 use Rattle.lake_command.specs.Folders.{IsAskedBy, IsPutter, IsTextOf, reads_input}
+use Rattle.lake_command.specs.Looks.{Looks}
 use Rattle.lake_command.specs.declared.failure.Failure.{Failure}
 use Rattle.lake_command.specs.declared.failure.Failure.TheVariants.{Loading, Saving}
 
@@ -255,7 +256,7 @@ ran_so made other work text is_broken use_checkpoints from old new _ same weaker
 ran_so made other work text is_broken use_checkpoints from old new _ same weaker (come.not_there reply is told) = come.not_there reply is told
 ran_so made other work text is_broken use_checkpoints from old new _ same weaker (come.runs bytes outcome calls is traced comes) =
     come.runs bytes outcome calls is (weaker calls traced) (subst (λ (n : ℕ). ComesOfRuns work bytes use_checkpoints n new (tries_in work) outcome calls) same comes)
-ran_so made other work text is_broken use_checkpoints from old new _ same weaker (come.looks bytes statement outcome is asked none failed) = come.looks bytes statement outcome is asked none failed
+ran_so made other work text is_broken use_checkpoints from old new _ same weaker (come.looks bytes statement outcome calls is asked none failed traced looks) = come.looks bytes statement outcome calls is asked none failed (weaker calls traced) looks
 
 -- ---- which lines put something
 
@@ -292,12 +293,12 @@ taken_puts _ statement reads taken = absurd taken
 -- one run, of a line that puts something or of one that doesn't, which isn't to be run again
 pub run_once : {F : Type 0} (makes : F → FolderCall → F → Type 0) (work : Work) (known : Option (List ℕ)) (text : List ℕ) (is_broken use_checkpoints : Bool) (old new tries : ℕ) (statement : Statement) (outcome : Result LineReply Failure) (first now : F)
     → tries ≡ tries_in work → IsTextOf work known text → IsAskedBy work (Some text) statement → (IsPutter statement → (calls : List FolderCall) × Traced makes first calls now × IsRunOf use_checkpoints tries statement outcome calls)
-    → ((IsPutter statement → ⊥) → IfErr outcome (λ failure. IsLoading failure)) → (IsTaken outcome → HasRisen old new) → RanAsAsked (λ calls. Traced makes first calls now) work known is_broken use_checkpoints old new outcome
-run_once {F} makes work known text is_broken use_checkpoints old new tries statement outcome first now same is asked ran reads risen = by_line (puts_or_not statement)
+    → ((IsPutter statement → ⊥) → IfErr outcome (λ failure. IsLoading failure)) → ((IsPutter statement → ⊥) → (calls : List FolderCall) × Traced makes first calls now × Looks use_checkpoints statement outcome calls) → (IsTaken outcome → HasRisen old new) → RanAsAsked (λ calls. Traced makes first calls now) work known is_broken use_checkpoints old new outcome
+run_once {F} makes work known text is_broken use_checkpoints old new tries statement outcome first now same is asked ran reads looks risen = by_line (puts_or_not statement)
   where
     by_line : IsPutter statement ⊎ (IsPutter statement → ⊥) → RanAsAsked (λ calls. Traced makes first calls now) work known is_broken use_checkpoints old new outcome
     by_line (inl puts) =
         let one = ran puts in
         let comes : ComesOfRuns work text use_checkpoints old new tries outcome one.0 = come.last tries statement outcome one.0 asked one.2 (λ is. inr (risen is)) in
         come.runs text outcome one.0 is one.1 (subst (λ (n : ℕ). ComesOfRuns work text use_checkpoints old new n outcome one.0) same comes)
-    by_line (inr none) = come.looks text statement outcome is asked none (reads none)
+    by_line (inr none) = let looked = looks none in come.looks text statement outcome looked.0 is asked none (reads none) looked.1 looked.2

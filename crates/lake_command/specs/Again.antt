@@ -23,6 +23,7 @@ use Rattle.lake_words.specs.Asked.{Work}
 use Rattle.lake_words.specs.Asked as words
 use Rattle.lake_command.specs.Failures.{IsLoading, IsOfInput, IsTaken}
 use Rattle.lake_command.specs.Folders.{IsAskedBy, IsNotYet, IsPutter, IsTextOf}
+use Rattle.lake_command.specs.Looks.{Looks}
 use Rattle.lake_command.specs.declared.failure.Failure.{Failure}
 use Rattle.lake_command.specs.declared.failure.Failure.TheVariants.{Loading, Saving}
 
@@ -74,12 +75,12 @@ pub data ComesOfRuns (work : Work) (text : List ℕ) (use_checkpoints : Bool) (o
       → (IsErrAnd outcome (λ failure. IsLoading failure) → ⊥) → ComesOfRuns work text use_checkpoints old new tries outcome more → ComesOfRuns work text use_checkpoints old new (suc tries) outcome (calls ++ more)
 
 -- What came of a job over any folder, which had counted so many faults before it and so many behind it: its words or its input are
--- refused, or it isn't there yet; or its runs told it, by calls of the folder of which this holds. Of a job that puts nothing it is
--- said that its failures are of reading the folder.
+-- refused, or it isn't there yet; or its runs told it, by calls of the folder of which this holds; or of a job that puts nothing just
+-- these calls looked for what it tells, and its failures are of reading the folder.
 pub data RanAsAsked (made : List FolderCall → Type 0) (work : Work) (known : Option (List ℕ)) (is_broken : Bool) (use_checkpoints : Bool) (old new : ℕ) : Result LineReply Failure → Type 0 where
   refused : (failure : Failure) → IsOfInput failure work known is_broken → RanAsAsked made work known is_broken use_checkpoints old new (Err failure)
   not_there : (reply : LineReply) → IsNotYet work → reply_text reply ≡ not_yet → RanAsAsked made work known is_broken use_checkpoints old new (Ok reply)
   runs : (text : List ℕ) (outcome : Result LineReply Failure) (calls : List FolderCall) → IsTextOf work known text → made calls → ComesOfRuns work text use_checkpoints old new (tries_in work) outcome calls
       → RanAsAsked made work known is_broken use_checkpoints old new outcome
-  looks : (text : List ℕ) (statement : Statement) (outcome : Result LineReply Failure) → IsTextOf work known text → IsAskedBy work (Some text) statement → (IsPutter statement → ⊥) → IfErr outcome (λ failure. IsLoading failure)
-      → RanAsAsked made work known is_broken use_checkpoints old new outcome
+  looks : (text : List ℕ) (statement : Statement) (outcome : Result LineReply Failure) (calls : List FolderCall) → IsTextOf work known text → IsAskedBy work (Some text) statement → (IsPutter statement → ⊥) → IfErr outcome (λ failure. IsLoading failure) → made calls
+      → Looks use_checkpoints statement outcome calls → RanAsAsked made work known is_broken use_checkpoints old new outcome

@@ -84,10 +84,6 @@ abbrev pub IsBadLineTold : Option ℕ → List ℕ → Type 0
 IsBadLineTold None text = text ≡ []
 IsBadLineTold (Some number) text = IsBadLineHint number text
 
--- of one that is refused: its input can't be read, or its output can't be written
-abbrev pub IsScriptRefusal : List ℕ → Type 0
-IsScriptRefusal text = IsEndTold ends.NotRead text ⊎ IsEndTold ends.NotWritten text
-
 -- some lines, each with a newline
 abbrev pub lines_text : List (List ℕ) → List ℕ
 lines_text [] = []

@@ -3,6 +3,7 @@ pub mod Failures
 pub mod Folders
 pub mod Status
 pub mod Endings
+pub mod Looks
 pub mod Scripts
 pub mod Checks
 pub mod Explaining

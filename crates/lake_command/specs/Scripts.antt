@@ -18,7 +18,7 @@ abbrev pub script_uses_checkpoints : Command → Bool
 script_uses_checkpoints (commands.Script use_checkpoints) = use_checkpoints
 script_uses_checkpoints _ = false
 
--- its lines do what they ask for, with checkpoints or without
+-- its lines do what they ask for, by checkpoints or not as is said
 abbrev pub IsPlayedOver : (use_checkpoints : Bool) → (text written : List ℕ) → Type 0
 IsPlayedOver use_checkpoints text written = (objects : Objects) × PlaysText (first_scene [] use_checkpoints) text written objects
 

@@ -71,11 +71,11 @@ pub fn answer<F: Folder, R: Read>(
         → IsErrAnd result (λ failure. IsOfInput failure (work_view command.entry.job) (unread R.remaining input.old) (read_failed input.new)) }
     // A job but `append` leaves the input alone.
     ensures input_untouched { reads_input (work_view command.entry.job) ≡ false → input.new ≡ input.old }
-    // Over any folder, whoever else writes into it, runs of the line that this job asks for were made, with the rows of
-    // this input, of which each but the last lost its version, and what is told is what came of the last; or the words or
-    // the input are refused. What is told as done was saved, by calls of the folder that say that they made it. A run that
-    // lost its version is the last only where no try was left, or a call of the folder failed; or memory ran out, which is
-    // told then.
+    // Over any folder, whoever else writes into it: of a job that puts something, runs of the line that it asks for were
+    // made, each but the last told that a commit's name is taken, and what came of the last is told; that is taken only
+    // where no try was left or a call failed, or memory ran out and is told. What is told as done was saved, by calls that
+    // say that they made it. Or the words or the input are refused, or the job isn't there yet. A line that puts nothing
+    // fails only where the folder can't be read.
     ensures runs { RanAsAsked (λ calls. Traced F.makes folder.old calls folder.new) (work_view command.entry.job) (unread R.remaining input.old) (read_failed input.new) command.entry.use_checkpoints
         (F.fault_count folder.old) (F.fault_count folder.new) result }
     // What isn't there yet is told as such, without a look at the folder.

@@ -10,7 +10,7 @@ ghost use Rattle.lake_words.specs.Asked.{Spells, Work, check, explain, table, wo
 ghost use Rattle.lake_words.specs.Spelling.{SpellsJob};
 ghost use Rattle.lake_command.specs.Checks.{ChecksDisk};
 ghost use Rattle.lake_command.specs.Endings.{AreCallsAt, IsMisused, TellsJob};
-ghost use Rattle.lake_command.specs.ErrorTexts.{IsBadLineTold, IsEndTold, IsScriptRefusal};
+ghost use Rattle.lake_command.specs.ErrorTexts.{IsBadLineTold, IsEndTold};
 ghost use Rattle.lake_command.specs.Explaining.{Explains};
 ghost use Rattle.lake_command.specs.Folders.{IsMiscounted, reads_input};
 ghost use Rattle.lake_command.specs.Scripts.{WritesScript, script_uses_checkpoints};

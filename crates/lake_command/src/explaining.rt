@@ -1,18 +1,14 @@
 //! What a refusal means, where it is asked for, and the code of a failure.
-ghost use Rattle.std.specs.Prelude.{◌≡◌, Err, IfSome, OnOk, option_map, true};
-ghost use Rattle.std.specs.Io.KnownBytes.{Appends};
-ghost use Rattle.outcomes.specs.Lines.{with_newline};
-ghost use Rattle.lake_script.specs.Streams.{held, write_failed};
+ghost use Rattle.std.specs.Prelude.{◌≡◌, IfSome, option_map};
 ghost use Rattle.lake_command.specs.Codes.{TellsCode, code_in};
 ghost use Rattle.lake_command.specs.Explaining.{IsExplained};
-ghost use Rattle.refusal_texts.specs.Texts.{refusal_text};
 
 use crate::exit::{DONE, Exit, MISUSED};
 use crate::failure::Failure;
-use crate::telling::not_written;
+use crate::telling::{not_written, write_line};
 use lake_hints::ErrorOutput;
-use lake_script::{Output, OutputError};
-use refusal_texts::{Refusal, refusal_named};
+use lake_script::Output;
+use refusal_texts::refusal_named;
 use std::io::Write;
 use table_folder::SaveFault;
 
@@ -47,20 +43,11 @@ pub(crate) fn explain_command<W: Write, E: Write>(
             is_short: false,
         };
     };
-    match give_entry(refusal, output) {
+    match write_line(refusal, output) {
         Ok(()) => Exit {
             status: DONE,
             is_short: false,
         },
         Err(error) => not_written(error, false, err),
     }
-}
-
-/// Gives an entry and writes it.
-fn give_entry<W: Write>(refusal: &Refusal, output: &mut Output<W>) -> Result<(), OutputError>
-    ensures told { OnOk result (Appends (held W.contents output.old) (W.contents output.new.writer) (with_newline (refusal_text refusal.now))) }
-    ensures broken { result ≡ Err OutputError.Broken → write_failed output.new ≡ true }
-{
-    output.say(refusal)?;
-    output.flush()
 }

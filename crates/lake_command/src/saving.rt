@@ -9,6 +9,7 @@ ghost use Rattle.lake_script.specs.Runs.{Executes};
 ghost use Rattle.lake_command.specs.Again.{IsRunOf};
 ghost use Rattle.lake_command.specs.Failures.{ComesOfACall, CountsFolderFault, IsByFolder, IsLoading, IsOfFolder, NamesPut};
 ghost use Rattle.lake_command.specs.Folders.{IsPutter, LineMayLeave, line_view};
+ghost use Rattle.lake_command.specs.Looks.{Looks, LooksForHistory, LooksForRows, LooksForSnapshot};
 
 use crate::Failure;
 use crate::job_line::JobLine;
@@ -45,6 +46,9 @@ pub(crate) fn execute_in<F: Folder>(
     ensures ran { IsPutter (line_view line.entry) → (calls : List FolderCall) × Traced F.makes folder.old calls folder.new
         × IsRunOf use_checkpoints tries (line_view line.entry) result calls }
     ensures read { (IsPutter (line_view line.entry) → ⊥) → IfErr result (λ failure. IsLoading failure) }
+    // A line that puts nothing was told what just these calls of the folder looked for.
+    ensures looked { (IsPutter (line_view line.entry) → ⊥) → (calls : List FolderCall) × Traced F.makes folder.old calls folder.new
+        × Looks use_checkpoints (line_view line.entry) result calls }
     ensures failed { F.is_steady folder.old → IfErr result (λ failure. IsOfFolder failure (F.objects folder.old) (F.objects folder.new)) }
     ensures caused { IfErr result (λ failure. IsByFolder failure) }
     ensures faults { CountsFolderFault result (F.fault_count folder.old) (F.fault_count folder.new) }
@@ -74,6 +78,7 @@ fn read_in<F: Folder>(
 ) -> Result<LineReply, Failure>
     ensures told { F.is_steady folder.old → RestoresWell use_checkpoints (F.objects folder.old)
         → IfOk result (λ reply. Executes (F.objects folder.old) (task (tail max offset.now)) (reply_text reply) (F.objects folder.old)) }
+    ensures looked { (calls : List FolderCall) × Traced F.makes folder.old calls folder.new × LooksForRows use_checkpoints max offset.now result calls }
     ensures untouched { F.is_steady folder.old → F.objects folder.new ≡ F.objects folder.old }
     ensures caused { IfErr result (λ failure. IsLoading failure) }
     ensures faults { CountsFolderFault result (F.fault_count folder.old) (F.fault_count folder.new) }
@@ -91,6 +96,7 @@ fn snapshot_in<F: Folder>(
 ) -> Result<LineReply, Failure>
     ensures told { F.is_steady folder.old → RestoresWell use_checkpoints (F.objects folder.old)
         → IfOk result (λ reply. Executes (F.objects folder.old) (look snapshot) (reply_text reply) (F.objects folder.old)) }
+    ensures looked { (calls : List FolderCall) × Traced F.makes folder.old calls folder.new × LooksForSnapshot use_checkpoints result calls }
     ensures untouched { F.is_steady folder.old → F.objects folder.new ≡ F.objects folder.old }
     ensures caused { IfErr result (λ failure. IsLoading failure) }
     ensures faults { CountsFolderFault result (F.fault_count folder.old) (F.fault_count folder.new) }
@@ -110,6 +116,7 @@ fn history_in<F: Folder>(
 ) -> Result<LineReply, Failure>
     ensures told { F.is_steady folder.old → RestoresWell use_checkpoints (F.objects folder.old)
         → IfOk result (λ reply. Executes (F.objects folder.old) (look history) (reply_text reply) (F.objects folder.old)) }
+    ensures looked { (calls : List FolderCall) × Traced F.makes folder.old calls folder.new × LooksForHistory result calls }
     ensures untouched { F.is_steady folder.old → F.objects folder.new ≡ F.objects folder.old }
     ensures caused { IfErr result (λ failure. IsLoading failure) }
     ensures faults { CountsFolderFault result (F.fault_count folder.old) (F.fault_count folder.new) }

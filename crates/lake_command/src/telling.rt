@@ -1,6 +1,6 @@
 //! The reply to a job on the table in a folder, told, and the exit status.
 ghost use Rattle.outcomes.specs.Lines.{with_newline};
-ghost use Rattle.std.specs.Prelude.{◌≡◌, ◌≢◌, ◌⊎◌, ◌||◌, ◌<◌, ℕ, List, true, false, Some, Result, Ok, Err, OnOk, OnErr, option_map};
+ghost use Rattle.std.specs.Prelude.{◌≡◌, ◌≢◌, ◌⊎◌, ◌||◌, ◌<◌, ℕ, List, true, false, Some, Result, Ok, Err, IfSome, OnOk, OnErr, option_map};
 ghost use Rattle.std.specs.Io.KnownBytes.{Appends};
 ghost use Rattle.store_core.specs.Objects.{AreBytes, object_at};
 ghost use Rattle.lake_script.specs.SoundStores.{IsSoundStore};
@@ -14,7 +14,7 @@ ghost use Rattle.lake_command.specs.Again.{RanAsAsked};
 ghost use Rattle.lake_command.specs.Codes.{code_in};
 ghost use Rattle.lake_command.specs.Endings.{EndsWith, IsLineTold, IsLineUntold, IsMisused, IsOutcome, is_memory};
 ghost use Rattle.lake_command.specs.ErrorTexts.{IsFaultTold, IsMeaningIn, IsUnwrittenTold, failure_hint, is_told_as_reply};
-ghost use Rattle.lake_command.specs.Failures.{ComesOfACall, IsCaused, failure_text};
+ghost use Rattle.lake_command.specs.Failures.{ComesOfACall, IsCaused};
 ghost use Rattle.lake_command.specs.Status.{ends_early, has_refusal, is_refusal, is_want_of_memory, refuses, status_of_failure};
 ghost use Rattle.lake_command.specs.Folders.{IsAnsweredJob, IsMiscounted, reads_input};
 
@@ -26,6 +26,7 @@ use lake_hints::{ErrorOutput, explain, explain_reply, hint_reason, hint_refusal,
 use lake_script::{Fault, Input, LineReply, Output, OutputError, RefusalText};
 use lake_words::{Job, TableCommand};
 use std::alloc::Global;
+use std::fmt::Display;
 use std::io::{Read, Write};
 use table_folder::{Folder, LoadFault, SaveFault};
 
@@ -186,7 +187,7 @@ fn tell_line<W: Write, E: Write>(
     ensures broken { result ≡ Err OutputError.Broken → write_failed output.new ≡ true }
 {
     if is_told_as_reply(failure) {
-        return say(failure, output);
+        return write_line(failure, output);
     }
     err.say(failure);
     Ok(())
@@ -229,13 +230,16 @@ fn hint<E: Write>(failure: &Failure, err: &mut ErrorOutput<E>)
     }
 }
 
-/// Says why there is no reply, where replies go.
-fn say<W: Write>(failure: &Failure, output: &mut Output<W>) -> Result<(), OutputError>
-    ensures told { OnOk result (Appends (held W.contents output.old) (W.contents output.new.writer) (with_newline (failure_text failure.now))) }
-    ensures front { OnErr result (StandsIn (held W.contents output.old) (W.contents output.new.writer) (with_newline (failure_text failure.now))) }
+/// Gives a line and writes it.
+pub(crate) fn write_line<D: Display + Drop, W: Write>(
+    line: D,
+    output: &mut Output<W>,
+) -> Result<(), OutputError>
+    ensures told { OnOk result (IfSome (D.output line) (λ text. Appends (held W.contents output.old) (W.contents output.new.writer) (with_newline text))) }
+    ensures front { OnErr result (IfSome (D.output line) (λ text. StandsIn (held W.contents output.old) (W.contents output.new.writer) (with_newline text))) }
     ensures broken { result ≡ Err OutputError.Broken → write_failed output.new ≡ true }
 {
-    output.say(failure)?;
+    output.say(line)?;
     output.flush()
 }
 

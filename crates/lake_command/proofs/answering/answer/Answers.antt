@@ -152,5 +152,5 @@ returns-clause-runs g c =
     let is = subst (λ (bytes : List ℕ). IsTextOf work known bytes) (sym c.deref.ensures.value) c.in_ok-text.ensures.read in
     let asked = found_asked c.in_ok-line.field-0 c.in-Some.line work (Some text) c.in-Some.is (c.in_ok-line.ensures.asked (Some text) (λ reads. refl)) in
     run_once g.F.Folder.makes work known text (read_failed c.text_for.new.input) c.args.command.use_checkpoints _ _ c.tries_of-tries.result (line_view c.in-Some.line) c.execute_in-outcome.result c.args.folder.now c.execute_in-outcome.new.folder
-    c.tries_of-tries.ensures.same is asked c.execute_in-outcome.ensures.ran c.execute_in-outcome.ensures.read
+    c.tries_of-tries.ensures.same is asked c.execute_in-outcome.ensures.ran c.execute_in-outcome.ensures.read c.execute_in-outcome.ensures.looked
     (taken_risen c.execute_in-outcome.result _ _ _ _ _ c.faults-before.ensures c.faults.ensures refl c.execute_in-outcome.ensures.faults (c.is_lost_race.ensures.failed c.if-is_lost_race.false))

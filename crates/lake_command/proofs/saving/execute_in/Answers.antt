@@ -21,3 +21,16 @@ returns-in-Snapshot-clause-ran g c = λ puts. absurd (rw c.in-Snapshot.is at put
 
 pub returns-in-History-clause-ran : goal.returns-in-History-clause-ran
 returns-in-History-clause-ran g c = λ puts. absurd (rw c.in-History.is at puts)
+
+-- ---- and what it looked for
+
+pub returns-in-Job-Tail-clause-looked : goal.returns-in-Job-Tail-clause-looked
+returns-in-Job-Tail-clause-looked g c = λ none.
+    let job = rw c.in-Job-Tail.is at c.in-Job-Tail.field-0-is in
+    rw (c.in-Job-Tail.is, job) c.read_in.ensures.looked
+
+pub returns-in-Snapshot-clause-looked : goal.returns-in-Snapshot-clause-looked
+returns-in-Snapshot-clause-looked g c = λ none. rw c.in-Snapshot.is c.snapshot_in.ensures.looked
+
+pub returns-in-History-clause-looked : goal.returns-in-History-clause-looked
+returns-in-History-clause-looked g c = λ none. rw c.in-History.is c.history_in.ensures.looked

@@ -14,3 +14,8 @@ returns-clause-told g c = λ steady restores.
     let is = c.in_ok-store.ensures.loaded steady in
     let executed = c.execute.ensures.told tt (log_well c.args.use_checkpoints old start is restores) in
     history_told old start _ (reply_text c.execute.result) (g.met.F.Folder.in_order c.args.folder.now) is executed
+
+pub returns-clause-looked : goal.returns-clause-looked
+returns-clause-looked g c =
+    let called = c.in_ok-store.ensures.called in
+    (called.0, called.1, (c.in_ok-store.store, called.2))
