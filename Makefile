@@ -2,8 +2,8 @@ PREFIX ?= $(HOME)/.local
 COUNT ?= 10000
 SEEDS ?= 1
 
-.PHONY: believed bench demo documents documents-check edits folder inspect install lake model names paths refusals \
-	samples schedules test times
+.PHONY: believed bench demo documents documents-check edits example folder inspect install lake model names paths \
+	refusals samples schedules test times
 
 # Runs the stored script of the program without a proof, and shows each line before its replies.
 demo:
@@ -65,6 +65,10 @@ believed:
 # package. Run `make lake` before it.
 samples:
 	@python3 scripts/samples.py
+
+# Runs the program that docs/STREAMS.md shows on a copy, without a proof, and compares what it prints; some two minutes.
+example:
+	@python3 scripts/example.py
 
 # Runs the built program on random scripts of several actors, and compares what it is told with the model, and with what
 # has to hold of batches and reads: COUNT lines for each of SEEDS. Run `make lake` before it.

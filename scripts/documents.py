@@ -11,7 +11,7 @@
   round; each text of these tables fits a line.
 - Each clause that docs/PROVED.md names stands in the code, at what the document speaks of there (`untold`). Each crate
   with code has a section there, and each with definitions is named in docs/DEFINITIONS.md. Each crate has an edit for
-  each mistake that docs/GATE.md names of it.
+  each mistake that docs/GATE.md names of it. What wrong bodies take away stands in their files (`wrong_bodies.py`).
 
 It tells what differs, a line each, and exits with 1 where something does; with further words it tells only of what has
 one of them in its line. With `--write` what is printed and the lines of links are written anew before. With `--seconds
@@ -25,6 +25,8 @@ import re
 import sys
 from collections import defaultdict
 from pathlib import Path
+
+from wrong_bodies import misfits
 
 ROOT = Path(__file__).resolve().parent.parent
 DOCUMENTS = ["README.md", "crates/README.md"] + [f"docs/{it.name}" for it in sorted((ROOT / "docs").glob("*.md"))]
@@ -461,6 +463,7 @@ def faults(crates):
     yield from untold(crates)
     yield from unnamed(crates)
     yield from untried(crates)
+    yield from misfits(ROOT)
 
 
 def write_seconds(crates, log):

@@ -14,7 +14,7 @@ use Rattle.delta_replay.specs.Closes.{is_closed}
 use Rattle.delta_replay.specs.Keys.{last_number}
 use Rattle.delta_replay.specs.Support.{Unsupported, writable}
 use Rattle.batch_core.specs.Refusals.{SinkRefusal, bad_row, read_only, stale, stream_closed}
-use Rattle.batch_core.specs.Requests.{SinkRequest, close_behind, is_repeat, numbered, request_behind}
+use Rattle.batch_core.specs.Requests.{SinkRequest, close_behind, is_repeat, numbered_behind, request_behind}
 use Rattle.batch_core.specs.RowsIn.{rows_from, takes_rows, unless_unsupported}
 
 -- ---- steps
@@ -128,7 +128,7 @@ module _ (next : ℕ) (log : List (List Action)) (application : List ℕ) (numbe
 
   -- What is asked for: the table's schema, the rows that the items spell for it, the version that comes next, and whether the number is the
   -- last one again.
-  pub asked_parts : (asked : SinkRequest) → request_behind next log application number items ≡ Ok asked → HasRead log items asked.schema asked.rows × (numbered log application number ≡ Ok asked.repeats) × (asked.version ≡ next)
+  pub asked_parts : (asked : SinkRequest) → request_behind next log application number items ≡ Ok asked → HasRead log items asked.schema asked.rows × (numbered_behind log application number ≡ Ok asked.repeats) × (asked.version ≡ next)
   unfolding request_behind
   asked_parts asked is =
       let a = both_done (refused_as read_only (writable log)) behind_schema asked is in
@@ -139,7 +139,7 @@ module _ (next : ℕ) (log : List (List Action)) (application : List ℕ) (numbe
       (subst (λ (r : SinkRequest). HasRead log items r.schema r.rows) d.1 read, d.0, sym (ap (λ (r : SinkRequest). r.version) d.1))
 
   -- Where it is refused for its number, or since its stream is closed, its rows were read.
-  pub refused_parts : (why : SinkRefusal) → IsOfNumber why → request_behind next log application number items ≡ Err why → (schema : Tree) × (rows : List Row) × HasRead log items schema rows × (numbered log application number ≡ Err why)
+  pub refused_parts : (why : SinkRefusal) → IsOfNumber why → request_behind next log application number items ≡ Err why → (schema : Tree) × (rows : List Row) × HasRead log items schema rows × (numbered_behind log application number ≡ Err why)
   unfolding request_behind
   refused_parts why of is =
       elim (one_refused (refused_as read_only (writable log)) behind_schema why is) [
@@ -161,7 +161,7 @@ module _ (next : ℕ) (log : List (List Action)) (application : List ℕ) (numbe
 -- ---- the rules of numbers
 
 -- Where a number is taken, it isn't below the last one, and the stream of a new one is open.
-pub numbered_parts : (log : List (List Action)) (application : List ℕ) (number : ℕ) (repeats : Bool) → numbered log application number ≡ Ok repeats
+pub numbered_parts : (log : List (List Action)) (application : List ℕ) (number : ℕ) (repeats : Bool) → numbered_behind log application number ≡ Ok repeats
     → (is_repeat number (last_number application log) ≡ Ok repeats) × ((not repeats && is_closed application log) ≡ false)
 numbered_parts log application number repeats is =
     let first = both_done (is_repeat number (last_number application log)) (λ (again : Bool). refused_if (not again && is_closed application log) stream_closed >>= λ (goes_on : Unit {0}). done again) repeats is in

@@ -1,6 +1,6 @@
 //! Why a sink refuses to append a batch, or to close a stream.
 ghost use Rattle.std.specs.Prelude.{Some};
-ghost use Rattle.batch_core.specs.Refusals.{refusal_text, refusal_view};
+ghost use Rattle.batch_core.specs.Refusals.{sink_refusal_text, sink_refusal_view};
 
 use commit_core::CommitFault;
 use delta_replay::{SupportError, SupportFault};
@@ -67,7 +67,7 @@ impl Drop for SinkFault {
 }
 
 impl Display for SinkFault {
-    ghost output = { λ fault. Some (refusal_text (refusal_view fault)) };
+    ghost output = { λ fault. Some (sink_refusal_text (sink_refusal_view fault)) };
 
     fn fmt<W: fmt::Write>(&self, f: &mut Formatter<W>) -> fmt::Result {
         match self {
@@ -120,9 +120,9 @@ impl<T: Drop> From<AllocFailed<T>> for SinkFault {
 }
 
 impl From<LogFault> for SinkFault {
-    ghost from_gives = { λ fault e. IsLogFault fault e };
+    ghost from_gives = { λ fault e. IsSinkLogFault fault e };
 
-    ghost use Rattle.batch_core.specs.Refusals.{IsLogFault};
+    ghost use Rattle.batch_core.specs.Refusals.{IsSinkLogFault};
 
     fn from(fault: LogFault) -> SinkFault {
         match fault {
@@ -134,9 +134,9 @@ impl From<LogFault> for SinkFault {
 }
 
 impl From<SupportError> for SinkFault {
-    ghost from_gives = { λ error e. IsSupportFault error e };
+    ghost from_gives = { λ error e. IsSinkSupportFault error e };
 
-    ghost use Rattle.batch_core.specs.Refusals.{IsSupportFault};
+    ghost use Rattle.batch_core.specs.Refusals.{IsSinkSupportFault};
 
     fn from(error: SupportError) -> SinkFault {
         match error {

@@ -7,21 +7,21 @@ use Rattle.commit_core.specs.declared.fault.CreateFault.{CreateFault}
 use Rattle.commit_core.specs.declared.fault.CreateFault.TheVariants as creating
 
 -- why a table isn't created
-abbrev pub refusal_text : CreateRefusal → List ℕ
-refusal_text table_exists = codes "E1 TableExists"
-refusal_text (bad_schema fault) = codes "E2 BadSchema " ++ text_of fault
-refusal_text bad_id = codes "E3 BadId"
-refusal_text lost = codes "E5 Lost"
-refusal_text too_large = codes "E6 TooLarge"
+abbrev pub create_refusal_text : CreateRefusal → List ℕ
+create_refusal_text table_exists = codes "E1 TableExists"
+create_refusal_text (bad_schema fault) = codes "E2 BadSchema " ++ text_of fault
+create_refusal_text bad_id = codes "E3 BadId"
+create_refusal_text lost = codes "E5 Lost"
+create_refusal_text too_large = codes "E6 TooLarge"
 
 -- the same of the code's faults
 abbrev pub create_fault_text : CreateFault → List ℕ
-create_fault_text creating.TableExists = refusal_text table_exists
-create_fault_text (creating.BadSchema fault) = refusal_text (bad_schema (fault_of fault))
-create_fault_text creating.BadId = refusal_text bad_id
+create_fault_text creating.TableExists = create_refusal_text table_exists
+create_fault_text (creating.BadSchema fault) = create_refusal_text (bad_schema (fault_of fault))
+create_fault_text creating.BadId = create_refusal_text bad_id
 create_fault_text creating.Memory = codes "E4 Memory"
-create_fault_text creating.Lost = refusal_text lost
-create_fault_text creating.TooLarge = refusal_text too_large
+create_fault_text creating.Lost = create_refusal_text lost
+create_fault_text creating.TooLarge = create_refusal_text too_large
 
 -- a fault's text, as it is told
 abbrev pub refused : List ℕ → List ℕ

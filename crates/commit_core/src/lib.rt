@@ -1,5 +1,5 @@
-//! What is done to a table's log: its creation, as a session and over a store, the puts of a commit as a session, what
-//! each version holds, and which commits conflict.
+//! What is done to a table's log: its creation and the puts of a commit, each as a session, what each version holds,
+//! and which commits conflict.
 #![tactic(auto)]
 
 mod candidate;
@@ -15,7 +15,6 @@ mod create_session;
 mod create_state;
 mod creating;
 mod fault;
-mod new_table;
 mod versions;
 
 pub use candidate::Candidate;
@@ -28,7 +27,7 @@ pub use conflicting::conflict;
 pub use create_laws::{a_creation_over_one_store, what_a_creation_may};
 pub use create_state::{CreateSession, CreateStage};
 pub use fault::CreateFault;
-pub use new_table::create;
 pub use session_core::{Reply, Request, Session, Step};
+pub use snapshot_core::{CheckpointEnd, CheckpointSession, CheckpointStage};
 pub use table_log::{LoadSession, LoadStage};
 pub use versions::history;

@@ -15,7 +15,7 @@ MakesOf folder makes old call new = makes (folder old) (folder_call call) (folde
 
 module _ {R F : Type 0} (folder : R → F) (makes : F → FolderCall → F → Type 0) where
   -- and what several do
-  pub traced_folder : (old new : R) (calls : List ReaderCall) → readers.Traced (MakesOf folder makes) old calls new → Traced makes (folder old) (map folder_call calls) (folder new)
+  pub traced_folder : (old new : R) (calls : List ReaderCall) → readers.ReaderTraced (MakesOf folder makes) old calls new → Traced makes (folder old) (map folder_call calls) (folder new)
   traced_folder old new [] is = ap folder is
   traced_folder old new (call ∷ calls) is = (folder is.0, is.1, traced_folder is.0 new calls is.2)
 

@@ -7,12 +7,12 @@ use Rattle.store_core.specs.Objects.{Objects, names_of}
 use Rattle.table_audit.specs.Beside.{is_unnamed}
 
 -- a name is a data file's: it stands in the table's own folder, and ends with `.parquet`
-abbrev pub is_data : (name : List ℕ) → Bool
-is_data name = not (starts_with nat_eq name (codes "_delta_log/")) && ends_with nat_eq name (codes ".parquet")
+abbrev pub is_data_file : (name : List ℕ) → Bool
+is_data_file name = not (starts_with nat_eq name (codes "_delta_log/")) && ends_with nat_eq name (codes ".parquet")
 
 -- no data file's
 abbrev pub is_stray : (name : List ℕ) → Bool
-is_stray name = not (is_data name)
+is_stray name = not (is_data_file name)
 
 -- a line: a word, and a name as a JSON string
 abbrev pub line_of : (word name : List ℕ) → List ℕ
@@ -28,4 +28,4 @@ unnamed_names objects = filter (is_unnamed objects) (names_of objects)
 abbrev pub AreBeside : (objects : Objects) → (lines : List (List ℕ)) → Type 0
 AreBeside objects lines = (left : List (List ℕ)) × (lines ≡ map (line_of (codes "leftover")) left
     ++ (map (line_of (codes "stray")) (filter is_stray (unnamed_names objects))
-    ++ map (line_of (codes "unnamed")) (filter is_data (unnamed_names objects))))
+    ++ map (line_of (codes "unnamed")) (filter is_data_file (unnamed_names objects))))

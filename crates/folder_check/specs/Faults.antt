@@ -20,11 +20,11 @@ ComesOfACall old new (Folder (loads.NotLoaded name reason)) = HasRisen old new
 ComesOfACall old new _ = Unit {0}
 
 -- a data file that is told as too large is, as one of the table
-abbrev pub TellsLargeFile : Objects → CheckFault → Type 0
-TellsLargeFile objects (Folder fault) = Unit {0}
-TellsLargeFile objects (TooLarge name) = IsLargeFile objects (string_bytes name)
+abbrev pub CheckTellsLargeFile : Objects → CheckFault → Type 0
+CheckTellsLargeFile objects (Folder fault) = Unit {0}
+CheckTellsLargeFile objects (TooLarge name) = IsLargeFile objects (string_bytes name)
 
 -- no data file is told as too large
-abbrev pub TellsNoFile : CheckFault → Type 0
-TellsNoFile (Folder fault) = Unit {0}
-TellsNoFile (TooLarge name) = ⊥
+abbrev pub CheckTellsNoFile : CheckFault → Type 0
+CheckTellsNoFile (Folder fault) = Unit {0}
+CheckTellsNoFile (TooLarge name) = ⊥

@@ -1,9 +1,9 @@
 //! What lies beside a table in its folder, each told in a line.
 ghost use Rattle.std.specs.Prelude.{◌≡◌, ◌++◌, ◌∷◌, [], List, IfOk, IfErr, OnOk, codes, filter, map, string_bytes};
 ghost use Rattle.table_folder.specs.Traces.{FolderCall, Traced};
-ghost use Rattle.folder_check.specs.Beside.{AreBeside, is_data, is_stray, line_of};
+ghost use Rattle.folder_check.specs.Beside.{AreBeside, is_data_file, is_stray, line_of};
 ghost use Rattle.folder_check.specs.Calls.{LooksAround};
-ghost use Rattle.folder_check.specs.Faults.{TellsNoFile};
+ghost use Rattle.folder_check.specs.Faults.{CheckTellsNoFile};
 
 use crate::fault::CheckFault;
 use crate::progress::Progress;
@@ -24,7 +24,7 @@ pub(crate) fn lines_beside<F: Folder, P: Progress>(
     ensures called { (calls : List FolderCall) × Traced F.makes reader.old.folder calls reader.new.folder × LooksAround calls }
     ensures untouched { F.is_steady reader.old.folder → F.objects reader.new.folder ≡ F.objects reader.old.folder }
     ensures steady { F.is_steady reader.old.folder → F.is_steady reader.new.folder }
-    ensures no_file { IfErr result TellsNoFile }
+    ensures no_file { IfErr result CheckTellsNoFile }
 {
     let left = reader.leftovers()?;
     let before = reader.folder.faults();
@@ -38,7 +38,7 @@ pub(crate) fn lines_beside<F: Folder, P: Progress>(
 /// The lines of what killed runs left, and of the names that the table doesn't know: first those of no data files.
 fn lines_of(alloc: Global, left: &[String], names: &[String]) -> Result<Vec<String>, AllocError>
     ensures { IfOk result (λ lines. map string_bytes lines.items ≡ map (line_of (codes "leftover")) (map string_bytes left.now)
-        ++ (map (line_of (codes "stray")) (filter is_stray (map string_bytes names.now)) ++ map (line_of (codes "unnamed")) (filter is_data (map string_bytes names.now)))) }
+        ++ (map (line_of (codes "stray")) (filter is_stray (map string_bytes names.now)) ++ map (line_of (codes "unnamed")) (filter is_data_file (map string_bytes names.now)))) }
 {
     let mut lines = Vec::new(alloc);
     for name in left {
@@ -63,7 +63,7 @@ fn push_strays(alloc: Global, lines: &mut Vec<String>, names: &[String]) -> Resu
 
 /// Adds a line for each name that is a data file's.
 fn push_data(alloc: Global, lines: &mut Vec<String>, names: &[String]) -> Result<(), AllocError>
-    ensures { OnOk result (map string_bytes lines.new.items ≡ map string_bytes lines.old.items ++ map (line_of (codes "unnamed")) (filter is_data (map string_bytes names.now))) }
+    ensures { OnOk result (map string_bytes lines.new.items ≡ map string_bytes lines.old.items ++ map (line_of (codes "unnamed")) (filter is_data_file (map string_bytes names.now))) }
 {
     for name in names {
         if is_data(name) {
@@ -89,7 +89,7 @@ fn push_line(
 
 /// Whether a name is a data file's: one of the table's folder, ending with `.parquet`.
 fn is_data(name: &str) -> bool
-    ensures { result ≡ is_data name.now }
+    ensures { result ≡ is_data_file name.now }
 {
     let name = name.as_bytes();
     !name.starts_with(b"_delta_log/") && name.ends_with(b".parquet")

@@ -7,7 +7,7 @@ ghost use Rattle.table_audit.specs.Verdicts.{IsVerdictOf};
 ghost use Rattle.table_folder.specs.Traces.{FolderCall, Traced};
 ghost use Rattle.folder_check.specs.Beside.{AreBeside};
 ghost use Rattle.folder_check.specs.Calls.{Checks};
-ghost use Rattle.folder_check.specs.Faults.{ComesOfACall, TellsLargeFile, TellsNoFile};
+ghost use Rattle.folder_check.specs.Faults.{ComesOfACall, CheckTellsLargeFile, CheckTellsNoFile};
 
 use crate::beside::lines_beside;
 use crate::fault::CheckFault;
@@ -43,8 +43,8 @@ impl<F: Folder, P: Progress> FolderReader<F, P> {
         // Where a call of the folder is told as failed, one did.
         ensures counted { IfErr result (ComesOfACall (F.fault_count self.old.folder) (F.fault_count self.new.folder)) }
         // A data file is told as too large only where it is, and in place of a verdict.
-        ensures large { F.is_steady self.old.folder → IfErr result (TellsLargeFile (F.objects self.old.folder)) }
-        ensures beside { IfOk result (λ report. IfErr report.beside TellsNoFile) }
+        ensures large { F.is_steady self.old.folder → IfErr result (CheckTellsLargeFile (F.objects self.old.folder)) }
+        ensures beside { IfOk result (λ report. IfErr report.beside CheckTellsNoFile) }
     {
         let before = self.folder.faults();
         let report = match audit(alloc, self) {
@@ -63,8 +63,8 @@ impl<F: Folder, P: Progress> FolderReader<F, P> {
     pub(crate) fn why(&mut self, error: AuditError, before: u64) -> CheckFault
         ensures folder { self.new.folder ≡ self.old.folder }
         ensures counted { ComesOfACall before (F.fault_count self.old.folder) result }
-        ensures large { (objects : Objects) → audits.TellsLargeFile objects error → TellsLargeFile objects result }
-        ensures no_file { audits.TellsNoFile error → TellsNoFile result }
+        ensures large { (objects : Objects) → audits.TellsLargeFile objects error → CheckTellsLargeFile objects result }
+        ensures no_file { audits.TellsNoFile error → CheckTellsNoFile result }
     {
         match error {
             AuditError::Lost => match self.take_failed() {

@@ -2,7 +2,7 @@
 ghost use Rattle.std.specs.Prelude.{◌≡◌, IfErr, None};
 ghost use Rattle.table_folder.specs.Traces.{looks};
 ghost use Rattle.folder_check.specs.Calls.{folder_call};
-ghost use Rattle.folder_check.specs.Faults.{TellsNoFile};
+ghost use Rattle.folder_check.specs.Faults.{CheckTellsNoFile};
 
 use crate::fault::CheckFault;
 use crate::progress::Progress;
@@ -49,7 +49,7 @@ impl<F: Folder, P: Progress> FolderReader<F, P> {
         ensures untouched { F.is_steady self.old.folder → F.objects self.new.folder ≡ F.objects self.old.folder }
         ensures steady { F.is_steady self.old.folder → F.is_steady self.new.folder }
         ensures called { F.makes self.old.folder looks self.new.folder }
-        ensures no_file { IfErr result TellsNoFile }
+        ensures no_file { IfErr result CheckTellsNoFile }
     {
         match self.folder.leftovers() {
             Ok(names) => Ok(names),

@@ -15,7 +15,7 @@ use Rattle.store_core.specs.declared.fault.StoreFault.{StoreFault}
 use Rattle.store_core.specs.declared.fault.StoreFault.TheVariants.{Lost, Memory}
 use Rattle.table_folder.specs.Traces.{FolderCall, MakeNone, MakesNone, Traced}
 use Rattle.table_folder.proofs.Callers.{IsInOrder-with_copies, first_of, found_after_put, list_any-names, none_made_on, object_at-with_copies}
-use Rattle.folder_session.specs.Beside.{AreApart, Hears, HearsAll, HearsPut, IsOpened, TellsFound, TellsPut, put_by, put_named, put_so, with_beside}
+use Rattle.folder_session.specs.Beside.{AreApart, HearsCall, HearsAll, HearsPut, IsOpened, TellsFound, TellsPut, put_by, put_named, put_so, with_beside}
 
 -- ---- what is found
 
@@ -138,7 +138,7 @@ put_created added new name bytes Exists told landed = by_found (object_at added 
 -- ---- what is heard of the folder
 
 -- which calls were made for a talk with one call more
-pub heard_more : (names : List (List ℕ)) (added : Objects) (talk : Talk) (asked : Asked) (told : Told) (calls more : List FolderCall) → HearsAll names added talk calls → Hears names (put_by added talk) asked told more
+pub heard_more : (names : List (List ℕ)) (added : Objects) (talk : Talk) (asked : Asked) (told : Told) (calls more : List FolderCall) → HearsAll names added talk calls → HearsCall names (put_by added talk) asked told more
     → HearsAll names added (talk ++ (asked, told) ∷ []) (calls ++ more)
 heard_more names added [] asked told calls more none one = (more, [], one, refl, (λ i. none i ++ more) ∙ sym (append-nil more))
 heard_more names added (call ∷ talk) asked told calls more is one =
@@ -166,7 +166,7 @@ put_makes_none : (added : Objects) (name : List ℕ) (told : Told) (calls : List
 put_makes_none added name told calls (inl is) = subst MakeNone (sym is.3) (tt, (tt, tt))
 put_makes_none added name told calls (inr is) = subst MakeNone (sym is.1) (tt, tt)
 
-pub hears_makes_none : (names : List (List ℕ)) (added : Objects) (asked : Asked) (told : Told) (calls : List FolderCall) → Hears names added asked told calls → MakeNone calls
+pub hears_makes_none : (names : List (List ℕ)) (added : Objects) (asked : Asked) (told : Told) (calls : List FolderCall) → HearsCall names added asked told calls → MakeNone calls
 hears_makes_none names added list_names told calls is = subst MakeNone (sym is.1) tt
 hears_makes_none names added (get_object name) told calls is = subst MakeNone (sym is.4) (opened_makes_none names name is.0 is.1 is.2, tt)
 hears_makes_none names added (put_file name bytes) told calls is = put_makes_none added name told calls is

@@ -74,17 +74,17 @@ HearsPut added name told calls =
     ⊎ (TellsPut added name told × (calls ≡ finds name (Some None) ∷ []))
 
 -- These calls of the folder were made for one of the session, which was told what they told.
-abbrev pub Hears : (names : List (List ℕ)) → (added : Objects) → Asked → Told → List FolderCall → Type 0
-Hears names added list_names told calls = TellsNames names told × (calls ≡ [])
-Hears names added (get_object name) told calls = (found : Option (List ℕ)) × (call : FolderCall) × IsOpened names name found call × TellsFound added name found told × (calls ≡ call ∷ [])
-Hears names added (put_file name bytes) told calls = HearsPut added name told calls
-Hears names added (put_commit version bytes) told calls = HearsPut added (commit_name version) told calls ⊎ ((told ≡ told_memory) × (calls ≡ []))
+abbrev pub HearsCall : (names : List (List ℕ)) → (added : Objects) → Asked → Told → List FolderCall → Type 0
+HearsCall names added list_names told calls = TellsNames names told × (calls ≡ [])
+HearsCall names added (get_object name) told calls = (found : Option (List ℕ)) × (call : FolderCall) × IsOpened names name found call × TellsFound added name found told × (calls ≡ call ∷ [])
+HearsCall names added (put_file name bytes) told calls = HearsPut added name told calls
+HearsCall names added (put_commit version bytes) told calls = HearsPut added (commit_name version) told calls ⊎ ((told ≡ told_memory) × (calls ≡ []))
 
 -- and these for the calls of a talk
 abbrev pub HearsAll : (names : List (List ℕ)) → (added : Objects) → Talk → List FolderCall → Type 0
 HearsAll names added [] calls = calls ≡ []
 HearsAll names added (call ∷ talk) calls =
-    (first more : List FolderCall) × Hears names added call.0 call.1 first × HearsAll names (put_so added call.0 call.1) talk more × (calls ≡ first ++ more)
+    (first more : List FolderCall) × HearsCall names added call.0 call.1 first × HearsAll names (put_so added call.0 call.1) talk more × (calls ≡ first ++ more)
 
 -- Over any folder, whoever else writes into it, a session was driven by a talk of its own, in which it made just calls that
 -- its job asks for, was told of none that it was lost, and behind which the outcome is one that its job tells. Beside the

@@ -22,7 +22,7 @@ pub record ReadsBy {J O : Type 0} (asks : J → (before talk : Talk) → Asked �
   pub few : length talk ≤ most
 
 -- So far it was driven by this talk, up to an answer that it hasn't taken.
-pub record IsReading {N : Type 0} (fits : N → Talk → Option Asked → Type 0) (left : N → ℕ) (asks : Talk → Asked → Type 0) (first session : N) (reply : Option Told) (objects : Objects) : Type 0 where
+pub record IsFolderDriven {N : Type 0} (fits : N → Talk → Option Asked → Type 0) (left : N → ℕ) (asks : Talk → Asked → Type 0) (first session : N) (reply : Option Told) (objects : Objects) : Type 0 where
   pub talk : Talk
   pub taken : Talk
   pub asked : Option Asked

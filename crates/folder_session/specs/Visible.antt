@@ -21,15 +21,15 @@ visible_names (Some front) names = filter (is_kept front) names
 -- ---- what is heard of the folder
 
 -- The names were told: by one call, or, where they are given, by no call.
-abbrev pub Lists : (given : Option (List (List ℕ))) → (told : Option (List (List ℕ))) → List FolderCall → Type 0
-Lists None told calls = calls ≡ lists told ∷ []
-Lists (Some names) told calls = (told ≡ Some names) × (calls ≡ [])
+abbrev pub ListsFolder : (given : Option (List (List ℕ))) → (told : Option (List (List ℕ))) → List FolderCall → Type 0
+ListsFolder None told calls = calls ≡ lists told ∷ []
+ListsFolder (Some names) told calls = (told ≡ Some names) × (calls ≡ [])
 
 -- These calls of the folder were made for one of the session, which was told what they told: of the names those that are visible,
 -- unless memory ran out; of a visible name what one read of it found; and of another one that nothing is there, with no call. A put isn't
 -- made.
 abbrev pub HearsVisible : (front : Option ℕ) → (given : Option (List (List ℕ))) → Asked → Told → List FolderCall → Type 0
-HearsVisible front given list_names told calls = (names : List (List ℕ)) × Lists given (Some names) calls × TellsNames (visible_names front names) told
+HearsVisible front given list_names told calls = (names : List (List ℕ)) × ListsFolder given (Some names) calls × TellsNames (visible_names front names) told
 HearsVisible front given (get_object name) told calls =
     ((found : Option (List ℕ)) × (is_visible front name ≡ true) × (told ≡ told_object found) × (calls ≡ reads name (Some found) ∷ []))
     ⊎ ((is_visible front name ≡ false) × (told ≡ told_object None) × (calls ≡ []))
@@ -37,7 +37,7 @@ HearsVisible front given asked told calls = (told ≡ told_memory) × (calls ≡
 
 -- These were made for one that was told nothing: the last of them failed, or memory ran out behind it.
 abbrev pub FailsVisible : (front : Option ℕ) → (given : Option (List (List ℕ))) → Asked → List FolderCall → Type 0
-FailsVisible front given list_names calls = (told : Option (List (List ℕ))) × Lists given told calls
+FailsVisible front given list_names calls = (told : Option (List (List ℕ))) × ListsFolder given told calls
 FailsVisible front given (get_object name) calls = (calls ≡ []) ⊎ ((is_visible front name ≡ true) × (calls ≡ reads name None ∷ []))
 FailsVisible front given asked calls = ⊥
 

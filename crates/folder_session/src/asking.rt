@@ -8,7 +8,7 @@ ghost use Rattle.table_folder.specs.Faults.{CountsLoad, IsNotLoaded};
 ghost use Rattle.table_folder.specs.Traces.{FolderCall, Traced};
 ghost use Rattle.front_reads.specs.Fronts.{visible};
 ghost use Rattle.folder_session.specs.Driving.{AreNames};
-ghost use Rattle.folder_session.specs.Visible.{FailsVisible, HearsVisible, Lists, given_after, given_names, visible_names};
+ghost use Rattle.folder_session.specs.Visible.{FailsVisible, HearsVisible, ListsFolder, given_after, given_names, visible_names};
 
 use front_reads::{is_visible, visible_names};
 use session_core::{Reply, Request};
@@ -51,8 +51,8 @@ fn listed_names<F: Folder>(
     ensures untouched { F.is_steady folder.old → F.objects folder.new ≡ F.objects folder.old }
     ensures steady { F.is_steady folder.old → F.is_steady folder.new }
     ensures heard { MatchResult result
-        (λ listed. (calls : List FolderCall) × Traced F.makes folder.old calls folder.new × Lists (given_names names.old) (Some (map string_bytes listed.items)) calls)
-        (λ _. (calls : List FolderCall) × Traced F.makes folder.old calls folder.new × Lists (given_names names.old) None calls) }
+        (λ listed. (calls : List FolderCall) × Traced F.makes folder.old calls folder.new × ListsFolder (given_names names.old) (Some (map string_bytes listed.items)) calls)
+        (λ _. (calls : List FolderCall) × Traced F.makes folder.old calls folder.new × ListsFolder (given_names names.old) None calls) }
 
     ensures faults { CountsLoad result (F.fault_count folder.old) (F.fault_count folder.new) }
     ensures never_fails { F.is_reliable folder.old → IsNotLoaded result → ⊥ }

@@ -9,7 +9,7 @@ ghost use Rattle.store_core.specs.Memory.{stored_objects};
 ghost use Rattle.store_core.specs.Objects.{Objects, names_of, object_at};
 ghost use Rattle.table_folder.specs.Faults.{CountsLoad, IsNotLoaded};
 ghost use Rattle.table_folder.specs.Traces.{FolderCall, MakeNone, Traced};
-ghost use Rattle.folder_session.specs.Beside.{AreApart, DrivesBeside, Hears, HearsPut, IsOpened, TalksBeside, put_named, put_so, with_beside};
+ghost use Rattle.folder_session.specs.Beside.{AreApart, DrivesBeside, HearsCall, HearsPut, IsOpened, TalksBeside, put_named, put_so, with_beside};
 
 use crate::asking::listed_as;
 use session_core::{Reply, Request, Session, Step, a_store_answers_as_any_store_may};
@@ -41,7 +41,7 @@ fn list_beside(names: &Names, added: &mut MemoryStore) -> Reply
     ensures never_lost { is_lost (told_view result) ≡ false }
     ensures answers { (objects : Objects) → listed names.now ≡ names_of objects
         → Answers (with_beside objects (stored_objects added.old), []) list_names (told_view result) (with_beside objects (stored_objects added.new), []) }
-    ensures heard { Hears (listed names.now) (stored_objects added.old) list_names (told_view result) [] }
+    ensures heard { HearsCall (listed names.now) (stored_objects added.old) list_names (told_view result) [] }
     ensures kept { stored_objects added.new ≡ stored_objects added.old }
 {
     match added.list() {
@@ -93,7 +93,7 @@ fn get_beside<F: Folder>(
     ensures never_fails { F.is_reliable folder.old → IsNotLoaded result → ⊥ }
     ensures stays_reliable { F.is_reliable folder.old → F.is_reliable folder.new }
     ensures heard { IfOk result (λ reply. (calls : List FolderCall) × Traced F.makes folder.old calls folder.new
-        × Hears (listed names.now) (stored_objects added.old) (get_object (string_bytes name.now)) (told_view reply) calls) }
+        × HearsCall (listed names.now) (stored_objects added.old) (get_object (string_bytes name.now)) (told_view reply) calls) }
     ensures looked { IfErr result (λ _. (calls : List FolderCall) × Traced F.makes folder.old calls folder.new × MakeNone calls) }
 {
     if let Some(bytes) = found_in(folder, names, name)? {
@@ -158,7 +158,7 @@ fn ask_beside<F: Folder>(
     ensures never_fails { F.is_reliable folder.old → IsNotLoaded result → ⊥ }
     ensures stays_reliable { F.is_reliable folder.old → F.is_reliable folder.new }
     ensures heard { IfOk result (λ reply. (calls : List FolderCall) × Traced F.makes folder.old calls folder.new
-        × Hears (listed names.now) (stored_objects added.old) (asked_view request) (told_view reply) calls) }
+        × HearsCall (listed names.now) (stored_objects added.old) (asked_view request) (told_view reply) calls) }
     ensures looked { IfErr result (λ _. (calls : List FolderCall) × Traced F.makes folder.old calls folder.new × MakeNone calls) }
 {
     match request {

@@ -12,7 +12,7 @@ use Rattle.delta_replay.proofs.Listed.{last-passes}
 use Rattle.table_log.specs.Lists.{first}
 use Rattle.table_log.specs.Restoring.{Restored}
 use Rattle.table_log.specs.Versions.{Version, missing}
-use Rattle.log_reading.specs.FromCheckpoints.{CheckpointSchema, first_behind, from_version, front_behind, in_force_at, schema_told}
+use Rattle.log_reading.specs.FromCheckpoints.{CheckpointSchema, first_behind, from_version, front_behind, in_force_at, schema_of_checkpoint}
 use Rattle.log_reading.specs.InForce.{SchemaText, in_force, in_force_from, schema_text_at}
 use Rattle.log_reading.specs.Readings.{is_upto}
 use Rattle.log_reading.proofs.ToldLemmas.{best_of, is_behind}
@@ -171,10 +171,10 @@ force_front front version before versions told less is =
 schema_front : (front version : ℕ) (s : CheckpointSchema) (versions : List Version) (told : SchemaText) → version < front → s.version < front → in_force_at version (Some s) (take front versions) ≡ Some told → in_force_at version (Some s) versions ≡ Some told
 schema_front front version s versions told less within is = by_test (nat_le s.version version) is
   where
-    by_test : (b : Bool) → (if b then in_force_from (schema_told s) version (take front versions) else option_or (in_force version (take (suc s.version) (take front versions))) (schema_told s)) ≡ Some told
-        → (if b then in_force_from (schema_told s) version versions else option_or (in_force version (take (suc s.version) versions)) (schema_told s)) ≡ Some told
-    by_test true found = force_front front version (schema_told s) versions told less found
-    by_test false found = ap (λ (some : List Version). option_or (in_force version some) (schema_told s)) (sym (take-take (suc s.version) front versions within)) ∙ found
+    by_test : (b : Bool) → (if b then in_force_from (schema_of_checkpoint s) version (take front versions) else option_or (in_force version (take (suc s.version) (take front versions))) (schema_of_checkpoint s)) ≡ Some told
+        → (if b then in_force_from (schema_of_checkpoint s) version versions else option_or (in_force version (take (suc s.version) versions)) (schema_of_checkpoint s)) ≡ Some told
+    by_test true found = force_front front version (schema_of_checkpoint s) versions told less found
+    by_test false found = ap (λ (some : List Version). option_or (in_force version some) (schema_of_checkpoint s)) (sym (take-take (suc s.version) front versions within)) ∙ found
 
 -- The schema that a version has by what is in front of a later one is that which it has by all.
 pub in_force_front : (front version : ℕ) (ahead whole : Option CheckpointSchema) (versions : List Version) (told : SchemaText) → version < front → IsFrontSchema front ahead whole → in_force_at version ahead (take front versions) ≡ Some told
@@ -187,7 +187,7 @@ in_force_front front version ahead (Some s) versions told less (inr (none, later
     let le : front ≤ s.version = later s refl in
     let fewer : take front (take (suc s.version) versions) ≡ take front versions = take-take front (suc s.version) versions (omega (arith, le)) in
     let by_front : in_force version (take front (take (suc s.version) versions)) ≡ Some told = ap (in_force version) fewer ∙ (ap (λ (o : Option CheckpointSchema). in_force_at version o (take front versions)) (sym none) ∙ is) in
-    rw (lt-leb s.version version (omega (arith, less, le))) (ap (λ (o : Option SchemaText). option_or o (schema_told s)) (force_front front version None (take (suc s.version) versions) told less by_front))
+    rw (lt-leb s.version version (omega (arith, less, le))) (ap (λ (o : Option SchemaText). option_or o (schema_of_checkpoint s)) (force_front front version None (take (suc s.version) versions) told less by_front))
 
 -- ---- where a read starts
 

@@ -13,7 +13,7 @@ use Rattle.table_log.specs.Versions.{Version, missing, unreadable, commit}
 use Rattle.log_reading.specs.InForce.{SchemaText}
 use Rattle.log_reading.specs.Reads.{first_from, first_standing}
 use Rattle.source_core.specs.Groups.{new_files}
-use Rattle.source_core.specs.Tailing.{Item, LogFile, ReadRefusal, ReadRows, actions_in, data_file, end_of, ended, fault_of, file_rows, found_at, hand, hand_on, handed_by, is_done, is_start, item_before, items_at, items_from, items_in, missing_file, offset_behind_rows, or_bad_file, paths_in, rows_behind, rows_left, unless_beyond, unless_gone, unless_no_file, unless_removed, version_fault}
+use Rattle.source_core.specs.Tailing.{Item, LogFile, ReadRefusal, ReadRows, actions_in, data_file, end_of, ended_read, fault_of_version, file_rows, found_at, hand, hand_on, handed_by, is_done, is_start, item_before, items_at, items_from, items_in, missing_file, offset_behind_rows, or_bad_file, paths_in, rows_behind, rows_left_of_file, unless_beyond, unless_gone, unless_no_file, unless_removed, version_fault}
 
 -- ---- steps of which one may be refused
 
@@ -59,13 +59,13 @@ hand_done objects schema end most skip rows next (data_file f ∷ items) done = 
 hand_done objects schema end most skip rows next (version_fault version refusal ∷ items) done = rw done refl
 
 -- a fault hands out no more rows
-ended_rows : (rows : List Row) (next : Offset) (refusal : ReadRefusal) (out : ReadRows) → ended rows next refusal ≡ Ok out → out.rows ≡ rows
+ended_rows : (rows : List Row) (next : Offset) (refusal : ReadRefusal) (out : ReadRows) → ended_read rows next refusal ≡ Ok out → out.rows ≡ rows
 ended_rows [] next refusal out is = absurd cc
 ended_rows (row ∷ rows) next refusal out is = let same : out ≡ record { rows = row ∷ rows; next = next } = cc in ap (λ (r : ReadRows). r.rows) same
 
 -- so none ends a read that hands out as many rows as it may
 not_ended : (most skip : ℕ) (rows : List Row) (next : Offset) (refusal : ReadRefusal) (out : ReadRows) → (most ≡ 0 → skip ≡ 0) → is_done most skip ≡ false
-    → length out.rows ≡ length rows + most → ended rows next refusal ≡ Ok out → ⊥
+    → length out.rows ≡ length rows + most → ended_read rows next refusal ≡ Ok out → ⊥
 not_ended most skip rows next refusal out none more full is =
     let same : length out.rows ≡ length rows = ap (λ (rs : List Row). length rs) (ended_rows rows next refusal out is) in
     let wrong : false ≡ true = sym more ∙ all_done most skip none (omega (arith, same, full)) in
@@ -75,13 +75,13 @@ module _ (ahead objects : Objects) (whole : (name bytes : List ℕ) → object_a
   -- a file that is read in front is read in all, and the read goes on behind it
   file_more : (f : LogFile) (items more : List Item) (most skip : ℕ) (rows : List Row) (next : Offset) (out : ReadRows) → (most ≡ 0 → skip ≡ 0) → is_done most skip ≡ false → length out.rows ≡ length rows + most
       → ((left : ℕ) (front : List Row) (behind : Offset) → hand ahead schema end left 0 front behind items ≡ Ok out → length out.rows ≡ length front + left → hand objects schema other left 0 front behind (items ++ more) ≡ Ok out)
-      → (read : Result (List Row) ReadRefusal) → rows_left ahead schema f skip ≡ read
+      → (read : Result (List Row) ReadRefusal) → rows_left_of_file ahead schema f skip ≡ read
       → hand_on most rows next read (λ part. hand ahead schema end (most - length part) 0 (rows ++ part) (offset_behind_rows f skip part next) items) ≡ Ok out
-      → hand_on most rows next (rows_left objects schema f skip) (λ part. hand objects schema other (most - length part) 0 (rows ++ part) (offset_behind_rows f skip part next) (items ++ more)) ≡ Ok out
+      → hand_on most rows next (rows_left_of_file objects schema f skip) (λ part. hand objects schema other (most - length part) 0 (rows ++ part) (offset_behind_rows f skip part next) (items ++ more)) ≡ Ok out
   file_more f items more most skip rows next out none unfinished full later (Err refusal) reads is = absurd (not_ended most skip rows next refusal out none unfinished full is)
   file_more f items more most skip rows next out none unfinished full later (Ok found) reads is =
       let part : List Row = take most found in
-      let left : rows_left objects schema f skip ≡ Ok found = step_whole (file_rows ahead schema f) (file_rows objects schema f) (rows_behind skip f.version) found (λ all. file_whole ahead objects whole schema f all) reads in
+      let left : rows_left_of_file objects schema f skip ≡ Ok found = step_whole (file_rows ahead schema f) (file_rows objects schema f) (rows_behind skip f.version) found (λ all. file_whole ahead objects whole schema f all) reads in
       let few : length part ≡ min most (length found) = length-take most found in
       let long : length (rows ++ part) ≡ length rows + length part = length-append rows part in
       rw left (later (most - length part) (rows ++ part) (offset_behind_rows f skip part next) is (omega (arith, full, few, long)))
@@ -104,7 +104,7 @@ module _ (ahead objects : Objects) (whole : (name bytes : List ℕ) → object_a
       elim (cases_Bool (is_done most skip)) [
         | inl done ↦ rw done (rw done at is)
         | inr unfinished ↦
-            rw unfinished (file_more f items more most skip rows next out none unfinished full (λ left front behind goes fills. hand_more left 0 front behind items more out (λ nothing. refl) goes fills) (rows_left ahead schema f skip) refl (rw unfinished at is))
+            rw unfinished (file_more f items more most skip rows next out none unfinished full (λ left front behind goes fills. hand_more left 0 front behind items more out (λ nothing. refl) goes fills) (rows_left_of_file ahead schema f skip) refl (rw unfinished at is))
       ]
 
 -- ---- the versions in front
@@ -142,7 +142,7 @@ module _ (told : SchemaText) (offset : Offset) where
   more_from zero version versions = (items_from told offset version versions, refl)
   more_from (suc front) version [] = ([], refl)
   more_from (suc front) version (found ∷ more) =
-      let here : List Item = items_in version (fault_of told offset version found) (paths_in found) in
+      let here : List Item = items_in version (fault_of_version told offset version found) (paths_in found) in
       let later = more_from front (suc version) more in
       (later.0, ap (λ (items : List Item). here ++ items) later.1 ∙ sym (append_assoc here (items_from told offset (suc version) (take front more)) later.0))
 

@@ -16,35 +16,35 @@ use Rattle.table_log.proofs.CountLaws.{count_most}
 use Rattle.log_reading.specs.FromCheckpoints.{CheckpointSchema, schema_below, schema_by}
 use Rattle.log_reading.specs.Readings.{told_among}
 use Rattle.log_reading.proofs.ToldLemmas.{told_version}
-use Rattle.front_reads.specs.Fronts.{front_of, is_in_front, is_kept}
+use Rattle.front_reads.specs.Fronts.{front_of_log, is_in_front, is_kept}
 
 -- ---- names and objects
 
 -- the names that stand are those that are kept
-pub names_front : (front : ℕ) (objects : Objects) → names_of (front_of front objects) ≡ filter (is_kept front) (names_of objects)
+pub names_front : (front : ℕ) (objects : Objects) → names_of (front_of_log front objects) ≡ filter (is_kept front) (names_of objects)
 names_front front [] = refl
 names_front front (e ∷ es) = step (is_kept front e.0) (names_front front es)
   where
-    step : (kept : Bool) → names_of (front_of front es) ≡ filter (is_kept front) (names_of es)
-        → names_of (cond kept (e ∷ front_of front es) (front_of front es)) ≡ cond kept (e.0 ∷ filter (is_kept front) (names_of es)) (filter (is_kept front) (names_of es))
+    step : (kept : Bool) → names_of (front_of_log front es) ≡ filter (is_kept front) (names_of es)
+        → names_of (cond kept (e ∷ front_of_log front es) (front_of_log front es)) ≡ cond kept (e.0 ∷ filter (is_kept front) (names_of es)) (filter (is_kept front) (names_of es))
     step true later = ap (λ names. e.0 ∷ names) later
     step false later = later
 
 -- an object stands where its name is kept, and nowhere else
-found_front : (front : ℕ) (objects : Objects) (name : List ℕ) → object_at (front_of front objects) name ≡ cond (is_kept front name) (object_at objects name) None
+found_front : (front : ℕ) (objects : Objects) (name : List ℕ) → object_at (front_of_log front objects) name ≡ cond (is_kept front name) (object_at objects name) None
 found_front front objects name =
     lookup-filter-keys (bytes_eq name) (is_kept front) (is_kept front name) (λ other same. ap (is_kept front) (sym ((bytes_eq-Decides name other).0 same))) objects
 
 -- an object whose name is kept stands as it did
-pub object_front : (front : ℕ) (objects : Objects) (name : List ℕ) → is_kept front name ≡ true → object_at (front_of front objects) name ≡ object_at objects name
+pub object_front : (front : ℕ) (objects : Objects) (name : List ℕ) → is_kept front name ≡ true → object_at (front_of_log front objects) name ≡ object_at objects name
 object_front front objects name kept = found_front front objects name ∙ ap (λ b. cond b (object_at objects name) None) kept
 
 -- no other object stands
-pub object_gone : (front : ℕ) (objects : Objects) (name : List ℕ) → is_kept front name ≡ false → object_at (front_of front objects) name ≡ None
+pub object_gone : (front : ℕ) (objects : Objects) (name : List ℕ) → is_kept front name ≡ false → object_at (front_of_log front objects) name ≡ None
 object_gone front objects name gone = found_front front objects name ∙ ap (λ b. cond b (object_at objects name) None) gone
 
 -- what stands in front of the version stands in the whole store
-pub object_whole : (front : ℕ) (objects : Objects) (name bytes : List ℕ) → object_at (front_of front objects) name ≡ Some bytes → object_at objects name ≡ Some bytes
+pub object_whole : (front : ℕ) (objects : Objects) (name bytes : List ℕ) → object_at (front_of_log front objects) name ≡ Some bytes → object_at objects name ≡ Some bytes
 object_whole front objects name bytes stands = by_case (is_kept front name) (sym (found_front front objects name) ∙ stands)
   where
     by_case : (kept : Bool) → cond kept (object_at objects name) None ≡ Some bytes → object_at objects name ≡ Some bytes
@@ -69,26 +69,26 @@ count_small objects = count_most objects (suc greatest_version) (λ version smal
 
 module _ (front : ℕ) (objects : Objects) (upto : front ≤ commit_count objects) where
   -- a commit in front stands as it did
-  commit_front : (version : ℕ) → version < front → object_at (front_of front objects) (commit_name version) ≡ object_at objects (commit_name version)
+  commit_front : (version : ℕ) → version < front → object_at (front_of_log front objects) (commit_name version) ≡ object_at objects (commit_name version)
   commit_front version lt =
       object_front front objects (commit_name version) (kept_commit front version (omega (arith, lt, upto, count_small objects)) ∙ lt-ltb version front lt)
 
   -- a commit that stands is in front
-  stands_in_front : (version : ℕ) → version ≤ greatest_version → IsSome (object_at (front_of front objects) (commit_name version)) → version < front
+  stands_in_front : (version : ℕ) → version ≤ greatest_version → IsSome (object_at (front_of_log front objects) (commit_name version)) → version < front
   stands_in_front version small stands = by_test (nat_lt version front) refl
     where
       by_test : (b : Bool) → nat_lt version front ≡ b → version < front
       by_test true e = ltb-true version front e
       by_test false e =
-          let none : object_at (front_of front objects) (commit_name version) ≡ None = object_gone front objects (commit_name version) (kept_commit front version small ∙ e) in
+          let none : object_at (front_of_log front objects) (commit_name version) ≡ None = object_gone front objects (commit_name version) (kept_commit front version small ∙ e) in
           let wrong : false ≡ true = sym (ap is_some none) ∙ stands in
           absurd cc
 
 -- The log in front of a version has the versions before it, where the last of these stands.
-pub count_front : (front : ℕ) (objects : Objects) → 0 < front → front ≤ commit_count objects → IsSome (object_at objects (commit_name (front - 1))) → commit_count (front_of front objects) ≡ front
-count_front front objects some upto stands = count_is (front_of front objects) front (omega (arith, upto, count_small objects)) (stands_in_front front objects upto) newest
+pub count_front : (front : ℕ) (objects : Objects) → 0 < front → front ≤ commit_count objects → IsSome (object_at objects (commit_name (front - 1))) → commit_count (front_of_log front objects) ≡ front
+count_front front objects some upto stands = count_is (front_of_log front objects) front (omega (arith, upto, count_small objects)) (stands_in_front front objects upto) newest
   where
-    newest : (version : ℕ) → suc version ≡ front → IsSome (object_at (front_of front objects) (commit_name version))
+    newest : (version : ℕ) → suc version ≡ front → IsSome (object_at (front_of_log front objects) (commit_name version))
     newest version is =
         let last : version ≡ front - 1 = omega (arith, is) in
         ap is_some (commit_front front objects upto version (omega (arith, is)) ∙ ap (λ (v : ℕ). object_at objects (commit_name v)) last) ∙ stands
@@ -104,10 +104,10 @@ first_versions part objects (suc count) (suc more) version le same =
     ∙ ap (λ (others : List Version). version_at objects version ∷ others) (first_versions part objects count more (version + 1) (omega (arith, le)) (λ v lt. same v (omega (arith, lt))))
 
 -- the versions in front are the first of the log
-pub versions_front : (front : ℕ) (objects : Objects) → front ≤ commit_count objects → commit_count (front_of front objects) ≡ front → versions_of (front_of front objects) ≡ take front (versions_of objects)
+pub versions_front : (front : ℕ) (objects : Objects) → front ≤ commit_count objects → commit_count (front_of_log front objects) ≡ front → versions_of (front_of_log front objects) ≡ take front (versions_of objects)
 versions_front front objects upto counted =
-    ap (λ (count : ℕ). versions_from count 0 (front_of front objects)) counted
-    ∙ first_versions (front_of front objects) objects front (commit_count objects) 0 upto (λ version lt. ap version_by (commit_front front objects upto version (omega (arith, lt))))
+    ap (λ (count : ℕ). versions_from count 0 (front_of_log front objects)) counted
+    ∙ first_versions (front_of_log front objects) objects front (commit_count objects) 0 upto (λ version lt. ap version_by (commit_front front objects upto version (omega (arith, lt))))
 
 -- ---- what checkpoints tell
 
@@ -167,15 +167,15 @@ schema_at below objects name version is lt =
 
 module _ (front : ℕ) (objects : Objects) (upto : front ≤ commit_count objects) (name : List ℕ) where
   -- the checkpoint in front tells what it did
-  schema_front : (version : ℕ) → checkpoint_version name ≡ Some version → nat_lt version front ≡ true → schema_below front (front_of front objects) name ≡ schema_below (commit_count objects) objects name
+  schema_front : (version : ℕ) → checkpoint_version name ≡ Some version → nat_lt version front ≡ true → schema_below front (front_of_log front objects) name ≡ schema_below (commit_count objects) objects name
   schema_front version is e =
       let lt : version < front = ltb-true version front e in
-      schema_at front (front_of front objects) name version is lt
+      schema_at front (front_of_log front objects) name version is lt
       ∙ (ap (λ (bytes : Option (List ℕ)). option_and_then schema_by (checkpoint_at version bytes)) (object_front front objects name (kept_checkpoint front name version is ∙ e))
       ∙ sym (schema_at (commit_count objects) objects name version is (omega (arith, lt, upto))))
 
   -- what the checkpoint under a name tells in front is what it told, if of a version in front
-  schema_kept : cond (is_kept front name) (schema_below front (front_of front objects) name) None ≡ option_filter (λ (s : CheckpointSchema). nat_lt s.version front) (schema_below (commit_count objects) objects name)
+  schema_kept : cond (is_kept front name) (schema_below front (front_of_log front objects) name) None ≡ option_filter (λ (s : CheckpointSchema). nat_lt s.version front) (schema_below (commit_count objects) objects name)
   schema_kept = by_version (checkpoint_version name) refl
     where
       nothing : (kept : Bool) (found : Option CheckpointSchema) → found ≡ None → cond kept found None ≡ None
@@ -183,25 +183,25 @@ module _ (front : ℕ) (objects : Objects) (upto : front ≤ commit_count object
       nothing false found none = refl
 
       by_test : (version : ℕ) (b : Bool) → checkpoint_version name ≡ Some version → nat_lt version front ≡ b
-          → cond b (schema_below front (front_of front objects) name) None ≡ cond b (schema_below (commit_count objects) objects name) None
+          → cond b (schema_below front (front_of_log front objects) name) None ≡ cond b (schema_below (commit_count objects) objects name) None
       by_test version true is e = schema_front version is e
       by_test version false is e = refl
 
       by_version : (told : Option ℕ) → checkpoint_version name ≡ told
-          → cond (is_kept front name) (schema_below front (front_of front objects) name) None ≡ option_filter (λ (s : CheckpointSchema). nat_lt s.version front) (schema_below (commit_count objects) objects name)
+          → cond (is_kept front name) (schema_below front (front_of_log front objects) name) None ≡ option_filter (λ (s : CheckpointSchema). nat_lt s.version front) (schema_below (commit_count objects) objects name)
       by_version None is =
-          nothing (is_kept front name) (schema_below front (front_of front objects) name) (ap (schema_of_version front (front_of front objects) name) is)
+          nothing (is_kept front name) (schema_below front (front_of_log front objects) name) (ap (schema_of_version front (front_of_log front objects) name) is)
           ∙ ap (option_filter (λ (s : CheckpointSchema). nat_lt s.version front)) (sym (ap (schema_of_version (commit_count objects) objects name) is))
       by_version (Some version) is =
-          ap (λ (kept : Bool). cond kept (schema_below front (front_of front objects) name) None) (kept_checkpoint front name version is)
+          ap (λ (kept : Bool). cond kept (schema_below front (front_of_log front objects) name) None) (kept_checkpoint front name version is)
           ∙ (by_test version (nat_lt version front) is refl
           ∙ passes_alike (λ (s : CheckpointSchema). nat_lt s.version front) (nat_lt version front) (schema_below (commit_count objects) objects name)
           (λ s found. ap (λ (v : ℕ). nat_lt v front) (told_version (commit_count objects) objects name s version is found)))
 
 -- The checkpoints in front of a version tell what those of earlier versions do.
-pub told_front : (front : ℕ) (objects : Objects) → front ≤ commit_count objects → commit_count (front_of front objects) ≡ front
-    → told_among (front_of front objects) (names_of (front_of front objects)) ≡ filter (λ (s : CheckpointSchema). nat_lt s.version front) (told_among objects (names_of objects))
+pub told_front : (front : ℕ) (objects : Objects) → front ≤ commit_count objects → commit_count (front_of_log front objects) ≡ front
+    → told_among (front_of_log front objects) (names_of (front_of_log front objects)) ≡ filter (λ (s : CheckpointSchema). nat_lt s.version front) (told_among objects (names_of objects))
 told_front front objects upto counted =
-    ap (λ (count : ℕ). filter_map (schema_below count (front_of front objects)) (names_of (front_of front objects))) counted
-    ∙ (ap (filter_map (schema_below front (front_of front objects))) (names_front front objects)
-    ∙ found_passes (schema_below (commit_count objects) objects) (schema_below front (front_of front objects)) (is_kept front) (λ (s : CheckpointSchema). nat_lt s.version front) (schema_kept front objects upto) (names_of objects))
+    ap (λ (count : ℕ). filter_map (schema_below count (front_of_log front objects)) (names_of (front_of_log front objects))) counted
+    ∙ (ap (filter_map (schema_below front (front_of_log front objects))) (names_front front objects)
+    ∙ found_passes (schema_below (commit_count objects) objects) (schema_below front (front_of_log front objects)) (is_kept front) (λ (s : CheckpointSchema). nat_lt s.version front) (schema_kept front objects upto) (names_of objects))

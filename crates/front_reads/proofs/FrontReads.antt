@@ -20,7 +20,7 @@ use Rattle.source_core.specs.Tailing.{ReadRefusal, ReadRows, handed_by, schema_a
 use Rattle.source_core.proofs.LookedReads.{handed_alike}
 use Rattle.source_core.proofs.LookedSchemas.{none_alike}
 use Rattle.outcomes.specs.Results.{◌>>=◌, or_refusal, refused_as}
-use Rattle.front_reads.specs.Fronts.{IsFrontBehind, front_of}
+use Rattle.front_reads.specs.Fronts.{IsFrontBehind, front_of_log}
 use Rattle.front_reads.proofs.FrontForce.{behind_same, first_upto, in_force_front, looked_front}
 use Rattle.front_reads.proofs.FrontHanding.{first_low, handed_front}
 use Rattle.front_reads.proofs.FrontNames.{object_whole}
@@ -126,10 +126,10 @@ tells objects max offset known told is = by_schema (schema_at true objects offse
 
 module _ (objects : Objects) (front max : ℕ) (offset : Offset) (rises : IsInOrder objects) (is : IsFrontBehind objects offset.version front) where
   -- the schema of the front is that of the whole, where the whole table is read
-  schema_whole : (end : Offset) (any told : SchemaText) → schema_at true objects end ≡ Ok any → schema_at true (front_of front objects) offset ≡ Ok told → schema_at true objects offset ≡ Ok told
+  schema_whole : (end : Offset) (any told : SchemaText) → schema_at true objects end ≡ Ok any → schema_at true (front_of_log front objects) offset ≡ Ok told → schema_at true objects offset ≡ Ok told
   schema_whole end any told ends goes =
       let one = begun (start_at end.version objects) (versions_at true objects end) end any ends in
-      let ahead = begun (start_at offset.version (front_of front objects)) (versions_at true (front_of front objects) offset) offset told goes in
+      let ahead = begun (start_at offset.version (front_of_log front objects)) (versions_at true (front_of_log front objects) offset) offset told goes in
       let behind = is.behind in
       let within = is.within in
       let long : 0 < length (versions_of objects) = subst (λ (n : ℕ). 0 < n) (sym (versions_long (commit_count objects) 0 objects)) (omega (arith, behind, within)) in
@@ -139,26 +139,26 @@ module _ (objects : Objects) (front max : ℕ) (offset : Offset) (rises : IsInOr
         read = one.read;
         reads = ap readable (behind_alike offset.version (start_at offset.version objects).newest (start_at offset.version objects).schema (versions_of objects)
             ∙ sym (behind_alike end.version (start_at offset.version objects).newest (start_at end.version objects).schema (versions_of objects))) ∙ one.reads;
-        force = in_force_front front offset.version (start_at offset.version (front_of front objects)).schema (start_at offset.version objects).schema (versions_at true objects offset) told is.behind
-            (schemas offset.version front objects rises is) (ap (in_force_at offset.version (start_at offset.version (front_of front objects)).schema) (sym (looked_same offset.version front objects rises is)) ∙ ahead.force);
+        force = in_force_front front offset.version (start_at offset.version (front_of_log front objects)).schema (start_at offset.version objects).schema (versions_at true objects offset) told is.behind
+            (schemas offset.version front objects rises is) (ap (in_force_at offset.version (start_at offset.version (front_of_log front objects)).schema) (sym (looked_same offset.version front objects rises is)) ∙ ahead.force);
       })
 
   -- So what the front hands out is what the whole log does, where that is all that was wanted.
   pub read_whole : (end : Offset) (known others : List ℕ) (any told : Tree × ReadRows) → 0 < max → read_told (record { place = end; max = 0; use_checkpoints = true; known = others }) objects ≡ Ok any
-      → read_told (record { place = offset; max = max; use_checkpoints = true; known = known }) (front_of front objects) ≡ Ok told → length told.1.rows ≡ max
+      → read_told (record { place = offset; max = max; use_checkpoints = true; known = known }) (front_of_log front objects) ≡ Ok told → length told.1.rows ≡ max
       → read_told (record { place = offset; max = max; use_checkpoints = true; known = known }) objects ≡ Ok told
   read_whole end known others any told some ends goes all =
       let one = tells objects 0 end others any ends in
-      let ahead = tells (front_of front objects) max offset known told goes in
+      let ahead = tells (front_of_log front objects) max offset known told goes in
       let whole = schema_whole end one.schema ahead.schema one.goes ahead.goes in
       let first = first_read offset.version (start_at offset.version objects) in
       let low = first_low_enough offset.version (start_at offset.version objects).newest (start_at offset.version objects).schema in
-      let looked : versions_at true (front_of front objects) offset ≡ from_version first (take front (versions_of objects)) = looked_same offset.version front objects rises is ∙ sym (looked_front front first (versions_of objects)) in
-      let handed : handed_by (front_of front objects) ahead.schema (take front (versions_of objects)) max offset ≡ Ok told.1 =
-      sym (handed_alike (front_of front objects) ahead.schema first (take front (versions_of objects)) max offset low)
-      ∙ (ap (λ (versions : List Version). handed_by (front_of front objects) ahead.schema versions max offset) (sym looked) ∙ ahead.hands) in
+      let looked : versions_at true (front_of_log front objects) offset ≡ from_version first (take front (versions_of objects)) = looked_same offset.version front objects rises is ∙ sym (looked_front front first (versions_of objects)) in
+      let handed : handed_by (front_of_log front objects) ahead.schema (take front (versions_of objects)) max offset ≡ Ok told.1 =
+      sym (handed_alike (front_of_log front objects) ahead.schema first (take front (versions_of objects)) max offset low)
+      ∙ (ap (λ (versions : List Version). handed_by (front_of_log front objects) ahead.schema versions max offset) (sym looked) ∙ ahead.hands) in
       let within : front ≤ length (versions_of objects) = subst (λ (n : ℕ). front ≤ n) (sym (versions_long (commit_count objects) 0 objects)) is.within in
       let hands : handed_by objects ahead.schema (versions_at true objects offset) max offset ≡ Ok told.1 =
       handed_alike objects ahead.schema first (versions_of objects) max offset low
-      ∙ handed_front (front_of front objects) objects (object_whole front objects) ahead.schema (versions_of objects) front max offset told.1 is.behind within (stands_low objects offset.version is.stand) some handed all in
+      ∙ handed_front (front_of_log front objects) objects (object_whole front objects) ahead.schema (versions_of objects) front max offset told.1 is.behind within (stands_low objects offset.version is.stand) some handed all in
       rw (whole, hands) (ap (λ (schema : Tree). Ok (schema, told.1)) ahead.same)

@@ -20,7 +20,7 @@ use Rattle.table_store.specs.Schema.{Schema, IsFileOf}
 use Rattle.table_store.specs.Sound.{IsAdmissible, IsSound}
 use Rattle.table_store.proofs.HoldingPuts.{HoldsFrom-data_file}
 use Rattle.batch_core.specs.Committing.{appending}
-use Rattle.batch_core.specs.Requests.{is_repeat, is_same, unless_other}
+use Rattle.batch_core.specs.Requests.{is_repeat, is_same, unless_other_rows}
 use Rattle.sink_core.specs.Appending.{EncodedBatch, IsWellMade, with_file}
 use Rattle.batch_core.specs.Refusals.{differs, stale}
 use Rattle.outcomes.specs.Bytes.{IsBytes}
@@ -53,7 +53,7 @@ module _ (objects : Objects) (application : List ℕ) (number at : ℕ) (batch :
       record { within = well.file.within; file = (rows_found old batch.schema batch.rows well.file.within are (is ∙ ap (λ (rs : List Row). Ok rs) rows)).0 }
 
   -- once the batch's file was put, a file of its rows stands under its name
-  file_stands : (found : Option (List ℕ)) → object_at objects batch.name ≡ found → ((bytes : List ℕ) → found ≡ Some bytes → IsBytes bytes) → (fine : Unit {0}) → unless_other batch.schema batch.rows batch.name found ≡ Ok fine
+  file_stands : (found : Option (List ℕ)) → object_at objects batch.name ≡ found → ((bytes : List ℕ) → found ≡ Some bytes → IsBytes bytes) → (fine : Unit {0}) → unless_other_rows batch.schema batch.rows batch.name found ≡ Ok fine
       → Stands (with_file objects batch) batch.name (λ bytes. IsFileOf batch.schema bytes batch.rows)
   file_stands None there are fine fits = (batch.file, object_at-with_object_same objects batch.name batch.file ∙ rw there refl, well.file)
   file_stands (Some old) there are fine fits =

@@ -4,8 +4,8 @@ use Rattle.std.specs.Prelude.{if◌then◌else◌}
 use Rattle.outcomes.specs.Results.{◌>>=◌, refused_if}
 use Rattle.serde_json.specs.Data.{Items}
 use Rattle.store_core.specs.Objects.{Objects, object_at}
-use Rattle.batch_core.specs.Committing.{data_file_name}
-use Rattle.batch_core.specs.Requests.{SinkRequest, unless_other, where_same}
+use Rattle.batch_core.specs.Committing.{batch_file_name}
+use Rattle.batch_core.specs.Requests.{SinkRequest, unless_other_rows, where_same}
 use Rattle.sink_core.specs.Appending.{EncodedBatch, IsWellMade, PutsWell, AppendPlan, plan_answer, appended_by, batch_of, put_plan, is_past, new_plan, puts, repeated_plan, request_of, append_plan, stands, plan_of, with_append}
 use Rattle.batch_core.specs.Refusals.{SinkRefusal, too_large}
 use Rattle.sink_core.specs.declared.sink_state.SinkOutcome.TheVariants.{Already, Committed}
@@ -19,23 +19,23 @@ module _ (objects : Objects) (application : List ℕ) (number at : ℕ) (items :
     pub request : SinkRequest
     pub asked : request_of false objects application number items ≡ Ok request
     pub new : request.repeats ≡ false
-    pub made : batch_of (object_at objects (data_file_name application number)) request application number at ≡ Ok batch
+    pub made : batch_of (object_at objects (batch_file_name application number)) request application number at ≡ Ok batch
     pub fits : put_plan objects batch ≡ Ok (puts batch)
 
   -- a batch that fits is the one that is put
   fits_is : (found batch : EncodedBatch) → put_plan objects found ≡ Ok (puts batch) → found ≡ batch
   fits_is found batch is =
-      let a = both_done (unless_other found.schema found.rows found.name (object_at objects found.name)) (λ fits. Ok (puts found)) (puts batch) is in
+      let a = both_done (unless_other_rows found.schema found.rows found.name (object_at objects found.name)) (λ fits. Ok (puts found)) (puts batch) is in
       put_is found batch (given {E = SinkRefusal} (puts found) (puts batch) a.2)
 
   by_repeats : (request : SinkRequest) (batch : EncodedBatch) → request_of false objects application number items ≡ Ok request → (repeats : Bool) → request.repeats ≡ repeats
       → (if repeats then repeated_plan objects request application number else new_plan objects request application number at) ≡ Ok (puts batch) → IsNew batch
   by_repeats request batch asked true again is =
-      let a = both_done (where_same request.schema request.rows (data_file_name application number) (object_at objects (data_file_name application number))) (λ same. Ok stands) (puts batch) is in
+      let a = both_done (where_same request.schema request.rows (batch_file_name application number) (object_at objects (batch_file_name application number))) (λ same. Ok stands) (puts batch) is in
       let no : stands ≡ puts batch = given {E = SinkRefusal} stands (puts batch) a.2 in
       absurd cc
   by_repeats request batch asked false new is =
-      let a = both_done (batch_of (object_at objects (data_file_name application number)) request application number at) (put_plan objects) (puts batch) is in
+      let a = both_done (batch_of (object_at objects (batch_file_name application number)) request application number at) (put_plan objects) (puts batch) is in
       let same : a.0 ≡ batch = fits_is a.0 batch a.2 in
       record {
         request = request;
@@ -64,10 +64,10 @@ module _ (objects : Objects) (application : List ℕ) (number at : ℕ) (items :
   batch_again : (later : ℕ) (batch : EncodedBatch) → IsNew batch → is_past batch.version ≡ false → IsWellMade application number at batch → append_plan false (with_append objects (Ok (puts batch))) application number later items ≡ Ok stands
   batch_again later batch is small well =
       let behind = with_append objects (Ok (puts batch)) in
-      let a = appended_request objects application number at items (object_at objects (data_file_name application number)) is.request batch is.asked is.new is.made small well in
+      let a = appended_request objects application number at items (object_at objects (batch_file_name application number)) is.request batch is.asked is.new is.made small well in
       let again : SinkRequest = record { version = a.0; schema = is.request.schema; rows = is.request.rows; repeats = true } in
       ap (λ (r : Result SinkRequest SinkRefusal). r >>= plan_of behind application number later) a.1
-      ∙ appended_same objects application number at (object_at objects (data_file_name application number)) is.request again batch is.made well is.fits refl refl
+      ∙ appended_same objects application number at (object_at objects (batch_file_name application number)) is.request again batch is.made well is.fits refl refl
 
   pub append_plan_again : (later version : ℕ) → PutsWell application number at (append_plan false objects application number at items) → appended_by false objects application number at items ≡ Ok (Committed version)
       → append_plan false (with_append objects (append_plan false objects application number at items)) application number later items ≡ Ok stands

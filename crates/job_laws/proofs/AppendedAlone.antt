@@ -7,7 +7,7 @@ use Rattle.store_core.specs.Objects.{Objects, IsInOrder, object_at, with_object}
 use Rattle.store_core.specs.ObjectLaws.{IsInOrder-with_object, object_at-with_object_other, object_at-with_object_same, same_objects}
 use Rattle.delta_actions.specs.Names.{data_file_name as plain_file_name}
 use Rattle.table_folder.specs.Loads.{is_loaded, is_of_log, loaded}
-use Rattle.batch_core.specs.Committing.{data_file_name}
+use Rattle.batch_core.specs.Committing.{batch_file_name}
 use Rattle.batch_core.specs.Requests.{SinkRequest}
 use Rattle.sink_core.specs.Appending.{EncodedBatch, IsWellMade, PutsWell, AppendPlan, plan_answer, appended_by, batch_of, put_plan, new_plan, puts, repeated_plan, request_of, append_plan, plan_of, with_file, with_file_alone}
 use Rattle.batch_core.specs.Refusals.{SinkRefusal}
@@ -48,9 +48,9 @@ request_beside objects name bytes application number items order not =
 
 module _ (objects : Objects) (application : List ℕ) (number at version : ℕ) (items : Items) (order : IsInOrder objects) where
   -- it is made as before once its file stands
-  made_there : (batch : EncodedBatch) → (is : IsNew objects application number at items batch) → batch_of (object_at (with_file objects batch) (data_file_name application number)) is.request application number at ≡ Ok batch
+  made_there : (batch : EncodedBatch) → (is : IsNew objects application number at items batch) → batch_of (object_at (with_file objects batch) (batch_file_name application number)) is.request application number at ≡ Ok batch
   made_there batch is =
-      let name = data_file_name application number in
+      let name = batch_file_name application number in
       let before = object_at objects name in
       let own : batch.name ≡ name = file_named_so before is.request application number at batch is.made in
       let there : object_at (with_file objects batch) name ≡ Some (unwrap_or before batch.file) =
@@ -80,4 +80,4 @@ module _ (objects : Objects) (application : List ℕ) (number at version : ℕ) 
       (ap (λ (s : Result AppendPlan SinkRefusal). s >>= plan_answer number) (again batch a.2 was named) ∙ first)
     where
       batch_named : (batch : EncodedBatch) → IsNew objects application number at items batch → batch.name ≡ plain_file_name application number
-      batch_named batch is = (batch_own (object_at objects (data_file_name application number)) is.request application number at batch is.made).name
+      batch_named batch is = (batch_own (object_at objects (batch_file_name application number)) is.request application number at batch is.made).name

@@ -12,8 +12,8 @@ use Rattle.parquet_file.proofs.Callers.{rows_only}
 use Rattle.row_core.specs.Rows.{Row}
 use Rattle.row_core.proofs.Callers.{same_rows-is}
 use Rattle.store_core.specs.Names.{commit_name}
-use Rattle.batch_core.specs.Committing.{batch_actions, data_file_name}
-use Rattle.batch_core.specs.Requests.{SinkRequest, file_or_refusal, is_same, unless_other, where_same}
+use Rattle.batch_core.specs.Committing.{batch_actions, batch_file_name}
+use Rattle.batch_core.specs.Requests.{SinkRequest, file_or_refusal, is_same, unless_other_rows, where_same}
 use Rattle.sink_core.specs.Appending.{EncodedBatch, IsWellMade, AppendPlan, puts, stands, batch_of, size_behind, put_plan, is_past, repeated_plan, with_append, with_file}
 use Rattle.batch_core.specs.Refusals.{SinkRefusal, differs}
 
@@ -21,7 +21,7 @@ use Rattle.batch_core.specs.Refusals.{SinkRefusal, differs}
 
 -- a batch has its request's schema and rows, and its file's name is its application's and number's
 record IsBatchOf (request : SinkRequest) (application : List ℕ) (number : ℕ) (batch : EncodedBatch) : Type 0 where
-  name : batch.name ≡ data_file_name application number
+  name : batch.name ≡ batch_file_name application number
   schema : batch.schema ≡ request.schema
   rows : batch.rows ≡ request.rows
 
@@ -43,7 +43,7 @@ passes false why step is = absurd cc
 
 -- what stands behind the put has the batch's rows: what stood already, or the batch's own file
 has_same : (schema : Tree) (rows : List Row) (name file : List ℕ) (step : AppendPlan) (found : Option (List ℕ)) → rows_at file schema ≡ Ok rows
-    → (unless_other schema rows name found >>= λ fits. Ok step) ≡ Ok step → is_same rows (rows_at (unwrap_or found file) schema) ≡ true
+    → (unless_other_rows schema rows name found >>= λ fits. Ok step) ≡ Ok step → is_same rows (rows_at (unwrap_or found file) schema) ≡ true
 has_same schema rows name file step None read fits = ap (is_same rows) read ∙ (same_rows-is rows rows).1 refl
 has_same schema rows name file step (Some old) read fits = passes (is_same rows (rows_at old schema)) (differs name) step fits
 
@@ -63,7 +63,7 @@ module _ (objects : Objects) (batch : EncodedBatch) (application : List ℕ) (nu
   -- Where the batch's file alone stands, the batch fits as before.
   pub file_fits : put_plan (with_file objects batch) batch ≡ Ok (puts batch)
   file_fits =
-      ap (λ (found : Option (List ℕ)). unless_other batch.schema batch.rows batch.name found >>= λ fine. Ok (puts batch)) is_there
+      ap (λ (found : Option (List ℕ)). unless_other_rows batch.schema batch.rows batch.name found >>= λ fine. Ok (puts batch)) is_there
       ∙ ap (λ (test : Bool). refused_if (not test) (differs batch.name) >>= λ fine. Ok (puts batch)) same_rows_there
 
   -- it stands behind the commit, which is put where one may have its version
@@ -86,7 +86,7 @@ size_stays file None = refl
 size_stays file (Some old) = refl
 
 -- a batch is put under the name of its file
-pub file_named_so : (found : Option (List ℕ)) (request : SinkRequest) (application : List ℕ) (number at : ℕ) (batch : EncodedBatch) → batch_of found request application number at ≡ Ok batch → batch.name ≡ data_file_name application number
+pub file_named_so : (found : Option (List ℕ)) (request : SinkRequest) (application : List ℕ) (number at : ℕ) (batch : EncodedBatch) → batch_of found request application number at ≡ Ok batch → batch.name ≡ batch_file_name application number
 file_named_so found request application number at batch is = (batch_is found request application number at batch is).name
 
 -- So a batch is made as before once its file stands.
@@ -100,7 +100,7 @@ made_beside found request application number at batch is = by_file (file_or_refu
       version = request.version;
       schema = request.schema;
       rows = request.rows;
-      name = data_file_name application number;
+      name = batch_file_name application number;
       file = file;
       commit = commit_text (batch_actions application number at size (length request.rows));
     }
@@ -122,6 +122,6 @@ appended_same objects application number at found request other batch is made fi
     let own = batch_is found request application number at batch is in
     let one : other.schema ≡ batch.schema = schema ∙ sym own.schema in
     let two : other.rows ≡ batch.rows = rows ∙ sym own.rows in
-    let name : data_file_name application number ≡ batch.name = sym own.name in
+    let name : batch_file_name application number ≡ batch.name = sym own.name in
     (λ i. where_same (one i) (two i) (name i) (object_at (with_append objects (Ok (puts batch))) (name i)) >>= λ same. Ok stands)
     ∙ found_again objects batch application number at made fits

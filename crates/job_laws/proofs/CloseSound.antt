@@ -21,7 +21,7 @@ use Rattle.table_store.specs.Commits.{IsCommitOf}
 use Rattle.table_store.specs.Schema.{Schema}
 use Rattle.table_store.specs.Sound.{IsAdmissible, IsSound}
 use Rattle.table_store.proofs.SoundLemmas.{sound_commit}
-use Rattle.batch_core.specs.Closing.{closing}
+use Rattle.batch_core.specs.Closing.{close_actions}
 use Rattle.batch_core.specs.Refusals.{SinkRefusal, bad_log, read_only}
 use Rattle.batch_core.specs.Requests.{SinkRequest, close_behind, named}
 use Rattle.sink_core.specs.Appending.{is_past}
@@ -58,9 +58,9 @@ puts_close objects application version is =
     asked schema commits = record { version = commit_count objects; schema = schema; rows = []; repeats = logs.is_closed application commits }
 
 -- a close's commit is one of the stream's
-close_made : (schema : Schema) (application : List ℕ) (at : ℕ) → IsUtf8 application → IsCommit (close_text application at) (closing application at) → IsCommitOf schema (close application) (close_text application at)
-unfolding closing
-close_made schema application at text well = record { actions = closing application at; commit = well; stand = record { actions = refl; text = text } }
+close_made : (schema : Schema) (application : List ℕ) (at : ℕ) → IsUtf8 application → IsCommit (close_text application at) (close_actions application at) → IsCommitOf schema (close application) (close_text application at)
+unfolding close_actions
+close_made schema application at text well = record { actions = close_actions application at; commit = well; stand = record { actions = refl; text = text } }
 
 module _ (objects : Objects) (sound : IsSound objects) (application : List ℕ) (at : ℕ) (text : IsUtf8 application) where
   -- the table with one close more is lawful
@@ -70,7 +70,7 @@ module _ (objects : Objects) (sound : IsSound objects) (application : List ℕ) 
       rw still at kept
 
   -- its commit is admissible
-  admissible : (version : ℕ) → version ≤ greatest_version → PutsClose objects application version → IsCommit (close_text application at) (closing application at) → IsAdmissible objects version (close_text application at)
+  admissible : (version : ℕ) → version ≤ greatest_version → PutsClose objects application version → IsCommit (close_text application at) (close_actions application at) → IsAdmissible objects version (close_text application at)
   admissible version fits puts well =
       let log : IsLogOfEntries objects sound.schema sound.entries puts.commits = sound_log objects sound puts.commits puts.log in
       let still : is_closed application sound.entries ≡ false = log_open objects sound.schema application sound.entries puts.commits log.made puts.open_stream in
@@ -87,7 +87,7 @@ module _ (objects : Objects) (sound : IsSound objects) (application : List ℕ) 
       }
 
   -- whatever the step puts
-  whole_sound : (step : Result (Option ℕ) SinkRefusal) → close_plan false objects application ≡ step → ClosesWell application at step → IsSound (closes.with_close objects application at step)
+  whole_sound : (step : Result (Option ℕ) SinkRefusal) → close_plan false objects application ≡ step → ClosesWell application at step → IsSound (closes.with_close_commit objects application at step)
   whole_sound (Ok (Some version)) is well = by_version (is_past version) refl
     where
       by_version : (past : Bool) → is_past version ≡ past → IsSound (if past then objects else with_object objects (commit_name version) (close_text application at))

@@ -11,13 +11,13 @@ use Rattle.delta_checkpoint.specs.Names.{checkpoint_id, name_with}
 use Rattle.delta_replay.specs.Support.{meta_data_of}
 use Rattle.table_folder.specs.Loads.{is_loaded, loaded}
 use Rattle.commit_core.specs.Creating as creations
-use Rattle.commit_core.specs.Creating.{commit_from, with_creation}
-use Rattle.snapshot_core.specs.Faults.{checked}
-use Rattle.snapshot_core.specs.Taking.{most_bytes}
+use Rattle.commit_core.specs.Creating.{creation_from, with_creation}
+use Rattle.snapshot_core.specs.Faults.{checked_for_checkpoint}
+use Rattle.snapshot_core.specs.Taking.{most_checkpoint_bytes}
 use Rattle.sink_core.specs.Appending.{EncodedBatch, AppendPlan, puts, stands, is_past, append_plan, with_append, with_commit, with_file, with_file_alone}
-use Rattle.sink_core.specs.Closes.{close_plan, close_text, with_close}
+use Rattle.sink_core.specs.Closes.{close_plan, close_text, with_close_commit}
 use Rattle.batch_core.specs.Refusals.{SinkRefusal}
-use Rattle.lake_script.specs.Checkpoints.{Checkpoint, NotPut, by_log, too_large, checkpoint_by, checkpoint_of, newest_version, with_checkpoint}
+use Rattle.lake_script.specs.Checkpoints.{Checkpoint, NotPut, by_log, too_large, checkpoint_by_bytes, checkpoint_for, newest_version, with_checkpoint}
 use Rattle.script_lines.specs.Lines.{append, checkpoint, close, Statement, create, task, foreign}
 use Rattle.lake_script.specs.Runs.{Executes, MayLeave}
 use Rattle.lake_script.specs.Told.{left_by_statement}
@@ -67,7 +67,7 @@ append_alike files objects application number (Err refusal) order is own = alike
 -- ---- closes
 
 -- its commit, which is put where one may have its version
-pub close_alike : (files : List (List ℕ)) (objects : Objects) (application : List ℕ) (at : ℕ) (step : Result (Option ℕ) SinkRefusal) → IsInOrder objects → IsAlike files objects (with_close (loaded files objects) application at step) (with_close objects application at step)
+pub close_alike : (files : List (List ℕ)) (objects : Objects) (application : List ℕ) (at : ℕ) (step : Result (Option ℕ) SinkRefusal) → IsInOrder objects → IsAlike files objects (with_close_commit (loaded files objects) application at step) (with_close_commit objects application at step)
 close_alike files objects application at (Ok (Some version)) order = by_version (is_past version)
   where
     by_version : (past : Bool)
@@ -93,13 +93,13 @@ loaded_behind : {A : Type 0} (files : List (List ℕ)) (r : Result A NotPut) (f 
 loaded_behind files (Ok a) f all = all a
 loaded_behind files (Err why) f all = tt
 
-of_version : (files : List (List ℕ)) (version : ℕ) (meta_data : Option MetaDataAction) → PutsLoaded files (checkpoint_of version meta_data)
+of_version : (files : List (List ℕ)) (version : ℕ) (meta_data : Option MetaDataAction) → PutsLoaded files (checkpoint_for version meta_data)
 of_version files version None = tt
 of_version files version (Some m) = named_loaded files version (hyphenated_text lower (checkpoint_id version m.id))
 
-puts_loaded : (files : List (List ℕ)) (objects : Objects) (bytes : List ℕ) → PutsLoaded files (checkpoint_by objects bytes)
+puts_loaded : (files : List (List ℕ)) (objects : Objects) (bytes : List ℕ) → PutsLoaded files (checkpoint_by_bytes objects bytes)
 puts_loaded files objects bytes =
-    loaded_behind files (refused_as by_log (checked false objects)) _ (λ commits. loaded_behind files (refused_if (nat_lt most_bytes (length bytes)) too_large) _ (λ fits. of_version files (newest_version objects) (meta_data_of commits)))
+    loaded_behind files (refused_as by_log (checked_for_checkpoint false objects)) _ (λ commits. loaded_behind files (refused_if (nat_lt most_checkpoint_bytes (length bytes)) too_large) _ (λ fits. of_version files (newest_version objects) (meta_data_of commits)))
 
 checkpoint_alike : (files : List (List ℕ)) (objects : Objects) (bytes : List ℕ) (made : Result Checkpoint NotPut) → IsInOrder objects → PutsLoaded files made → IsAlike files objects (with_checkpoint (loaded files objects) bytes made) (with_checkpoint objects bytes made)
 checkpoint_alike files objects bytes (Ok c) order is = alike_put files objects (loaded files objects) objects c.name bytes is (alike_before files objects order)
@@ -108,18 +108,18 @@ checkpoint_alike files objects bytes (Err why) order is = alike_before files obj
 -- ---- what a line leaves
 
 left_alike : (objects : Objects) (statement : Statement) (files : List (List ℕ)) (printed : List ℕ) → IsInOrder objects → LooksWithin objects statement files → IsAlike files objects (left_by_statement (loaded files objects) statement printed) (left_by_statement objects statement printed)
-left_alike objects (create id at schema) files printed order within = created_alike files objects (commit_from id at schema printed) order
+left_alike objects (create id at schema) files printed order within = created_alike files objects (creation_from id at schema printed) order
 left_alike objects (task (append application number at rows)) files printed order within =
     subst (λ (step : Result AppendPlan SinkRefusal). IsAlike files objects (with_append (loaded files objects) step) (with_append objects (append_plan false objects application number at rows)))
     (sym (same_append_plan files objects application number at rows (within (data_file_name application number) refl)))
     (append_alike files objects application number (append_plan false objects application number at rows) order (within (data_file_name application number) refl) (own_append_plan false objects application number at rows))
 left_alike objects (task (close application at)) files printed order within =
-    subst (λ (step : Result (Option ℕ) SinkRefusal). IsAlike files objects (with_close (loaded files objects) application at step) (with_close objects application at (close_plan false objects application)))
+    subst (λ (step : Result (Option ℕ) SinkRefusal). IsAlike files objects (with_close_commit (loaded files objects) application at step) (with_close_commit objects application at (close_plan false objects application)))
     (sym (same_close_plan files objects application)) (close_alike files objects application at (close_plan false objects application) order)
 left_alike objects (task checkpoint) files printed order within =
-    subst (λ (made : Result Checkpoint NotPut). IsAlike files objects (with_checkpoint (loaded files objects) printed made) (with_checkpoint objects printed (checkpoint_by objects printed)))
+    subst (λ (made : Result Checkpoint NotPut). IsAlike files objects (with_checkpoint (loaded files objects) printed made) (with_checkpoint objects printed (checkpoint_by_bytes objects printed)))
     (sym (same_checkpoint files objects printed))
-    (checkpoint_alike files objects printed (checkpoint_by objects printed) order (puts_loaded files objects printed))
+    (checkpoint_alike files objects printed (checkpoint_by_bytes objects printed) order (puts_loaded files objects printed))
 left_alike objects (foreign version action) files printed order within =
     alike_put files objects (loaded files objects) objects (commit_name version) (with_newline action) (commit_loaded files version) (alike_before files objects order)
 left_alike objects _ files printed order within = alike_before files objects order

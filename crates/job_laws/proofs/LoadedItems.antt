@@ -17,7 +17,7 @@ use Rattle.table_log.specs.Counts.{commit_count}
 use Rattle.table_model.specs.declared.reading.Offset.{Offset}
 use Rattle.table_store.specs.Groups.{new_files}
 use Rattle.table_folder.specs.Loads.{is_loaded, loaded}
-use Rattle.lake_script.specs.Tailing.{ReadRows, Item, LogFile, ReadRefusal, actions_in, offset_behind_rows, data_file, found_at, end_of, fault_of, hand, hand_on, handed_by, is_before, is_done, item_before, items_at, items_from, items_in, missing_file, numbered, or_bad_file, paths_in, rows_behind, rows_left, file_rows, schema_at, schema_for, unless_beyond, unless_gone, unless_no_file, unless_removed, version_fault, versions_at}
+use Rattle.lake_script.specs.Tailing.{ReadRows, Item, LogFile, ReadRefusal, actions_in, offset_behind_rows, data_file, found_at, end_of, fault_of_version, hand, hand_on, handed_by, is_file_before, is_done, item_before, items_at, items_from, items_in, missing_file, numbered_files, or_bad_file, paths_in, rows_behind, rows_left_of_file, file_rows, schema_at, schema_for, unless_beyond, unless_gone, unless_no_file, unless_removed, version_fault, versions_at}
 use Rattle.job_laws.proofs.Loaded.{loaded_at}
 use Rattle.job_laws.proofs.SameLogs.{same_versions}
 
@@ -52,7 +52,7 @@ both_loaded place files (data_file f ∷ items) more are others = (are.0, both_l
 both_loaded place files (version_fault version refusal ∷ items) more are others = both_loaded place files items more are others
 
 -- a file that isn't before a place is of its version or a later one
-not_before : (place : Offset) (version file : ℕ) → is_before place version file ≡ false → place.version ≤ version
+not_before : (place : Offset) (version file : ℕ) → is_file_before place version file ≡ false → place.version ≤ version
 not_before place version file is = ltb-false version place.version (neither _ _ is)
   where
     neither : (b c : Bool) → (b || c) ≡ false → b ≡ false
@@ -62,9 +62,9 @@ not_before place version file is = ltb-false version place.version (neither _ _ 
 -- so the items from a place on are loaded
 loaded_from_place : (place : Offset) (files : List (List ℕ)) (items : List Item) → AreLoadedFrom place files items → AreLoaded files (filter (λ item. not (item_before place item)) items)
 loaded_from_place place files [] are = tt
-loaded_from_place place files (data_file f ∷ items) are = by_case (is_before place f.version f.file) refl (loaded_from_place place files items are.1)
+loaded_from_place place files (data_file f ∷ items) are = by_case (is_file_before place f.version f.file) refl (loaded_from_place place files items are.1)
   where
-    by_case : (before : Bool) → is_before place f.version f.file ≡ before → AreLoaded files (filter (λ item. not (item_before place item)) items)
+    by_case : (before : Bool) → is_file_before place f.version f.file ≡ before → AreLoaded files (filter (λ item. not (item_before place item)) items)
         → AreLoaded files (cond (not before) (data_file f ∷ filter (λ item. not (item_before place item)) items) (filter (λ item. not (item_before place item)) items))
     by_case true is later = later
     by_case false is later = (are.0 (not_before place f.version f.file is), later)
@@ -79,7 +79,7 @@ loaded_from_place place files (version_fault version refusal ∷ items) are = by
 
 -- those of one version, counted from one on
 numbered_loaded : (place : Offset) (files : List (List ℕ)) (version file : ℕ) (paths : List Path) → ((name : List ℕ) → Contains (map (λ path. path.key) paths) name → place.version ≤ version → is_loaded files name ≡ true)
-    → AreLoadedFrom place files (map data_file (numbered version file paths))
+    → AreLoadedFrom place files (map data_file (numbered_files version file paths))
 numbered_loaded place files version file [] all = tt
 numbered_loaded place files version file (path ∷ paths) all =
     (all path.key (first_in path.key (map (λ p. p.key) paths)), numbered_loaded place files version (suc file) paths (λ name has. all name (behind_first path.key (map (λ p. p.key) paths) name has)))
@@ -100,8 +100,8 @@ unfolding versions_from
 versions_loaded objects place files told adds zero version within = tt
 versions_loaded objects place files told adds (suc count) version within =
     let small : version < commit_count objects = omega (arith, within) in
-    both_loaded place files (items_in version (fault_of told place version (version_at objects version)) (paths_in (version_at objects version))) (items_from told place (suc version) (versions_from count (version + 1) objects))
-    (version_loaded place files version (fault_of told place version (version_at objects version)) (paths_in (version_at objects version)) (λ name has from. adds.each version name has from small))
+    both_loaded place files (items_in version (fault_of_version told place version (version_at objects version)) (paths_in (version_at objects version))) (items_from told place (suc version) (versions_from count (version + 1) objects))
+    (version_loaded place files version (fault_of_version told place version (version_at objects version)) (paths_in (version_at objects version)) (λ name has from. adds.each version name has from small))
     (subst (λ (v : ℕ). AreLoadedFrom place files (items_from told place (suc version) (versions_from count v objects))) (sym (add-one version)) (versions_loaded objects place files told adds count (suc version) (omega (arith, within))))
 
 -- all that a read from the place on meets
@@ -118,7 +118,7 @@ rows_alike files objects schema file own =
     ap (λ (found : Option (List ℕ)). or_refusal found (missing_file file.path.text) >>= λ bytes. or_bad_file file (rows_at bytes schema)) (loaded_at files objects file.path.key own)
 
 -- those behind the first of them
-pub left_alike : (files : List (List ℕ)) (objects : Objects) (schema : Tree) (file : LogFile) (skip : ℕ) → is_loaded files file.path.key ≡ true → rows_left (loaded files objects) schema file skip ≡ rows_left objects schema file skip
+pub left_alike : (files : List (List ℕ)) (objects : Objects) (schema : Tree) (file : LogFile) (skip : ℕ) → is_loaded files file.path.key ≡ true → rows_left_of_file (loaded files objects) schema file skip ≡ rows_left_of_file objects schema file skip
 left_alike files objects schema file skip own = ap (λ (read : Result (List Row) ReadRefusal). read >>= rows_behind skip file.version) (rows_alike files objects schema file own)
 
 -- the rows of items that are loaded
@@ -131,7 +131,7 @@ hand_alike files objects schema end (data_file f ∷ items) are most skip rows n
     let later : (part : List Row) → hand (loaded files objects) schema end (most - length part) 0 (rows ++ part) (offset_behind_rows f skip part next) items ≡ hand objects schema end (most - length part) 0 (rows ++ part) (offset_behind_rows f skip part next) items
     = λ part. hand_alike files objects schema end items are.1 (most - length part) 0 (rows ++ part) (offset_behind_rows f skip part next) in
     ap (λ (read : Result (List Row) ReadRefusal). cond (is_done most skip) (Ok (record { rows = rows; next = next })) (hand_on most rows next read (λ part. hand (loaded files objects) schema end (most - length part) 0 (rows ++ part) (offset_behind_rows f skip part next) items))) (left_alike files objects schema f skip are.0)
-    ∙ (λ i. cond (is_done most skip) (Ok (record { rows = rows; next = next })) (hand_on most rows next (rows_left objects schema f skip) (λ part. later part i)))
+    ∙ (λ i. cond (is_done most skip) (Ok (record { rows = rows; next = next })) (hand_on most rows next (rows_left_of_file objects schema f skip) (λ part. later part i)))
 
 -- rows of a log from a place on
 pub handed_alike : (files : List (List ℕ)) (objects : Objects) (told : SchemaText) (max : ℕ) (place : Offset) → AddsLoaded objects place files

@@ -4,14 +4,14 @@ use Rattle.serde_json.specs.Data.{Items}
 use Rattle.outcomes.specs.Results.{◌>>=◌}
 use Rattle.store_core.specs.Objects.{Objects, object_at}
 use Rattle.delta_actions.specs.Names.{data_file_name as plain_file_name}
-use Rattle.batch_core.specs.Committing.{data_file_name}
-use Rattle.batch_core.specs.Requests.{SinkRequest, unless_other, where_same}
+use Rattle.batch_core.specs.Committing.{batch_file_name}
+use Rattle.batch_core.specs.Requests.{SinkRequest, unless_other_rows, where_same}
 use Rattle.sink_core.specs.Appending.{EncodedBatch, AppendPlan, puts, stands, batch_of, put_plan, new_plan, repeated_plan, request_of, append_plan, plan_of}
 use Rattle.batch_core.specs.Refusals.{SinkRefusal}
 
 -- the name of a batch's file
-file_named : (application : List ℕ) (number : ℕ) → data_file_name application number ≡ plain_file_name application number
-unfolding data_file_name
+file_named : (application : List ℕ) (number : ℕ) → batch_file_name application number ≡ plain_file_name application number
+unfolding batch_file_name
 file_named application number = refl
 
 -- A batch's file has the batch's own name.
@@ -36,7 +36,7 @@ found_again application number (Err refusal) = tt
 
 -- a batch that is made, and fits
 by_batch : (objects : Objects) (application : List ℕ) (number : ℕ) (made : Result EncodedBatch SinkRefusal) → ((batch : EncodedBatch) → made ≡ Ok batch → IsOwn application number batch) → PutsOwn application number (made >>= put_plan objects)
-by_batch objects application number (Ok batch) all = fitted application number batch (unless_other batch.schema batch.rows batch.name (object_at objects batch.name)) (all batch refl)
+by_batch objects application number (Ok batch) all = fitted application number batch (unless_other_rows batch.schema batch.rows batch.name (object_at objects batch.name)) (all batch refl)
 by_batch objects application number (Err refusal) all = tt
 
 -- what holds of each batch that is made in steps holds of the one that was
@@ -57,8 +57,8 @@ chosen application number false one other is was = was
 step_own : (objects : Objects) (application : List ℕ) (number at : ℕ) (request : SinkRequest) → PutsOwn application number (plan_of objects application number at request)
 step_own objects application number at request =
     chosen application number request.repeats (repeated_plan objects request application number) (new_plan objects request application number at)
-    (found_again application number (where_same request.schema request.rows (data_file_name application number) (object_at objects (data_file_name application number))))
-    (by_batch objects application number (batch_of (object_at objects (data_file_name application number)) request application number at) (batch_own (object_at objects (data_file_name application number)) request application number at))
+    (found_again application number (where_same request.schema request.rows (batch_file_name application number) (object_at objects (batch_file_name application number))))
+    (by_batch objects application number (batch_of (object_at objects (batch_file_name application number)) request application number at) (batch_own (object_at objects (batch_file_name application number)) request application number at))
 
 -- what an append puts is its own
 pub own_append_plan : (use_checkpoints : Bool) (objects : Objects) (application : List ℕ) (number at : ℕ) (items : Items) → PutsOwn application number (append_plan use_checkpoints objects application number at items)

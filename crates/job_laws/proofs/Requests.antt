@@ -16,8 +16,8 @@ use Rattle.table_log.specs.Counts.{commit_count}
 use Rattle.table_log.specs.Restoring.{replayed}
 use Rattle.table_log.specs.Versions.{log_of}
 use Rattle.commit_core.specs.Commits.{commit_text}
-use Rattle.batch_core.specs.Committing.{batch_actions, data_file_name}
-use Rattle.batch_core.specs.Requests.{SinkRequest, checked, file_or_refusal, is_repeat, request_behind, unless_other, where_same}
+use Rattle.batch_core.specs.Committing.{batch_actions, batch_file_name}
+use Rattle.batch_core.specs.Requests.{SinkRequest, checked, file_or_refusal, is_repeat, request_behind, unless_other_rows, where_same}
 use Rattle.sink_core.specs.Appending.{EncodedBatch, batch_of, size_behind, put_plan, new_plan, puts, repeated_plan, request_of, append_plan, stands, plan_of}
 use Rattle.batch_core.specs.Refusals.{SinkRefusal, bad_log}
 use Rattle.batch_core.specs.RowsIn.{rows_from, takes_rows}
@@ -82,7 +82,7 @@ module _ (found : Option (List ℕ)) (request : SinkRequest) (application : List
     version = request.version;
     schema = request.schema;
     rows = request.rows;
-    name = data_file_name application number;
+    name = batch_file_name application number;
     file = file;
     commit = commit_text (batch_actions application number at (size_behind file found) (length request.rows));
   }
@@ -92,7 +92,7 @@ module _ (found : Option (List ℕ)) (request : SinkRequest) (application : List
 
   -- the batch of a request is one that it asks for
   pub batch_asked : (batch : EncodedBatch) → batch_of found request application number at ≡ Ok batch → IsRequestOfBatch request application number batch
-  unfolding batch_of data_file_name
+  unfolding batch_of batch_file_name
   batch_asked batch is =
       let a = both_done (file_or_refusal (written_file request.schema request.rows)) with_bytes batch is in
       let same : made a.0 ≡ batch = given {E = SinkRefusal} (made a.0) batch a.2 in
@@ -109,7 +109,7 @@ pub record PutsBatch (objects : Objects) (application : List ℕ) (number : ℕ)
   pub goes_on : is_closed application commits ≡ false
   pub version : batch.version ≡ commit_count objects
   pub name : batch.name ≡ plain_file_name application number
-  pub fits : (fine : Unit {0}) × (unless_other batch.schema batch.rows batch.name (object_at objects batch.name) ≡ Ok fine)
+  pub fits : (fine : Unit {0}) × (unless_other_rows batch.schema batch.rows batch.name (object_at objects batch.name) ≡ Ok fine)
 
 -- a step puts one batch
 pub put_is : (batch other : EncodedBatch) → puts batch ≡ puts other → batch ≡ other
@@ -120,23 +120,23 @@ module _ (objects : Objects) (application : List ℕ) (number at : ℕ) (batch :
   record NewPlan (request : SinkRequest) : Type 0 where
     new : request.repeats ≡ false
     asked : IsRequestOfBatch request application number batch
-    fits : (fine : Unit {0}) × (unless_other batch.schema batch.rows batch.name (object_at objects batch.name) ≡ Ok fine)
+    fits : (fine : Unit {0}) × (unless_other_rows batch.schema batch.rows batch.name (object_at objects batch.name) ≡ Ok fine)
 
   by_repeats : (request : SinkRequest) (repeats : Bool) → request.repeats ≡ repeats
       → (if repeats then repeated_plan objects request application number else new_plan objects request application number at) ≡ Ok (puts batch) → NewPlan request
   by_repeats request true again is =
-      let a = both_done (where_same request.schema request.rows (data_file_name application number) (object_at objects (data_file_name application number))) (λ same. Ok stands) (puts batch) is in
+      let a = both_done (where_same request.schema request.rows (batch_file_name application number) (object_at objects (batch_file_name application number))) (λ same. Ok stands) (puts batch) is in
       let no : stands ≡ puts batch = given {E = SinkRefusal} stands (puts batch) a.2 in
       absurd cc
   by_repeats request false new is =
-      let there = object_at objects (data_file_name application number) in
+      let there = object_at objects (batch_file_name application number) in
       let a = both_done (batch_of there request application number at) (put_plan objects) (puts batch) is in
-      let b = both_done (unless_other a.0.schema a.0.rows a.0.name (object_at objects a.0.name)) (λ fits. Ok (puts a.0)) (puts batch) a.2 in
+      let b = both_done (unless_other_rows a.0.schema a.0.rows a.0.name (object_at objects a.0.name)) (λ fits. Ok (puts a.0)) (puts batch) a.2 in
       let same : a.0 ≡ batch = put_is a.0 batch (given {E = SinkRefusal} (puts a.0) (puts batch) b.2) in
       record {
         new = new;
         asked = subst (IsRequestOfBatch request application number) same (batch_asked there request application number at a.0 a.1);
-        fits = (b.0, subst (λ (found : EncodedBatch). unless_other found.schema found.rows found.name (object_at objects found.name) ≡ Ok b.0) same b.1);
+        fits = (b.0, subst (λ (found : EncodedBatch). unless_other_rows found.schema found.rows found.name (object_at objects found.name) ≡ Ok b.0) same b.1);
       }
 
   -- what is done for a request

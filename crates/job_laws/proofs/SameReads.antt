@@ -14,13 +14,13 @@ use Rattle.table_log.specs.Restoring.{replayed}
 use Rattle.log_reading.specs.InForce.{SchemaText}
 use Rattle.table_model.specs.declared.reading.Offset.{Offset}
 use Rattle.table_folder.specs.Loads.{is_loaded, loaded}
-use Rattle.commit_core.specs.Creating.{commit_from, created_by, unless_there}
+use Rattle.commit_core.specs.Creating.{creation_from, created_by, unless_there}
 use Rattle.commit_core.specs.Histories.{history_in, history_of}
 use Rattle.snapshot_core.specs.Faults as faults
 use Rattle.sink_core.specs.Appending as appends
-use Rattle.batch_core.specs.Committing.{data_file_name}
-use Rattle.sink_core.specs.Closes.{close_answer, close_of, close_plan, closed_by, closing_version}
-use Rattle.batch_core.specs.Requests.{SinkRequest, checked, close_behind, named, request_behind, unless_other, where_same}
+use Rattle.batch_core.specs.Committing.{batch_file_name}
+use Rattle.sink_core.specs.Closes.{close_answer, close_of, close_plan, stream_closed_by, closing_version}
+use Rattle.batch_core.specs.Requests.{SinkRequest, checked, close_behind, named, request_behind, unless_other_rows, where_same}
 use Rattle.sink_core.specs.Appending.{EncodedBatch, AppendPlan, appended_by, plan_answer, batch_of, put_plan, puts, request_of, append_plan, stands, plan_of}
 use Rattle.batch_core.specs.Refusals.{SinkRefusal, bad_log}
 use Rattle.log_offsets.specs.Offsets.{offset_of}
@@ -44,13 +44,13 @@ same_after (Err e) f g same = refl
 -- what a creation makes is told alike
 pub same_created : (files : List (List ℕ)) (objects : Objects) (id : List ℕ) (at : ℕ) (schema printed : List ℕ) → created_by (loaded files objects) id at schema printed ≡ created_by objects id at schema printed
 same_created files objects id at schema printed =
-    ap (λ (found : Option (List ℕ)). unless_there found (commit_from id at schema printed)) (loaded_at files objects (commit_name 0) (commit_loaded files 0))
+    ap (λ (found : Option (List ℕ)). unless_there found (creation_from id at schema printed)) (loaded_at files objects (commit_name 0) (commit_loaded files 0))
 
 -- ---- appends
 
 -- the name of a batch's file
-file_named : (application : List ℕ) (number : ℕ) → data_file_name application number ≡ plain_file_name application number
-unfolding data_file_name
+file_named : (application : List ℕ) (number : ℕ) → batch_file_name application number ≡ plain_file_name application number
+unfolding batch_file_name
 file_named application number = refl
 
 -- what is asked of a table
@@ -72,7 +72,7 @@ pub same_close_plan : (files : List (List ℕ)) (objects : Objects) (application
 same_close_plan files objects application = ap (λ (request : Result SinkRequest SinkRefusal). request >>= λ r. Ok (closing_version r)) (same_close files objects application)
 
 -- and what it answers
-pub same_closed : (files : List (List ℕ)) (objects : Objects) (application : List ℕ) → closed_by false (loaded files objects) application ≡ closed_by false objects application
+pub same_closed : (files : List (List ℕ)) (objects : Objects) (application : List ℕ) → stream_closed_by false (loaded files objects) application ≡ stream_closed_by false objects application
 same_closed files objects application = ap (λ (plan : Result (Option ℕ) SinkRefusal). plan >>= close_answer) (same_close_plan files objects application)
 
 -- a batch that is made in steps has its name
@@ -81,20 +81,20 @@ made_named name (Err refusal) make all batch is = cc
 made_named name (Ok bytes) make all batch is = let same : make bytes ≡ batch = cc in ap (λ b. b.name) (sym same) ∙ all bytes
 
 -- a batch is put under the name of its file
-batch_named : (found : Option (List ℕ)) (request : SinkRequest) (application : List ℕ) (number at : ℕ) (batch : EncodedBatch) → batch_of found request application number at ≡ Ok batch → batch.name ≡ data_file_name application number
+batch_named : (found : Option (List ℕ)) (request : SinkRequest) (application : List ℕ) (number at : ℕ) (batch : EncodedBatch) → batch_of found request application number at ≡ Ok batch → batch.name ≡ batch_file_name application number
 unfolding batch_of
-batch_named found request application number at batch is = made_named (data_file_name application number) _ _ (λ bytes. refl) batch is
+batch_named found request application number at batch is = made_named (batch_file_name application number) _ _ (λ bytes. refl) batch is
 
 -- what is done for a request, which looks at the batch's file alone
 module _ (files : List (List ℕ)) (objects : Objects) (application : List ℕ) (number at : ℕ) (own : is_loaded files (plain_file_name application number) ≡ true) where
   -- the file stands as it did
-  same_file : object_at (loaded files objects) (data_file_name application number) ≡ object_at objects (data_file_name application number)
-  same_file = loaded_at files objects (data_file_name application number) (ap (is_loaded files) (file_named application number) ∙ own)
+  same_file : object_at (loaded files objects) (batch_file_name application number) ≡ object_at objects (batch_file_name application number)
+  same_file = loaded_at files objects (batch_file_name application number) (ap (is_loaded files) (file_named application number) ∙ own)
 
   -- a batch fits as it did
-  same_put_plan : (batch : EncodedBatch) → batch.name ≡ data_file_name application number → put_plan (loaded files objects) batch ≡ put_plan objects batch
+  same_put_plan : (batch : EncodedBatch) → batch.name ≡ batch_file_name application number → put_plan (loaded files objects) batch ≡ put_plan objects batch
   same_put_plan batch is =
-      ap (λ (found : Option (List ℕ)). unless_other batch.schema batch.rows batch.name found >>= λ fits. Ok (puts batch))
+      ap (λ (found : Option (List ℕ)). unless_other_rows batch.schema batch.rows batch.name found >>= λ fits. Ok (puts batch))
       (ap (object_at (loaded files objects)) is ∙ same_file ∙ ap (object_at objects) (sym is))
 
   same_plan : (request : SinkRequest) → plan_of (loaded files objects) application number at request ≡ plan_of objects application number at request
@@ -102,9 +102,9 @@ module _ (files : List (List ℕ)) (objects : Objects) (application : List ℕ) 
     where
       by_case : (repeats : Bool) → cond repeats (appends.repeated_plan (loaded files objects) request application number) (appends.new_plan (loaded files objects) request application number at)
           ≡ cond repeats (appends.repeated_plan objects request application number) (appends.new_plan objects request application number at)
-      by_case true = ap (λ (found : Option (List ℕ)). where_same request.schema request.rows (data_file_name application number) found >>= λ same. Ok stands) same_file
+      by_case true = ap (λ (found : Option (List ℕ)). where_same request.schema request.rows (batch_file_name application number) found >>= λ same. Ok stands) same_file
       by_case false =
-          let there = object_at objects (data_file_name application number) in
+          let there = object_at objects (batch_file_name application number) in
           ap (λ (found : Option (List ℕ)). batch_of found request application number at >>= put_plan (loaded files objects)) same_file
           ∙ same_after (batch_of there request application number at) (put_plan (loaded files objects)) (put_plan objects) (λ batch is. same_put_plan batch (batch_named there request application number at batch is))
 
@@ -124,7 +124,7 @@ same_appended files objects application number at items own =
 -- ---- checkpoints, snapshots and the versions of a log
 
 -- the commits of which a checkpoint may be put
-pub same_checked : (files : List (List ℕ)) (objects : Objects) → faults.checked false (loaded files objects) ≡ faults.checked false objects
+pub same_checked : (files : List (List ℕ)) (objects : Objects) → faults.checked_for_checkpoint false (loaded files objects) ≡ faults.checked_for_checkpoint false objects
 same_checked files objects =
     ap (λ (log : Result (List (List Action)) ℕ). refused_as faults.bad_log log >>= λ commits. refused_as faults.unsupported (checkpointable commits) >>= λ fine. Ok commits) (same_replayed files objects)
 

@@ -9,9 +9,9 @@ use Rattle.store_core.specs.Names.{commit_name}
 use Rattle.table_folder.specs.Loads.{loaded}
 use Rattle.snapshot_core.specs.Faults as faults
 use Rattle.snapshot_core.specs.Faults.{readable_log}
-use Rattle.snapshot_core.specs.Taking.{IsNewestCheckpoint, most_bytes}
+use Rattle.snapshot_core.specs.Taking.{IsNewestCheckpoint, most_checkpoint_bytes}
 use Rattle.snapshot_core.specs.Telling.{TellsSnapshot}
-use Rattle.lake_script.specs.Checkpoints.{by_log, checkpoint_by, checkpoint_of, checkpoint_reply, newest_version, snapshot_reply, too_large}
+use Rattle.lake_script.specs.Checkpoints.{by_log, checkpoint_by_bytes, checkpoint_for, checkpoint_reply, newest_version, snapshot_reply, too_large}
 use Rattle.script_lines.specs.Lines.{append, checkpoint, close, tail, Statement, create, foreign, hex, history, show, snapshot, task, tries, look, world}
 use Rattle.lake_script.specs.Replies.{put_word}
 use Rattle.lake_script.specs.Told.{created_reply, in_hex, reply_to_statement, shown, sink_reply, tailed_reply, IsPrintedStatement}
@@ -32,9 +32,9 @@ same_newest : (files : List (List ℕ)) (objects : Objects) → newest_version (
 same_newest files objects = ap (λ count. count - 1) (same_count files objects)
 
 -- the checkpoint of the newest version
-pub same_checkpoint : (files : List (List ℕ)) (objects : Objects) (bytes : List ℕ) → checkpoint_by (loaded files objects) bytes ≡ checkpoint_by objects bytes
+pub same_checkpoint : (files : List (List ℕ)) (objects : Objects) (bytes : List ℕ) → checkpoint_by_bytes (loaded files objects) bytes ≡ checkpoint_by_bytes objects bytes
 same_checkpoint files objects bytes =
-    λ i. refused_as by_log (same_checked files objects i) >>= λ commits. refused_if (nat_lt most_bytes (length bytes)) too_large >>= λ fits. checkpoint_of (same_newest files objects i) (meta_data_of commits)
+    λ i. refused_as by_log (same_checked files objects i) >>= λ commits. refused_if (nat_lt most_checkpoint_bytes (length bytes)) too_large >>= λ fits. checkpoint_for (same_newest files objects i) (meta_data_of commits)
 
 pub same_reply : (objects : Objects) (statement : Statement) (files : List (List ℕ)) (printed : List ℕ) → LooksWithin objects statement files → reply_to_statement (loaded files objects) statement printed ≡ reply_to_statement objects statement printed
 same_reply objects (create id at schema) files printed within = ap created_reply (same_created files objects id at schema printed)
@@ -84,7 +84,7 @@ snapshot_printed files objects text tells = record {
 pub same_printed : (objects : Objects) (statement : Statement) (files : List (List ℕ)) (printed : List ℕ) → LooksWithin objects statement files → IsPrintedStatement (loaded files objects) statement printed → IsPrintedStatement objects statement printed
 same_printed objects (create id at schema) files printed within is = is
 same_printed objects (task checkpoint) files printed within is =
-    if_both (faults.checked false (loaded files objects)) (faults.checked false objects) _ _ (same_checked files objects) (λ commits. newest_printed files objects commits printed) is
+    if_both (faults.checked_for_checkpoint false (loaded files objects)) (faults.checked_for_checkpoint false objects) _ _ (same_checked files objects) (λ commits. newest_printed files objects commits printed) is
 same_printed objects (look snapshot) files printed within is =
     if_both (readable_log false (loaded files objects)) (readable_log false objects) _ _ (same_readable files objects) (λ commits. snapshot_printed files objects printed) is
 same_printed objects _ files printed within is = tt

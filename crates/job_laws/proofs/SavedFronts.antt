@@ -9,10 +9,10 @@ use Rattle.table_folder.specs.Copies.{HasSavedFront, to_save}
 use Rattle.table_folder.specs.Kinds.{is_data}
 use Rattle.table_folder.specs.Loads.{is_loaded, loaded}
 use Rattle.commit_core.specs.Creating as creations
-use Rattle.commit_core.specs.Creating.{IsPut, commit_from}
+use Rattle.commit_core.specs.Creating.{IsPut, creation_from}
 use Rattle.snapshot_core.specs.Taking.{HasPut, PutsCheckpoint}
 use Rattle.sink_core.specs.Appending.{EncodedBatch, IsWellMade, MayAppend, AppendPlan, is_past, puts, stands, append_plan, with_append, with_file}
-use Rattle.sink_core.specs.Closes.{MayClose, close_plan, close_text, with_close}
+use Rattle.sink_core.specs.Closes.{MayClose, close_plan, close_text, with_close_commit}
 use Rattle.batch_core.specs.Refusals.{SinkRefusal}
 use Rattle.lake_script.specs.Growth.{MayPut, MayPutCheckpoint}
 use Rattle.script_lines.specs.Lines.{append, checkpoint, close, Statement, create, task, foreign}
@@ -40,11 +40,11 @@ commit_saved files objects after new at schema (Ok bytes) order put front = by_c
     by_case (inr is) = inr (put.0, is)
 commit_saved files objects after new at schema (Err refusal) order put front = inl (none_saved files objects after new put.1 front)
 
-creation_saved : (files : List (List ℕ)) (objects after new : Objects) (id : List ℕ) (at : ℕ) (schema printed : List ℕ) → IsInOrder objects → IsPut at schema (commit_from id at schema printed) (loaded files objects) after → IsSaved files objects after new
+creation_saved : (files : List (List ℕ)) (objects after new : Objects) (id : List ℕ) (at : ℕ) (schema printed : List ℕ) → IsInOrder objects → IsPut at schema (creation_from id at schema printed) (loaded files objects) after → IsSaved files objects after new
     → MayPut objects (create id at schema) new
-creation_saved files objects after new id at schema printed order put front = by_case (commit_saved files objects after new at schema (commit_from id at schema printed) order put front)
+creation_saved files objects after new id at schema printed order put front = by_case (commit_saved files objects after new at schema (creation_from id at schema printed) order put front)
   where
-    by_case : (new ≡ objects) ⊎ IsPut at schema (commit_from id at schema printed) objects new → MayPut objects (create id at schema) new
+    by_case : (new ≡ objects) ⊎ IsPut at schema (creation_from id at schema printed) objects new → MayPut objects (create id at schema) new
     by_case (inl same) = inl same
     by_case (inr is) = inr (printed, is)
 
@@ -102,7 +102,7 @@ module _ (files : List (List ℕ)) (objects after new : Objects) (application : 
       by_version true is same = inl (none_saved files objects after new same front)
       by_version false is put = by_case (one_saved files objects after new (commit_name version) (close_text application at) order (commit_loaded files version) put front)
         where
-          whole_is : with_close objects application at (Ok (Some version)) ≡ with_object objects (commit_name version) (close_text application at)
+          whole_is : with_close_commit objects application at (Ok (Some version)) ≡ with_object objects (commit_name version) (close_text application at)
           whole_is = rw is refl
 
           by_case : (new ≡ objects) ⊎ (new ≡ with_object objects (commit_name version) (close_text application at)) → MayClose application at (Ok (Some version)) objects new

@@ -8,7 +8,7 @@ use Rattle.delta_actions.specs.Names as names
 use Rattle.store_core.specs.Names.{greatest_version}
 use Rattle.table_store.specs.Sound.{IsSound}
 use Rattle.table_store.proofs.SoundLemmas.{sound_commit, sound_data_file}
-use Rattle.commit_core.specs.Creating.{CreatesWell, MayCreate, CreateRefusal, commit_from, with_creation}
+use Rattle.commit_core.specs.Creating.{CreatesWell, MayCreate, CreateRefusal, creation_from, with_creation}
 use Rattle.sink_core.specs.Appending.{EncodedBatch, IsWellMade, MayAppend, PutsWell, AppendPlan, is_past, puts, append_plan, stands, with_append, with_file, with_file_alone}
 use Rattle.batch_core.specs.Refusals as sink
 use Rattle.commit_core.proofs.CreationTalks.{admissible_creation}
@@ -25,7 +25,7 @@ creation_sound objects at schema (Err why) well sound = sound
 -- whatever a creation puts
 pub create_sound : (objects new : Objects) (id : List ℕ) (at : ℕ) (schema : List ℕ) → MayCreate id at schema objects new → IsSound objects → IsSound new
 create_sound objects new id at schema (inl same) sound = subst IsSound (sym same) sound
-create_sound objects new id at schema (inr (printed, put)) sound = subst IsSound (sym put.1) (creation_sound objects at schema (commit_from id at schema printed) put.0 sound)
+create_sound objects new id at schema (inr (printed, put)) sound = subst IsSound (sym put.1) (creation_sound objects at schema (creation_from id at schema printed) put.0 sound)
 
 -- ---- an append
 

@@ -10,7 +10,7 @@ use Rattle.table_model.specs.declared.reading.Offset.{Offset}
 use Rattle.log_offsets.specs.Offsets.{offset_of}
 use Rattle.lake_script.specs.Tailing.{read_by}
 use Rattle.lake_script.specs.Tails.{tails}
-use Rattle.lake_script.specs.Kept.{IsKept}
+use Rattle.lake_script.specs.Kept.{KeepsTable}
 use Rattle.lake_script.proofs.Callers.{kept_reads, reads_log}
 use Rattle.job_laws.specs.TextReads.{ReadsByTexts, done, goes_on, read_at}
 
@@ -29,7 +29,7 @@ as_by_offsets objects (max ∷ limits) text last _ start (goes_on next handed ro
     rw answered (ap (λ (rs : List Row). handed.rows ++ rs) others.0, others.1)
 
 -- Reads by texts that begin before all rows hand out the table's rows up to where the next one begins.
-pub log_by_texts : (objects : Objects) (schema : Tree) (entries : List Entry) (limits : List ℕ) (text last : List ℕ) (out : List Row) → IsKept objects schema entries
+pub log_by_texts : (objects : Objects) (schema : Tree) (entries : List Entry) (limits : List ℕ) (text last : List ℕ) (out : List Row) → KeepsTable objects schema entries
     → offset_of text ≡ Some beginning → ReadsByTexts objects limits text out last
     → (next : Offset) × (offset_of last ≡ Some next) × (out ≡ take (position next entries) (rows entries))
 log_by_texts objects schema entries limits text last out kept begins by_texts =

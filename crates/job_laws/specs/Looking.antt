@@ -12,12 +12,12 @@ use Rattle.lake_script.specs.Tailing.{paths_in}
 use Rattle.script_lines.specs.Lines.{Statement, append, checkpoint, close, create, foreign, hex, history, show, snapshot, tail, task, tries, look, world}
 
 -- the keys of paths
-abbrev pub keys_of : List Path → List (List ℕ)
-keys_of paths = map (λ path. path.key) paths
+abbrev pub keys_of_paths : List Path → List (List ℕ)
+keys_of_paths paths = map (λ path. path.key) paths
 
 -- the data files that a version's commit adds new rows with, by the keys of their paths
 abbrev pub files_in : Version → List (List ℕ)
-files_in found = keys_of (paths_in found)
+files_in found = keys_of_paths (paths_in found)
 
 -- A version of the log from an offset on has a commit that adds the file of this name.
 pub record IsReadFrom (objects : Objects) (offset name : List ℕ) : Type 0 where

@@ -13,13 +13,13 @@ ghost use Rattle.table_store.specs.Schema.{Schema};
 ghost use Rattle.table_store.specs.Sound.{IsSound};
 ghost use Rattle.log_offsets.specs.Offsets.{offset_of};
 ghost use Rattle.lake_script.specs.Tails.{tails};
-ghost use Rattle.lake_script.specs.Kept.{IsKept};
+ghost use Rattle.lake_script.specs.Kept.{KeepsTable};
 ghost use Rattle.lake_script.specs.Keeps.{HasNoOther, Keeps, KeepsBeside};
 ghost use Rattle.script_lines.specs.Lines.{Statement, asks};
 ghost use Rattle.lake_script.specs.Scripts.{reply_over};
 ghost use Rattle.lake_script.specs.Sound.{IsSoundStatement};
 ghost use Rattle.lake_script.specs.Tables as tables;
-ghost use Rattle.lake_script.specs.Tables.{State, entries_of, table};
+ghost use Rattle.lake_script.specs.Tables.{TableState, entries_of_state, table};
 ghost use Rattle.lake_script.specs.Told.{IsPutHere, left_by_statement, reply_to_statement};
 ghost use Rattle.lake_script.specs.Readable.{HasReadableFiles};
 ghost use Rattle.job_laws.specs.TextReads.{ReadsByTexts};
@@ -29,10 +29,10 @@ ghost use Rattle.job_laws.specs.TextReads.{ReadsByTexts};
 /// stands; where the line puts no other tool's commit, the store goes on to keep the table that is left. It is asked
 /// that what the line puts is well made, as its contract says.
 pub fn a_kept_table_is_told()
-    ensures told { (objects : Objects) (state : State) (statement : Statement) (printed : List ℕ) → Keeps objects state → length (entries_of state) ≤ greatest_version
+    ensures told { (objects : Objects) (state : TableState) (statement : Statement) (printed : List ℕ) → Keeps objects state → length (entries_of_state state) ≤ greatest_version
         → IsSoundStatement objects statement printed → reply_to_statement objects statement printed ≡ reply_over state objects statement printed }
-    ensures kept { (objects : Objects) (state : State) (statement : Statement) (printed : List ℕ) → Keeps objects state → length (entries_of state) ≤ greatest_version
-        → IsSoundStatement objects statement printed → IsPutHere (asks statement) → Keeps (left_by_statement objects statement printed) (tables.left_by_statement state statement) }
+    ensures kept { (objects : Objects) (state : TableState) (statement : Statement) (printed : List ℕ) → Keeps objects state → length (entries_of_state state) ≤ greatest_version
+        → IsSoundStatement objects statement printed → IsPutHere (asks statement) → Keeps (left_by_statement objects statement printed) (tables.table_left_by_statement state statement) }
 {}
 
 /// Reads that follow one another by texts, each from a text that spells the offset where the one before ended (as the
@@ -41,7 +41,7 @@ pub fn a_kept_table_is_told()
 pub fn reads_by_texts_hand_out_the_log()
     ensures same { (objects : Objects) (limits : List ℕ) (text last : List ℕ) (out : List Row) (start : Offset) → ReadsByTexts objects limits text out last → offset_of text ≡ Some start
         → (out ≡ (tails objects limits start).rows) × (offset_of last ≡ Some (tails objects limits start).next) }
-    ensures log { (objects : Objects) (schema : Schema) (entries : List Entry) (limits : List ℕ) (text last : List ℕ) (out : List Row) → IsKept objects schema entries
+    ensures log { (objects : Objects) (schema : Schema) (entries : List Entry) (limits : List ℕ) (text last : List ℕ) (out : List Row) → KeepsTable objects schema entries
         → offset_of text ≡ Some beginning → ReadsByTexts objects limits text out last
         → (next : Offset) × (offset_of last ≡ Some next) × (out ≡ take (position next entries) (rows entries)) }
 {}
@@ -52,5 +52,5 @@ pub fn reads_by_texts_hand_out_the_log()
 pub fn a_sound_store_without_other_files_keeps_its_table()
     ensures keeps { (objects : Objects) (sound : IsSound objects) → sound.entries ≢ [] → HasReadableFiles objects sound.entries → HasNoOther objects sound.entries
         → Keeps objects (table sound.schema sound.entries) }
-    ensures beside { (objects : Objects) (state : State) → Keeps objects state → KeepsBeside objects state }
+    ensures beside { (objects : Objects) (state : TableState) → Keeps objects state → KeepsBeside objects state }
 {}

@@ -44,7 +44,7 @@ pub fn what_isnt_looked_at_doesnt_matter()
 
 /// An append that is told as committed stands: over what it leaves the same append, at whatever moment, is told that
 /// its batch stands, and puts nothing; and where its data file alone was saved, the same append is told as committed.
-/// It is asked that what the first one puts is well made, as `sink_core::append` says of its own.
+/// It is asked that what the first one puts is well made, as `table_jobs::run` says of its own.
 pub fn an_append_again_stands()
     ensures told { (objects : Objects) (application : List ℕ) (number at later version : ℕ) (items : Items) → PutsWell application number at (append_plan false objects application number at items)
         → appended_by false objects application number at items ≡ Ok (Committed version)

@@ -19,7 +19,7 @@
 //! - `memory`: memory runs out in the call that it asks for, which isn't made. It tells how it ended;
 //! - `start ACTOR LINE`, `step ACTOR` and `memory ACTOR`: the same, of an append or a close beside others, under a name
 //!   of its own;
-//! - `checkpoint`: the checkpoint of the newest version is put. It tells that version;
+//! - `checkpoint`: a `CheckpointSession` is driven to its end. It tells the newest version, whose checkpoint was put;
 //! - `read MAX OFFSET`: a read is begun that hands out at most so many rows. It tells what it asks for first;
 //! - `turn` and `starve`: the call that it asks for is made, or memory runs out in it. It tells what it asks for next,
 //!   or the rows and the offset that it handed out, or why it didn't.
@@ -31,7 +31,7 @@ use case_calls::{CaseStore, tell_call};
 use case_words::{Transcript, head};
 use commit_core::CreateSession;
 use session_core::drive;
-use snapshot_core::{SnapshotFault, checkpoint};
+use snapshot_core::{CheckpointEnd, CheckpointSession, SnapshotFault};
 use std::alloc::Global;
 use std::collections::BTreeMap;
 use store_core::MemoryStore;
@@ -127,8 +127,9 @@ fn create(store: &mut CaseStore, words: &str, told: &mut Transcript) {
 
 /// Puts the checkpoint of the newest version, and adds that version, or why none was put.
 fn tell_checkpoint(store: &mut CaseStore, told: &mut Transcript) {
-    let mut known = Loaded::new(told.alloc);
-    match checkpoint(told.alloc, store, true, &mut known) {
+    let mut session = CheckpointSession::new(told.alloc, true, Loaded::new(told.alloc));
+    let CheckpointEnd { answer, .. } = drive(told.alloc, store, &mut session);
+    match answer {
         Ok(version) => told.tell("checkpointed", &version),
         Err(SnapshotFault::Memory) => told.lacks_memory(),
         Err(fault) => told.show(&fault),

@@ -16,19 +16,19 @@ use Rattle.lake_words.specs.Asked.{Work}
 use Rattle.lake_words.specs.Asked as words
 use Rattle.lake_command.specs.Again.{ComesOfRuns, IsRunOf, RanAsAsked, tries_in}
 use Rattle.lake_command.specs.Again as come
-use Rattle.lake_command.specs.Failures.{ComesOfACall, CountsFolderFault, HasCause, IsByFolder, IsCaused, IsLoading, IsOfInput, IsTaken, Leaves}
-use Rattle.lake_command.specs.Folders.{IsAskedBy, IsPutter, IsTextOf, reads_input}
+use Rattle.lake_command.specs.Failures.{FailureComesOfACall, CountsFolderFault, HasCause, IsByFolder, IsCaused, IsLoading, IsOfInput, IsCommitTaken, Leaves}
+use Rattle.lake_command.specs.Folders.{IsAskedBy, IsPutter, IsInputOf, reads_input}
 use Rattle.lake_command.specs.Looks.{Looks}
 use Rattle.lake_command.specs.declared.failure.Failure.{Failure}
 use Rattle.lake_command.specs.declared.failure.Failure.TheVariants.{Loading, Saving}
 
 -- that a commit is not saved since its name is taken is a failure of the folder
-pub taken_by_folder : (result : Result LineReply Failure) → IsTaken result → IfErr result (λ failure. IsByFolder failure)
+pub taken_by_folder : (result : Result LineReply Failure) → IsCommitTaken result → IfErr result (λ failure. IsByFolder failure)
 taken_by_folder (Err (Saving (saves.NotSaved name reason))) taken = tt
 taken_by_folder _ taken = absurd taken
 
 -- it may be told where calls of loading failed since, or none
-taken_counts : (result : Result LineReply Failure) (old new : ℕ) → IsTaken result → HasRisen old new ⊎ (new ≡ old) → CountsFolderFault result old new
+taken_counts : (result : Result LineReply Failure) (old new : ℕ) → IsCommitTaken result → HasRisen old new ⊎ (new ≡ old) → CountsFolderFault result old new
 taken_counts (Err (Saving (saves.NotSaved name reason))) old new taken (inl risen) = inl risen
 taken_counts (Err (Saving (saves.NotSaved name reason))) old new taken (inr same) = inr (same, taken.0)
 taken_counts _ old new taken counts = absurd taken
@@ -39,7 +39,7 @@ load_counts (loads.NotLoaded name reason) old new risen = inl risen
 load_counts loads.Memory old new same = inr same
 
 -- so it may be told where the table isn't loaded anew
-pub left_counts : (result outcome : Result LineReply Failure) (old mid new : ℕ) → IsTaken result → mid ≡ old → IsErrAnd outcome (λ failure. IsLoading failure) → CountsFolderFault outcome mid new → CountsFolderFault result old new
+pub left_counts : (result outcome : Result LineReply Failure) (old mid new : ℕ) → IsCommitTaken result → mid ≡ old → IsErrAnd outcome (λ failure. IsLoading failure) → CountsFolderFault outcome mid new → CountsFolderFault result old new
 left_counts result (Err (Loading fault)) old mid new taken level is counts =
     taken_counts result old new taken (subst (λ (n : ℕ). HasRisen n new ⊎ (new ≡ n)) level (load_counts fault mid new counts))
 left_counts result _ old mid new taken level is counts = absurd is
@@ -62,7 +62,7 @@ short_unread (Ok reply) is = absurd is
 short_unread (Err failure) is = subst (λ (f : Failure). IsLoading f) (sym is) tt
 
 -- where a commit's name was taken and the job isn't run again, it rose: the counts of faults that are compared are those of the folder
-pub taken_risen : (outcome : Result LineReply Failure) (old mid new before after : ℕ) → before ≡ mid → after ≡ new → mid ≡ old → CountsFolderFault outcome mid new → (IsTaken outcome → after ≡ before → HasRisen before after) → IsTaken outcome → HasRisen old new
+pub taken_risen : (outcome : Result LineReply Failure) (old mid new before after : ℕ) → before ≡ mid → after ≡ new → mid ≡ old → CountsFolderFault outcome mid new → (IsCommitTaken outcome → after ≡ before → HasRisen before after) → IsCommitTaken outcome → HasRisen old new
 taken_risen (Err (Saving (saves.NotSaved name reason))) old mid new before after is_before is_after level counts failed taken = subst (λ (n : ℕ). HasRisen n new) level (by_count counts)
   where
     by_count : HasRisen mid new ⊎ ((new ≡ mid) × (reason ≡ Taken)) → HasRisen mid new
@@ -99,13 +99,13 @@ input_leaves result failure work text is_broken objects is of =
     subst (λ (r : Result LineReply Failure). IfErr r (λ f. Leaves f work text objects objects)) (sym is) (input_leaves_it failure work text is_broken objects of)
 
 -- it comes of no call
-no_call : (failure : Failure) (work : Work) (text : Option (List ℕ)) (is_broken : Bool) (count : ℕ) → IsOfInput failure work text is_broken → ComesOfACall {X = LineReply} (Err failure) count count
+no_call : (failure : Failure) (work : Work) (text : Option (List ℕ)) (is_broken : Bool) (count : ℕ) → IsOfInput failure work text is_broken → FailureComesOfACall {X = LineReply} (Err failure) count count
 no_call (Saving fault) work text is_broken count of = absurd of
 no_call _ work text is_broken count of = tt
 
-pub input_alone : (result : Result LineReply Failure) (failure : Failure) (work : Work) (text : Option (List ℕ)) (is_broken : Bool) (count : ℕ) → result ≡ Err failure → IsOfInput failure work text is_broken → ComesOfACall result count count
+pub input_alone : (result : Result LineReply Failure) (failure : Failure) (work : Work) (text : Option (List ℕ)) (is_broken : Bool) (count : ℕ) → result ≡ Err failure → IsOfInput failure work text is_broken → FailureComesOfACall result count count
 input_alone result failure work text is_broken count is of =
-    subst (λ (r : Result LineReply Failure). ComesOfACall r count count) (sym is) (no_call failure work text is_broken count of)
+    subst (λ (r : Result LineReply Failure). FailureComesOfACall r count count) (sym is) (no_call failure work text is_broken count of)
 
 -- it leaves the folder's count
 same_count : (failure : Failure) (work : Work) (text : Option (List ℕ)) (is_broken : Bool) (count : ℕ) → IsOfInput failure work text is_broken → CountsFolderFault {X = LineReply} (Err failure) count count
@@ -136,14 +136,14 @@ folder_caused result work text is_broken statement old new asked by whole short 
 -- ---- runs
 
 -- a commit that is not saved is no table that can't be read
-pub taken_is_loaded : (result : Result LineReply Failure) → IsTaken result → IsErrAnd result (λ failure. IsLoading failure) → ⊥
+pub taken_is_loaded : (result : Result LineReply Failure) → IsCommitTaken result → IsErrAnd result (λ failure. IsLoading failure) → ⊥
 taken_is_loaded (Err (Saving fault)) taken is = is
 taken_is_loaded (Err (Loading fault)) taken is = taken
 taken_is_loaded _ taken is = absurd taken
 
 -- one run more in front of those that have a version less
 pub run_before : (work : Work) (text : List ℕ) (use_checkpoints : Bool) (old new left : ℕ) (first outcome : Result LineReply Failure) (statement : Statement) (calls more : List FolderCall) → 1 < left
-    → IsAskedBy work (Some text) statement → IsRunOf use_checkpoints left statement first calls → IsTaken first
+    → IsAskedBy work (Some text) statement → IsRunOf use_checkpoints left statement first calls → IsCommitTaken first
     → (IsErrAnd outcome (λ failure. IsLoading failure) → ⊥) → ComesOfRuns work text use_checkpoints old new (left - 1) outcome more → ComesOfRuns work text use_checkpoints old new left outcome (calls ++ more)
 run_before work text use_checkpoints old new left first outcome statement calls more some asked run taken loaded runs =
     let one : left ≡ suc (left - 1) = omega arith in
@@ -182,7 +182,7 @@ first_run made work text use_checkpoints old tries refused statement calls none 
 }
 
 module _ {F : Type 0} (makes : F → FolderCall → F → Type 0) (work : Work) (text : List ℕ) (use_checkpoints : Bool) (old tries left : ℕ) (before : List FolderCall) (refused : Result LineReply Failure) (first now : F)
-    (been : HasRun (λ calls. Traced makes first calls now) work text use_checkpoints old tries left before refused) (taken : IsTaken refused) where
+    (been : HasRun (λ calls. Traced makes first calls now) work text use_checkpoints old tries left before refused) (taken : IsCommitTaken refused) where
   -- the last that was refused is told, where no try is left
   pub refused_last : (new : ℕ) → left ≡ 1 → (more : List FolderCall) × Traced makes first more now × ComesOfRuns work text use_checkpoints old new tries refused (before ++ more)
   refused_last new none =
@@ -217,7 +217,7 @@ module _ {F : Type 0} (makes : F → FolderCall → F → Type 0) (work : Work) 
       )
 
   -- one more is run and told
-  pub told_last : (end : F) (new : ℕ) (outcome : Result LineReply Failure) (statement : Statement) → 1 < left → IsAskedBy work (Some text) statement → (IsErrAnd outcome (λ failure. IsLoading failure) → ⊥) → (IsTaken outcome → HasRisen old new)
+  pub told_last : (end : F) (new : ℕ) (outcome : Result LineReply Failure) (statement : Statement) → 1 < left → IsAskedBy work (Some text) statement → (IsErrAnd outcome (λ failure. IsLoading failure) → ⊥) → (IsCommitTaken outcome → HasRisen old new)
       → (calls : List FolderCall) × Traced makes now calls end × IsRunOf use_checkpoints (left - 1) statement outcome calls
       → (more : List FolderCall) × Traced makes first more end × ComesOfRuns work text use_checkpoints old new tries outcome (before ++ more)
   told_last end new outcome statement some asked loaded risen run =
@@ -282,7 +282,7 @@ puts_still words.checkpoint text other statement more asked puts again = subst I
 puts_still words.history text other statement more asked puts again = absurd (subst IsPutter asked puts)
 
 -- what wasn't saved was to be put
-pub taken_puts : (outcome : Result LineReply Failure) (statement : Statement) → ((IsPutter statement → ⊥) → IfErr outcome (λ failure. IsLoading failure)) → IsTaken outcome → IsPutter statement
+pub taken_puts : (outcome : Result LineReply Failure) (statement : Statement) → ((IsPutter statement → ⊥) → IfErr outcome (λ failure. IsLoading failure)) → IsCommitTaken outcome → IsPutter statement
 taken_puts (Err (Saving fault)) statement reads taken = by_case (puts_or_not statement)
   where
     by_case : IsPutter statement ⊎ (IsPutter statement → ⊥) → IsPutter statement
@@ -292,8 +292,8 @@ taken_puts _ statement reads taken = absurd taken
 
 -- one run, of a line that puts something or of one that doesn't, which isn't to be run again
 pub run_once : {F : Type 0} (makes : F → FolderCall → F → Type 0) (work : Work) (known : Option (List ℕ)) (text : List ℕ) (is_broken use_checkpoints : Bool) (old new tries : ℕ) (statement : Statement) (outcome : Result LineReply Failure) (first now : F)
-    → tries ≡ tries_in work → IsTextOf work known text → IsAskedBy work (Some text) statement → (IsPutter statement → (calls : List FolderCall) × Traced makes first calls now × IsRunOf use_checkpoints tries statement outcome calls)
-    → ((IsPutter statement → ⊥) → IfErr outcome (λ failure. IsLoading failure)) → ((IsPutter statement → ⊥) → (calls : List FolderCall) × Traced makes first calls now × Looks use_checkpoints statement outcome calls) → (IsTaken outcome → HasRisen old new) → RanAsAsked (λ calls. Traced makes first calls now) work known is_broken use_checkpoints old new outcome
+    → tries ≡ tries_in work → IsInputOf work known text → IsAskedBy work (Some text) statement → (IsPutter statement → (calls : List FolderCall) × Traced makes first calls now × IsRunOf use_checkpoints tries statement outcome calls)
+    → ((IsPutter statement → ⊥) → IfErr outcome (λ failure. IsLoading failure)) → ((IsPutter statement → ⊥) → (calls : List FolderCall) × Traced makes first calls now × Looks use_checkpoints statement outcome calls) → (IsCommitTaken outcome → HasRisen old new) → RanAsAsked (λ calls. Traced makes first calls now) work known is_broken use_checkpoints old new outcome
 run_once {F} makes work known text is_broken use_checkpoints old new tries statement outcome first now same is asked ran reads looks risen = by_line (puts_or_not statement)
   where
     by_line : IsPutter statement ⊎ (IsPutter statement → ⊥) → RanAsAsked (λ calls. Traced makes first calls now) work known is_broken use_checkpoints old new outcome

@@ -10,12 +10,12 @@ use Rattle.table_audit.specs.LargeFiles.{IsLargeFile}
 use Rattle.table_audit.specs.Verdicts.{IsVerdictOf}
 use Rattle.table_audit.specs.declared.verdict.Verdict.{Verdict}
 use Rattle.folder_check.specs.Beside.{AreBeside}
-use Rattle.folder_check.specs.Faults.{ComesOfACall, TellsNoFile}
+use Rattle.folder_check.specs.Faults.{ComesOfACall, CheckTellsNoFile}
 use Rattle.folder_check.specs.declared.fault.CheckFault.{CheckFault}
 use Rattle.folder_check.specs.declared.fault.CheckFault.TheVariants.{Folder}
 use Rattle.lake_script.specs.declared.outputs.Output.{Output}
 use Rattle.lake_words.specs.Asked.{Work}
-use Rattle.lake_hints.specs.ErrorOutputs.{Tells, TellsSome}
+use Rattle.lake_hints.specs.ErrorOutputs.{TellsText, TellsSome}
 use Rattle.lake_hints.specs.Meanings.{IsMeaning}
 use Rattle.lake_hints.specs.declared.error_output.ErrorOutput.{ErrorOutput}
 use Rattle.lake_hints.proofs.Callers.{told_on}
@@ -30,7 +30,7 @@ pub two_lines : (words number why newline : List ℕ) → words ++ (number ++ (n
 two_lines words number why newline = sym (append_assoc (words ++ number) newline (why ++ newline) ∙ append_assoc words number (newline ++ (why ++ newline)))
 
 -- what is told of what lies beside a table, where it is what lies there
-pub beside_told : (is_steady : Type 0) (objects : Objects) (beside : Result (Vec (String Global) Global) CheckFault) (text : List ℕ) → IfErr beside TellsNoFile
+pub beside_told : (is_steady : Type 0) (objects : Objects) (beside : Result (Vec (String Global) Global) CheckFault) (text : List ℕ) → IfErr beside CheckTellsNoFile
     → (is_steady → IfOk beside (λ lines. AreBeside objects (map string_bytes lines.items))) → IsBeside beside text → IsBesideTold is_steady objects text
 beside_told is_steady objects (Ok lines) text no_file lies is = inl (map string_bytes lines.items, lies, is)
 beside_told is_steady objects (Err fault) text no_file lies is = inr (fault, no_file, is)
@@ -62,20 +62,20 @@ module _ {W E : Type 0} (contents : W → Option (List ℕ)) (contents_err : E �
   pub told_then : (P Q : List ℕ → Type 0) (status : ℕ) (old new : Output W) (err_old between err_new : ErrorOutput E) (exit : Exit)
       → IsTextTold contents contents_err P IsNothing status old new err_old between exit → TellsSome contents_err Q between err_new → IsTextTold contents contents_err P Q status old new err_old err_new exit
   told_then P Q status old new err_old between err_new exit (inl (told, (text, none, tells))) rest =
-      inl (told, (rest.0, rest.1, subst (λ (front : List ℕ). Tells contents_err err_old err_new (front ++ rest.0)) none (told_on contents_err err_old between err_new text rest.0 tells rest.2)))
+      inl (told, (rest.0, rest.1, subst (λ (front : List ℕ). TellsText contents_err err_old err_new (front ++ rest.0)) none (told_on contents_err err_old between err_new text rest.0 tells rest.2)))
   told_then P Q status old new err_old between err_new exit (inr (untold, (text, (front, nothing, first, none, parts), tells))) rest =
       inr (
         untold,
         (
           front ++ rest.0,
           (front, rest.0, first, rest.1, refl),
-          subst (λ (begins : List ℕ). Tells contents_err err_old err_new (begins ++ rest.0)) (parts ∙ ap (λ (x : List ℕ). front ++ x) none ∙ append-nil front) (told_on contents_err err_old between err_new text rest.0 tells rest.2),
+          subst (λ (begins : List ℕ). TellsText contents_err err_old err_new (begins ++ rest.0)) (parts ∙ ap (λ (x : List ℕ). front ++ x) none ∙ append-nil front) (told_on contents_err err_old between err_new text rest.0 tells rest.2),
         ),
       )
 
   -- a verdict is told, and what lies beside the table
   pub judged : (is_steady : Type 0) (objects : Objects) (verdict : Verdict) (beside : Result (Vec (String Global) Global) CheckFault) (old new : Output W) (err_old err_new : ErrorOutput E) (exit : Exit)
-      → (is_steady → IsVerdictOf objects verdict) → IfErr beside TellsNoFile → (is_steady → IfOk beside (λ lines. AreBeside objects (map string_bytes lines.items)))
+      → (is_steady → IsVerdictOf objects verdict) → IfErr beside CheckTellsNoFile → (is_steady → IfOk beside (λ lines. AreBeside objects (map string_bytes lines.items)))
       → IsTextTold contents contents_err (IsOfVerdict verdict) (IsBeside beside) (status_of_verdict verdict) old new err_old err_new exit → IsJudged contents contents_err is_steady objects old new err_old err_new exit
   judged is_steady objects verdict beside old new err_old err_new exit is no_file lies told =
       (verdict, is, beside_weaker (IsOfVerdict verdict) (IsBeside beside) (IsBesideTold is_steady objects) (status_of_verdict verdict) old new err_old err_new exit (λ text. beside_told is_steady objects beside text no_file lies) told)

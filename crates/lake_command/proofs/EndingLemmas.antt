@@ -19,7 +19,7 @@ use Rattle.lake_hints.specs.Rowless.{IsRowlessNote, creates_rowless}
 use Rattle.lake_hints.specs.declared.error_output.ErrorOutput.{ErrorOutput}
 use Rattle.lake_hints.proofs.Callers.{told_behind, told_in_turn}
 use Rattle.lake_command.specs.Codes.{code_in}
-use Rattle.lake_command.specs.Endings.{EndsWith, IsLineTold, IsLineUntold, IsWritten, is_explained, is_memory, output_of}
+use Rattle.lake_command.specs.Endings.{EndsWith, IsLineTold, IsLineUntold, IsTextWritten, is_explained, is_growth_refused, output_of}
 use Rattle.lake_command.specs.ErrorTexts.{IsBesideReply, IsErrText, IsMeaningIn, IsUnwrittenTold, failure_hint, failure_line, is_told_as_reply}
 use Rattle.lake_command.specs.Failures.{failure_text}
 use Rattle.lake_command.specs.Status.{is_want_of_memory, refuses, status_of_failure}
@@ -51,7 +51,7 @@ not_as_reply (failures.Saving fault) is = refl
 
 -- ---- why what comes of a job isn't told
 
-pub cause_of : (error : OutputError) (was_short is_short : Bool) {P : Type 0} → is_short ≡ (was_short || is_memory error) → (error ≡ Broken → P) → P ⊎ (is_short ≡ true)
+pub cause_of : (error : OutputError) (was_short is_short : Bool) {P : Type 0} → is_short ≡ (was_short || is_growth_refused error) → (error ≡ Broken → P) → P ⊎ (is_short ≡ true)
 cause_of Broken was_short is_short short broken = inl (broken refl)
 cause_of Memory true is_short short broken = inr short
 cause_of Memory false is_short short broken = inr short
@@ -70,8 +70,8 @@ module _ {W E : Type 0} (contents : W → Option (List ℕ)) (contents_err : E �
   -- ---- a failure
 
   -- what stands on the output stays, whatever is told behind it
-  written_behind : (work : Work) (failure : Failure) (old new : Output W) (err_old between err_new : ErrorOutput E) → IsWritten contents (output_of (Err failure)) true old new err_old between
-      → IsWritten contents (output_of (Err failure)) (is_explained work (Err failure)) old new err_old err_new
+  written_behind : (work : Work) (failure : Failure) (old new : Output W) (err_old between err_new : ErrorOutput E) → IsTextWritten contents (output_of (Err failure)) true old new err_old between
+      → IsTextWritten contents (output_of (Err failure)) (is_explained work (Err failure)) old new err_old err_new
   written_behind work (failures.BadLine number flaw) old new err_old between err_new written = (written.0, λ no. absurd cc)
   written_behind work failures.Memory old new err_old between err_new written = (written.0, λ no. absurd cc)
   written_behind work failures.Misused old new err_old between err_new written = written
@@ -113,7 +113,7 @@ module _ {W E : Type 0} (contents : W → Option (List ℕ)) (contents_err : E �
   -- one that doesn't is told
   pub reply_told : (work : Work) (rows : ℕ) (reply : LineReply) (old new : Output W) (err_old err_new : ErrorOutput E) (exit : Exit) → false ≡ refuses work reply
       → Appends (held contents old) (contents new.writer) (reply_text reply) → (creates_rowless work ≡ false → err_new ≡ err_old) → TellsSome contents_err (IsRowlessNote (creates_rowless work)) err_old err_new
-      → exit.status ≡ 0 → exit.is_short ≡ replies.is_short reply → EndsWith contents contents_err work rows (Ok reply) old new err_old err_new exit
+      → exit.status ≡ 0 → exit.is_short ≡ replies.is_short_reply reply → EndsWith contents contents_err work rows (Ok reply) old new err_old err_new exit
   reply_told work rows reply old new err_old err_new exit not_refused told silent noted status short = inl (record {
     written = (told, λ none. silent (right_false (refuses work reply) (creates_rowless work) none));
     err_told = beside_reply work rows reply false err_old err_new not_refused noted;
@@ -124,7 +124,7 @@ module _ {W E : Type 0} (contents : W → Option (List ℕ)) (contents_err : E �
   -- one that does is told, and explained
   pub refusal_told : (work : Work) (rows : ℕ) (reply : LineReply) (old new : Output W) (err_old between err_new : ErrorOutput E) (exit : Exit) → true ≡ refuses work reply
       → Appends (held contents old) (contents new.writer) (reply_text reply) → TellsSome contents_err (IsMeaningOf (reply_text reply)) err_old between → TellsSome contents_err (IsRefusalHint reply work rows) between err_new
-      → exit.status ≡ 1 → exit.is_short ≡ replies.is_short reply → EndsWith contents contents_err work rows (Ok reply) old new err_old err_new exit
+      → exit.status ≡ 1 → exit.is_short ≡ replies.is_short_reply reply → EndsWith contents contents_err work rows (Ok reply) old new err_old err_new exit
   refusal_told work rows reply old new err_old between err_new exit refused told meaning hint status short = inl (record {
     written = (told, λ none. absurd (left_true (refuses work reply) (creates_rowless work) refused none));
     err_told = beside_reply work rows reply true err_old err_new refused (told_in_turn contents_err (IsMeaningOf (reply_text reply)) (IsRefusalHint reply work rows) err_old between err_new meaning hint);

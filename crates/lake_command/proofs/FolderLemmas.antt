@@ -19,7 +19,7 @@ use Rattle.lake_script.specs.declared.reply.LineReply.{LineReply}
 use Rattle.job_laws.proofs.Callers.{executed as line_executed, line_keeps_sound_bytes, restores}
 use Rattle.lake_words.specs.Asked.{Work}
 use Rattle.lake_words.specs.Asked as words
-use Rattle.lake_command.specs.Failures.{ComesOfACall, IsOfFolder, Leaves, NamesPut}
+use Rattle.lake_command.specs.Failures.{FailureComesOfACall, IsOfFolder, Leaves, NamesPut}
 use Rattle.lake_command.specs.Folders.{AreLineRows, IsJobAnswer, IsAskedBy, JobMayLeave, LineMayLeave, line_view}
 use Rattle.lake_command.specs.declared.job_line.JobLine.{JobLine}
 use Rattle.lake_command.specs.declared.failure.Failure.{Failure}
@@ -50,7 +50,7 @@ fails_as (Err failure) fault is = ap Err is
 
 -- its name isn't taken: a call of the folder failed
 alone_of_fault : (X : Type 0) (fault : SaveFault) (steady : Type 0) (old : Objects) (statement : Statement) (before after : ℕ) → steady → NamesPut (Saving fault) statement old → CountsSave {X = Unit {0}} steady old (Err fault) before after
-    → ComesOfACall {X = X} (Err (Saving fault)) before after
+    → FailureComesOfACall {X = X} (Err (Saving fault)) before after
 alone_of_fault X (saves.NotSaved name reason) steady old statement before after on names (inl risen) = risen
 alone_of_fault X (saves.NotSaved name reason) steady old statement before after on names (inr taken) = let both : true ≡ false = sym (taken.2 on) ∙ ap is_some names.absent in cc
 alone_of_fault X saves.Lost steady old statement before after on names counts = tt
@@ -58,9 +58,9 @@ alone_of_fault X saves.Memory steady old statement before after on names counts 
 
 -- the same where the folder was as it was until then
 pub saved_alone : {X : Type 0} (result : Result X Failure) (fault : SaveFault) (steady : Type 0) (held old : Objects) (statement : Statement) (before mid after : ℕ) → result ≡ Err (Saving fault) → held ≡ old → mid ≡ before → steady
-    → IfErr result (λ failure. NamesPut failure statement old) → CountsSave {X = Unit {0}} steady held (Err fault) mid after → ComesOfACall result before after
+    → IfErr result (λ failure. NamesPut failure statement old) → CountsSave {X = Unit {0}} steady held (Err fault) mid after → FailureComesOfACall result before after
 saved_alone {X} result fault steady held old statement before mid after is same level on names counts =
-    subst (λ (r : Result X Failure). ComesOfACall r before after) (sym is)
+    subst (λ (r : Result X Failure). FailureComesOfACall r before after) (sym is)
     (alone_of_fault X fault steady old statement before after on (subst (λ (r : Result X Failure). IfErr r (λ failure. NamesPut failure statement old)) is names)
     (subst (λ n. CountsSave {X = Unit {0}} steady old (Err fault) n after) level (subst (λ o. CountsSave {X = Unit {0}} steady o (Err fault) mid after) same counts)))
 

@@ -9,11 +9,11 @@ use Rattle.lake_script.specs.declared.inputs.TheConstants.{MOST_BYTES}
 use Rattle.lake_script.specs.declared.engine.End.{End}
 use Rattle.lake_script.specs.declared.engine.End.TheVariants.{Done, BadLine, NotRead, NotWritten}
 use Rattle.lake_script.proofs.Callers.{few_lines}
-use Rattle.lake_script.specs.Runs.{FallsShort, MayBeTold, Runs, Tells}
+use Rattle.lake_script.specs.Runs.{FallsShort, MayBeTold, Runs, TellsWhole}
 use Rattle.lake_script.specs.Sound.{IsScriptRun}
 use Rattle.lake_script.specs.Scripts.{IsScript, IsExpectedOver}
-use Rattle.lake_script.specs.Tables.{nothing, entries_of, AreOfTable, expected_output as expected_by_table}
-use Rattle.lake_script.specs.Told.{ArePrintedLines, ArePutHere, IsTold, expected_output, first_bad, Finishes}
+use Rattle.lake_script.specs.Tables.{nothing, entries_of_state, AreOfTable, table_expected_output as expected_by_table}
+use Rattle.lake_script.specs.Told.{ArePrintedLines, ArePutHere, IsScriptTold, expected_output, first_bad, Finishes}
 use Rattle.lake_words.specs.Asked.{Spells, replaying, restoring}
 use Rattle.lake_words.specs.declared.command.Command.{Command}
 use Rattle.lake_words.specs.declared.command.Command.TheVariants.{Script, Table}
@@ -28,13 +28,13 @@ use Rattle.world_script.specs.Playing.{PlaysSo, PlaysText}
 use Rattle.world_script.specs.Scenes.{first_scene}
 
 -- what is written over nothing is what the script is told
-tells_of_run : (old new : Option (List ℕ)) (text : List ℕ) (before after : Objects) → before ≡ [] → IsScriptRun before text old new after → Tells old new (IsTold [] text)
+tells_of_run : (old new : Option (List ℕ)) (text : List ℕ) (before after : Objects) → before ≡ [] → IsScriptRun before text old new after → TellsWhole old new (IsScriptTold [] text)
 tells_of_run old new text before after empty run =
     (expected_output [] text run.texts, subst (λ u. Appends old new u) (ap (λ objects. expected_output objects text run.texts) empty) run.told, (run.texts, subst (λ objects. ArePrintedLines objects (lines_of text) run.texts) empty run.printed, refl))
 
 -- the same of a run that isn't refused, where its text is known
 pub output_of_run : (end : End) (input old new : Option (List ℕ)) (before after : Objects) → status_of end ≢ 1 → Finishes end (λ _. IfSome input (λ text. IsScriptRun before text old new after)) → before ≡ []
-    → IfSome input (λ text. Tells old new (IsTold [] text))
+    → IfSome input (λ text. TellsWhole old new (IsScriptTold [] text))
 output_of_run Done None old new before after fine run empty = tt
 output_of_run Done (Some text) old new before after fine run empty = tells_of_run old new text before after empty run
 output_of_run (BadLine number) None old new before after fine run empty = tt
@@ -43,7 +43,7 @@ output_of_run NotRead input old new before after fine run empty = absurd (fine r
 output_of_run NotWritten input old new before after fine run empty = absurd (fine refl)
 
 -- a text that was read has no more lines than there can be versions
-few_by : (end : End) (text : List ℕ) → status_of end ≢ 1 → (MOST_BYTES < length text → end ≡ NotRead) → length (entries_of nothing) + length (lines_of text) ≤ suc greatest_version
+few_by : (end : End) (text : List ℕ) → status_of end ≢ 1 → (MOST_BYTES < length text → end ≡ NotRead) → length (entries_of_state nothing) + length (lines_of text) ≤ suc greatest_version
 few_by end text fine limit =
     elim (cases_lt MOST_BYTES (length text)) [
       | inl long ↦ absurd (fine (ap status_of (limit long)))
@@ -51,7 +51,7 @@ few_by end text fine limit =
     ]
 
 -- a run that isn't refused is told by the plain table, where its text is known
-pub script_of_run : (end : End) (input old new : Option (List ℕ)) (before after : Objects) → status_of end ≢ 1 → Finishes end (λ _. IfSome input (λ text. length (entries_of nothing) + length (lines_of text) ≤ suc greatest_version → IsScript nothing old new text before after))
+pub script_of_run : (end : End) (input old new : Option (List ℕ)) (before after : Objects) → status_of end ≢ 1 → Finishes end (λ _. IfSome input (λ text. length (entries_of_state nothing) + length (lines_of text) ≤ suc greatest_version → IsScript nothing old new text before after))
     → IfSome input (λ text. MOST_BYTES < length text → end ≡ NotRead) → IfSome input (λ text. IsScript nothing old new text before after)
 script_of_run Done None old new before after fine run limit = tt
 script_of_run Done (Some text) old new before after fine run limit = run (few_by Done text fine limit)
@@ -73,10 +73,10 @@ over_of None old new before after empty run = tt
 over_of (Some text) old new before after empty run = λ here. subst (λ objects. IsExpectedOver old new nothing objects (lines_of text)) empty (run.over here)
 
 -- a run that isn't refused is short where a reply tells so, where its text is known
-pub short_of_run : (end : End) (input old new : Option (List ℕ)) (before : Objects) → status_of end ≢ 1 → Finishes end (λ _. IfSome input (λ text. Tells old new (FallsShort 1 before (lines_of text)))) → before ≡ []
-    → IfSome input (λ text. Tells old new (FallsShort 1 [] (lines_of text)))
-short_of_run Done input old new before fine run empty = subst (λ objects. IfSome input (λ text. Tells old new (FallsShort 1 objects (lines_of text)))) empty run
-short_of_run (BadLine number) input old new before fine run empty = subst (λ objects. IfSome input (λ text. Tells old new (FallsShort 1 objects (lines_of text)))) empty run
+pub short_of_run : (end : End) (input old new : Option (List ℕ)) (before : Objects) → status_of end ≢ 1 → Finishes end (λ _. IfSome input (λ text. TellsWhole old new (FallsShort 1 before (lines_of text)))) → before ≡ []
+    → IfSome input (λ text. TellsWhole old new (FallsShort 1 [] (lines_of text)))
+short_of_run Done input old new before fine run empty = subst (λ objects. IfSome input (λ text. TellsWhole old new (FallsShort 1 objects (lines_of text)))) empty run
+short_of_run (BadLine number) input old new before fine run empty = subst (λ objects. IfSome input (λ text. TellsWhole old new (FallsShort 1 objects (lines_of text)))) empty run
 short_of_run NotRead input old new before fine run empty = absurd (fine refl)
 short_of_run NotWritten input old new before fine run empty = absurd (fine refl)
 
@@ -99,20 +99,20 @@ has_told NotWritten P fine run = absurd (fine refl)
 
 -- what is written of a text without actors over nothing, also where memory was refused
 pub may_of_run : (end : End) (old new : Option (List ℕ)) (text : List ℕ) (before after : Objects) → status_of end ≢ 1 → before ≡ []
-    → Finishes end (λ _. Tells old new (λ written. Runs 1 before (lines_of text) written after)) → Tells old new (MayBeTold [] text)
+    → Finishes end (λ _. TellsWhole old new (λ written. Runs 1 before (lines_of text) written after)) → TellsWhole old new (MayBeTold [] text)
 may_of_run end old new text before after fine empty run =
     let told = has_told end _ fine run in
     (told.0, told.1, (after, subst (λ (o : Objects). Runs 1 o (lines_of text) told.0 after) empty told.2))
 
 -- what is written of a text with actors over nothing
 pub played_of_run : (end : End) (old new : Option (List ℕ)) (text : List ℕ) (before after : Objects) (uses : Bool) → status_of end ≢ 1 → before ≡ []
-    → Finishes end (λ _. Tells old new (λ written. PlaysText (first_scene before uses) text written after)) → Tells old new (IsPlayedOver uses text)
+    → Finishes end (λ _. TellsWhole old new (λ written. PlaysText (first_scene before uses) text written after)) → TellsWhole old new (IsPlayedOver uses text)
 played_of_run end old new text before after uses fine empty run =
     let told = has_told end _ fine run in
     (told.0, told.1, (after, subst (λ (o : Objects). PlaysText (first_scene o uses) text told.0 after) empty told.2))
 
 pub so_of_run : (end : End) (old new : Option (List ℕ)) (text : List ℕ) (after : Objects) (uses : Bool) → status_of end ≢ 1
-    → Finishes end (λ _. ArePutHere (lines_of text) → Tells old new (λ written. PlaysSo (first_scene [] uses) text written after)) → ArePutHere (lines_of text) → Tells old new (IsPlayedSo uses text)
+    → Finishes end (λ _. ArePutHere (lines_of text) → TellsWhole old new (λ written. PlaysSo (first_scene [] uses) text written after)) → ArePutHere (lines_of text) → TellsWhole old new (IsPlayedSo uses text)
 so_of_run end old new text after uses fine run here =
     let told = has_told end _ fine run here in
     (told.0, told.1, (after, told.2))
@@ -144,13 +144,13 @@ no_other words c other replaying e not_one = let both = sym (ap is_script e) ∙
 
 -- what is written, put together
 pub written_of : (uses : Bool) (input : Option (List ℕ)) (is_short : Bool) (before after : Option (List ℕ))
-    → (is_short ≡ false → IfSome input (λ text. needs_world text ≡ false → Tells before after (IsTold [] text)))
+    → (is_short ≡ false → IfSome input (λ text. needs_world text ≡ false → TellsWhole before after (IsScriptTold [] text)))
     → (is_short ≡ false → IfSome input (λ text. needs_world text ≡ false → AreOfTable (lines_of text) → Appends before after (expected_by_table nothing text)))
     → (is_short ≡ false → IfSome input (λ text. needs_world text ≡ false → ArePutHere (lines_of text) → IsExpectedOver before after nothing [] (lines_of text)))
-    → (is_short ≡ true → IfSome input (λ text. needs_world text ≡ false → Tells before after (FallsShort 1 [] (lines_of text))))
-    → IfSome input (λ text. needs_world text ≡ false → Tells before after (MayBeTold [] text))
-    → IfSome input (λ text. needs_world text ≡ true → Tells before after (IsPlayedOver uses text))
-    → IfSome input (λ text. needs_world text ≡ true → ArePutHere (lines_of text) → Tells before after (IsPlayedSo uses text))
+    → (is_short ≡ true → IfSome input (λ text. needs_world text ≡ false → TellsWhole before after (FallsShort 1 [] (lines_of text))))
+    → IfSome input (λ text. needs_world text ≡ false → TellsWhole before after (MayBeTold [] text))
+    → IfSome input (λ text. needs_world text ≡ true → TellsWhole before after (IsPlayedOver uses text))
+    → IfSome input (λ text. needs_world text ≡ true → ArePutHere (lines_of text) → TellsWhole before after (IsPlayedSo uses text))
     → IfSome input (λ text. WritesScript uses text is_short before after)
 written_of uses None is_short before after told tables shown short tells plays headline = tt
 written_of uses (Some text) is_short before after told tables shown short tells plays headline = record {

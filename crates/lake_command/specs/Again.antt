@@ -21,8 +21,8 @@ use Rattle.lake_script.specs.Told.{not_yet}
 use Rattle.lake_script.specs.declared.reply.LineReply.{LineReply}
 use Rattle.lake_words.specs.Asked.{Work}
 use Rattle.lake_words.specs.Asked as words
-use Rattle.lake_command.specs.Failures.{IsLoading, IsOfInput, IsTaken}
-use Rattle.lake_command.specs.Folders.{IsAskedBy, IsNotYet, IsPutter, IsTextOf}
+use Rattle.lake_command.specs.Failures.{IsLoading, IsOfInput, IsCommitTaken}
+use Rattle.lake_command.specs.Folders.{IsAskedBy, IsNotYet, IsPutter, IsInputOf}
 use Rattle.lake_command.specs.Looks.{Looks}
 use Rattle.lake_command.specs.declared.failure.Failure.{Failure}
 use Rattle.lake_command.specs.declared.failure.Failure.TheVariants.{Loading, Saving}
@@ -66,12 +66,12 @@ tries_in _ = 1
 -- the folder, and made no file. The calls of the folder are those of these runs, and no others.
 pub data ComesOfRuns (work : Work) (text : List ℕ) (use_checkpoints : Bool) (old new : ℕ) : (tries : ℕ) → Result LineReply Failure → List FolderCall → Type 0 where
   last : (tries : ℕ) (statement : Statement) (outcome : Result LineReply Failure) (calls : List FolderCall) → IsAskedBy work (Some text) statement → IsRunOf use_checkpoints tries statement outcome calls
-      → (IsTaken outcome → (tries ≡ 1) ⊎ HasRisen old new) → ComesOfRuns work text use_checkpoints old new tries outcome calls
-  unreadable : (tries : ℕ) (statement : Statement) (outcome : Result LineReply Failure) (calls behind : List FolderCall) → 1 ≤ tries → IsAskedBy work (Some text) statement → IsRunOf use_checkpoints (suc tries) statement outcome calls → IsTaken outcome
+      → (IsCommitTaken outcome → (tries ≡ 1) ⊎ HasRisen old new) → ComesOfRuns work text use_checkpoints old new tries outcome calls
+  unreadable : (tries : ℕ) (statement : Statement) (outcome : Result LineReply Failure) (calls behind : List FolderCall) → 1 ≤ tries → IsAskedBy work (Some text) statement → IsRunOf use_checkpoints (suc tries) statement outcome calls → IsCommitTaken outcome
       → MakeNone behind → HasRisen old new → ComesOfRuns work text use_checkpoints old new (suc tries) outcome (calls ++ behind)
-  no_room : (tries : ℕ) (statement : Statement) (first : Result LineReply Failure) (calls behind : List FolderCall) → 1 ≤ tries → IsAskedBy work (Some text) statement → IsRunOf use_checkpoints (suc tries) statement first calls → IsTaken first
+  no_room : (tries : ℕ) (statement : Statement) (first : Result LineReply Failure) (calls behind : List FolderCall) → 1 ≤ tries → IsAskedBy work (Some text) statement → IsRunOf use_checkpoints (suc tries) statement first calls → IsCommitTaken first
       → MakeNone behind → ComesOfRuns work text use_checkpoints old new (suc tries) (Err (Saving saves.Memory)) (calls ++ behind)
-  again : (tries : ℕ) (statement : Statement) (first outcome : Result LineReply Failure) (calls more : List FolderCall) → 1 ≤ tries → IsAskedBy work (Some text) statement → IsRunOf use_checkpoints (suc tries) statement first calls → IsTaken first
+  again : (tries : ℕ) (statement : Statement) (first outcome : Result LineReply Failure) (calls more : List FolderCall) → 1 ≤ tries → IsAskedBy work (Some text) statement → IsRunOf use_checkpoints (suc tries) statement first calls → IsCommitTaken first
       → (IsErrAnd outcome (λ failure. IsLoading failure) → ⊥) → ComesOfRuns work text use_checkpoints old new tries outcome more → ComesOfRuns work text use_checkpoints old new (suc tries) outcome (calls ++ more)
 
 -- What came of a job over any folder, which had counted so many faults before it and so many behind it: its words or its input are
@@ -80,7 +80,7 @@ pub data ComesOfRuns (work : Work) (text : List ℕ) (use_checkpoints : Bool) (o
 pub data RanAsAsked (made : List FolderCall → Type 0) (work : Work) (known : Option (List ℕ)) (is_broken : Bool) (use_checkpoints : Bool) (old new : ℕ) : Result LineReply Failure → Type 0 where
   refused : (failure : Failure) → IsOfInput failure work known is_broken → RanAsAsked made work known is_broken use_checkpoints old new (Err failure)
   not_there : (reply : LineReply) → IsNotYet work → reply_text reply ≡ not_yet → RanAsAsked made work known is_broken use_checkpoints old new (Ok reply)
-  runs : (text : List ℕ) (outcome : Result LineReply Failure) (calls : List FolderCall) → IsTextOf work known text → made calls → ComesOfRuns work text use_checkpoints old new (tries_in work) outcome calls
+  runs : (text : List ℕ) (outcome : Result LineReply Failure) (calls : List FolderCall) → IsInputOf work known text → made calls → ComesOfRuns work text use_checkpoints old new (tries_in work) outcome calls
       → RanAsAsked made work known is_broken use_checkpoints old new outcome
-  looks : (text : List ℕ) (statement : Statement) (outcome : Result LineReply Failure) (calls : List FolderCall) → IsTextOf work known text → IsAskedBy work (Some text) statement → (IsPutter statement → ⊥) → IfErr outcome (λ failure. IsLoading failure) → made calls
+  looks : (text : List ℕ) (statement : Statement) (outcome : Result LineReply Failure) (calls : List FolderCall) → IsInputOf work known text → IsAskedBy work (Some text) statement → (IsPutter statement → ⊥) → IfErr outcome (λ failure. IsLoading failure) → made calls
       → Looks use_checkpoints statement outcome calls → RanAsAsked made work known is_broken use_checkpoints old new outcome

@@ -5,7 +5,7 @@ use Rattle.std.specs.Fmt.{decimal}
 use Rattle.std.specs.Io.KnownBytes.{Appends}
 use Rattle.outcomes.specs.Lines.{with_newline}
 use Rattle.folder_check.specs.declared.fault.CheckFault.{CheckFault}
-use Rattle.lake_script.specs.Streams.{held, write_failed, StandsIn}
+use Rattle.lake_script.specs.Streams.{held, write_failed, WritesFront}
 use Rattle.lake_script.specs.declared.outputs.Output.{Output}
 use Rattle.store_core.specs.Calls.{HasRisen}
 use Rattle.store_core.specs.Objects.{Objects}
@@ -44,25 +44,25 @@ abbrev pub IsOfTooLarge : (is_steady : Type 0) → Objects → List ℕ → Type
 IsOfTooLarge is_steady objects text = (name : List ℕ) × (text ≡ too_large_text name) × (is_steady → IsLargeFile objects name)
 
 -- A text for which this holds is told, with a status.
-abbrev pub IsTold : {W : Type 0} → (W → Option (List ℕ)) → (List ℕ → Type 0) → (status : ℕ) → (old new : Output W) → Exit → Type 0
-IsTold contents P status old new exit =
+abbrev pub IsToldWithStatus : {W : Type 0} → (W → Option (List ℕ)) → (List ℕ → Type 0) → (status : ℕ) → (old new : Output W) → Exit → Type 0
+IsToldWithStatus contents P status old new exit =
     (text : List ℕ) × P text × Appends (held contents old) (contents new.writer) text × (exit.status ≡ status)
 
 -- A text for which this holds isn't told, or not to its end: a write failed or a growth was refused, and the status is 1.
-abbrev pub IsCutShort : {W : Type 0} → (W → Option (List ℕ)) → (List ℕ → Type 0) → (old new : Output W) → Exit → Type 0
-IsCutShort contents P old new exit =
-    (text : List ℕ) × P text × StandsIn (held contents old) (contents new.writer) text
+abbrev pub IsTextCutShort : {W : Type 0} → (W → Option (List ℕ)) → (List ℕ → Type 0) → (old new : Output W) → Exit → Type 0
+IsTextCutShort contents P old new exit =
+    (text : List ℕ) × P text × WritesFront (held contents old) (contents new.writer) text
     × ((write_failed new ≡ true) ⊎ (exit.is_short ≡ true)) × (exit.status ≡ 1)
 
 -- a text for which this holds isn't told, or not to its end, as above; or no room was left for it, and nothing is told
 abbrev pub IsTextUntold : {W : Type 0} → (W → Option (List ℕ)) → (List ℕ → Type 0) → (old new : Output W) → Exit → Type 0
-IsTextUntold contents P old new exit = IsCutShort contents P old new exit ⊎ ((new ≡ old) × (exit.is_short ≡ true) × (exit.status ≡ 1))
+IsTextUntold contents P old new exit = IsTextCutShort contents P old new exit ⊎ ((new ≡ old) × (exit.is_short ≡ true) × (exit.status ≡ 1))
 
 -- A text of the first kind is told, or it isn't. On standard error stands one of the second kind, in front of it that the output
 -- couldn't be written where the first isn't told.
 abbrev pub IsTextTold : {W E : Type 0} → (W → Option (List ℕ)) → (E → Option (List ℕ)) → (P Q : List ℕ → Type 0) → (status : ℕ) → (old new : Output W) → (err_old err_new : ErrorOutput E) → Exit → Type 0
 IsTextTold contents contents_err P Q status old new err_old err_new exit =
-    (IsTold contents P status old new exit × TellsSome contents_err Q err_old err_new)
+    (IsToldWithStatus contents P status old new exit × TellsSome contents_err Q err_old err_new)
     ⊎ (IsTextUntold contents P old new exit × TellsSome contents_err (AreInTurn IsUnwrittenTold Q) err_old err_new)
 
 -- nothing is told
@@ -90,8 +90,8 @@ IsUnjudged contents contents_err is_steady objects faults_old faults_new old new
     ⊎ ((new ≡ old) × (exit.status ≡ 1) × (HasRisen faults_old faults_new ⊎ (exit.is_short ≡ true))
     × ((fault : LoadFault) × TellsSome contents_err (IsFailureTold (Loading fault)) err_old err_new))
 
-abbrev pub Checks : {W E : Type 0} → (W → Option (List ℕ)) → (E → Option (List ℕ)) → (is_steady : Type 0) → Objects → (faults_old faults_new : ℕ) → (old new : Output W) → (err_old err_new : ErrorOutput E) → Exit → Type 0
-Checks contents contents_err is_steady objects faults_old faults_new old new err_old err_new exit =
+abbrev pub TellsCheck : {W E : Type 0} → (W → Option (List ℕ)) → (E → Option (List ℕ)) → (is_steady : Type 0) → Objects → (faults_old faults_new : ℕ) → (old new : Output W) → (err_old err_new : ErrorOutput E) → Exit → Type 0
+TellsCheck contents contents_err is_steady objects faults_old faults_new old new err_old err_new exit =
     IsJudged contents contents_err is_steady objects old new err_old err_new exit ⊎ IsUnjudged contents contents_err is_steady objects faults_old faults_new old new err_old err_new exit
 
 -- Of a folder of that path on the disk it isn't said what it holds; its faults were counted from none on. Or memory ran out for
@@ -99,4 +99,4 @@ Checks contents contents_err is_steady objects faults_old faults_new old new err
 abbrev pub ChecksDisk : {W E F : Type 0} → (W → Option (List ℕ)) → (E → Option (List ℕ)) → (path_of : F → List ℕ) → (count_of : F → ℕ) → (path : List ℕ) → (old new : Output W) → (err_old err_new : ErrorOutput E) → Exit → Type 0
 ChecksDisk {W} {E} {F} contents contents_err path_of count_of path old new err_old err_new exit =
     ((new ≡ old) × (exit.status ≡ 1) × (exit.is_short ≡ true))
-    ⊎ ((folder : F) × (faults : ℕ) × (path_of folder ≡ path) × (count_of folder ≡ 0) × Checks contents contents_err ⊥ [] (count_of folder) faults old new err_old err_new exit)
+    ⊎ ((folder : F) × (faults : ℕ) × (path_of folder ≡ path) × (count_of folder ≡ 0) × TellsCheck contents contents_err ⊥ [] (count_of folder) faults old new err_old err_new exit)

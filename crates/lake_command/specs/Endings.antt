@@ -5,14 +5,14 @@ use Rattle.store_core.specs.Objects.{Objects}
 use Rattle.table_folder.specs.Traces.{FolderCall, Traced}
 use Rattle.lake_script.specs.ReplyView as replies
 use Rattle.lake_script.specs.ReplyView.{reply_text}
-use Rattle.lake_script.specs.Streams.{held, write_failed, StandsIn}
+use Rattle.lake_script.specs.Streams.{held, write_failed, WritesFront}
 use Rattle.lake_script.specs.declared.inputs.TheConstants.{MOST_READS}
 use Rattle.lake_script.specs.declared.outputs.Output.{Output}
 use Rattle.lake_script.specs.declared.outputs.OutputError.{OutputError}
 use Rattle.lake_script.specs.declared.outputs.OutputError.TheVariants as outputs
 use Rattle.lake_script.specs.declared.reply.LineReply.{LineReply}
 use Rattle.lake_words.specs.Asked.{Work}
-use Rattle.lake_hints.specs.ErrorOutputs.{Tells, TellsSome}
+use Rattle.lake_hints.specs.ErrorOutputs.{TellsText, TellsSome}
 use Rattle.lake_hints.specs.Rowless.{creates_rowless}
 use Rattle.lake_hints.specs.declared.error_output.ErrorOutput.{ErrorOutput}
 use Rattle.lake_command.specs.Again.{RanAsAsked}
@@ -46,7 +46,7 @@ status_of_outcome work (Err failure) = status_of_failure failure
 
 -- a growth was refused, or an object would pass 64 MiB
 abbrev pub is_short_outcome : Result LineReply Failure → Bool
-is_short_outcome (Ok reply) = replies.is_short reply
+is_short_outcome (Ok reply) = replies.is_short_reply reply
 is_short_outcome (Err failure) = is_want_of_memory failure
 
 -- Something may be told on standard error beside a text that is told where replies go: of a refusal what it means, of a bad
@@ -59,13 +59,13 @@ is_explained work (Err _) = false
 
 -- With a text: it is on the output, behind what was there, and standard error is as it was unless something is told
 -- there. Without one the output is as it was.
-abbrev pub IsWritten : {W E : Type 0} → (W → Option (List ℕ)) → Option (List ℕ) → (is_explained : Bool) → (old new : Output W) → (err_old err_new : ErrorOutput E) → Type 0
-IsWritten contents (Some text) is_explained old new err_old err_new = Appends (held contents old) (contents new.writer) text × (is_explained ≡ false → err_new ≡ err_old)
-IsWritten contents None is_explained old new err_old err_new = new ≡ old
+abbrev pub IsTextWritten : {W E : Type 0} → (W → Option (List ℕ)) → Option (List ℕ) → (is_explained : Bool) → (old new : Output W) → (err_old err_new : ErrorOutput E) → Type 0
+IsTextWritten contents (Some text) is_explained old new err_old err_new = Appends (held contents old) (contents new.writer) text × (is_explained ≡ false → err_new ≡ err_old)
+IsTextWritten contents None is_explained old new err_old err_new = new ≡ old
 
 -- What came of a job, which had so many rows, is told on both outputs, and the status is its own.
 pub record IsToldWhole {W E : Type 0} (contents : W → Option (List ℕ)) (contents_err : E → Option (List ℕ)) (work : Work) (rows : ℕ) (outcome : Result LineReply Failure) (old new : Output W) (err_old err_new : ErrorOutput E) (exit : Exit) : Type 0 where
-  pub written : IsWritten contents (output_of outcome) (is_explained work outcome) old new err_old err_new
+  pub written : IsTextWritten contents (output_of outcome) (is_explained work outcome) old new err_old err_new
   pub err_told : TellsSome contents_err (IsErrText work rows outcome) err_old err_new
   pub status : exit.status ≡ status_of_outcome work outcome
   pub short : exit.is_short ≡ is_short_outcome outcome
@@ -75,7 +75,7 @@ pub record IsToldWhole {W E : Type 0} (contents : W → Option (List ℕ)) (cont
 pub record IsUntold {W E : Type 0} (contents : W → Option (List ℕ)) (contents_err : E → Option (List ℕ)) (outcome : Result LineReply Failure) (old new : Output W) (err_old err_new : ErrorOutput E) (exit : Exit) : Type 0 where
   pub text : List ℕ
   pub meant : output_of outcome ≡ Some text
-  pub front : StandsIn (held contents old) (contents new.writer) text
+  pub front : WritesFront (held contents old) (contents new.writer) text
   pub err_told : TellsSome contents_err IsUnwrittenTold err_old err_new
   pub cause : (write_failed new ≡ true) ⊎ (exit.is_short ≡ true)
   pub status : exit.status ≡ 1
@@ -86,19 +86,19 @@ EndsWith contents contents_err work rows outcome old new err_old err_new exit =
 
 -- the line of a failure is told where it belongs
 pub record IsLineTold {W E : Type 0} (contents : W → Option (List ℕ)) (contents_err : E → Option (List ℕ)) (failure : Failure) (old new : Output W) (err_old err_new : ErrorOutput E) : Type 0 where
-  pub written : IsWritten contents (output_of (Err failure)) true old new err_old err_new
-  pub err_told : Tells contents_err err_old err_new (failure_line failure)
+  pub written : IsTextWritten contents (output_of (Err failure)) true old new err_old err_new
+  pub err_told : TellsText contents_err err_old err_new (failure_line failure)
 
 -- or not to its end on the output, where it is told
 pub record IsLineUntold {W E : Type 0} (contents : W → Option (List ℕ)) (failure : Failure) (old new : Output W) (err_old err_new : ErrorOutput E) : Type 0 where
   pub meant : output_of (Err failure) ≡ Some (with_newline (failure_text failure))
-  pub front : StandsIn (held contents old) (contents new.writer) (with_newline (failure_text failure))
+  pub front : WritesFront (held contents old) (contents new.writer) (with_newline (failure_text failure))
   pub silent : err_new ≡ err_old
 
 -- a growth was refused
-abbrev pub is_memory : OutputError → Bool
-is_memory outputs.Memory = true
-is_memory outputs.Broken = false
+abbrev pub is_growth_refused : OutputError → Bool
+is_growth_refused outputs.Memory = true
+is_growth_refused outputs.Broken = false
 
 -- The status is that of words or of an input that can't be read, unless a read or a write failed, the input may have taken
 -- too many reads, or memory ran out.

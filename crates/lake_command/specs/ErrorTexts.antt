@@ -3,7 +3,7 @@ use Rattle.std.specs.Prelude.{◌≡◌, ◌⊎◌, ◌++◌, ℕ, Bool, true, f
 use Rattle.outcomes.specs.Lines.{with_newline}
 use Rattle.commit_core.specs.Texts.{refused}
 use Rattle.folder_check.specs.Beside.{AreBeside}
-use Rattle.folder_check.specs.Faults.{TellsNoFile, check_text}
+use Rattle.folder_check.specs.Faults.{CheckTellsNoFile, check_text}
 use Rattle.folder_check.specs.declared.fault.CheckFault.{CheckFault}
 use Rattle.json_lines.specs.FlawTexts.{flaw_text}
 use Rattle.store_core.specs.Objects.{Objects}
@@ -17,7 +17,7 @@ use Rattle.lake_script.specs.declared.faults.Fault.{Fault}
 use Rattle.lake_script.specs.declared.faults.Fault.TheVariants as faults
 use Rattle.lake_script.specs.declared.reply.LineReply.{LineReply}
 use Rattle.lake_words.specs.Asked.{Work}
-use Rattle.lake_hints.specs.ErrorOutputs.{AreInTurn, IsBehind}
+use Rattle.lake_hints.specs.ErrorOutputs.{AreInTurn, IsTextBehind}
 use Rattle.lake_hints.specs.Hints.{IsBadLineHint, IsRefusalHint, hint_of}
 use Rattle.lake_hints.specs.Meanings.{IsMeaning, IsMeaningOf}
 use Rattle.lake_hints.specs.Rowless.{IsRowlessNote, creates_rowless}
@@ -51,7 +51,7 @@ failure_hint failure = []
 
 -- of a failure: its line, what its code means, and what more there is to say
 abbrev pub IsFailureTold : Failure → List ℕ → Type 0
-IsFailureTold failure = IsBehind (failure_line failure) (AreInTurn (IsMeaningIn (code_in failure)) (λ hint. hint ≡ failure_hint failure))
+IsFailureTold failure = IsTextBehind (failure_line failure) (AreInTurn (IsMeaningIn (code_in failure)) (λ hint. hint ≡ failure_hint failure))
 
 -- Of a reply to a job, which had so many rows: where it refuses the job what it means, and which limit was passed or how the
 -- schema is none; else at most that the table takes no rows.
@@ -66,7 +66,7 @@ IsErrText work rows (Err failure) = IsFailureTold failure
 
 -- of a fault of the program itself, with this code: its line, and what the code means
 abbrev pub IsFaultTold : Fault → (code : List ℕ) → List ℕ → Type 0
-IsFaultTold fault code = IsBehind (with_newline (refused (fault_text fault))) (IsMeaning code)
+IsFaultTold fault code = IsTextBehind (with_newline (refused (fault_text fault))) (IsMeaning code)
 
 -- the output couldn't be written
 abbrev pub IsUnwrittenTold : List ℕ → Type 0
@@ -91,10 +91,10 @@ lines_text (line ∷ lines) = with_newline line ++ lines_text lines
 
 -- that what lies beside a table can't be told, and why
 abbrev pub IsBesideFault : CheckFault → List ℕ → Type 0
-IsBesideFault fault = IsBehind (with_newline (refused (check_text fault))) (IsMeaning (codes "F1"))
+IsBesideFault fault = IsTextBehind (with_newline (refused (check_text fault))) (IsMeaning (codes "F1"))
 
 -- What lies beside the table, a line each, over a steady folder all of it and nothing else; or why it can't be told.
 abbrev pub IsBesideTold : (is_steady : Type 0) → Objects → List ℕ → Type 0
 IsBesideTold is_steady objects text =
     ((lines : List (List ℕ)) × (is_steady → AreBeside objects lines) × (text ≡ lines_text lines))
-    ⊎ ((fault : CheckFault) × TellsNoFile fault × IsBesideFault fault text)
+    ⊎ ((fault : CheckFault) × CheckTellsNoFile fault × IsBesideFault fault text)

@@ -4,7 +4,7 @@ use Rattle.std.specs.Io.KnownBytes.{Appends}
 use Rattle.outcomes.specs.Lines.{with_newline}
 use Rattle.lake_script.specs.Streams.{held, write_failed}
 use Rattle.lake_script.specs.declared.outputs.Output.{Output}
-use Rattle.lake_hints.specs.ErrorOutputs.{Tells, TellsSome}
+use Rattle.lake_hints.specs.ErrorOutputs.{TellsText, TellsSome}
 use Rattle.lake_hints.specs.declared.error_output.ErrorOutput.{ErrorOutput}
 use Rattle.refusal_texts.specs.Codes.{has_entry}
 use Rattle.refusal_texts.specs.Texts.{refusal_text}
@@ -23,7 +23,7 @@ pub record TellsEntry {W : Type 0} (contents : W → Option (List ℕ)) (code : 
 pub record TellsNone {W E : Type 0} (contents_err : E → Option (List ℕ)) (code : List ℕ) (old new : Output W) (err_old err_new : ErrorOutput E) (exit : Exit) : Type 0 where
   pub unlisted : has_entry code ≡ false
   pub untouched : new ≡ old
-  pub told : Tells contents_err err_old err_new (with_newline (codes "error: no refusal has the code '" ++ (code ++ codes "'")))
+  pub told : TellsText contents_err err_old err_new (with_newline (codes "error: no refusal has the code '" ++ (code ++ codes "'")))
   pub status : exit.status ≡ 2
 
 -- One of both, and where the entry is told standard error is as it was; or a growth was refused or a write failed, which is told

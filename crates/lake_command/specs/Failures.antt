@@ -55,11 +55,11 @@ IsLoading (Loading fault) = Unit {0}
 IsLoading _ = ⊥
 
 -- the commit timestamp of a creation or an append, in milliseconds; 0 for other jobs
-abbrev pub moment_of : Work → ℕ
-moment_of (words.create id schema at) = at
-moment_of (words.append application number at tries rows) = at
-moment_of (words.close application at tries) = at
-moment_of _ = 0
+abbrev pub moment_of_work : Work → ℕ
+moment_of_work (words.create id schema at) = at
+moment_of_work (words.append application number at tries rows) = at
+moment_of_work (words.close application at tries) = at
+moment_of_work _ = 0
 
 -- a job that is there asks for something; an append does where each line of its text, if that is known, is an object
 abbrev pub AsksSomething : Work → (text : Option (List ℕ)) → Type 0
@@ -70,7 +70,7 @@ AsksSomething work text = (statement : Statement) × IsAskedBy work text stateme
 -- another count of lines than the words say, or no memory for the input or its rows. Of a text that isn't known nothing is
 -- asked.
 abbrev pub IsOfInput : Failure → Work → (text : Option (List ℕ)) → (is_broken : Bool) → Type 0
-IsOfInput Misused work text is_broken = 999_999_999_999_999 < moment_of work
+IsOfInput Misused work text is_broken = 999_999_999_999_999 < moment_of_work work
 IsOfInput NotRead work text is_broken = (reads_input work ≡ true) × ((is_broken ≡ true) ⊎ IfSome text (λ bytes. MOST_READS ≤ length bytes))
 IsOfInput (BadLine number flaw) work text is_broken = (reads_input work ≡ true) × IfSome text (λ bytes. IsFirstBadLine bytes number)
 IsOfInput (Miscounted rows found) work text is_broken = (rows_said work ≡ Some rows) × (found ≢ rows) × IfSome text (λ bytes. length (input_lines bytes) ≡ found)
@@ -136,11 +136,11 @@ NamesPut (Saving (saves.NotSaved name reason)) statement old = LinePutsUnder sta
 NamesPut _ statement old = Unit {0}
 
 -- saving is refused, since a commit's name is taken
-abbrev pub IsTaken : {X : Type 0} → Result X Failure → Type 0
-IsTaken (Err (Saving (saves.NotSaved name reason))) = (reason ≡ Taken) × IsTrue (is_commit (string_bytes name))
-IsTaken _ = ⊥
+abbrev pub IsCommitTaken : {X : Type 0} → Result X Failure → Type 0
+IsCommitTaken (Err (Saving (saves.NotSaved name reason))) = (reason ≡ Taken) × IsTrue (is_commit (string_bytes name))
+IsCommitTaken _ = ⊥
 
 -- nobody else takes a name in a steady folder: a file that isn't saved comes of a call that failed
-abbrev pub ComesOfACall : {X : Type 0} → Result X Failure → (old new : ℕ) → Type 0
-ComesOfACall (Err (Saving (saves.NotSaved name reason))) old new = HasRisen old new
-ComesOfACall _ old new = Unit {0}
+abbrev pub FailureComesOfACall : {X : Type 0} → Result X Failure → (old new : ℕ) → Type 0
+FailureComesOfACall (Err (Saving (saves.NotSaved name reason))) old new = HasRisen old new
+FailureComesOfACall _ old new = Unit {0}

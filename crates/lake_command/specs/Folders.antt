@@ -28,8 +28,8 @@ reads_input (words.append application number at tries rows) = true
 reads_input _ = false
 
 -- the bytes that a job reads, where the reader tells them; of a job that reads none nothing is asked
-abbrev pub IsTextOf : Work → (known : Option (List ℕ)) → (bytes : List ℕ) → Type 0
-IsTextOf work known bytes = reads_input work ≡ true → IfSome known (λ text. bytes ≡ text)
+abbrev pub IsInputOf : Work → (known : Option (List ℕ)) → (bytes : List ℕ) → Type 0
+IsInputOf work known bytes = reads_input work ≡ true → IfSome known (λ text. bytes ≡ text)
 
 -- how many rows an append's input has, where its words say so
 abbrev pub rows_said : Work → Option ℕ

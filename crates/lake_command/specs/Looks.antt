@@ -10,7 +10,7 @@ use Rattle.log_rows.specs.declared.tail_fault.TailFault.{TailFault}
 use Rattle.log_rows.specs.declared.tail_fault.TailFault.TheVariants as tails
 use Rattle.snapshot_core.specs.declared.fault.SnapshotFault.{SnapshotFault}
 use Rattle.folder_session.specs.Snapshots.{TellsBy}
-use Rattle.folder_session.specs.Tails.{Tails}
+use Rattle.folder_session.specs.Tails.{TailsFolder}
 use Rattle.script_lines.specs.Lines.{Statement, history, look, snapshot, tail, task}
 use Rattle.lake_script.specs.ReplyView.{reply_text}
 use Rattle.lake_script.specs.Runs.{no_room_to_read}
@@ -28,18 +28,18 @@ IsReadTold told reply =
 
 -- A `tail` was told as a read was that just these calls made, or the file that couldn't be read.
 abbrev pub LooksForRows : (use_checkpoints : Bool) → (max : ℕ) → (offset : List ℕ) → Result LineReply Failure → List FolderCall → Type 0
-LooksForRows use_checkpoints max offset (Ok reply) calls = (told : Result (Vec ℕ Global) TailFault) × Tails use_checkpoints max offset (Ok told) calls × IsReadTold told (reply_text reply)
-LooksForRows use_checkpoints max offset (Err (Loading fault)) calls = Tails use_checkpoints max offset (Err fault) calls
+LooksForRows use_checkpoints max offset (Ok reply) calls = (told : Result (Vec ℕ Global) TailFault) × TailsFolder use_checkpoints max offset (Ok told) calls × IsReadTold told (reply_text reply)
+LooksForRows use_checkpoints max offset (Err (Loading fault)) calls = TailsFolder use_checkpoints max offset (Err fault) calls
 LooksForRows use_checkpoints max offset (Err failure) calls = ⊥
 
 -- the reply to a snapshot that was told
-abbrev pub snapshot_reply : Result (Vec ℕ Global) SnapshotFault → List ℕ
-snapshot_reply (Ok text) = text.items
-snapshot_reply (Err fault) = reply_text (NoSnapshot fault)
+abbrev pub told_snapshot_reply : Result (Vec ℕ Global) SnapshotFault → List ℕ
+told_snapshot_reply (Ok text) = text.items
+told_snapshot_reply (Err fault) = reply_text (NoSnapshot fault)
 
 -- A `snapshot` was told as a load was that just these calls made; or the folder couldn't be read.
 abbrev pub LooksForSnapshot : (use_checkpoints : Bool) → Result LineReply Failure → List FolderCall → Type 0
-LooksForSnapshot use_checkpoints (Ok reply) calls = (told : Result (Vec ℕ Global) SnapshotFault) × TellsBy use_checkpoints told calls × (reply_text reply ≡ snapshot_reply told)
+LooksForSnapshot use_checkpoints (Ok reply) calls = (told : Result (Vec ℕ Global) SnapshotFault) × TellsBy use_checkpoints told calls × (reply_text reply ≡ told_snapshot_reply told)
 LooksForSnapshot use_checkpoints (Err failure) calls = IsLoading failure × MakeNone calls
 
 -- For a `history` just these calls loaded the files of the log; or one of them couldn't be read.

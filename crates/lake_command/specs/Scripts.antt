@@ -5,10 +5,10 @@ use Rattle.delta_actions.specs.Commit.{lines_of}
 use Rattle.store_core.specs.Objects.{Objects}
 use Rattle.lake_words.specs.declared.command.Command.{Command}
 use Rattle.lake_words.specs.declared.command.Command.TheVariants as commands
-use Rattle.lake_script.specs.Runs.{FallsShort, MayBeTold, Tells}
+use Rattle.lake_script.specs.Runs.{FallsShort, MayBeTold, TellsWhole}
 use Rattle.lake_script.specs.Scripts.{IsExpectedOver}
-use Rattle.lake_script.specs.Tables.{nothing, expected_output as expected_by_table, AreOfTable}
-use Rattle.lake_script.specs.Told.{ArePutHere, IsTold}
+use Rattle.lake_script.specs.Tables.{nothing, table_expected_output as expected_by_table, AreOfTable}
+use Rattle.lake_script.specs.Told.{ArePutHere, IsScriptTold}
 use Rattle.world_script.specs.Playing.{PlaysSo, PlaysText}
 use Rattle.world_script.specs.Scenes.{first_scene}
 use Rattle.world_script.specs.Words.{needs_world}
@@ -30,18 +30,18 @@ IsPlayedSo use_checkpoints text written = (objects : Objects) × PlaysSo (first_
 pub record WritesScript (use_checkpoints : Bool) (text : List ℕ) (is_short : Bool) (before after : Option (List ℕ)) : Type 0 where
   -- Without actors it is what is told, for some texts that the schemas of its lines are printed as, its checkpoints and its
   -- snapshots; the lines that met a refused growth are told so.
-  pub told : needs_world text ≡ false → is_short ≡ false → Tells before after (IsTold [] text)
+  pub told : needs_world text ≡ false → is_short ≡ false → TellsWhole before after (IsScriptTold [] text)
   -- Where no line shows an object, tells the snapshot or puts another tool's commit, that is what the plain table tells.
   pub tables : needs_world text ≡ false → is_short ≡ false → AreOfTable (lines_of text) → Appends before after (expected_by_table nothing text)
   -- Where none puts another tool's commit, that is what the plain table tells, but for what is shown.
   pub shown : needs_world text ≡ false → is_short ≡ false → ArePutHere (lines_of text) → IsExpectedOver before after nothing [] (lines_of text)
   -- It is short only where a reply that is written tells so.
-  pub short : needs_world text ≡ false → is_short ≡ true → Tells before after (FallsShort 1 [] (lines_of text))
-  pub tells : needs_world text ≡ false → Tells before after (MayBeTold [] text)
+  pub short : needs_world text ≡ false → is_short ≡ true → TellsWhole before after (FallsShort 1 [] (lines_of text))
+  pub tells : needs_world text ≡ false → TellsWhole before after (MayBeTold [] text)
   -- Where it has actors, each of its lines does what it asks for in a world, and is told that.
-  pub plays : needs_world text ≡ true → Tells before after (IsPlayedOver use_checkpoints text)
+  pub plays : needs_world text ≡ true → TellsWhole before after (IsPlayedOver use_checkpoints text)
   -- Where none of them puts another tool's commit, what is told there is so of the table that stands then: each batch that
   -- was acknowledged stands in the log once, every batch at most once and as submitted, each application's in rising number
   -- and none after its close; and what a reader was handed that resumes at its last offset is exactly the log's rows up to
   -- that offset, once each, in log order.
-  pub headline : needs_world text ≡ true → ArePutHere (lines_of text) → Tells before after (IsPlayedSo use_checkpoints text)
+  pub headline : needs_world text ≡ true → ArePutHere (lines_of text) → TellsWhole before after (IsPlayedSo use_checkpoints text)

@@ -11,10 +11,10 @@ ghost use Rattle.lake_script.specs.ReplyView.{reply_text};
 ghost use Rattle.lake_script.specs.Streams.{read_failed, unread};
 ghost use Rattle.lake_command.specs.Again.{ComesOfRuns, IsRunOf, RanAsAsked, tries_in};
 ghost use Rattle.lake_command.specs.Counts.{rows_at_hand};
-ghost use Rattle.lake_command.specs.Failures.{ComesOfACall, CountsFolderFault, IsByFolder, IsCaused, IsLoading, IsNotRead, IsOfInput, IsTaken, Leaves};
+ghost use Rattle.lake_command.specs.Failures.{FailureComesOfACall, CountsFolderFault, IsByFolder, IsCaused, IsLoading, IsNotRead, IsOfInput, IsCommitTaken, Leaves};
 ghost use Rattle.lake_script.specs.Told.{not_yet};
 ghost use Rattle.lake_script.specs.declared.inputs.TheConstants.{MOST_BYTES};
-ghost use Rattle.lake_command.specs.Folders.{IsJobAnswer, IsAskedBy, IsMiscounted, IsNotYet, IsPutter, IsTextOf, JobMayLeave, line_view, reads_input};
+ghost use Rattle.lake_command.specs.Folders.{IsJobAnswer, IsAskedBy, IsMiscounted, IsNotYet, IsPutter, IsInputOf, JobMayLeave, line_view, reads_input};
 
 use crate::Failure;
 use crate::job_line::JobLine;
@@ -56,7 +56,7 @@ pub fn answer<F: Folder, R: Read>(
         → IfErr result (λ failure. Leaves failure (work_view command.entry.job) (unread R.remaining input.old)
         (F.objects folder.old) (F.objects folder.new)) }
     ensures alone { F.is_steady folder.old → RestoresWell command.entry.use_checkpoints (F.objects folder.old)
-        → ComesOfACall result (F.fault_count folder.old) (F.fault_count folder.new) }
+        → FailureComesOfACall result (F.fault_count folder.old) (F.fault_count folder.new) }
     // However it ends, such a folder holds what it had, or what the job may put, well made: all of it, or its data file
     // alone.
     ensures puts { F.is_steady folder.old → RestoresWell command.entry.use_checkpoints (F.objects folder.old)
@@ -116,7 +116,7 @@ fn run_again<F: Folder>(
     tries: u64,
     refused: Result<LineReply, Failure>,
 ) -> Result<LineReply, Failure>
-    requires taken { IsTaken refused }
+    requires taken { IsCommitTaken refused }
     requires puts { (statement : Statement) × IsAskedBy (work_view command.job) (Some text.now) statement × IsPutter statement }
     requires tries { tries ≡ tries_in (work_view command.job) }
     requires some { 1 ≤ tries }
@@ -159,17 +159,17 @@ fn run_again<F: Folder>(
 /// Whether a job is to be run again: saving was refused since a commit's name is taken, and no call of the folder
 /// failed between two counts of its faults.
 fn is_lost_race(outcome: &Result<LineReply, Failure>, before: u64, after: u64) -> bool
-    ensures taken { result ≡ true → IsTaken outcome.now }
+    ensures taken { result ≡ true → IsCommitTaken outcome.now }
     ensures same { result ≡ true → after ≡ before }
     ensures none { result ≡ true → HasRisen before after → ⊥ }
-    ensures failed { result ≡ false → IsTaken outcome.now → after ≡ before → HasRisen before after }
+    ensures failed { result ≡ false → IsCommitTaken outcome.now → after ≡ before → HasRisen before after }
 {
     is_taken(outcome) && none_failed(before, after)
 }
 
 /// Whether saving was refused since a commit's name is taken.
 fn is_taken(outcome: &Result<LineReply, Failure>) -> bool
-    ensures { IsTrue result ↔ IsTaken outcome.now }
+    ensures { IsTrue result ↔ IsCommitTaken outcome.now }
 {
     match outcome {
         Err(
@@ -237,7 +237,7 @@ fn count_rows(line: &JobLine<'_>) -> u64
 /// The text that a job reads to its end: that of an append's rows, once its moment is one that a commit may have.
 /// Another job leaves the input alone.
 fn text_for<R: Read>(alloc: Global, job: &Job<'_>, input: &mut Input<R>) -> Result<Vec<u8>, Failure>
-    ensures read { IfOk result (λ text. IsTextOf (work_view job.now) (unread R.remaining input.old) text.items) }
+    ensures read { IfOk result (λ text. IsInputOf (work_view job.now) (unread R.remaining input.old) text.items) }
     ensures broken { reads_input (work_view job.now) ≡ true → read_failed input.new ≡ true → IsNotRead result }
     ensures too_long { reads_input (work_view job.now) ≡ true
         → IfSome (unread R.remaining input.old) (λ text. MOST_BYTES < length text → IsNotRead result) }
@@ -258,12 +258,12 @@ fn text_for<R: Read>(alloc: Global, job: &Job<'_>, input: &mut Input<R>) -> Resu
 /// The line of a script that asks for the same, of an append with the rows of this text, or `None` for what isn't there
 /// yet. Takes time linear in the text.
 fn line_for<'a>(alloc: Global, job: Job<'a>, text: &'a [u8]) -> Result<Option<JobLine<'a>>, Failure>
-    ensures asked { (known : Option (List ℕ)) → IsTextOf (work_view job.entry) known text.now
+    ensures asked { (known : Option (List ℕ)) → IsInputOf (work_view job.entry) known text.now
         → IfOk result (λ found. IfSome found (λ line. IsAskedBy (work_view job.entry) known (line_view line))) }
     ensures timely { IfOk result (λ found. IfSome found (λ line. IsTimely (line_view line))) }
     ensures not_yet { IsNotYet (work_view job.entry) → result ≡ Ok None }
     ensures later { result ≡ Ok None → IsNotYet (work_view job.entry) }
-    ensures failed { (known : Option (List ℕ)) (is_broken : Bool) → IsTextOf (work_view job.entry) known text.now
+    ensures failed { (known : Option (List ℕ)) (is_broken : Bool) → IsInputOf (work_view job.entry) known text.now
         → IfErr result (λ failure. IsOfInput failure (work_view job.entry) known is_broken) }
 {
     let line = match job {

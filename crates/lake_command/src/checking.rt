@@ -2,10 +2,10 @@
 ghost use Rattle.std.specs.Prelude.{◌≡◌, Err, IfOk, OnErr, OnOk, codes, map, true};
 ghost use Rattle.std.specs.Io.KnownBytes.{Appends};
 ghost use Rattle.std.specs.String.{string_bytes};
-ghost use Rattle.lake_script.specs.Streams.{held, write_failed, StandsIn};
-ghost use Rattle.lake_hints.specs.ErrorOutputs.{Tells, TellsSome};
+ghost use Rattle.lake_script.specs.Streams.{held, write_failed, WritesFront};
+ghost use Rattle.lake_hints.specs.ErrorOutputs.{TellsText, TellsSome};
 ghost use Rattle.lake_hints.specs.Meanings.{IsMeaning};
-ghost use Rattle.lake_command.specs.Checks.{Checks, IsBeside, IsNothing, IsOfVerdict, IsTextTold, status_of_verdict, too_large_text};
+ghost use Rattle.lake_command.specs.Checks.{TellsCheck, IsBeside, IsNothing, IsOfVerdict, IsTextTold, status_of_verdict, too_large_text};
 ghost use Rattle.lake_command.specs.ErrorTexts.{IsBesideFault, lines_text};
 
 use crate::exit::{DONE, Exit, REFUSED};
@@ -31,7 +31,7 @@ pub fn check_command<F: Folder, P: Progress, W: Write, E: Write>(
 ) -> Exit
     // The verdict is told, over a steady folder that of its files, and on standard error what lies beside the table; or
     // there is a reason why none is, which is told. A data file that is told as too large is, over a steady folder.
-    ensures ended { Checks W.contents E.contents (F.is_steady reader.old.folder) (F.objects reader.old.folder)
+    ensures ended { TellsCheck W.contents E.contents (F.is_steady reader.old.folder) (F.objects reader.old.folder)
         (F.fault_count reader.old.folder) (F.fault_count reader.new.folder) output.old output.new err.old err.new result }
     ensures untouched { F.is_steady reader.old.folder → F.objects reader.new.folder ≡ F.objects reader.old.folder }
     ensures steady { F.is_steady reader.old.folder → F.is_steady reader.new.folder }
@@ -150,7 +150,7 @@ fn tell_text<W: Write, E: Write>(
 /// Gives a text and writes it.
 fn give_text<W: Write>(text: &str, output: &mut Output<W>) -> Result<(), OutputError>
     ensures told { OnOk result (Appends (held W.contents output.old) (W.contents output.new.writer) text.now) }
-    ensures front { OnErr result (StandsIn (held W.contents output.old) (W.contents output.new.writer) text.now) }
+    ensures front { OnErr result (WritesFront (held W.contents output.old) (W.contents output.new.writer) text.now) }
     ensures broken { result ≡ Err OutputError.Broken → write_failed output.new ≡ true }
 {
     output.show(text.as_bytes())?;
@@ -169,7 +169,7 @@ fn tell_beside<E: Write>(beside: &Result<Vec<String>, CheckFault>, err: &mut Err
 
 /// Tells lines.
 fn tell_lines<E: Write>(lines: &[String], err: &mut ErrorOutput<E>)
-    ensures { Tells E.contents err.old err.new (lines_text (map string_bytes lines.now)) }
+    ensures { TellsText E.contents err.old err.new (lines_text (map string_bytes lines.now)) }
 {
     for line in lines {
         err.say(line);

@@ -7,7 +7,7 @@ ghost use Rattle.script_lines.specs.Lines.{history, look, snapshot, task, tail, 
 ghost use Rattle.lake_script.specs.ReplyView.{reply_text};
 ghost use Rattle.lake_script.specs.Runs.{Executes};
 ghost use Rattle.lake_command.specs.Again.{IsRunOf};
-ghost use Rattle.lake_command.specs.Failures.{ComesOfACall, CountsFolderFault, IsByFolder, IsLoading, IsOfFolder, NamesPut};
+ghost use Rattle.lake_command.specs.Failures.{FailureComesOfACall, CountsFolderFault, IsByFolder, IsLoading, IsOfFolder, NamesPut};
 ghost use Rattle.lake_command.specs.Folders.{IsPutter, LineMayLeave, line_view};
 ghost use Rattle.lake_command.specs.Looks.{Looks, LooksForHistory, LooksForRows, LooksForSnapshot};
 
@@ -40,7 +40,7 @@ pub(crate) fn execute_in<F: Folder>(
     ensures named { F.is_steady folder.old → RestoresWell use_checkpoints (F.objects folder.old)
         → IfErr result (λ failure. NamesPut failure (line_view line.entry) (F.objects folder.old)) }
     ensures alone { F.is_steady folder.old → RestoresWell use_checkpoints (F.objects folder.old)
-        → ComesOfACall result (F.fault_count folder.old) (F.fault_count folder.new) }
+        → FailureComesOfACall result (F.fault_count folder.old) (F.fault_count folder.new) }
     // Over any folder, whoever else writes into it, what comes of it is what came of a run of this very line, by just
     // these calls of the folder.
     ensures ran { IsPutter (line_view line.entry) → (calls : List FolderCall) × Traced F.makes folder.old calls folder.new
@@ -153,7 +153,7 @@ fn execute_beside<F: Folder>(
     ensures named { F.is_steady folder.old → RestoresWell use_checkpoints (F.objects folder.old)
         → IfErr result (λ failure. NamesPut failure (line_view line.entry) (F.objects folder.old)) }
     ensures alone { F.is_steady folder.old → RestoresWell use_checkpoints (F.objects folder.old)
-        → ComesOfACall result (F.fault_count folder.old) (F.fault_count folder.new) }
+        → FailureComesOfACall result (F.fault_count folder.old) (F.fault_count folder.new) }
     // Over any folder, whoever else writes into it, what comes of it is what came of a run of this very line, by just
     // these calls of the folder.
     ensures ran { (calls : List FolderCall) × Traced F.makes folder.old calls folder.new

@@ -8,13 +8,13 @@ ghost use Rattle.table_folder.specs.Traces.{Traced};
 ghost use Rattle.table_log.specs.Restoring.{RestoresWell};
 ghost use Rattle.lake_words.specs.Asked.{Work, work_view};
 ghost use Rattle.lake_script.specs.ReplyView.{reply_text};
-ghost use Rattle.lake_script.specs.Streams.{held, read_failed, unread, write_failed, StandsIn};
-ghost use Rattle.lake_hints.specs.ErrorOutputs.{AreInTurn, Tells, TellsSome};
+ghost use Rattle.lake_script.specs.Streams.{held, read_failed, unread, write_failed, WritesFront};
+ghost use Rattle.lake_hints.specs.ErrorOutputs.{AreInTurn, TellsText, TellsSome};
 ghost use Rattle.lake_command.specs.Again.{RanAsAsked};
 ghost use Rattle.lake_command.specs.Codes.{code_in};
-ghost use Rattle.lake_command.specs.Endings.{EndsWith, IsLineTold, IsLineUntold, IsMisused, IsOutcome, is_memory};
+ghost use Rattle.lake_command.specs.Endings.{EndsWith, IsLineTold, IsLineUntold, IsMisused, IsOutcome, is_growth_refused};
 ghost use Rattle.lake_command.specs.ErrorTexts.{IsFaultTold, IsMeaningIn, IsUnwrittenTold, failure_hint, is_told_as_reply};
-ghost use Rattle.lake_command.specs.Failures.{ComesOfACall, IsCaused};
+ghost use Rattle.lake_command.specs.Failures.{FailureComesOfACall, IsCaused};
 ghost use Rattle.lake_command.specs.Status.{ends_early, has_refusal, is_refusal, is_want_of_memory, refuses, status_of_failure};
 ghost use Rattle.lake_command.specs.Folders.{IsAnsweredJob, IsMiscounted, reads_input};
 
@@ -52,7 +52,7 @@ pub fn table_command<F: Folder, R: Read, W: Write, E: Write>(
     ensures ended { (outcome : Result LineReply Failure) × (rows : ℕ)
         × (F.is_steady folder.old → RestoresWell command.entry.use_checkpoints (F.objects folder.old)
         → IsOutcome outcome (work_view command.entry.job) (unread R.remaining input.old) (F.objects folder.old) (F.objects folder.new)
-        × ComesOfACall outcome (F.fault_count folder.old) (F.fault_count folder.new))
+        × FailureComesOfACall outcome (F.fault_count folder.old) (F.fault_count folder.new))
         × IsCaused outcome (work_view command.entry.job) (unread R.remaining input.old) (read_failed input.new)
         (F.fault_count folder.old) (F.fault_count folder.new)
         × RanAsAsked (λ calls. Traced F.makes folder.old calls folder.new) (work_view command.entry.job) (unread R.remaining input.old) (read_failed input.new) command.entry.use_checkpoints
@@ -116,7 +116,7 @@ fn tell<W: Write, E: Write>(
 /// Gives a reply and writes it.
 fn give<W: Write>(reply: &LineReply, output: &mut Output<W>) -> Result<(), OutputError>
     ensures told { OnOk result (Appends (held W.contents output.old) (W.contents output.new.writer) (reply_text reply.now)) }
-    ensures front { OnErr result (StandsIn (held W.contents output.old) (W.contents output.new.writer) (reply_text reply.now)) }
+    ensures front { OnErr result (WritesFront (held W.contents output.old) (W.contents output.new.writer) (reply_text reply.now)) }
     ensures broken { result ≡ Err OutputError.Broken → write_failed output.new ≡ true }
 {
     reply.give(output)?;
@@ -130,7 +130,7 @@ pub(crate) fn not_written<E: Write>(
     err: &mut ErrorOutput<E>,
 ) -> Exit
     ensures status { result.status ≡ REFUSED }
-    ensures short { result.is_short ≡ (is_short || is_memory error) }
+    ensures short { result.is_short ≡ (is_short || is_growth_refused error) }
     ensures told { TellsSome E.contents IsUnwrittenTold err.old err.new }
 {
     tell_fault(Fault::NotWritten, "F4", err);
@@ -142,7 +142,7 @@ pub(crate) fn not_written<E: Write>(
 
 /// Whether a growth was refused.
 fn is_memory(error: OutputError) -> bool
-    ensures { result ≡ is_memory error }
+    ensures { result ≡ is_growth_refused error }
 {
     matches!(error, OutputError::Memory)
 }
@@ -220,7 +220,7 @@ fn explain_code<E: Write>(code: Option<&'static str>, err: &mut ErrorOutput<E>)
 /// Says what is wrong with a bad line, and what to do about the folder, where it tells why it failed and there is
 /// something to do.
 fn hint<E: Write>(failure: &Failure, err: &mut ErrorOutput<E>)
-    ensures { Tells E.contents err.old err.new (failure_hint failure.now) }
+    ensures { TellsText E.contents err.old err.new (failure_hint failure.now) }
 {
     match failure {
         Failure::BadLine(_number, flaw) => err.say(format_args!("hint: the line {flaw}")),
@@ -236,7 +236,7 @@ pub(crate) fn write_line<D: Display + Drop, W: Write>(
     output: &mut Output<W>,
 ) -> Result<(), OutputError>
     ensures told { OnOk result (IfSome (D.output line) (λ text. Appends (held W.contents output.old) (W.contents output.new.writer) (with_newline text))) }
-    ensures front { OnErr result (IfSome (D.output line) (λ text. StandsIn (held W.contents output.old) (W.contents output.new.writer) (with_newline text))) }
+    ensures front { OnErr result (IfSome (D.output line) (λ text. WritesFront (held W.contents output.old) (W.contents output.new.writer) (with_newline text))) }
     ensures broken { result ≡ Err OutputError.Broken → write_failed output.new ≡ true }
 {
     output.say(line)?;

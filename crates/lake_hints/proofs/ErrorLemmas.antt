@@ -1,7 +1,7 @@
 -- What is told on standard error, put together.
 use Rattle.std.proofs.Common.{◌≡◌, ◌++◌, ℕ, Bool, true, false, List, [], Option, refl}
 use Rattle.std.proofs.KnownBytes.{Appends-nil, Appends-trans}
-use Rattle.lake_hints.specs.ErrorOutputs.{AreInTurn, IsBehind, Tells, TellsSome, write_failed}
+use Rattle.lake_hints.specs.ErrorOutputs.{AreInTurn, IsTextBehind, TellsText, TellsSome, error_write_failed}
 use Rattle.lake_hints.specs.declared.error_output.ErrorOutput.{ErrorOutput}
 
 -- where no write has failed by now, none had before
@@ -10,16 +10,16 @@ unbroken false new kept none = refl
 unbroken true new kept none = let is = kept refl in cc
 
 module _ {E : Type 0} (contents : E → Option (List ℕ)) where
-  pub told_nothing : (err : ErrorOutput E) → Tells contents err err []
+  pub told_nothing : (err : ErrorOutput E) → TellsText contents err err []
   told_nothing err = record { told = λ none. Appends-nil (contents err.writer); broken = λ is. is }
 
-  pub told_on : (a b c : ErrorOutput E) (front rest : List ℕ) → Tells contents a b front → Tells contents b c rest → Tells contents a c (front ++ rest)
+  pub told_on : (a b c : ErrorOutput E) (front rest : List ℕ) → TellsText contents a b front → TellsText contents b c rest → TellsText contents a c (front ++ rest)
   told_on a b c front rest first second = record {
-    told = λ none. Appends-trans (contents a.writer) (contents b.writer) (contents c.writer) front rest (first.told (unbroken (write_failed b) (write_failed c) second.broken none)) (second.told none);
+    told = λ none. Appends-trans (contents a.writer) (contents b.writer) (contents c.writer) front rest (first.told (unbroken (error_write_failed b) (error_write_failed c) second.broken none)) (second.told none);
     broken = λ is. second.broken (first.broken is);
   }
 
-  pub told_behind : (P : List ℕ → Type 0) (a b c : ErrorOutput E) (front : List ℕ) → Tells contents a b front → TellsSome contents P b c → TellsSome contents (IsBehind front P) a c
+  pub told_behind : (P : List ℕ → Type 0) (a b c : ErrorOutput E) (front : List ℕ) → TellsText contents a b front → TellsSome contents P b c → TellsSome contents (IsTextBehind front P) a c
   told_behind P a b c front first second = (front ++ second.0, (second.0, second.1, refl), told_on a b c front second.0 first second.2)
 
   pub told_in_turn : (P Q : List ℕ → Type 0) (a b c : ErrorOutput E) → TellsSome contents P a b → TellsSome contents Q b c → TellsSome contents (AreInTurn P Q) a c

@@ -13,7 +13,7 @@ use Rattle.lake_words.specs.Asked as words
 use Rattle.schema_tree.specs.declared.fault.SchemaFault.TheVariants as schemas
 use Rattle.table_folder.specs.declared.reason.Reason.{Reason}
 use Rattle.table_folder.specs.declared.reason.Reason.TheVariants as reasons
-use Rattle.lake_hints.specs.ErrorOutputs.{IsBehind}
+use Rattle.lake_hints.specs.ErrorOutputs.{IsTextBehind}
 
 -- a hint is a line; where there is none nothing is told
 abbrev pub hint_line : Option (List ℕ) → List ℕ
@@ -76,7 +76,7 @@ IsSchemaHint is_no_json schema text = text ≡ []
 
 -- what more is told of a refusal of a job, which had so many rows: the limit that it passes, or a flaw of the schema's text
 abbrev pub IsRefusalHint : LineReply → Work → (rows : ℕ) → List ℕ → Type 0
-IsRefusalHint reply work rows = IsBehind (hint_line (limit_in reply work rows)) (IsSchemaHint (is_no_json reply) (schema_in work))
+IsRefusalHint reply work rows = IsTextBehind (hint_line (limit_in reply work rows)) (IsSchemaHint (is_no_json reply) (schema_in work))
 
 -- a script's line of that number is bad, and why
 abbrev pub IsBadLineHint : (number : ℕ) → List ℕ → Type 0

@@ -1,6 +1,6 @@
 //! What to do about a call of a folder that failed.
 ghost use Rattle.std.specs.Prelude.{◌≡◌, option_map};
-ghost use Rattle.lake_hints.specs.ErrorOutputs.{Tells};
+ghost use Rattle.lake_hints.specs.ErrorOutputs.{TellsText};
 ghost use Rattle.lake_hints.specs.Hints.{hint_line, hint_of, remedy_in};
 
 use crate::error_output::ErrorOutput;
@@ -10,14 +10,14 @@ use table_folder::Reason;
 /// Says what to do about a call of a folder that failed for that reason, in one plain sentence, where there is
 /// something to say.
 pub fn hint_reason<E: Write>(reason: Reason, err: &mut ErrorOutput<E>)
-    ensures { Tells E.contents err.old err.new (hint_of reason) }
+    ensures { TellsText E.contents err.old err.new (hint_of reason) }
 {
     hint(remedy_of(reason), err)
 }
 
 /// Tells a hint, where there is one.
 pub(crate) fn hint<E: Write>(what: Option<&'static str>, err: &mut ErrorOutput<E>)
-    ensures { Tells E.contents err.old err.new (hint_line (option_map (λ what. what.now) what.entry)) }
+    ensures { TellsText E.contents err.old err.new (hint_line (option_map (λ what. what.now) what.entry)) }
 {
     if let Some(what) = what {
         err.say(format_args!("hint: {what}"));

@@ -1,10 +1,11 @@
 -- What lines are told over any store, by what the calls for them tell.
-use Rattle.std.proofs.Common.{◌≡◌, ◌≢◌, ◌⊎◌, ℕ, List, Bool, true, false, Option, None, Some, Result, Ok, Err, inl, inr, refl, sym, ap}
-use Rattle.std.specs.Prelude.{◌++◌, codes, option_map}
+use Rattle.std.proofs.Common.{◌≡◌, ◌≢◌, ◌⊎◌, ℕ, List, Bool, true, false, Option, None, Some, Result, Ok, Err, inl, inr, refl, sym, ap, subst}
+use Rattle.std.specs.Prelude.{◌++◌, IfOk, OnOk, codes, option_map}
 use Rattle.hex.specs.Hex.{encode_lower}
 use Rattle.outcomes.specs.Outcome.{IsSaid}
 use Rattle.outcomes.specs.Lines.{with_newline}
-use Rattle.store_core.specs.Calls.{CountsFault, HasRisen, IsUntouched, MayHaveLanded}
+use Rattle.store_core.specs.Calls.{CountsFault, HasLanded, HasRisen, IsUntouched, MayHaveLanded, StandsAfter}
+use Rattle.store_core.specs.Objects.{object_at}
 use Rattle.store_core.specs.declared.fault.StoreFault.{StoreFault}
 use Rattle.store_core.specs.declared.fault.StoreFault.TheVariants as stores
 use Rattle.store_core.specs.declared.store.Put.{Put}
@@ -26,8 +27,9 @@ use Rattle.source_core.specs.TailFaults as tails
 use Rattle.source_core.specs.Tailing.{ReadRefusal}
 use Rattle.log_rows.specs.declared.tail_fault.TailFault.{TailFault}
 use Rattle.log_rows.specs.declared.tail_fault.TailFault.TheVariants as tail_faults
+use Rattle.script_lines.specs.Lines.{look, snapshot}
 use Rattle.lake_script.specs.declared.reply.LineReply.TheVariants as replies
-use Rattle.lake_script.specs.AnyStore.{Looks, TellsCheckpoint, TellsCreation, TellsForeign, TellsSnapshotLine, lost_to_append, lost_to_create, lost_to_read, lost_to_show, lost_to_tell}
+use Rattle.lake_script.specs.AnyStore.{TellsLook, PutsForeign, TellsCheckpoint, TellsCreation, TellsForeign, TellsLoss, TellsSnapshotLine, lost_to_append, lost_to_create, lost_to_read, lost_to_show, lost_to_tell}
 use Rattle.lake_script.specs.ReplyView.{reply_text, says_lost}
 use Rattle.lake_script.specs.declared.faults.Fault.TheVariants.{NoSuchName}
 use Rattle.lake_script.specs.Replies.{fault_text}
@@ -85,33 +87,52 @@ module _ (old new : State) (count later : ℕ) where
   checkpoint_told use_checkpoints (snapshots.Unsupported why) refusal lost kept = (Err (snapshots.Unsupported why), refl, (refusal, (kept (λ wrong. cc)).0, (kept (λ wrong. cc)).1))
   checkpoint_told use_checkpoints snapshots.TooLarge refusal lost kept = (Err snapshots.TooLarge, refl, (refusal, (kept (λ wrong. cc)).0, (kept (λ wrong. cc)).1))
 
-  -- another tool's commit that was put, and one that wasn't or was lost
-  pub put_told : (version : ℕ) (action : List ℕ) (put : Put) → MayAnswerPut old (commit_name version) (with_newline action) (told_put put) new → later ≡ count
-      → TellsForeign version action (reply_text (replies.Put put)) old new count later
-  put_told version action puts.Created answers counted = (Ok puts.Created, refl, (answers, counted))
-  put_told version action puts.Exists answers counted = (Ok puts.Exists, refl, (answers, counted))
+  -- what became of another tool's commit, by what the store says of the put of these bytes under this name
+  pub foreign_put : (version : ℕ) (action name bytes : List ℕ) → name ≡ commit_name version → bytes ≡ with_newline action → (answer : Result Put StoreFault)
+      → IfOk answer (λ put. StandsAfter put bytes (object_at new.0 name)) → OnOk answer (HasLanded name bytes old new) → (answer ≡ Ok puts.Created → object_at old.0 name ≡ None)
+      → (answer ≡ Err stores.Lost → MayHaveLanded name bytes old new) → (answer ≡ Err stores.Memory → IsUntouched old new) → CountsFault answer count later → PutsForeign version action answer old new count later
+  foreign_put version action name bytes is same (Ok put) stands landed created lost memory counts = (
+    subst (λ (n : List ℕ). MayAnswerPut old n (with_newline action) (told_put put) new) is
+        (subst (λ (b : List ℕ). MayAnswerPut old name b (told_put put) new) same (landed, stands, (λ made. created (ap (λ (one : Put). Ok one) made)))),
+    counts,
+  )
+  foreign_put version action name bytes is same (Err stores.Lost) stands landed created lost memory counts = (
+    subst (λ (n : List ℕ). MayHaveLanded n (with_newline action) old new) is (subst (λ (b : List ℕ). MayHaveLanded name b old new) same (lost refl)),
+    counts,
+  )
+  foreign_put version action name bytes is same (Err stores.Memory) stands landed created lost memory counts = (memory refl, counts)
 
-  pub unput_told : (version : ℕ) (action : List ℕ) (fault : StoreFault) → (fault ≡ stores.Lost → MayHaveLanded (commit_name version) (with_newline action) old new)
-      → (fault ≡ stores.Memory → IsUntouched old new) → CountsFault {X = Unit {0}} (Err fault) count later → TellsForeign version action (reply_text (replies.Unanswered fault)) old new count later
-  unput_told version action stores.Lost lost memory counts = (Err stores.Lost, refl, (lost refl, counts))
-  unput_told version action stores.Memory lost memory counts = (Err stores.Memory, refl, (memory refl, counts))
+  -- the count of faults behind it
+  pub put_counts : (version : ℕ) (action : List ℕ) (answer : Result Put StoreFault) → PutsForeign version action answer old new count later → CountsFault answer count later
+  put_counts version action (Ok put) so = so.1
+  put_counts version action (Err stores.Lost) so = so.1
+  put_counts version action (Err stores.Memory) so = so.1
+
+  -- one that was put is told, and one that wasn't or was lost
+  pub put_told : (version : ℕ) (action : List ℕ) (put : Put) → PutsForeign version action (Ok put) old new count later → TellsForeign version action (reply_text (replies.Put put)) old new count later
+  put_told version action puts.Created so = (Ok puts.Created, refl, so)
+  put_told version action puts.Exists so = (Ok puts.Exists, refl, so)
+
+  pub unput_told : (version : ℕ) (action : List ℕ) (fault : StoreFault) → PutsForeign version action (Err fault) old new count later → TellsForeign version action (reply_text (replies.Unanswered fault)) old new count later
+  unput_told version action stores.Lost so = (Err stores.Lost, refl, so)
+  unput_told version action stores.Memory so = (Err stores.Memory, refl, so)
 
   -- ---- lines that put nothing
 
   -- what is shown, told of and read isn't, where the store gives no answer
   pub shown_told : (told : Type 0) (fault : StoreFault) → IsUntouched old new → CountsFault {X = Unit {0}} (Err fault) count later
-      → Looks told (reply_text (replies.Unanswered fault) ≡ no_room_to_show) (reply_text (replies.Unanswered fault) ≡ lost_to_show) old new count later
+      → TellsLook told (reply_text (replies.Unanswered fault) ≡ no_room_to_show) (reply_text (replies.Unanswered fault) ≡ lost_to_show) old new count later
   shown_told told stores.Lost same counts = (same, inr (refl, counts))
   shown_told told stores.Memory same counts = (same, inl (inr refl, counts))
 
   pub history_told : (told : Type 0) (fault : StoreFault) → IsUntouched old new → CountsFault {X = Unit {0}} (Err fault) count later
-      → Looks told (reply_text (replies.NoHistory fault) ≡ no_room_to_tell) (reply_text (replies.NoHistory fault) ≡ lost_to_tell) old new count later
+      → TellsLook told (reply_text (replies.NoHistory fault) ≡ no_room_to_tell) (reply_text (replies.NoHistory fault) ≡ lost_to_tell) old new count later
   history_told told stores.Lost same counts = (same, inr (refl, counts))
   history_told told stores.Memory same counts = (same, inl (inr refl, counts))
 
   -- a read, by whether it tells of a lost call
   pub read_told : (told no_room lost_call : Type 0) (lost : Bool) → IsUntouched old new → (lost ≡ true → lost_call × HasRisen count later) → (lost ≡ false → (told ⊎ no_room) × (later ≡ count))
-      → Looks told no_room lost_call old new count later
+      → TellsLook told no_room lost_call old new count later
   read_told told no_room lost_call true same lost kept = (same, inr (lost refl))
   read_told told no_room lost_call false same lost kept = (same, inl (kept refl))
 
@@ -125,10 +146,15 @@ module _ (old new : State) (count later : ℕ) where
       (same, inl (inl (inr (_, said, ap (λ (text : List ℕ). with_newline (refused (codes "K8 Unsupported " ++ text))) (support_is why))), kept (λ wrong. cc)))
   snapshot_told use_checkpoints snapshots.TooLarge said same lost kept = absurd said
 
+  -- the loss of a call that it tells of
+  pub snapshot_loss : (fault : SnapshotFault) → (fault ≡ snapshots.Lost → HasRisen count later) → (fault ≢ snapshots.Lost → later ≡ count) → TellsLoss (look snapshot) (replies.NoSnapshot fault) count later
+  snapshot_loss snapshots.Lost lost kept = record { lost = λ is. lost refl; counted = λ is. absurd cc; told_lost = λ is. refl }
+  snapshot_loss _ lost kept = record { lost = λ is. absurd cc; counted = λ is. kept (λ wrong. cc); told_lost = λ is. absurd cc }
+
 -- ---- a read
 
 -- what a refusal of a read says is told, or that memory was wanted
-pub refusal_answers : (fault : TailFault) (said : Result (List ℕ) ReadRefusal) → fault ≢ tail_faults.Lost → IsSaid (tails.says (tails.refusal_view fault)) said
+pub refusal_answers : (fault : TailFault) (said : Result (List ℕ) ReadRefusal) → fault ≢ tail_faults.Lost → IsSaid (tails.says (tails.read_refusal_view fault)) said
     → (reply_text (replies.NotTailed fault) ≡ tailed_reply said) ⊎ (reply_text (replies.NotTailed fault) ≡ no_room_to_read)
 refusal_answers tail_faults.Memory said unlost is = inr refl
 refusal_answers tail_faults.Lost said unlost is = absurd (unlost refl)

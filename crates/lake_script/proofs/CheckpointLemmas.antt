@@ -11,15 +11,15 @@ use Rattle.delta_replay.specs.declared.support.SupportFault.{SupportFault}
 use Rattle.delta_replay.specs.declared.support.SupportFault.TheVariants.{NoProtocol, NoMetadata, Feature, Partitioned, ReaderVersion, BadSchema}
 use Rattle.source_core.specs.TailFaults.{support_text}
 use Rattle.commit_core.specs.Texts.{refused}
-use Rattle.snapshot_core.specs.Faults.{checked, readable_log, says}
-use Rattle.snapshot_core.specs.Taking.{most_bytes, IsRefusal, IsTooLarge, PutsCheckpoint}
+use Rattle.snapshot_core.specs.Faults.{checked_for_checkpoint, readable_log, says}
+use Rattle.snapshot_core.specs.Taking.{most_checkpoint_bytes, IsRefusal, IsCheckpointTooLarge, PutsCheckpoint}
 use Rattle.snapshot_core.specs.Telling.{TellsSnapshot}
 use Rattle.snapshot_core.specs.declared.fault.SnapshotFault.{SnapshotFault}
 use Rattle.snapshot_core.specs.declared.fault.SnapshotFault.TheVariants as faults
 use Rattle.lake_script.specs.declared.reply.LineReply.TheVariants.{Checkpointed, NoSnapshot}
-use Rattle.lake_script.specs.Checkpoints.{checkpoint_by, newest_version}
+use Rattle.lake_script.specs.Checkpoints.{checkpoint_by_bytes, newest_version}
 use Rattle.script_lines.specs.Lines.{Statement, checkpoint, look, snapshot, task}
-use Rattle.lake_script.specs.ReplyView.{reply_text, is_short}
+use Rattle.lake_script.specs.ReplyView.{reply_text, is_short_reply}
 use Rattle.lake_script.specs.Runs.{Executes, Has, IsShort, no_room_to_tell}
 use Rattle.lake_script.specs.Sound.{IsExecuted}
 use Rattle.outcomes.specs.Lines.{with_newline}
@@ -37,9 +37,9 @@ module _ (objects : Objects) (version : ℕ) (name bytes : List ℕ) (puts : Put
   newest_is : newest_version objects ≡ version
   newest_is = omega (arith, puts.checkpoint.newest)
 
-  put_is : checkpoint_by objects bytes ≡ Ok (record { version = version; name = name })
+  put_is : checkpoint_by_bytes objects bytes ≡ Ok (record { version = version; name = name })
   put_is =
-      rw (puts.read, puts.supported, le-ltb most_bytes (length bytes) puts.fits, puts.of_table.newest, newest_is)
+      rw (puts.read, puts.supported, le-ltb most_checkpoint_bytes (length bytes) puts.fits, puts.of_table.newest, newest_is)
       (ap (λ (text : List ℕ). Ok (record { version = version; name = text })) (sym (puts.named ∙ ap (checkpoint_name version) puts.of_table.is)))
 
   -- a checkpoint that was put is told, and what was put is well made
@@ -53,7 +53,7 @@ module _ (objects : Objects) (version : ℕ) (name bytes : List ℕ) (puts : Put
   }
 
 -- what stands in the log is told, and nothing is put
-log_executed : (objects : Objects) (fault : SnapshotFault) → IsSaid (says fault) (checked false objects) → is_short (NoSnapshot fault) ≡ false → fault ≢ faults.Lost
+log_executed : (objects : Objects) (fault : SnapshotFault) → IsSaid (says fault) (checked_for_checkpoint false objects) → is_short_reply (NoSnapshot fault) ≡ false → fault ≢ faults.Lost
     → IsExecuted objects (task checkpoint) (reply_text (NoSnapshot fault)) objects
 log_executed objects (faults.BadLog version) said enough kept = record {
   text = [];
@@ -74,7 +74,7 @@ log_executed objects faults.Memory said enough kept = absurd cc
 log_executed objects faults.TooLarge said enough kept = absurd said
 
 -- the same of each refusal of a checkpoint that isn't short
-pub refusal_executed : (objects : Objects) (fault : SnapshotFault) → IsRefusal false fault objects → is_short (NoSnapshot fault) ≡ false → fault ≢ faults.Lost
+pub refusal_executed : (objects : Objects) (fault : SnapshotFault) → IsRefusal false fault objects → is_short_reply (NoSnapshot fault) ≡ false → fault ≢ faults.Lost
     → IsExecuted objects (task checkpoint) (reply_text (NoSnapshot fault)) objects
 refusal_executed objects faults.TooLarge refusal enough kept = absurd cc
 refusal_executed objects (faults.BadLog version) refusal enough kept = log_executed objects (faults.BadLog version) refusal enough kept
@@ -87,10 +87,10 @@ pub has_executed : (objects : Objects) (statement : Statement) (reply : List ℕ
 has_executed objects statement reply after executed = inl (executed.text, executed.printed, executed.told, executed.left)
 
 -- a checkpoint that is too large is told so
-large_told : (objects : Objects) → IsTooLarge false objects → Has objects (task checkpoint) (reply_text (NoSnapshot faults.TooLarge)) objects
+large_told : (objects : Objects) → IsCheckpointTooLarge false objects → Has objects (task checkpoint) (reply_text (NoSnapshot faults.TooLarge)) objects
 large_told objects large =
     let newest : newest_version objects ≡ large.version = omega (arith, large.checkpoint.newest) in
-    let over : nat_lt most_bytes (length large.bytes) ≡ true = lt-ltb most_bytes (length large.bytes) large.large in (
+    let over : nat_lt most_checkpoint_bytes (length large.bytes) ≡ true = lt-ltb most_checkpoint_bytes (length large.bytes) large.large in (
       large.bytes,
       rw (large.read, large.supported, newest) large.checkpoint,
       rw (large.read, large.supported, over) refl,
@@ -106,7 +106,7 @@ refusal_told objects faults.Lost refusal kept = absurd (kept refl)
 refusal_told objects faults.Memory refusal kept = inr (refl, refl)
 
 -- which refusals are short
-pub refusal_short : (objects : Objects) (fault : SnapshotFault) → IsRefusal false fault objects → is_short (NoSnapshot fault) ≡ true → IsShort objects (task checkpoint) (reply_text (NoSnapshot fault))
+pub refusal_short : (objects : Objects) (fault : SnapshotFault) → IsRefusal false fault objects → is_short_reply (NoSnapshot fault) ≡ true → IsShort objects (task checkpoint) (reply_text (NoSnapshot fault))
 refusal_short objects faults.TooLarge refusal short = inr (refl, refusal)
 refusal_short objects faults.Memory refusal short = inl refl
 refusal_short objects _ refusal short = cc
@@ -124,7 +124,7 @@ snapshot_executed objects text tells = record {
 }
 
 -- a snapshot that isn't
-pub unread_executed : (objects : Objects) (fault : SnapshotFault) → IsSaid (says fault) (readable_log false objects) → is_short (NoSnapshot fault) ≡ false → fault ≢ faults.Lost
+pub unread_executed : (objects : Objects) (fault : SnapshotFault) → IsSaid (says fault) (readable_log false objects) → is_short_reply (NoSnapshot fault) ≡ false → fault ≢ faults.Lost
     → IsExecuted objects (look snapshot) (reply_text (NoSnapshot fault)) objects
 unread_executed objects (faults.BadLog version) said enough kept = record {
   text = [];
@@ -153,7 +153,7 @@ unread_told objects faults.Memory said kept = inr (refl, refl)
 unread_told objects faults.TooLarge said kept = absurd said
 
 -- and it is short for want of memory alone
-pub unread_short : (objects : Objects) (fault : SnapshotFault) → IsSaid (says fault) (readable_log false objects) → is_short (NoSnapshot fault) ≡ true → reply_text (NoSnapshot fault) ≡ no_room_to_tell
+pub unread_short : (objects : Objects) (fault : SnapshotFault) → IsSaid (says fault) (readable_log false objects) → is_short_reply (NoSnapshot fault) ≡ true → reply_text (NoSnapshot fault) ≡ no_room_to_tell
 unread_short objects faults.TooLarge said short = absurd said
 unread_short objects faults.Memory said short = refl
 unread_short objects _ said short = cc

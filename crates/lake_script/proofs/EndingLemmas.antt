@@ -2,7 +2,7 @@
 use Rattle.std.proofs.Common.{◌≡◌, Result, Ok, Err, refl}
 use Rattle.batch_core.specs.declared.fault.SinkFault.{SinkFault}
 use Rattle.batch_core.specs.declared.fault.SinkFault.TheVariants as sinks
-use Rattle.commit_core.specs.CreateSessions.{tells_lost}
+use Rattle.commit_core.specs.CreateSessions.{creation_tells_lost}
 use Rattle.commit_core.specs.declared.fault.CreateFault.{CreateFault}
 use Rattle.commit_core.specs.declared.fault.CreateFault.TheVariants as creating
 use Rattle.log_rows.specs.declared.tail_fault.TailFault.{TailFault}
@@ -16,12 +16,12 @@ use Rattle.snapshot_core.specs.declared.fault.SnapshotFault.TheVariants as snaps
 use Rattle.source_core.specs.SourceSessions.{loses}
 use Rattle.table_log.specs.declared.loading.Loaded.{Loaded}
 use Rattle.lake_script.specs.Endings.{checkpoint_wants, creation_wants, read_wants, stream_loses, stream_wants}
-use Rattle.lake_script.specs.ReplyView.{is_short, says_lost}
+use Rattle.lake_script.specs.ReplyView.{is_short_reply, says_lost}
 use Rattle.lake_script.specs.declared.reply.LineReply.TheVariants.{NoSnapshot, NotCreated, NotTailed, SinkRefused}
 
 -- ---- want of memory
 
-pub creation_short : (fault : CreateFault) → is_short (NotCreated fault) ≡ creation_wants (Err fault)
+pub creation_short : (fault : CreateFault) → is_short_reply (NotCreated fault) ≡ creation_wants (Err fault)
 creation_short creating.TableExists = refl
 creation_short (creating.BadSchema why) = refl
 creation_short creating.BadId = refl
@@ -29,14 +29,14 @@ creation_short creating.Memory = refl
 creation_short creating.Lost = refl
 creation_short creating.TooLarge = refl
 
-pub checkpoint_short : (fault : SnapshotFault) → is_short (NoSnapshot fault) ≡ checkpoint_wants (Err fault)
+pub checkpoint_short : (fault : SnapshotFault) → is_short_reply (NoSnapshot fault) ≡ checkpoint_wants (Err fault)
 checkpoint_short snapshots.Lost = refl
 checkpoint_short snapshots.Memory = refl
 checkpoint_short (snapshots.BadLog version) = refl
 checkpoint_short (snapshots.Unsupported fault) = refl
 checkpoint_short snapshots.TooLarge = refl
 
-pub stream_short : (fault : SinkFault) → is_short (SinkRefused fault) ≡ stream_wants (Err fault)
+pub stream_short : (fault : SinkFault) → is_short_reply (SinkRefused fault) ≡ stream_wants (Err fault)
 stream_short sinks.BadApp = refl
 stream_short sinks.TooLarge = refl
 stream_short sinks.FileTooLarge = refl
@@ -51,7 +51,7 @@ stream_short (sinks.Contended newest) = refl
 stream_short (sinks.Lost version) = refl
 stream_short sinks.Memory = refl
 
-pub read_short : (fault : TailFault) → is_short (NotTailed fault) ≡ read_wants (Err fault)
+pub read_short : (fault : TailFault) → is_short_reply (NotTailed fault) ≡ read_wants (Err fault)
 read_short tailing.BadOffsetText = refl
 read_short (tailing.Unsupported fault) = refl
 read_short (tailing.BeyondLog next) = refl
@@ -67,7 +67,7 @@ read_short tailing.Memory = refl
 
 -- ---- a lost call
 
-pub creation_loses : (fault : CreateFault) → says_lost (NotCreated fault) ≡ tells_lost (Err fault)
+pub creation_loses : (fault : CreateFault) → says_lost (NotCreated fault) ≡ creation_tells_lost (Err fault)
 creation_loses creating.TableExists = refl
 creation_loses (creating.BadSchema why) = refl
 creation_loses creating.BadId = refl

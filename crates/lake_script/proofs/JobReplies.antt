@@ -12,10 +12,10 @@ use Rattle.commit_core.specs.Texts.{create_fault_text, refused}
 use Rattle.commit_core.specs.declared.fault.CreateFault.{CreateFault}
 use Rattle.commit_core.specs.declared.fault.CreateFault.TheVariants as creations
 use Rattle.table_log.specs.Restoring.{RestoresWell}
-use Rattle.batch_core.specs.Refusals.{refusal_view, says}
+use Rattle.batch_core.specs.Refusals.{sink_refusal_view, says}
 use Rattle.batch_core.specs.declared.fault.SinkFault.{SinkFault}
 use Rattle.sink_core.specs.Appending.{MayAppend, MayHoldFile, with_append}
-use Rattle.sink_core.specs.Closes.{MayClose, with_close}
+use Rattle.sink_core.specs.Closes.{MayClose, with_close_commit}
 use Rattle.sink_core.specs.declared.sink_state.SinkOutcome.{SinkOutcome}
 use Rattle.sink_core.proofs.Callers.{append_plan_alike, appended_alike, close_plan_alike, closed_alike}
 use Rattle.snapshot_core.specs.declared.fault.SnapshotFault.{SnapshotFault}
@@ -39,7 +39,7 @@ use Rattle.table_jobs.specs.Jobs.{IsValidJob, Job, Outcome}
 use Rattle.script_lines.specs.Lines as lines
 use Rattle.script_lines.specs.Lines.{Statement, Task}
 use Rattle.lake_script.specs.LineJobs.{IsOfText, job_of_creation, job_of_line, job_of_task}
-use Rattle.lake_script.specs.Endings.{IsReadReply, IsReplyOf, checkpoint_reply, stream_reply}
+use Rattle.lake_script.specs.Endings.{IsReadReply, IsReplyOf, checkpoint_end_reply, stream_reply}
 use Rattle.lake_script.specs.Growth.{MayPut}
 use Rattle.lake_script.specs.Replies.{created}
 use Rattle.lake_script.specs.ReplyView.{reply_text}
@@ -50,27 +50,27 @@ use Rattle.lake_script.proofs.CheckpointLemmas.{has_executed, put_executed, refu
 use Rattle.lake_script.proofs.RestoredLemmas.{append_refusal_told, close_refusal_told, has_append, has_close}
 
 -- The job that was found was done; where none was, none of this is.
-abbrev IsDoneOf : Option Job → (old new : Objects) → Outcome → Type 0
+abbrev pub IsDoneOf : Option Job → (old new : Objects) → Outcome → Type 0
 IsDoneOf None old new end = ⊥
 IsDoneOf (Some job) old new end = IsJobDone job old new end
 
-abbrev IsValidOf : Option Job → Type 0
+abbrev pub IsValidOf : Option Job → Type 0
 IsValidOf None = ⊥
 IsValidOf (Some job) = IsValidJob job
 
 -- the job that reads from a place, if it was found
-abbrev read_at : (use_checkpoints : Bool) (max : ℕ) → Option Offset → Option Job
+abbrev pub read_at : (use_checkpoints : Bool) (max : ℕ) → Option Offset → Option Job
 read_at use_checkpoints max found = option_map (λ place. jobs.reads (record { place = place; max = max; use_checkpoints = use_checkpoints; known = [] })) found
 
 -- ---- a creation
 
 -- where bytes are said, the table is created
-created_told : (said : Result (List ℕ) CreateRefusal) → IsOk said → with_newline created ≡ created_reply said
+pub created_told : (said : Result (List ℕ) CreateRefusal) → IsOk said → with_newline created ≡ created_reply said
 created_told (Ok bytes) is = refl
 created_told (Err refusal) is = cc
 
 -- a fault's text is its refusal's
-refused_told : (fault : CreateFault) (said : Result (List ℕ) CreateRefusal) → fault ≢ creations.Memory → IsSaid (creating.says fault) said
+pub refused_told : (fault : CreateFault) (said : Result (List ℕ) CreateRefusal) → fault ≢ creations.Memory → IsSaid (creating.says fault) said
     → with_newline (refused (create_fault_text fault)) ≡ created_reply said
 refused_told creations.Memory said other is = absurd (other refl)
 refused_told creations.TableExists said other is = ap created_reply (sym is)
@@ -119,7 +119,7 @@ module _ (use_checkpoints : Bool) (old new : Objects) (well : RestoresWell use_c
         let step = append_plan_alike use_checkpoints old well application number at items in
         subst (λ (r : List ℕ). Executes old (lines.task (lines.append application number at items)) r new) (sym is)
         (append_refusal_told old application number at items new fault
-        (subst (IsSaid (says (refusal_view fault))) said done.told)
+        (subst (IsSaid (says (sink_refusal_view fault))) said done.told)
         (λ other. done.left (λ wrong. other cc) ∙ ap (with_append old) step)
         (λ memory. subst (λ plan. MayHoldFile old plan new) step (done.short (ap Err memory)))
         (λ version lost. done.unlost version (ap Err lost)))
@@ -137,14 +137,14 @@ module _ (use_checkpoints : Bool) (old new : Objects) (well : RestoresWell use_c
         let said = closed_alike use_checkpoints old well application in
         let plan = close_plan_alike use_checkpoints old well application in
         subst (λ (r : List ℕ). Executes old (lines.task (lines.close application at)) r new) (sym is)
-        (has_close old application at new (done.left (λ wrong. cc) ∙ ap (with_close old application at) plan) outcome (sym said ∙ done.told))
+        (has_close old application at new (done.left (λ wrong. cc) ∙ ap (with_close_commit old application at) plan) outcome (sym said ∙ done.told))
     close_told (Err fault) is done =
         let said = closed_alike use_checkpoints old well application in
         let plan = close_plan_alike use_checkpoints old well application in
         subst (λ (r : List ℕ). Executes old (lines.task (lines.close application at)) r new) (sym is)
         (close_refusal_told old application at new fault
-        (subst (IsSaid (says (refusal_view fault))) said done.told)
-        (λ other. done.left (λ wrong. other cc) ∙ ap (with_close old application at) plan)
+        (subst (IsSaid (says (sink_refusal_view fault))) said done.told)
+        (λ other. done.left (λ wrong. other cc) ∙ ap (with_close_commit old application at) plan)
         (λ memory. done.short (ap Err memory))
         (λ version lost. done.unlost version (ap Err lost)))
 
@@ -154,7 +154,7 @@ module _ (use_checkpoints : Bool) (old new : Objects) (well : RestoresWell use_c
 
   -- ---- a checkpoint
 
-  checkpoint_told : (answer : Result ℕ SnapshotFault) → reply ≡ checkpoint_reply answer → IsCheckpointed use_checkpoints old new answer → Executes old (lines.task lines.checkpoint) reply new
+  checkpoint_told : (answer : Result ℕ SnapshotFault) → reply ≡ checkpoint_end_reply answer → IsCheckpointed use_checkpoints old new answer → Executes old (lines.task lines.checkpoint) reply new
   checkpoint_told (Ok version) is done =
       let puts = puts_alike use_checkpoints old well version done.name done.bytes done.puts in
       subst (λ (r : List ℕ). Executes old (lines.task lines.checkpoint) r new) (sym is)
@@ -183,7 +183,7 @@ module _ (use_checkpoints : Bool) (old new : Objects) (well : RestoresWell use_c
       refused_so : (refusal : ReadRefusal) → rows_read ≡ Err refusal → reply ≡ tailed_reply (Err refusal) → new ≡ old → Executes old (lines.task (lines.tail max offset)) reply new
       refused_so refusal read is same = has_read (Err refusal) (tailed_refused use_checkpoints old max offset place spells refusal read) is same
 
-      read_refused : (fault : TailFault) → IsReadReply (Err fault) reply → IsSaid (tails.says (tails.refusal_view fault)) rows_read → fault ≢ faults.Lost → new ≡ old → Executes old (lines.task (lines.tail max offset)) reply new
+      read_refused : (fault : TailFault) → IsReadReply (Err fault) reply → IsSaid (tails.says (tails.read_refusal_view fault)) rows_read → fault ≢ faults.Lost → new ≡ old → Executes old (lines.task (lines.tail max offset)) reply new
       read_refused faults.BadOffsetText is said unlost same = refused_so _ said is same
       read_refused (faults.Unsupported fault) is said unlost same = refused_so _ said is same
       read_refused (faults.BeyondLog next) is said unlost same = refused_so _ said is same

@@ -21,7 +21,7 @@ use Rattle.table_model.specs.Table as model
 use Rattle.table_model.specs.Table.{Entry, creation, group, last_batch, is_closed}
 use Rattle.commit_core.specs.TableCommits.{IsCommitOf}
 use Rattle.table_model.proofs.Callers.{append_keeps}
-use Rattle.batch_core.specs.Committing.{batch_actions, data_file_name, greatest_number}
+use Rattle.batch_core.specs.Committing.{batch_actions, batch_file_name, greatest_number}
 use Rattle.batch_core.specs.Requests.{SinkRequest, checked, is_repeat, file_or_refusal}
 use Rattle.sink_core.specs.Appending.{EncodedBatch, AppendPlan, puts, stands, request_of, size_behind, batch_of, put_plan, new_plan, repeated_plan, plan_of, append_plan, plan_answer, with_append, IsWellMade, PutsWell}
 use Rattle.commit_core.specs.Commits.{commit_text}
@@ -31,9 +31,9 @@ use Rattle.outcomes.specs.Results.{◌>>=◌, refused_if}
 use Rattle.batch_core.specs.RowsIn.{rows_from, takes_rows}
 use Rattle.lake_script.specs.Sound.{IsSoundStatement}
 use Rattle.lake_script.specs.Tables as tables
-use Rattle.lake_script.specs.Tables.{State, nothing, table}
+use Rattle.lake_script.specs.Tables.{TableState, nothing, table}
 use Rattle.lake_script.specs.Told.{reply_to_statement, left_by_statement, sink_reply}
-use Rattle.read_laws.specs.Kept.{IsReadableFile, FileKept, IsKept}
+use Rattle.read_laws.specs.Kept.{IsReadableFile, FileKept, KeepsTable}
 use Rattle.lake_script.specs.Keeps.{HasNoOther, Keeps}
 use Rattle.read_laws.proofs.Callers.{file_read, made_of, are_made, none_behind, count_kept, log_kept}
 use Rattle.lake_script.proofs.KeptFile.{last_stands, last_own, same_either_way}
@@ -47,7 +47,7 @@ use Rattle.outcomes.specs.Lines.{with_newline}
 -- what an append does agrees with the batch that is handed in at the plain table
 abbrev Agrees : (objects : Objects) (schema : Tree) (entries : List Entry) (number : ℕ) → Result AppendPlan SinkRefusal → Result model.Batch SinkRefusal → Type 0
 Agrees objects schema entries number step answer =
-    (sink_reply (step >>= plan_answer number) ≡ tables.appended_reply (table schema entries) answer) × Keeps (with_append objects step) (tables.with_append (table schema entries) answer)
+    (sink_reply (step >>= plan_answer number) ≡ tables.appended_reply (table schema entries) answer) × Keeps (with_append objects step) (tables.with_appended (table schema entries) answer)
 
 -- what is put is well made, and no file is too large
 abbrev IsSoundPlan : (application : List ℕ) (number at : ℕ) → Result AppendPlan SinkRefusal → Type 0
@@ -66,7 +66,7 @@ small_number application number rows fine = by_tests (length application == 0 ||
     by_tests false false many is fine = ltb-false greatest_number number is
 
 -- the table behind an append is lawful
-pub lawful_after : (objects : Objects) (schema : Tree) (entries : List Entry) (b : model.Batch) → IsKept objects schema entries → IsLawful (with_batch (appended b entries) b entries)
+pub lawful_after : (objects : Objects) (schema : Tree) (entries : List Entry) (b : model.Batch) → KeepsTable objects schema entries → IsLawful (with_batch (appended b entries) b entries)
 lawful_after objects schema entries b kept =
     subst (λ (es : List Entry). IsLawful (with_batch (appended b es) b es)) (sym kept.begins) (append_keeps b creation kept.rest (subst IsLawful kept.begins kept.lawful))
 
@@ -80,7 +80,7 @@ made_with version schema rows application number at size file = record {
   version = version;
   schema = schema;
   rows = rows;
-  name = data_file_name application number;
+  name = batch_file_name application number;
   file = file;
   commit = commit_text (batch_actions application number at size (length rows));
 }
@@ -96,9 +96,9 @@ module _ (schema : Tree) (version : ℕ) (rows : List Row) (application : List �
 
   -- and its commit is one of the batch that is handed in
   pub commit_made : IsWellMade application number at (made_with version schema rows application number at size file) → IsCommitOf schema (group (handed_in application number rows ∷ [])) (made_with version schema rows application number at size file).commit
-  commit_made well = append_stands schema (handed_in application number rows) at well.size (length rows) (data_file_name application number) _ (same_file_name application number) well.commit
+  commit_made well = append_stands schema (handed_in application number rows) at well.size (length rows) (batch_file_name application number) _ (same_file_name application number) well.commit
 
-module _ (objects : Objects) (schema : Tree) (entries : List Entry) (kept : IsKept objects schema entries) (own : HasNoOther objects entries) (few : length entries ≤ greatest_version) (application : List ℕ) (number at : ℕ) (utf8 : IsUtf8 application)
+module _ (objects : Objects) (schema : Tree) (entries : List Entry) (kept : KeepsTable objects schema entries) (own : HasNoOther objects entries) (few : length entries ≤ greatest_version) (application : List ℕ) (number at : ℕ) (utf8 : IsUtf8 application)
     (fits : number ≤ greatest_number) (rows : List Row) where
   -- ---- a new number
 
@@ -121,7 +121,7 @@ module _ (objects : Objects) (schema : Tree) (entries : List Entry) (kept : IsKe
       → IsSoundPlan application number at (new_plan objects (asked (length entries) schema rows false) application number at)
       → Agrees objects schema entries number (new_plan objects (asked (length entries) schema rows false) application number at) (Ok (handed_in application number rows))
   unfolding batch_of
-  new_agrees new free sound = by_file (object_at objects (data_file_name application number)) (written_file schema rows) sound
+  new_agrees new free sound = by_file (object_at objects (batch_file_name application number)) (written_file schema rows) sound
     where
       by_size : (size : ℕ) (file : List ℕ) → IsSoundPlan application number at (put_plan objects (made_with (length entries) schema rows application number at size file))
           → Agrees objects schema entries number (put_plan objects (made_with (length entries) schema rows application number at size file)) (Ok (handed_in application number rows))
@@ -204,7 +204,7 @@ step_behind objects schema entries application number at items fine barred takes
     goes_on (is_closed application entries) repeats >>= λ open_. Ok (asked (length entries) schema rows repeats)) >>= plan_of objects application number at
 
 -- that is what an append does over the objects
-pub step_is : (objects : Objects) (schema : Tree) (entries : List Entry) (application : List ℕ) (number at : ℕ) (items : Items) → IsUtf8 application → IsKept objects schema entries
+pub step_is : (objects : Objects) (schema : Tree) (entries : List Entry) (application : List ℕ) (number at : ℕ) (items : Items) → IsUtf8 application → KeepsTable objects schema entries
     → append_plan false objects application number at items
     ≡ step_behind objects schema entries application number at items (checked application number (items_len items)) (has_key_inside (codes "delta.invariants") schema) (takes_rows schema)
 unfolding request_of
@@ -245,10 +245,10 @@ nothing_agrees application number at (Err why) = (refl, refl)
 nothing_agrees application number at (Ok passed) = (refl, refl)
 
 -- the reply to a line that appends a batch is the plain table's, and the store goes on to keep it
-pub append_told : (objects : Objects) (state : State) (application : List ℕ) (number at : ℕ) (items : Items) (printed : List ℕ) → Keeps objects state → length (tables.entries_of state) ≤ greatest_version
+pub append_told : (objects : Objects) (state : TableState) (application : List ℕ) (number at : ℕ) (items : Items) (printed : List ℕ) → Keeps objects state → length (tables.entries_of_state state) ≤ greatest_version
     → IsSoundStatement objects (task (append application number at items)) printed
-    → (reply_to_statement objects (task (append application number at items)) printed ≡ tables.reply_to_statement state (task (append application number at items)))
-    × Keeps (left_by_statement objects (task (append application number at items)) printed) (tables.left_by_statement state (task (append application number at items)))
+    → (reply_to_statement objects (task (append application number at items)) printed ≡ tables.table_reply_to_statement state (task (append application number at items)))
+    × Keeps (left_by_statement objects (task (append application number at items)) printed) (tables.table_left_by_statement state (task (append application number at items)))
 append_told objects nothing application number at items printed keeps few sound =
     rw (keeps, nothing_is application number at items) (nothing_agrees application number at (checked application number (items_len items)))
 append_told objects (table schema entries) application number at items printed keeps few sound =

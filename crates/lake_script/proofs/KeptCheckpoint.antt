@@ -10,12 +10,12 @@ use Rattle.outcomes.specs.Results.{◌>>=◌, refused_as, refused_if}
 use Rattle.table_model.specs.Table.{Entry, creation}
 use Rattle.commit_core.specs.Texts.{refused}
 use Rattle.snapshot_core.specs.Faults.{bad_log, unsupported}
-use Rattle.snapshot_core.specs.Taking.{most_bytes}
-use Rattle.lake_script.specs.Checkpoints.{Checkpoint, NotPut, by_log, too_large, checkpoint_by, checkpoint_of, checkpoint_reply, checkpointed_at, not_put_text, with_checkpoint, IsWellPut}
+use Rattle.snapshot_core.specs.Taking.{most_checkpoint_bytes}
+use Rattle.lake_script.specs.Checkpoints.{Checkpoint, NotPut, by_log, too_large, checkpoint_by_bytes, checkpoint_for, checkpoint_reply, checkpointed_at, not_put_text, with_checkpoint, IsWellPut}
 use Rattle.script_lines.specs.Lines.{checkpoint, task}
 use Rattle.lake_script.specs.Sound.{IsSoundStatement}
 use Rattle.lake_script.specs.Tables as tables
-use Rattle.lake_script.specs.Tables.{State, nothing, table}
+use Rattle.lake_script.specs.Tables.{TableState, nothing, table}
 use Rattle.lake_script.specs.Told as told
 use Rattle.lake_script.specs.Keeps.{HasNoOther, Keeps}
 use Rattle.commit_core.proofs.Callers.{AreMadeFor}
@@ -25,7 +25,7 @@ use Rattle.lake_script.proofs.KeptPuts.{kept_checkpoint, same_files}
 use Rattle.outcomes.specs.Lines.{with_newline}
 
 -- a store of nothing has no checkpoint
-over_nothing : (bytes : List ℕ) → checkpoint_by [] bytes ≡ Err (by_log (bad_log 0))
+over_nothing : (bytes : List ℕ) → checkpoint_by_bytes [] bytes ≡ Err (by_log (bad_log 0))
 over_nothing bytes = rw log_of_nothing refl
 
 -- a checkpoint that is put is no data file
@@ -45,9 +45,9 @@ module _ (objects : Objects) (schema : Tree) (entries : List Entry) (keeps : Kee
   abbrev put_by : (barred over : Bool) → Result Checkpoint NotPut
   put_by barred over =
       refused_as by_log (refused_as unsupported (refused_if barred (feature (codes "invariants"))) >>= λ fine. Ok commits) >>= λ (found : List (List actions.Action)).
-      refused_if over too_large >>= λ fits. checkpoint_of (length entries - 1) (meta_data_of found)
+      refused_if over too_large >>= λ fits. checkpoint_for (length entries - 1) (meta_data_of found)
 
-  put_is : checkpoint_by objects bytes ≡ put_by (has_key_inside (codes "delta.invariants") schema) (nat_lt most_bytes (length bytes))
+  put_is : checkpoint_by_bytes objects bytes ≡ put_by (has_key_inside (codes "delta.invariants") schema) (nat_lt most_checkpoint_bytes (length bytes))
   put_is = rw (log_kept objects schema entries keeps.0, log_checkpointable objects schema keeps.0.rest commits made, count_kept objects schema entries keeps.0) refl
 
   -- what it is told, and what is kept behind it
@@ -57,7 +57,7 @@ module _ (objects : Objects) (schema : Tree) (entries : List Entry) (keeps : Kee
       ≡ (if barred then with_newline (refused (not_put_text (by_log (unsupported (feature (codes "invariants")))))) else with_newline (checkpointed_at (length entries - 1))))
       × Keeps (with_checkpoint objects bytes put) (table schema entries)
 
-  by_metadata : (metadata : actions.MetaDataAction) (found : Option actions.MetaDataAction) → found ≡ Some metadata → IsWellPut (checkpoint_of (length entries - 1) found) → IsAsTold false (checkpoint_of (length entries - 1) found)
+  by_metadata : (metadata : actions.MetaDataAction) (found : Option actions.MetaDataAction) → found ≡ Some metadata → IsWellPut (checkpoint_for (length entries - 1) found) → IsAsTold false (checkpoint_for (length entries - 1) found)
   by_metadata metadata None is well = absurd cc
   by_metadata metadata (Some m) is well =
       let version = length entries - 1 in
@@ -72,12 +72,12 @@ module _ (objects : Objects) (schema : Tree) (entries : List Entry) (keeps : Kee
       by_metadata metadata.0 (meta_data_of commits) metadata.1 well
 
   -- a checkpoint over a table
-  over_table : IsWellPut (checkpoint_by objects bytes) → IsAsTold (has_key_inside (codes "delta.invariants") schema) (checkpoint_by objects bytes)
-  over_table well = rw put_is (by_tests (has_key_inside (codes "delta.invariants") schema) (nat_lt most_bytes (length bytes)) (rw put_is at well))
+  over_table : IsWellPut (checkpoint_by_bytes objects bytes) → IsAsTold (has_key_inside (codes "delta.invariants") schema) (checkpoint_by_bytes objects bytes)
+  over_table well = rw put_is (by_tests (has_key_inside (codes "delta.invariants") schema) (nat_lt most_checkpoint_bytes (length bytes)) (rw put_is at well))
 
 -- A checkpoint is told as by the table, and the store goes on to keep it.
-pub checkpoint_told : (objects : Objects) (state : State) (printed : List ℕ) → Keeps objects state → IsSoundStatement objects (task checkpoint) printed
-    → (told.reply_to_statement objects (task checkpoint) printed ≡ tables.reply_to_statement state (task checkpoint))
-    × Keeps (told.left_by_statement objects (task checkpoint) printed) (tables.left_by_statement state (task checkpoint))
+pub checkpoint_told : (objects : Objects) (state : TableState) (printed : List ℕ) → Keeps objects state → IsSoundStatement objects (task checkpoint) printed
+    → (told.reply_to_statement objects (task checkpoint) printed ≡ tables.table_reply_to_statement state (task checkpoint))
+    × Keeps (told.left_by_statement objects (task checkpoint) printed) (tables.table_left_by_statement state (task checkpoint))
 checkpoint_told objects nothing printed keeps sound = rw keeps (rw (over_nothing printed) (refl, refl))
 checkpoint_told objects (table schema entries) printed keeps sound = over_table objects schema entries keeps printed sound

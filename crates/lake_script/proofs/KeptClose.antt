@@ -12,16 +12,16 @@ use Rattle.table_model.specs.declared.table.Closing.TheVariants.{Closed, Already
 use Rattle.commit_core.specs.TableCommits.{IsCommitOf}
 use Rattle.batch_core.specs.Requests.{SinkRequest, named}
 use Rattle.batch_core.specs.Refusals.{SinkRefusal, bad_log}
-use Rattle.sink_core.specs.Closes.{close_of, close_answer, close_plan, close_text, closing_version, with_close, ClosesWell}
+use Rattle.sink_core.specs.Closes.{close_of, close_answer, close_plan, close_text, closing_version, with_close_commit, ClosesWell}
 use Rattle.script_lines.specs.Lines.{close as closes, task}
 use Rattle.outcomes.specs.Lines.{with_newline}
 use Rattle.outcomes.specs.Results.{◌>>=◌}
 use Rattle.commit_core.proofs.Callers.{log_of_nothing}
-use Rattle.read_laws.specs.Kept.{IsKept}
+use Rattle.read_laws.specs.Kept.{KeepsTable}
 use Rattle.lake_script.specs.Keeps.{AreFiles, Keeps}
 use Rattle.lake_script.specs.Sound.{IsSoundStatement}
 use Rattle.lake_script.specs.Tables as tables
-use Rattle.lake_script.specs.Tables.{State, nothing, table}
+use Rattle.lake_script.specs.Tables.{TableState, nothing, table}
 use Rattle.lake_script.specs.Told.{reply_to_statement, left_by_statement, sink_reply}
 use Rattle.lake_script.proofs.KeptAppend.{version_fits}
 use Rattle.lake_script.proofs.KeptHolds.{close_stands}
@@ -38,7 +38,7 @@ close_step schema entries application fine barred =
     (fine >>= λ passed. unless_invariant barred >>= λ plain. Ok (asked (length entries) schema [] (is_closed application entries))) >>= λ request. Ok (closing_version request)
 
 -- that is what it does over the objects
-pub close_is : (objects : Objects) (schema : Tree) (entries : List Entry) (application : List ℕ) → IsUtf8 application → IsKept objects schema entries
+pub close_is : (objects : Objects) (schema : Tree) (entries : List Entry) (application : List ℕ) → IsUtf8 application → KeepsTable objects schema entries
     → close_plan false objects application ≡ close_step schema entries application (named application) (has_key_inside (codes "delta.invariants") schema)
 unfolding close_of
 close_is objects schema entries application utf8 kept =
@@ -58,7 +58,7 @@ close_nothing_is application = rw log_of_nothing refl
 -- what a close does agrees with what the plain table answers
 abbrev Agrees : (objects : Objects) (schema : Tree) (entries : List Entry) (application : List ℕ) (at : ℕ) → Result (Option ℕ) SinkRefusal → Result (Unit {0}) SinkRefusal → Type 0
 Agrees objects schema entries application at plan answer =
-    (sink_reply (plan >>= close_answer) ≡ tables.closed_reply (table schema entries) application answer) × Keeps (with_close objects application at plan) (tables.with_closed (table schema entries) application answer)
+    (sink_reply (plan >>= close_answer) ≡ tables.closed_reply (table schema entries) application answer) × Keeps (with_close_commit objects application at plan) (tables.with_closed (table schema entries) application answer)
 
 -- where a table is kept, the answer is the plain table's
 table_agrees : (objects : Objects) (schema : Tree) (entries : List Entry) (application : List ℕ) (at : ℕ) (fine : Result (Unit {0}) SinkRefusal) (barred : Bool) → Keeps objects (table schema entries)
@@ -70,7 +70,7 @@ table_agrees objects schema entries application at (Ok passed) false kept few ut
   where
     by_close : (closed : Bool) → is_closed application entries ≡ closed → ClosesWell application at (Ok (cond closed None (Some (length entries))))
         → (sink_reply (close_answer (cond closed None (Some (length entries)))) ≡ with_newline (tables.closing_text (cond closed AlreadyClosed (Closed (length entries)))))
-        × Keeps (with_close objects application at (Ok (cond closed None (Some (length entries))))) (table schema (cond closed entries (entries ++ close application ∷ [])))
+        × Keeps (with_close_commit objects application at (Ok (cond closed None (Some (length entries))))) (table schema (cond closed entries (entries ++ close application ∷ [])))
     by_close true is well = (refl, kept)
     by_close false is well =
         let free = none_behind objects schema entries kept.0 few in
@@ -80,15 +80,15 @@ table_agrees objects schema entries application at (Ok passed) false kept few ut
 
 -- no stream is closed where nothing stands
 nothing_agrees : (application : List ℕ) (at : ℕ) (fine : Result (Unit {0}) SinkRefusal)
-    → (sink_reply (close_of_nothing fine >>= close_answer) ≡ tables.closed_reply nothing application (fine >>= λ passed. Err (bad_log 0))) × (with_close [] application at (close_of_nothing fine) ≡ [])
+    → (sink_reply (close_of_nothing fine >>= close_answer) ≡ tables.closed_reply nothing application (fine >>= λ passed. Err (bad_log 0))) × (with_close_commit [] application at (close_of_nothing fine) ≡ [])
 nothing_agrees application at (Err why) = (refl, refl)
 nothing_agrees application at (Ok passed) = (refl, refl)
 
 -- the reply to a line that closes a stream is the plain table's, and the store goes on to keep it
-pub close_told : (objects : Objects) (state : State) (application : List ℕ) (at : ℕ) (printed : List ℕ) → Keeps objects state → length (tables.entries_of state) ≤ greatest_version
+pub close_told : (objects : Objects) (state : TableState) (application : List ℕ) (at : ℕ) (printed : List ℕ) → Keeps objects state → length (tables.entries_of_state state) ≤ greatest_version
     → IsSoundStatement objects (task (closes application at)) printed
-    → (reply_to_statement objects (task (closes application at)) printed ≡ tables.reply_to_statement state (task (closes application at)))
-    × Keeps (left_by_statement objects (task (closes application at)) printed) (tables.left_by_statement state (task (closes application at)))
+    → (reply_to_statement objects (task (closes application at)) printed ≡ tables.table_reply_to_statement state (task (closes application at)))
+    × Keeps (left_by_statement objects (task (closes application at)) printed) (tables.table_left_by_statement state (task (closes application at)))
 close_told objects nothing application at printed kept few sound = rw (kept, close_nothing_is application) (nothing_agrees application at (named application))
 close_told objects (table schema entries) application at printed kept few sound =
     let is = close_is objects schema entries application sound.0 kept.0 in
@@ -99,13 +99,13 @@ close_told objects (table schema entries) application at printed kept few sound 
 -- ---- what a close leaves
 
 -- where nothing stands, nothing is put
-pub close_over_nothing : (most : ℕ) (application : List ℕ) (at : ℕ) (fine : Result (Unit {0}) SinkRefusal) → Stays (suc most) (with_close [] application at (close_of_nothing fine))
+pub close_over_nothing : (most : ℕ) (application : List ℕ) (at : ℕ) (fine : Result (Unit {0}) SinkRefusal) → Stays (suc most) (with_close_commit [] application at (close_of_nothing fine))
 close_over_nothing most application at (Ok passed) = bare refl
 close_over_nothing most application at (Err why) = bare refl
 
 -- A close over a table that is kept leaves one that is kept.
-pub close_goes_on : (objects : Objects) (schema : Tree) (entries : List Entry) → IsKept objects schema entries → AreFiles objects schema → (most : ℕ) → length entries ≤ most → (application : List ℕ) (at : ℕ) → IsUtf8 application
-    → ClosesWell application at (close_plan false objects application) → Stays (suc most) (with_close objects application at (close_plan false objects application))
+pub close_goes_on : (objects : Objects) (schema : Tree) (entries : List Entry) → KeepsTable objects schema entries → AreFiles objects schema → (most : ℕ) → length entries ≤ most → (application : List ℕ) (at : ℕ) → IsUtf8 application
+    → ClosesWell application at (close_plan false objects application) → Stays (suc most) (with_close_commit objects application at (close_plan false objects application))
 close_goes_on objects schema entries kept files most up application at utf8 well =
     let is = close_is objects schema entries application utf8 kept in
     rw is (by_tests (named application) (has_key_inside (codes "delta.invariants") schema) (rw is at well))
@@ -114,7 +114,7 @@ close_goes_on objects schema entries kept files most up application at utf8 well
     unchanged = keeps schema entries kept files (omega (arith, up))
 
     by_close : (closed : Bool) → is_closed application entries ≡ closed → ClosesWell application at (Ok (cond closed None (Some (length entries))))
-        → Stays (suc most) (with_close objects application at (Ok (cond closed None (Some (length entries)))))
+        → Stays (suc most) (with_close_commit objects application at (Ok (cond closed None (Some (length entries)))))
     by_close true is well = unchanged
     by_close false is well =
         let bytes = close_text application at in
@@ -127,7 +127,7 @@ close_goes_on objects schema entries kept files most up application at utf8 well
           | inr few ↦ rw (version_fits entries few) (whole few)
         ]
 
-    by_tests : (fine : Result (Unit {0}) SinkRefusal) (barred : Bool) → ClosesWell application at (close_step schema entries application fine barred) → Stays (suc most) (with_close objects application at (close_step schema entries application fine barred))
+    by_tests : (fine : Result (Unit {0}) SinkRefusal) (barred : Bool) → ClosesWell application at (close_step schema entries application fine barred) → Stays (suc most) (with_close_commit objects application at (close_step schema entries application fine barred))
     by_tests (Err why) barred well = unchanged
     by_tests (Ok passed) true well = unchanged
     by_tests (Ok passed) false well = by_close (is_closed application entries) refl well

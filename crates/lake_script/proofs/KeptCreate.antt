@@ -13,15 +13,15 @@ use Rattle.table_model.specs.Table.{Entry, creation}
 use Rattle.table_model.proofs.Callers.{new_is_lawful}
 use Rattle.commit_core.proofs.Callers.{commit_name-data_file_name, commit_name-once}
 use Rattle.commit_core.specs.Commits.{commit_text, creation as created}
-use Rattle.commit_core.specs.Creating.{CreateRefusal, bad_schema, bad_id, too_large, id_of, described, within, most_bytes, commit_from, unless_there, with_creation}
+use Rattle.commit_core.specs.Creating.{CreateRefusal, bad_schema, bad_id, too_large, id_of, described, within, most_bytes, creation_from, unless_there, with_creation}
 use Rattle.script_lines.specs.Lines.{create}
 use Rattle.outcomes.specs.Results.{◌>>=◌, or_refusal, refused_as}
 use Rattle.commit_core.specs.Creating.{IsWellCreated, CreatesWell}
 use Rattle.lake_script.specs.Sound.{IsSoundStatement}
 use Rattle.lake_script.specs.Tables as tables
-use Rattle.lake_script.specs.Tables.{State, nothing, table, creating, with_table}
+use Rattle.lake_script.specs.Tables.{TableState, nothing, table, creating, with_table}
 use Rattle.lake_script.specs.Told.{reply_to_statement, left_by_statement, created_reply}
-use Rattle.read_laws.specs.Kept.{IsKept, KeptFrom}
+use Rattle.read_laws.specs.Kept.{KeepsTable, KeptFrom}
 use Rattle.lake_script.specs.Keeps.{Keeps}
 use Rattle.lake_script.proofs.KeptHolds.{creation_stands}
 use Rattle.lake_script.proofs.KeptNames.{none_unless}
@@ -56,8 +56,8 @@ module _ (text printed : List ℕ) where
   told_id (Some own) at fits = told_schema own at (schema_of text) refl fits
 
   -- what is described and what is put agree
-  is_told : (id : List ℕ) (at : ℕ) → commit_from id at text printed ≢ Err too_large → IsTold text (described id text) (commit_from id at text printed)
-  unfolding commit_from
+  is_told : (id : List ℕ) (at : ℕ) → creation_from id at text printed ≢ Err too_large → IsTold text (described id text) (creation_from id at text printed)
+  unfolding creation_from
   is_told id at fits = told_id (id_of id) at fits
 
 -- ---- the table of one creation
@@ -73,7 +73,7 @@ one_object name bytes = ap (λ (same : Bool). cond same (Some bytes) None) ((byt
 
 -- a first commit that is well made is the table of its creation
 pub kept_creation : (name : List ℕ) (at : ℕ) (text : List ℕ) (schema : Tree) (bytes : List ℕ) → name ≡ commit_name 0 → schema_of text ≡ Ok schema → IsWellCreated at text bytes
-    → IsKept ((name, bytes) ∷ []) schema (creation ∷ [])
+    → KeepsTable ((name, bytes) ∷ []) schema (creation ∷ [])
 kept_creation name at text schema bytes first is well =
     let same : Ok well.read ≡ Ok schema = sym well.described ∙ is in
     let stands : object_at ((name, bytes) ∷ []) (commit_name 0) ≡ Some bytes = ap (object_at ((name, bytes) ∷ [])) (sym first) ∙ one_object name bytes in
@@ -95,7 +95,7 @@ no_data_file name bytes first application number some =
     commit_name-data_file_name 0 application number (sym first ∙ sym (one_name name bytes file (bytes_eq file name) refl some))
 
 -- the first commit of a table stands
-pub first_commit : (objects : Objects) (schema : Tree) (entries : List Entry) → IsKept objects schema entries → is_some (object_at objects (commit_name 0)) ≡ true
+pub first_commit : (objects : Objects) (schema : Tree) (entries : List Entry) → KeepsTable objects schema entries → is_some (object_at objects (commit_name 0)) ≡ true
 first_commit objects schema entries kept =
     let all : KeptFrom objects schema 0 (creation ∷ kept.rest) = subst (KeptFrom objects schema 0) kept.begins kept.kept in
     ap is_some all.0.1
@@ -104,7 +104,7 @@ first_commit objects schema entries kept =
 
 -- where nothing stands, what is put is the table
 told_nothing : (at : ℕ) (text : List ℕ) (found : Result Tree CreateRefusal) (put : Result (List ℕ) CreateRefusal) → IsTold text found put → CreatesWell at text put
-    → (created_reply (unless_there None put) ≡ tables.created_reply (creating nothing found)) × Keeps (with_creation [] put) (with_table nothing (creating nothing found))
+    → (created_reply (unless_there None put) ≡ tables.table_created_reply (creating nothing found)) × Keeps (with_creation [] put) (with_table nothing (creating nothing found))
 told_nothing at text found put (refuses why f p) well = rw (f, p) (refl, refl)
 told_nothing at text found put (puts schema bytes f p is) well =
     let made : IsWellCreated at text bytes = rw p at well in
@@ -113,7 +113,7 @@ told_nothing at text found put (puts schema bytes f p is) well =
 
 -- where a table stands, no other is created
 told_table : (text : List ℕ) (old : Tree) (entries : List Entry) (there : Option (List ℕ)) (found : Result Tree CreateRefusal) (put : Result (List ℕ) CreateRefusal)
-    → is_some there ≡ true → IsTold text found put → created_reply (unless_there there put) ≡ tables.created_reply (creating (table old entries) found)
+    → is_some there ≡ true → IsTold text found put → created_reply (unless_there there put) ≡ tables.table_created_reply (creating (table old entries) found)
 told_table text old entries None found put some told = absurd cc
 told_table text old entries (Some bytes) found put some (refuses why f p) = rw (f, p) refl
 told_table text old entries (Some bytes) found put some (puts schema new f p is) = rw (f, p) refl
@@ -129,13 +129,13 @@ same_table old entries (Ok schema) = refl
 same_table old entries (Err why) = refl
 
 -- the reply to a line that creates a table is the plain table's, and the store goes on to keep it
-pub create_told : (objects : Objects) (state : State) (id : List ℕ) (at : ℕ) (text printed : List ℕ) → Keeps objects state → IsSoundStatement objects (create id at text) printed
-    → (reply_to_statement objects (create id at text) printed ≡ tables.reply_to_statement state (create id at text))
-    × Keeps (left_by_statement objects (create id at text) printed) (tables.left_by_statement state (create id at text))
+pub create_told : (objects : Objects) (state : TableState) (id : List ℕ) (at : ℕ) (text printed : List ℕ) → Keeps objects state → IsSoundStatement objects (create id at text) printed
+    → (reply_to_statement objects (create id at text) printed ≡ tables.table_reply_to_statement state (create id at text))
+    × Keeps (left_by_statement objects (create id at text) printed) (tables.table_left_by_statement state (create id at text))
 create_told objects nothing id at text printed keeps sound =
-    rw keeps (told_nothing at text (described id text) (commit_from id at text printed) (is_told text printed id at sound.1) sound.0)
+    rw keeps (told_nothing at text (described id text) (creation_from id at text printed) (is_told text printed id at sound.1) sound.0)
 create_told objects (table schema entries) id at text printed keeps sound =
     let stands = first_commit objects schema entries keeps.0 in (
-      told_table text schema entries (object_at objects (commit_name 0)) (described id text) (commit_from id at text printed) stands (is_told text printed id at sound.1),
-      rw (left_table objects (commit_from id at text printed) stands, same_table schema entries (described id text)) keeps,
+      told_table text schema entries (object_at objects (commit_name 0)) (described id text) (creation_from id at text printed) stands (is_told text printed id at sound.1),
+      rw (left_table objects (creation_from id at text printed) stands, same_table schema entries (described id text)) keeps,
     )

@@ -13,10 +13,10 @@ use Rattle.table_model.specs.Table.{creation}
 use Rattle.commit_core.proofs.Callers.{lawful_log}
 use Rattle.batch_core.specs.Requests.{checked, named}
 use Rattle.sink_core.specs.Appending.{append_plan, with_append, with_file_alone}
-use Rattle.sink_core.specs.Closes.{close_plan, with_close, MayClose}
+use Rattle.sink_core.specs.Closes.{close_plan, with_close_commit, MayClose}
 use Rattle.store_core.specs.Names.{commit_name}
 use Rattle.commit_core.specs.Creating as creations
-use Rattle.commit_core.specs.Creating.{commit_from, with_creation}
+use Rattle.commit_core.specs.Creating.{creation_from, with_creation}
 use Rattle.sink_core.specs.Appending.{MayAppend}
 use Rattle.lake_script.specs.Growth.{MayPut}
 use Rattle.table_log.specs.Restoring.{AreCheckpointsSound, HasOnlySoundCheckpoints, replayed}
@@ -34,7 +34,7 @@ use Rattle.lake_script.proofs.KeptHolds.{kept_sound}
 use Rattle.lake_script.proofs.KeptPuts.{kept_checkpoint, same_files}
 use Rattle.lake_script.specs.Keeps.{KeepsBeside}
 use Rattle.lake_script.specs.Scripts.{StaysSound}
-use Rattle.lake_script.specs.Tables.{State, entries_of}
+use Rattle.lake_script.specs.Tables.{TableState, entries_of_state}
 use Rattle.lake_script.proofs.KeptPlan.{Stays, bare, keeps, GoesOn, append_goes_on, ends, starts}
 
 -- ---- a line
@@ -87,7 +87,7 @@ close_stays : (most : ℕ) (objects : Objects) (application : List ℕ) (at : �
 close_stays most objects application at new utf8 (inl same) stays = rw same (still most objects stays)
 close_stays most objects application at new utf8 (inr (well, put)) stays = subst (Stays (suc most)) (sym put) (goes stays)
   where
-    goes : Stays most objects → Stays (suc most) (with_close objects application at (close_plan false objects application))
+    goes : Stays most objects → Stays (suc most) (with_close_commit objects application at (close_plan false objects application))
     goes (bare none) = rw (none, close_nothing_is application) (close_over_nothing most application at (named application))
     goes (keeps schema entries kept files up) = close_goes_on objects schema entries kept files most up application at utf8 well
 
@@ -111,7 +111,7 @@ checkpoint_stays most objects new version put (keeps schema entries kept files f
 -- what a line asks for
 put_stays : (most : ℕ) (old : Objects) (statement : Statement) (new : Objects) → IsPutHere (asks statement) → MayPut old statement new → Stays most old → Stays (suc most) new
 put_stays most old (create id at schema) new here (inl same) stays = rw same (still most old stays)
-put_stays most old (create id at schema) new here (inr (printed, put)) stays = rw put.1 (created_stays most old at schema (commit_from id at schema printed) put.0 stays)
+put_stays most old (create id at schema) new here (inr (printed, put)) stays = rw put.1 (created_stays most old at schema (creation_from id at schema printed) put.0 stays)
 put_stays most old (task (append application number at items)) new here put stays = append_stays most old application number at items new put.0 put.1 stays
 put_stays most old (task (close application at)) new here put stays = close_stays most old application at new put.0 put.1 stays
 put_stays most old (task checkpoint) new here (inl same) stays = rw same (still most old stays)
@@ -144,11 +144,11 @@ stays_sound most objects (keeps schema entries kept files up) = kept_sound objec
 
 -- Over a store that keeps a table and whose checkpoints are sound, lines that put no other tool's commit leave such a store,
 -- however many of them are answered.
-pub part_is_sound : (state : State) (old : Objects) (lines : List (List ℕ)) (written : List ℕ) (new : Objects) → KeepsBeside old state → HasOnlySoundCheckpoints old
+pub part_is_sound : (state : TableState) (old : Objects) (lines : List (List ℕ)) (written : List ℕ) (new : Objects) → KeepsBeside old state → HasOnlySoundCheckpoints old
     → ArePutHere lines → RunsInPart 1 old lines written new → ((every : Bool) → AreCheckpointsSound every old → AreCheckpointsSound every new) → StaysSound state (length lines) new
 part_is_sound state old lines written new kept sound here runs keeps_sound =
-    let most = length (entries_of state) + length lines in
-    let stays = lines_stay (length (entries_of state)) 1 old lines written new here (starts old state kept) runs in
+    let most = length (entries_of_state state) + length lines in
+    let stays = lines_stay (length (entries_of_state state)) 1 old lines written new here (starts old state kept) runs in
     let table = stays_sound most new stays in
     record {
       sound = record { table = table; checkpoints = keeps_sound true sound };
@@ -157,7 +157,7 @@ part_is_sound state old lines written new kept sound here runs keeps_sound =
     }
 
 -- Where a text isn't read, such a store stays as it is.
-pub unread_is_sound : (known : Option (List ℕ)) (state : State) (objects : Objects) → KeepsBeside objects state → HasOnlySoundCheckpoints objects
+pub unread_is_sound : (known : Option (List ℕ)) (state : TableState) (objects : Objects) → KeepsBeside objects state → HasOnlySoundCheckpoints objects
     → IfSome known (λ text. ArePutHere (lines_of text) → StaysSound state (length (lines_of text)) objects)
 unread_is_sound None state objects kept sound = tt
 unread_is_sound (Some text) state objects kept sound = λ here.

@@ -21,7 +21,7 @@ use Rattle.table_log.specs.Versions.{commit}
 use Rattle.commit_core.specs.Histories.{action_told, close_told, number_told, history_from, history_in, history_of, bad_log}
 use Rattle.lake_script.specs.Tables as tables
 use Rattle.lake_script.specs.Tables.{entry_told}
-use Rattle.read_laws.specs.Kept.{IsKept}
+use Rattle.read_laws.specs.Kept.{KeepsTable}
 use Rattle.read_laws.proofs.Callers.{made_of, are_made, versions_kept, has_commits}
 use Rattle.commit_core.proofs.Callers.{says_so, versions_of_nothing}
 use Rattle.outcomes.specs.Lines.{with_newline}
@@ -69,14 +69,14 @@ entry_is_told schema (close application) beside stand =
     rw stand.actions (ap (λ (told : List ℕ). told ++ []) (close_is_told application stand.text))
 
 -- the lines of commits that stand for entries are those of the entries
-lines_told : (objects : Objects) (schema : Tree) (version : ℕ) (entries : List Entry) (commits : List (List actions.Action)) → AreMadeFor objects schema entries commits → history_from version (map commit commits) ≡ tables.history_from version entries
+lines_told : (objects : Objects) (schema : Tree) (version : ℕ) (entries : List Entry) (commits : List (List actions.Action)) → AreMadeFor objects schema entries commits → history_from version (map commit commits) ≡ tables.table_history_from version entries
 unfolding history_from
 lines_told objects schema version [] [] made = refl
 lines_told objects schema version [] (first ∷ commits) made = absurd made
 lines_told objects schema version (entry ∷ entries) [] made = absurd made
 lines_told objects schema version (entry ∷ entries) (first ∷ commits) made =
     rw (lines_told objects schema (suc version) entries commits made.2)
-    (ap (λ (told : List ℕ). with_newline (decimal version ++ told) ++ tables.history_from (suc version) entries) (told-without_commit_info first ∙ entry_is_told schema entry (without_commit_info first) made.0))
+    (ap (λ (told : List ℕ). with_newline (decimal version ++ told) ++ tables.table_history_from (suc version) entries) (told-without_commit_info first ∙ entry_is_told schema entry (without_commit_info first) made.0))
 
 -- where a commit stands, its line is told
 told_from_first : (commits : List (List actions.Action)) → 0 < length commits → history_in (map commit commits) ≡ history_from 0 (map commit commits)
@@ -84,7 +84,7 @@ told_from_first [] some = absurd (omega arith)
 told_from_first (first ∷ commits) some = refl
 
 -- What is told of the versions of a store that keeps a table is what is told of its entries.
-pub history_told : (objects : Objects) (schema : Tree) (entries : List Entry) → IsKept objects schema entries → history_of objects ≡ tables.history_from 0 entries
+pub history_told : (objects : Objects) (schema : Tree) (entries : List Entry) → KeepsTable objects schema entries → history_of objects ≡ tables.table_history_from 0 entries
 history_told objects schema entries kept =
     let commits = made_of objects schema 0 entries kept.kept in
     rw (versions_kept objects schema entries kept)

@@ -10,10 +10,10 @@ use Rattle.commit_core.specs.Holds.{EndsAt, HoldsFrom, Holds}
 use Rattle.commit_core.specs.SoundTables.{IsSound}
 use Rattle.delta_actions.specs.Names.{data_file_name}
 use Rattle.table_model.specs.Table.{Batch, Entry, creation, group, close, batches_of}
-use Rattle.batch_core.specs.Closing.{closing}
+use Rattle.batch_core.specs.Closing.{close_actions}
 use Rattle.batch_core.specs.Committing.{appending}
 use Rattle.commit_core.specs.Commits.{creation as created}
-use Rattle.read_laws.specs.Kept.{KeptFrom, IsKept}
+use Rattle.read_laws.specs.Kept.{KeptFrom, KeepsTable}
 use Rattle.read_laws.proofs.Callers.{files_stand, none_behind}
 
 -- ---- the commits that this program puts
@@ -38,10 +38,10 @@ append_stands schema b at size rows name bytes named commit = record {
 }
 
 -- those of a close stand for one, where the application's id is text
-pub close_stands : (schema : Tree) (application : List ℕ) (at : ℕ) (bytes : List ℕ) → IsUtf8 application → IsCommit bytes (closing application at) → IsCommitOf schema (close application) bytes
-unfolding closing
+pub close_stands : (schema : Tree) (application : List ℕ) (at : ℕ) (bytes : List ℕ) → IsUtf8 application → IsCommit bytes (close_actions application at) → IsCommitOf schema (close application) bytes
+unfolding close_actions
 close_stands schema application at bytes text commit = record {
-  actions = closing application at;
+  actions = close_actions application at;
   commit = commit;
   stand = record { actions = refl; text = text };
 }
@@ -58,10 +58,10 @@ holds_from objects schema version end (entry ∷ entries) kept is ends =
     ((kept.0.0, kept.0.1, kept.0.2), files_stand objects schema (batches_of entry) kept.1, holds_from objects schema (suc version) end entries kept.2 (omega arith) ends)
 
 -- A store that keeps a table holds it.
-pub kept_holds : (objects : Objects) (schema : Tree) (entries : List Entry) → IsKept objects schema entries → Holds objects schema entries
+pub kept_holds : (objects : Objects) (schema : Tree) (entries : List Entry) → KeepsTable objects schema entries → Holds objects schema entries
 kept_holds objects schema entries kept = holds_from objects schema 0 (length entries) entries kept.kept (omega arith) (kept.fits, λ few. none_behind objects schema entries kept few)
 
 -- A store that keeps a table is sound.
-pub kept_sound : (objects : Objects) (schema : Tree) (entries : List Entry) → IsKept objects schema entries → IsSound objects
+pub kept_sound : (objects : Objects) (schema : Tree) (entries : List Entry) → KeepsTable objects schema entries → IsSound objects
 kept_sound objects schema entries kept =
     record { schema = schema; entries = entries; holds = kept_holds objects schema entries kept; lawful = kept.lawful; ends = kept.ends }

@@ -10,15 +10,15 @@ use Rattle.delta_actions.specs.Names.{data_file_name as plain_file_name}
 use Rattle.table_model.specs.Lawful.{Rises}
 use Rattle.table_model.specs.Table.{Batch, Entry, batches_of, batches, numbers_by, last, last_batch}
 use Rattle.table_model.proofs.Callers.{IsAbove, last_none, last_number, numbers_in}
-use Rattle.batch_core.specs.Committing.{data_file_name, greatest_number}
-use Rattle.read_laws.specs.Kept.{IsKept, KeptFrom, FileKept}
+use Rattle.batch_core.specs.Committing.{batch_file_name, greatest_number}
+use Rattle.read_laws.specs.Kept.{KeepsTable, KeptFrom, FileKept}
 use Rattle.lake_script.specs.Keeps.{IsOwn, HasNoOther}
 
 -- ---- the names that contracts don't look into
 
 -- the name of a batch's file is the model's
-pub same_file_name : (application : List ℕ) (number : ℕ) → data_file_name application number ≡ plain_file_name application number
-unfolding data_file_name
+pub same_file_name : (application : List ℕ) (number : ℕ) → batch_file_name application number ≡ plain_file_name application number
+unfolding batch_file_name
 same_file_name application number = refl
 
 -- ---- what a list contains
@@ -116,7 +116,7 @@ none_unless None never = refl
 none_unless (Some x) never = absurd (never refl)
 
 -- no file stands under a number above the application's last one
-pub no_file : (objects : Objects) (schema : Tree) (entries : List Entry) (application : List ℕ) (number : ℕ) → IsKept objects schema entries → HasNoOther objects entries → IsUtf8 application → number ≤ greatest_number
+pub no_file : (objects : Objects) (schema : Tree) (entries : List Entry) (application : List ℕ) (number : ℕ) → KeepsTable objects schema entries → HasNoOther objects entries → IsUtf8 application → number ≤ greatest_number
     → IsAbove number (option_map (λ (b : Batch). b.number) (last_batch application entries)) → object_at objects (plain_file_name application number) ≡ None
 no_file objects schema entries application number kept own utf8 small above =
     none_unless (object_at objects (plain_file_name application number)) (λ some. never (own application number utf8 small some))

@@ -23,15 +23,15 @@ use Rattle.row_core.proofs.Callers.{same_rows-is}
 use Rattle.table_model.specs.Table as model
 use Rattle.table_model.specs.Table.{Entry, group, is_closed, last_batch}
 use Rattle.commit_core.proofs.Callers.{commit_name-data_file_name}
-use Rattle.batch_core.specs.Committing.{data_file_name, greatest_number}
-use Rattle.batch_core.specs.Requests.{checked, is_repeat, is_same, unless_other, where_same, file_or_refusal}
+use Rattle.batch_core.specs.Committing.{batch_file_name, greatest_number}
+use Rattle.batch_core.specs.Requests.{checked, is_repeat, is_same, unless_other_rows, where_same, file_or_refusal}
 use Rattle.sink_core.specs.Appending.{EncodedBatch, AppendPlan, puts, stands, size_behind, batch_of, put_plan, new_plan, plan_of, append_plan, with_append, with_file_alone, IsWellMade, PutsWell}
 use Rattle.batch_core.specs.Refusals.{SinkRefusal, stale, differs}
 use Rattle.outcomes.specs.Results.{◌>>=◌, refused_if}
 use Rattle.batch_core.specs.RowsIn.{rows_from, takes_rows}
-use Rattle.read_laws.specs.Kept.{IsReadableFile, FileKept, IsKept}
+use Rattle.read_laws.specs.Kept.{IsReadableFile, FileKept, KeepsTable}
 use Rattle.lake_script.specs.Keeps.{AreFiles, HasNoOther, Keeps, KeepsBeside}
-use Rattle.lake_script.specs.Tables.{State, nothing, table, entries_of}
+use Rattle.lake_script.specs.Tables.{TableState, nothing, table, entries_of_state}
 use Rattle.lake_script.proofs.KeptAppend.{small_number, lawful_after, version_fits, made_with, handed_in, file_made, commit_made, step_with, step_behind, step_is}
 use Rattle.read_laws.proofs.Callers.{file_read, none_behind}
 use Rattle.lake_script.proofs.KeptNames.{batch_stands, same_file_name}
@@ -41,10 +41,10 @@ use Rattle.lake_script.proofs.KeptPuts.{Stands-put, put_stands, kept_file, kept_
 -- what stands behind some lines: nothing, or a table of so many entries at most, with data files besides
 pub data Stays (most : ℕ) (objects : Objects) : Type 0 where
   bare : objects ≡ [] → Stays most objects
-  keeps : (schema : Tree) (entries : List Entry) → IsKept objects schema entries → AreFiles objects schema → length entries ≤ most → Stays most objects
+  keeps : (schema : Tree) (entries : List Entry) → KeepsTable objects schema entries → AreFiles objects schema → length entries ≤ most → Stays most objects
 
 -- where no other data file stands, each is one of rows
-pub files_of_kept : (objects : Objects) (schema : Tree) (entries : List Entry) → IsKept objects schema entries → HasNoOther objects entries → AreFiles objects schema
+pub files_of_kept : (objects : Objects) (schema : Tree) (entries : List Entry) → KeepsTable objects schema entries → HasNoOther objects entries → AreFiles objects schema
 files_of_kept objects schema entries kept own application number bytes utf8 small there =
     let found = own application number utf8 small (ap is_some there) in
     let b = found.0 in
@@ -54,16 +54,16 @@ files_of_kept objects schema entries kept own application number bytes utf8 smal
     let one : file.0 ≡ bytes = cc in
     (b, subst (IsReadableFile schema b) one file.2)
 
-pub beside : (objects : Objects) (state : State) → Keeps objects state → KeepsBeside objects state
+pub beside : (objects : Objects) (state : TableState) → Keeps objects state → KeepsBeside objects state
 beside objects nothing kept = kept
 beside objects (table schema entries) kept = (kept.0, files_of_kept objects schema entries kept.0 kept.1)
 
 -- what is kept stays, and what stays is kept
-pub starts : (objects : Objects) (state : State) → KeepsBeside objects state → Stays (length (entries_of state)) objects
+pub starts : (objects : Objects) (state : TableState) → KeepsBeside objects state → Stays (length (entries_of_state state)) objects
 starts objects nothing kept = bare kept
 starts objects (table schema entries) kept = keeps schema entries kept.0 kept.1 (omega arith)
 
-pub ends : (most : ℕ) (objects : Objects) → Stays most objects → (state : State) × KeepsBeside objects state × (length (entries_of state) ≤ most)
+pub ends : (most : ℕ) (objects : Objects) → Stays most objects → (state : TableState) × KeepsBeside objects state × (length (entries_of_state state) ≤ most)
 ends most objects (bare none) = (nothing, none, omega arith)
 ends most objects (keeps schema entries kept files up) = (table schema entries, (kept, files), up)
 
@@ -107,11 +107,11 @@ files_commit objects schema version bytes files application number found utf8 sm
 abbrev pub GoesOn : (most : ℕ) → Objects → Result AppendPlan SinkRefusal → Type 0
 GoesOn most objects step = Stays most (with_file_alone objects step) × Stays most (with_append objects step)
 
-module _ (objects : Objects) (schema : Tree) (entries : List Entry) (kept : IsKept objects schema entries) (files : AreFiles objects schema) (most : ℕ) (up : length entries ≤ most)
+module _ (objects : Objects) (schema : Tree) (entries : List Entry) (kept : KeepsTable objects schema entries) (files : AreFiles objects schema) (most : ℕ) (up : length entries ≤ most)
     (application : List ℕ) (number at : ℕ) (utf8 : IsUtf8 application) (fits : number ≤ greatest_number) (rows : List Row) where
   -- the size of the file that stands under the batch's name behind the put of this one
   abbrev size : (file : List ℕ) → ℕ
-  size file = size_behind file (object_at objects (data_file_name application number))
+  size file = size_behind file (object_at objects (batch_file_name application number))
 
   -- the batch that is put with this file
   abbrev made : (file : List ℕ) → EncodedBatch
@@ -134,7 +134,7 @@ module _ (objects : Objects) (schema : Tree) (entries : List Entry) (kept : IsKe
       record { file = rw alike at known.1.file; limits = rw alike at known.1.limits }
 
   -- behind the put of a file of rows, one stands under the name
-  file_behind : (file : List ℕ) (found : Option (List ℕ)) → object_at objects (plain_file_name application number) ≡ found → unless_other schema rows (plain_file_name application number) found ≡ Ok tt
+  file_behind : (file : List ℕ) (found : Option (List ℕ)) → object_at objects (plain_file_name application number) ≡ found → unless_other_rows schema rows (plain_file_name application number) found ≡ Ok tt
       → IsReadableFile schema (handed_in application number rows) file → FileKept (with_object objects (plain_file_name application number) file) schema (handed_in application number rows)
   file_behind file None there free is = (file, put_stands objects (plain_file_name application number) file there, is)
   file_behind file (Some old) there free is =
@@ -146,7 +146,7 @@ module _ (objects : Objects) (schema : Tree) (entries : List Entry) (kept : IsKe
 
   -- the file is put, and then the commit is one entry more, where a commit can have its version
   put_goes_on : (file : List ℕ) → appended (handed_in application number rows) entries ≡ Committed (length entries)
-      → unless_other schema rows (data_file_name application number) (object_at objects (data_file_name application number)) ≡ Ok tt
+      → unless_other_rows schema rows (batch_file_name application number) (object_at objects (batch_file_name application number)) ≡ Ok tt
       → IsWellMade application number at (made file)
       → GoesOn (suc most) objects (Ok (puts (made file)))
   put_goes_on file new free well =
@@ -157,10 +157,10 @@ module _ (objects : Objects) (schema : Tree) (entries : List Entry) (kept : IsKe
       let is_file = file_made schema (length entries) rows application number at (size file) file well in
       let is_commit = commit_made schema (length entries) rows application number at (size file) file well in
       let lawful : IsLawful (entries ++ group (b ∷ []) ∷ []) = rw new at (lawful_after objects schema entries b kept) in
-      let filed_kept : IsKept filed schema entries = kept_file objects schema entries application number file kept in
+      let filed_kept : KeepsTable filed schema entries = kept_file objects schema entries application number file kept in
       let filed_files : AreFiles filed schema = files_put objects schema name b file files is_file in
       let there : FileKept filed schema b = file_behind file (object_at objects name) refl (rw (same_file_name application number) at free) is_file in
-      let more : length entries ≤ greatest_version → IsKept (with_object filed next (made file).commit) schema (entries ++ group (b ∷ []) ∷ []) =
+      let more : length entries ≤ greatest_version → KeepsTable (with_object filed next (made file).commit) schema (entries ++ group (b ∷ []) ∷ []) =
       λ few. kept_commit filed schema entries b (made file).commit filed_kept few lawful there (none_behind filed schema entries filed_kept few) is_commit in
       let alone : Stays (suc most) filed = keeps schema entries filed_kept filed_files (omega (arith, up)) in
       let whole : length entries ≤ greatest_version → Stays (suc most) (with_object filed next (made file).commit) =
@@ -176,7 +176,7 @@ module _ (objects : Objects) (schema : Tree) (entries : List Entry) (kept : IsKe
   unfolding batch_of
   new_goes_on new well = by_file (written_file schema rows) well
     where
-      by_fit : (file : List ℕ) (fit : Result (Unit {0}) SinkRefusal) → unless_other schema rows (data_file_name application number) (object_at objects (data_file_name application number)) ≡ fit
+      by_fit : (file : List ℕ) (fit : Result (Unit {0}) SinkRefusal) → unless_other_rows schema rows (batch_file_name application number) (object_at objects (batch_file_name application number)) ≡ fit
           → PutsWell application number at (fit >>= λ fits. Ok (puts (made file)))
           → GoesOn (suc most) objects (fit >>= λ fits. Ok (puts (made file)))
       by_fit file (Err why) is well = (unchanged, unchanged)
@@ -185,7 +185,7 @@ module _ (objects : Objects) (schema : Tree) (entries : List Entry) (kept : IsKe
       by_file : (written : Result (List ℕ) FileFault) → PutsWell application number at ((file_or_refusal written >>= λ file. Ok (made file)) >>= put_plan objects)
           → GoesOn (suc most) objects ((file_or_refusal written >>= λ file. Ok (made file)) >>= put_plan objects)
       by_file (Err fault) well = (unchanged, unchanged)
-      by_file (Ok file) well = by_fit file (unless_other schema rows (data_file_name application number) (object_at objects (data_file_name application number))) refl well
+      by_file (Ok file) well = by_fit file (unless_other_rows schema rows (batch_file_name application number) (object_at objects (batch_file_name application number))) refl well
 
   -- the same where the stream may be closed
   open_goes_on : (closed : Bool) → appended (handed_in application number rows) entries ≡ cond closed StreamClosed (Committed (length entries))
@@ -210,11 +210,11 @@ module _ (objects : Objects) (schema : Tree) (entries : List Entry) (kept : IsKe
           → PutsWell application number at (behind (cond below (Err (stale before.number)) (Ok equal)))
           → GoesOn (suc most) objects (behind (cond below (Err (stale before.number)) (Ok equal)))
       by_tests true equal under same well = (unchanged, unchanged)
-      by_tests false true over same well = again_goes_on (where_same schema rows (data_file_name application number) (object_at objects (data_file_name application number)))
+      by_tests false true over same well = again_goes_on (where_same schema rows (batch_file_name application number) (object_at objects (batch_file_name application number)))
       by_tests false false over other well = open_goes_on (is_closed application entries) (rw (is, over, other) refl) well
 
 -- An append over a table that is kept leaves one that is kept, however far it comes.
-pub append_goes_on : (objects : Objects) (schema : Tree) (entries : List Entry) → IsKept objects schema entries → AreFiles objects schema → (most : ℕ) → length entries ≤ most
+pub append_goes_on : (objects : Objects) (schema : Tree) (entries : List Entry) → KeepsTable objects schema entries → AreFiles objects schema → (most : ℕ) → length entries ≤ most
     → (application : List ℕ) (number at : ℕ) (items : Items) → IsUtf8 application → PutsWell application number at (append_plan false objects application number at items) → GoesOn (suc most) objects (append_plan false objects application number at items)
 append_goes_on objects schema entries kept files most up application number at items utf8 well =
     let is = step_is objects schema entries application number at items utf8 kept in

@@ -20,7 +20,7 @@ use Rattle.table_model.proofs.Callers.{batches-append}
 use Rattle.table_model.proofs.Kept.{close_keeps}
 use Rattle.commit_core.proofs.Callers.{commit_name-data_file_name, commit_name-once, data_file_name-once}
 use Rattle.commit_core.proofs.Callers.{no_checkpoint}
-use Rattle.read_laws.specs.Kept.{IsReadableFile, FileKept, FilesKept, KeptFrom, IsKept}
+use Rattle.read_laws.specs.Kept.{IsReadableFile, FileKept, FilesKept, KeptFrom, KeepsTable}
 use Rattle.lake_script.specs.Keeps.{IsOwn, HasNoOther}
 use Rattle.lake_script.proofs.KeptNames.{first_in}
 
@@ -85,8 +85,8 @@ ends_behind objects bytes end ends version past small =
 -- ---- one file more
 
 -- A data file that is put changes nothing of the table that is kept.
-pub kept_file : (objects : Objects) (schema : Tree) (entries : List Entry) (application : List ℕ) (number : ℕ) (file : List ℕ) → IsKept objects schema entries
-    → IsKept (with_object objects (data_file_name application number) file) schema entries
+pub kept_file : (objects : Objects) (schema : Tree) (entries : List Entry) (application : List ℕ) (number : ℕ) (file : List ℕ) → KeepsTable objects schema entries
+    → KeepsTable (with_object objects (data_file_name application number) file) schema entries
 kept_file objects schema entries application number file kept =
     let name = data_file_name application number in
     record {
@@ -108,7 +108,7 @@ no_data_file version name application number named same =
 
 module _ (objects : Objects) (version : ℕ) (name bytes : List ℕ) (checkpoint : IsCheckpointName version name) where
   -- A checkpoint that is put changes nothing of the table that is kept.
-  pub kept_checkpoint : (schema : Tree) (entries : List Entry) → IsKept objects schema entries → IsKept (with_object objects name bytes) schema entries
+  pub kept_checkpoint : (schema : Tree) (entries : List Entry) → KeepsTable objects schema entries → KeepsTable (with_object objects name bytes) schema entries
   kept_checkpoint schema entries kept = record {
     kept = KeptFrom-put objects name bytes schema 0 entries kept.kept;
     rest = kept.rest;
@@ -125,9 +125,9 @@ module _ (objects : Objects) (version : ℕ) (name bytes : List ℕ) (checkpoint
 -- ---- one entry more
 
 -- Where the files of an entry stand, the next version's commit, put under a free name, is that entry more.
-pub kept_entry : (objects : Objects) (schema : Tree) (entries : List Entry) (entry : Entry) (commit : List ℕ) → IsKept objects schema entries → length entries ≤ greatest_version → IsLawful (entries ++ entry ∷ [])
+pub kept_entry : (objects : Objects) (schema : Tree) (entries : List Entry) (entry : Entry) (commit : List ℕ) → KeepsTable objects schema entries → length entries ≤ greatest_version → IsLawful (entries ++ entry ∷ [])
     → FilesKept objects schema entry → object_at objects (commit_name (length entries)) ≡ None → IsCommitOf schema entry commit
-    → IsKept (with_object objects (commit_name (length entries)) commit) schema (entries ++ entry ∷ [])
+    → KeepsTable (with_object objects (commit_name (length entries)) commit) schema (entries ++ entry ∷ [])
 kept_entry objects schema entries entry commit kept few lawful files free is_commit =
     let next = commit_name (length entries) in
     let more : length (entries ++ entry ∷ []) ≡ length entries + 1 = length-append entries (entry ∷ []) in
@@ -142,9 +142,9 @@ kept_entry objects schema entries entry commit kept few lawful files free is_com
     }
 
 -- The commit of a close is one entry more.
-pub kept_close : (objects : Objects) (schema : Tree) (entries : List Entry) (application commit : List ℕ) → IsKept objects schema entries → length entries ≤ greatest_version → is_closed application entries ≡ false
+pub kept_close : (objects : Objects) (schema : Tree) (entries : List Entry) (application commit : List ℕ) → KeepsTable objects schema entries → length entries ≤ greatest_version → is_closed application entries ≡ false
     → object_at objects (commit_name (length entries)) ≡ None → IsCommitOf schema (close application) commit
-    → IsKept (with_object objects (commit_name (length entries)) commit) schema (entries ++ close application ∷ [])
+    → KeepsTable (with_object objects (commit_name (length entries)) commit) schema (entries ++ close application ∷ [])
 kept_close objects schema entries application commit kept few open_still free is_commit =
     let after : IsLawful (with_close application entries) =
     subst (λ (es : List Entry). IsLawful (with_close application es)) (sym kept.begins) (close_keeps application creation kept.rest (subst IsLawful kept.begins kept.lawful)) in
@@ -170,15 +170,15 @@ no_other_close objects entries closed commit own application number utf8 small s
 -- ---- one batch more
 
 -- Where a batch's file stands, the next version's commit, put under a free name, is one entry more.
-pub kept_commit : (objects : Objects) (schema : Tree) (entries : List Entry) (b : Batch) (commit : List ℕ) → IsKept objects schema entries → length entries ≤ greatest_version → IsLawful (entries ++ group (b ∷ []) ∷ [])
+pub kept_commit : (objects : Objects) (schema : Tree) (entries : List Entry) (b : Batch) (commit : List ℕ) → KeepsTable objects schema entries → length entries ≤ greatest_version → IsLawful (entries ++ group (b ∷ []) ∷ [])
     → FileKept objects schema b → object_at objects (commit_name (length entries)) ≡ None → IsCommitOf schema (group (b ∷ [])) commit
-    → IsKept (with_object objects (commit_name (length entries)) commit) schema (entries ++ group (b ∷ []) ∷ [])
+    → KeepsTable (with_object objects (commit_name (length entries)) commit) schema (entries ++ group (b ∷ []) ∷ [])
 kept_commit objects schema entries b commit kept few lawful file free is_commit = kept_entry objects schema entries (group (b ∷ [])) commit kept few lawful (file, tt) free is_commit
 
 -- A batch's file and then the next version's commit, put under free names, are one entry more.
-pub kept_more : (objects : Objects) (schema : Tree) (entries : List Entry) (b : Batch) (file commit : List ℕ) → IsKept objects schema entries → length entries ≤ greatest_version → IsLawful (entries ++ group (b ∷ []) ∷ [])
+pub kept_more : (objects : Objects) (schema : Tree) (entries : List Entry) (b : Batch) (file commit : List ℕ) → KeepsTable objects schema entries → length entries ≤ greatest_version → IsLawful (entries ++ group (b ∷ []) ∷ [])
     → object_at objects (data_file_name b.application b.number) ≡ None → object_at objects (commit_name (length entries)) ≡ None → IsReadableFile schema b file → IsCommitOf schema (group (b ∷ [])) commit
-    → IsKept (with_object (with_object objects (data_file_name b.application b.number) file) (commit_name (length entries)) commit) schema (entries ++ group (b ∷ []) ∷ [])
+    → KeepsTable (with_object (with_object objects (data_file_name b.application b.number) file) (commit_name (length entries)) commit) schema (entries ++ group (b ∷ []) ∷ [])
 kept_more objects schema entries b file commit kept few lawful no_file no_commit is_file is_commit =
     let name = data_file_name b.application b.number in
     let next = commit_name (length entries) in

@@ -1,7 +1,7 @@
 -- What is known of single lines, put together.
 use Rattle.store_core.specs.Objects.{Objects}
 use Rattle.lake_script.specs.Scripts.{HoldsState, AnswersReads, ReadsOut}
-use Rattle.lake_script.specs.Tables.{State, nothing, table}
+use Rattle.lake_script.specs.Tables.{TableState, nothing, table}
 use Rattle.lake_script.specs.Keeps.{Keeps}
 use Rattle.lake_script.proofs.KeptAppend.{append_told}
 use Rattle.lake_script.proofs.KeptCheckpoint.{checkpoint_told}
@@ -26,16 +26,16 @@ lines_told = record {
 }
 
 -- the store that keeps a table holds it
-pub kept_held : (objects : Objects) (state : State) → Keeps objects state → HoldsState objects state
+pub kept_held : (objects : Objects) (state : TableState) → Keeps objects state → HoldsState objects state
 kept_held objects nothing keeps = keeps
 kept_held objects (table schema entries) keeps = (kept_holds objects schema entries keeps.0, keeps.0.lawful)
 
-kept_answers : (objects : Objects) (state : State) → Keeps objects state → AnswersReads objects state
+kept_answers : (objects : Objects) (state : TableState) → Keeps objects state → AnswersReads objects state
 kept_answers objects nothing keeps = tt
 kept_answers objects (table schema entries) keeps = are_answered objects schema entries keeps.0
 
 -- and reads over it hand out its rows
-pub kept_reads_out : (objects : Objects) (state : State) → Keeps objects state → ReadsOut objects state
+pub kept_reads_out : (objects : Objects) (state : TableState) → Keeps objects state → ReadsOut objects state
 kept_reads_out objects state keeps = record {
   answered = kept_answers objects state keeps;
   up_to = hand_out_the_log objects state keeps;

@@ -13,7 +13,7 @@ use Rattle.lake_script.specs.Tables as tables
 use Rattle.source_core.specs.Tailing.{ReadRefusal, ReadRows, handed_by, schema_for}
 use Rattle.source_core.specs.TailTexts.{handed_text, tailed}
 use Rattle.lake_script.specs.Told.{tailed_reply}
-use Rattle.read_laws.specs.Kept.{IsKept}
+use Rattle.read_laws.specs.Kept.{KeepsTable}
 use Rattle.read_laws.proofs.Callers.{made_of, are_made, versions_kept, IsPlain, IsTold, handed_told, kept_plain}
 use Rattle.commit_core.proofs.Callers.{versions_of_nothing}
 use Rattle.table_log.specs.Versions.{commit, versions_of}
@@ -41,7 +41,7 @@ module _ (objects : Objects) (max : ℕ) (offset : List ℕ) where
   tail_of_none (Some place) is = rw (is, versions_of_nothing) refl
 
 -- Over a store that keeps a table a read is told what the table tells.
-pub tail_told : (objects : Objects) (schema : Tree) (entries : List Entry) → IsKept objects schema entries → (max : ℕ) (offset : List ℕ)
+pub tail_told : (objects : Objects) (schema : Tree) (entries : List Entry) → KeepsTable objects schema entries → (max : ℕ) (offset : List ℕ)
     → tailed_reply (tailed false objects max offset) ≡ tables.tail_reply (tables.table schema entries) max (offset_of offset)
 tail_told objects schema entries kept max offset =
     let commits = made_of objects schema 0 entries kept.kept in

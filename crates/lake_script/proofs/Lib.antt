@@ -1,8 +1,14 @@
+pub mod Answering
 pub mod AnyStoreLemmas
 pub mod Callers
+pub mod CarriedLines
 pub mod CheckpointLemmas
+pub mod EndedLemmas
 pub mod EndingLemmas
+pub mod JobAnyStore
+pub mod JobExecuted
 pub mod JobReplies
+pub mod JobShort
 pub mod KeptAppend
 pub mod KeptCheckpoint
 pub mod KeptClose
@@ -12,11 +18,11 @@ pub mod KeptGrown
 pub mod KeptHistory
 pub mod KeptHolds
 pub mod KeptNames
+pub mod KeptPlan
 pub mod KeptPuts
 pub mod KeptRequest
 pub mod KeptRuns
 pub mod KeptScripts
-pub mod KeptPlan
 pub mod KeptTail
 pub mod KeptTails
 pub mod RestoredLemmas
@@ -24,4 +30,6 @@ pub mod RunLemmas
 pub mod RunsLemmas
 pub mod ScriptLemmas
 pub mod SoundPuts
+pub mod StoreAnswers
+pub mod StoreRuns
 pub mod StreamLemmas

@@ -8,15 +8,15 @@ use Rattle.store_core.specs.Objects.{Objects}
 use Rattle.table_log.specs.Restoring.{HasOnlySoundCheckpoints, AreCheckpointsSound, HasSoundCheckpoints, RestoresWell}
 use Rattle.commit_core.specs.Texts.{refused}
 use Rattle.sink_core.specs.Appending.{AppendPlan, appended_by, plan_answer, append_plan, with_append, MayHoldFile, PutsWell}
-use Rattle.sink_core.specs.Closes.{close_plan, closed_by, with_close, ClosesWell}
-use Rattle.batch_core.specs.Refusals.{SinkRefusal, refusal_text, refusal_view, says, file_too_large}
+use Rattle.sink_core.specs.Closes.{close_plan, stream_closed_by, with_close_commit, ClosesWell}
+use Rattle.batch_core.specs.Refusals.{SinkRefusal, sink_refusal_text, sink_refusal_view, says, file_too_large}
 use Rattle.sink_core.specs.declared.sink_state.SinkOutcome.{SinkOutcome}
 use Rattle.batch_core.specs.declared.fault.SinkFault.{SinkFault}
 use Rattle.batch_core.specs.declared.fault.SinkFault.TheVariants as faults
 use Rattle.lake_script.specs.declared.reply.LineReply.TheVariants as replies
 use Rattle.lake_script.specs.declared.reply.LineReply.TheVariants.{SinkRefused}
 use Rattle.script_lines.specs.Lines.{append, close, task}
-use Rattle.lake_script.specs.ReplyView.{reply_text, is_short}
+use Rattle.lake_script.specs.ReplyView.{reply_text, is_short_reply}
 use Rattle.lake_script.specs.Runs.{Executes}
 use Rattle.lake_script.specs.Sound.{IsExecuted}
 use Rattle.lake_script.specs.Told.{sink_reply}
@@ -51,7 +51,7 @@ large_told (Ok step) number large = absurd cc
 large_told (Err refusal) number large = let is : refusal ≡ file_too_large = cc in ap Err is
 
 -- a refusal that isn't short isn't for want of memory
-pub kept_memory : (fault : SinkFault) → is_short (SinkRefused fault) ≡ false → fault ≢ faults.Memory
+pub kept_memory : (fault : SinkFault) → is_short_reply (SinkRefused fault) ≡ false → fault ≢ faults.Memory
 kept_memory faults.Memory enough = absurd cc
 kept_memory _ enough = λ wrong. cc
 
@@ -68,7 +68,7 @@ module _ (objects : Objects) (application : List ℕ) (number at : ℕ) (items :
     }
 
     -- so is a refusal
-    refused_executed : (refusal : SinkRefusal) → appended_by false objects application number at items ≡ Err refusal → refusal ≢ file_too_large → IsExecuted objects (task (append application number at items)) (with_newline (refused (refusal_text refusal))) after
+    refused_executed : (refusal : SinkRefusal) → appended_by false objects application number at items ≡ Err refusal → refusal ≢ file_too_large → IsExecuted objects (task (append application number at items)) (with_newline (refused (sink_refusal_text refusal))) after
     refused_executed refusal told small = record {
       text = [];
       printed = tt;
@@ -78,7 +78,7 @@ module _ (objects : Objects) (application : List ℕ) (number at : ℕ) (items :
     }
 
     -- each that isn't short
-    pub append_refusal_executed : (fault : SinkFault) → IsSaid (says (refusal_view fault)) (appended_by false objects application number at items) → is_short (SinkRefused fault) ≡ false → ((version : Option ℕ) → fault ≢ faults.Lost version)
+    pub append_refusal_executed : (fault : SinkFault) → IsSaid (says (sink_refusal_view fault)) (appended_by false objects application number at items) → is_short_reply (SinkRefused fault) ≡ false → ((version : Option ℕ) → fault ≢ faults.Lost version)
         → IsExecuted objects (task (append application number at items)) (reply_text (SinkRefused fault)) after
     append_refusal_executed faults.BadApp said enough kept = refused_executed _ said (λ wrong. cc)
     append_refusal_executed faults.TooLarge said enough kept = refused_executed _ said (λ wrong. cc)
@@ -98,11 +98,11 @@ module _ (objects : Objects) (application : List ℕ) (number at : ℕ) (items :
     pub has_append : (answer : SinkOutcome) → appended_by false objects application number at items ≡ Ok answer → Executes objects (task (append application number at items)) (reply_text (replies.SinkTold answer)) after
     has_append answer told = inl ([], tt, answer_text answer ∙ ap sink_reply (sym told), left)
 
-    has_refused : (refusal : SinkRefusal) → appended_by false objects application number at items ≡ Err refusal → Executes objects (task (append application number at items)) (with_newline (refused (refusal_text refusal))) after
+    has_refused : (refusal : SinkRefusal) → appended_by false objects application number at items ≡ Err refusal → Executes objects (task (append application number at items)) (with_newline (refused (sink_refusal_text refusal))) after
     has_refused refusal told = inl ([], tt, ap sink_reply (sym told), left)
 
   -- an append that is refused is told so, or of want of memory
-  pub append_refusal_told : (fault : SinkFault) → IsSaid (says (refusal_view fault)) (appended_by false objects application number at items) → (fault ≢ faults.Memory → after ≡ with_append objects (append_plan false objects application number at items))
+  pub append_refusal_told : (fault : SinkFault) → IsSaid (says (sink_refusal_view fault)) (appended_by false objects application number at items) → (fault ≢ faults.Memory → after ≡ with_append objects (append_plan false objects application number at items))
       → (fault ≡ faults.Memory → MayHoldFile objects (append_plan false objects application number at items) after) → ((version : Option ℕ) → fault ≢ faults.Lost version)
       → Executes objects (task (append application number at items)) (reply_text (SinkRefused fault)) after
   append_refusal_told faults.BadApp said left short kept = has_refused (left (λ wrong. cc)) _ said
@@ -122,18 +122,18 @@ module _ (objects : Objects) (application : List ℕ) (number at : ℕ) (items :
 -- ---- a close
 
 module _ (objects : Objects) (application : List ℕ) (at : ℕ) (after : Objects) where
-  module _ (left : after ≡ with_close objects application at (close_plan false objects application)) where
+  module _ (left : after ≡ with_close_commit objects application at (close_plan false objects application)) where
     module _ (text : IsUtf8 application) (made : ClosesWell application at (close_plan false objects application)) where
       -- a stream that is closed, or was closed already, is told so
-      pub close_executed : (answer : SinkOutcome) → closed_by false objects application ≡ Ok answer → IsExecuted objects (task (close application at)) (reply_text (replies.SinkTold answer)) after
+      pub close_executed : (answer : SinkOutcome) → stream_closed_by false objects application ≡ Ok answer → IsExecuted objects (task (close application at)) (reply_text (replies.SinkTold answer)) after
       close_executed answer told = record { text = []; printed = tt; told = ap sink_reply (sym told); left = left; sound = (text, made) }
 
       -- so is a refusal
-      close_refused_executed : (refusal : SinkRefusal) → closed_by false objects application ≡ Err refusal → IsExecuted objects (task (close application at)) (with_newline (refused (refusal_text refusal))) after
+      close_refused_executed : (refusal : SinkRefusal) → stream_closed_by false objects application ≡ Err refusal → IsExecuted objects (task (close application at)) (with_newline (refused (sink_refusal_text refusal))) after
       close_refused_executed refusal told = record { text = []; printed = tt; told = ap sink_reply (sym told); left = left; sound = (text, made) }
 
       -- each that isn't short
-      pub close_refusal_executed : (fault : SinkFault) → IsSaid (says (refusal_view fault)) (closed_by false objects application) → is_short (SinkRefused fault) ≡ false → ((version : Option ℕ) → fault ≢ faults.Lost version)
+      pub close_refusal_executed : (fault : SinkFault) → IsSaid (says (sink_refusal_view fault)) (stream_closed_by false objects application) → is_short_reply (SinkRefused fault) ≡ false → ((version : Option ℕ) → fault ≢ faults.Lost version)
           → IsExecuted objects (task (close application at)) (reply_text (SinkRefused fault)) after
       close_refusal_executed faults.BadApp said enough kept = close_refused_executed _ said
       close_refusal_executed faults.TooLarge said enough kept = close_refused_executed _ said
@@ -149,14 +149,14 @@ module _ (objects : Objects) (application : List ℕ) (at : ℕ) (after : Object
       close_refusal_executed (faults.Lost version) said enough kept = absurd (kept version refl)
       close_refusal_executed faults.Memory said enough kept = absurd cc
 
-    pub has_close : (answer : SinkOutcome) → closed_by false objects application ≡ Ok answer → Executes objects (task (close application at)) (reply_text (replies.SinkTold answer)) after
+    pub has_close : (answer : SinkOutcome) → stream_closed_by false objects application ≡ Ok answer → Executes objects (task (close application at)) (reply_text (replies.SinkTold answer)) after
     has_close answer told = inl ([], tt, ap sink_reply (sym told), left)
 
-    close_has_refused : (refusal : SinkRefusal) → closed_by false objects application ≡ Err refusal → Executes objects (task (close application at)) (with_newline (refused (refusal_text refusal))) after
+    close_has_refused : (refusal : SinkRefusal) → stream_closed_by false objects application ≡ Err refusal → Executes objects (task (close application at)) (with_newline (refused (sink_refusal_text refusal))) after
     close_has_refused refusal told = inl ([], tt, ap sink_reply (sym told), left)
 
   -- a close that is refused is told so, or of want of memory
-  pub close_refusal_told : (fault : SinkFault) → IsSaid (says (refusal_view fault)) (closed_by false objects application) → (fault ≢ faults.Memory → after ≡ with_close objects application at (close_plan false objects application))
+  pub close_refusal_told : (fault : SinkFault) → IsSaid (says (sink_refusal_view fault)) (stream_closed_by false objects application) → (fault ≢ faults.Memory → after ≡ with_close_commit objects application at (close_plan false objects application))
       → (fault ≡ faults.Memory → after ≡ objects) → ((version : Option ℕ) → fault ≢ faults.Lost version)
       → Executes objects (task (close application at)) (reply_text (SinkRefused fault)) after
   close_refusal_told faults.BadApp said left short kept = close_has_refused (left (λ wrong. cc)) _ said

@@ -1,5 +1,5 @@
 -- From one line's reply to what a whole script may be told.
-use Rattle.std.proofs.Common.{◌≡◌, ◌≢◌, ◌⊎◌, ℕ, ◌+◌, ◌∷◌, [], ◌++◌, List, Option, Result, Ok, Err, OnErr, Bool, true, false, inl, inr, refl, ap, subst, sym, ◌∙◌, append_assoc, append-nil}
+use Rattle.std.proofs.Common.{◌≡◌, ◌≢◌, ◌⊎◌, ℕ, ◌+◌, ◌∷◌, [], ◌++◌, List, Option, Result, Ok, Err, OnErr, OnOk, Bool, true, false, inl, inr, refl, ap, subst, sym, ◌∙◌, append_assoc, append-nil}
 use Rattle.std.specs.Prelude.{⊤}
 use Rattle.std.specs.Io.KnownBytes.{Appends, append_known}
 use Rattle.store_core.specs.Objects.{Objects}
@@ -10,7 +10,7 @@ use Rattle.batch_core.specs.declared.fault.SinkFault.{SinkFault}
 use Rattle.batch_core.specs.declared.fault.SinkFault.TheVariants as appending
 use Rattle.batch_core.specs.Refusals.{file_too_large}
 use Rattle.sink_core.specs.Appending.{append_plan}
-use Rattle.sink_core.specs.SinkSessions.{IsDriven, SinkJob, close_job}
+use Rattle.sink_core.specs.SinkSessions.{IsSinkJobDriven, SinkJob, close_job}
 use Rattle.sink_core.specs.declared.sink_state.SinkOutcome.{SinkOutcome}
 use Rattle.session_core.specs.Talks.{Talk}
 use Rattle.session_core.specs.Stores.{State}
@@ -18,11 +18,10 @@ use Rattle.table_log.specs.declared.loading.Loaded.{Loaded}
 use Rattle.source_core.specs.TailTexts.{tailed}
 use Rattle.lake_script.specs.declared.reply.LineReply.TheVariants.{NotCreated, SinkRefused}
 use Rattle.script_lines.specs.Lines.{append, close, Statement, create, tail, task, reading_of}
-use Rattle.lake_script.specs.ReplyView.{reply_text, is_short}
-use Rattle.lake_script.specs.Runs.{IsShort, IsWantOfMemory, MayLeave, Executes, IsCutOff, Replies, Runs, done, stops, goes_on, RunsInPart, waits, begins, follows, no_room_to_read, FallsShort, here, later, Tells, TellsFront, TellsShort}
-use Rattle.lake_script.specs.Streams.{StandsIn}
+use Rattle.lake_script.specs.ReplyView.{reply_text, is_short_reply}
+use Rattle.lake_script.specs.Runs.{IsShort, IsWantOfMemory, MayLeave, Executes, Replies, Runs, done, stops, goes_on, RunsInPart, waits, begins, follows, no_room_to_read, FallsShort, later, TellsWhole}
 use Rattle.lake_script.specs.Told.{is_bad, IsPrintedStatement, reply_to_statement, left_by_statement, tailed_reply}
-use Rattle.lake_script.proofs.StreamLemmas.{Appends-both, nothing_known, Towards, stands_in_whole}
+use Rattle.lake_script.proofs.StreamLemmas.{Appends-both, nothing_known}
 
 -- a line that creates no table has what it asks for with any text
 pub executed_without_text : (objects : Objects) (statement : Statement) (reply : List ℕ) (after : Objects) → IsPrintedStatement objects statement []
@@ -37,26 +36,26 @@ read_executed objects after max offset reply true told wants same = inr (wants r
 read_executed objects after max offset reply false told wants same = inl ([], tt, told refl, same)
 
 -- which faults are short
-pub creation_short : (fault : CreateFault) (objects : Objects) (id : List ℕ) (at : ℕ) (schema : List ℕ) → is_short (NotCreated fault) ≡ true
+pub creation_short : (fault : CreateFault) (objects : Objects) (id : List ℕ) (at : ℕ) (schema : List ℕ) → is_short_reply (NotCreated fault) ≡ true
     → IsShort objects (create id at schema) (reply_text (NotCreated fault))
 creation_short creating.Memory objects id at schema h = inl refl
 creation_short creating.TooLarge objects id at schema h = inr refl
 creation_short _ objects id at schema h = cc
 
-pub append_short : (fault : SinkFault) (objects : Objects) (application : List ℕ) (number at : ℕ) (items : Items) → is_short (SinkRefused fault) ≡ true
+pub append_short : (fault : SinkFault) (objects : Objects) (application : List ℕ) (number at : ℕ) (items : Items) → is_short_reply (SinkRefused fault) ≡ true
     → (fault ≡ appending.FileTooLarge → append_plan false objects application number at items ≡ Err file_too_large) → IsShort objects (task (append application number at items)) (reply_text (SinkRefused fault))
 append_short appending.Memory objects application number at items h large = inl refl
 append_short appending.FileTooLarge objects application number at items h large = inr (refl, large refl)
 append_short _ objects application number at items h large = cc
 
-pub close_short : (fault : SinkFault) (objects : Objects) (application : List ℕ) (at : ℕ) → is_short (SinkRefused fault) ≡ true → fault ≢ appending.FileTooLarge → IsShort objects (task (close application at)) (reply_text (SinkRefused fault))
+pub close_short : (fault : SinkFault) (objects : Objects) (application : List ℕ) (at : ℕ) → is_short_reply (SinkRefused fault) ≡ true → fault ≢ appending.FileTooLarge → IsShort objects (task (close application at)) (reply_text (SinkRefused fault))
 close_short appending.Memory objects application at h small = inl refl
 close_short appending.FileTooLarge objects application at h small = absurd (small refl)
 close_short _ objects application at h small = cc
 
 -- a job that was driven by some calls
-pub driven_somehow : (makes : Talk → Type 0) (is_reliable : Type 0) (job : SinkJob) (known : Loaded) (answer : Result SinkOutcome SinkFault) (old new : State) (count behind : ℕ) → IsDriven makes is_reliable job known answer old new count behind
-    → IsDriven (λ talk. Unit {0}) is_reliable job known answer old new count behind
+pub driven_somehow : (makes : Talk → Type 0) (is_reliable : Type 0) (job : SinkJob) (known : Loaded) (answer : Result SinkOutcome SinkFault) (old new : State) (count behind : ℕ) → IsSinkJobDriven makes is_reliable job known answer old new count behind
+    → IsSinkJobDriven (λ talk. Unit {0}) is_reliable job known answer old new count behind
 driven_somehow makes is_reliable job known answer old new count behind (inl memory) = inl (memory.0, tt, memory.2, memory.3)
 driven_somehow makes is_reliable job known answer old new count behind (inr driven) =
     let d = driven.3 in
@@ -82,7 +81,7 @@ driven_somehow makes is_reliable job known answer old new count behind (inr driv
 -- a close writes no file that is too large
 module _ (is_reliable : Type 0) (application : List ℕ) (at tries : ℕ) (use_checkpoints : Bool) (known later_known : Loaded) (old new : State) (count later : ℕ) where
   abbrev IsClosedBy : SinkFault → Type 0
-  IsClosedBy fault = IsDriven (λ talk. Unit {0}) is_reliable (close_job application at tries use_checkpoints known) later_known (Err fault) old new count later
+  IsClosedBy fault = IsSinkJobDriven (λ talk. Unit {0}) is_reliable (close_job application at tries use_checkpoints known) later_known (Err fault) old new count later
 
   none_large : IsClosedBy appending.FileTooLarge → ⊥
   none_large (inl memory) = let wrong = memory.0 in cc
@@ -102,66 +101,21 @@ Onward start whole number objects lines front =
 abbrev pub SaysShort : Objects → List (List ℕ) → List ℕ → Type 0
 SaysShort start whole front = (rest : List ℕ) → FallsShort 1 start whole (front ++ rest)
 
-module _ (start : Objects) (whole : List (List ℕ)) where
-  module _ (old now new : Option (List ℕ)) (number : ℕ) (objects : Objects) (line : List ℕ) (lines : List (List ℕ)) (after : Objects) where
-    pub onward_next : Tells old now (Onward start whole number objects (line ∷ lines)) → is_bad (reading_of line) ≡ false → Tells now new (λ reply. Replies number objects (reading_of line) reply after)
-        → Tells old new (Onward start whole (number + 1) after lines)
-    onward_next t more s = (
-      t.0 ++ s.0,
-      Appends-both old now new t.0 s.0 t.1 s.1,
-      (
-        λ rest final r. subst (λ u. Runs 1 start whole u final) (sym (append_assoc t.0 s.0 rest)) (t.2.0 (s.0 ++ rest) final (goes_on s.0 rest after more s.2 r)),
-        λ rest final r. subst (λ u. RunsInPart 1 start whole u final) (sym (append_assoc t.0 s.0 rest)) (t.2.1 (s.0 ++ rest) final (follows s.0 rest after more s.2 r)),
-        λ rest r. subst (λ u. FallsShort 1 start whole u) (sym (append_assoc t.0 s.0 rest)) (t.2.2 (s.0 ++ rest) (later s.0 rest after more s.2 r)),
-      ),
-    )
-
-    pub onward_stops : Tells old now (Onward start whole number objects (line ∷ lines)) → is_bad (reading_of line) ≡ true → Tells now new (λ reply. Replies number objects (reading_of line) reply after)
-        → Tells old new (λ written. Runs 1 start whole written after)
-    onward_stops t ends s = (t.0 ++ s.0, Appends-both old now new t.0 s.0 t.1 s.1, t.2.0 s.0 after (stops ends s.2))
-
-    -- a reply tells that something was short
-    pub onward_short : Tells old now (Onward start whole number objects (line ∷ lines))
-        → Tells now new (λ reply. Replies number objects (reading_of line) reply after × TellsShort objects (reading_of line) reply) → Tells old new (SaysShort start whole)
-    onward_short t s = (
-      t.0 ++ s.0,
-      Appends-both old now new t.0 s.0 t.1 s.1,
-      λ rest. subst (λ u. FallsShort 1 start whole u) (sym (append_assoc t.0 s.0 rest)) (t.2.2 (s.0 ++ rest) (here s.0 rest after s.2.0 s.2.1)),
-    )
-
-    -- what stands in what was told so far stands in it with more behind it
-    behind : (t : Tells old now (Onward start whole number objects (line ∷ lines))) (more : List ℕ) → StandsIn now new [] → StandsIn old new (t.0 ++ more)
-    behind t more s = stands_in_whole old now new more (t.0 ++ more) (record { front = t.0; added = t.1; joins = refl }) s
-
-    -- what stands where a reply isn't given is a front of what was told so far, and of that reply
-    pub onward_front : Tells old now (Onward start whole number objects (line ∷ lines)) → StandsIn now new [] → IsCutOff number objects (reading_of line) after
-        → TellsFront old new (λ written. RunsInPart 1 start whole written after)
-    onward_front t s (inl same) = (t.0 ++ [], behind t [] s, subst (λ u. RunsInPart 1 start whole (t.0 ++ []) u) (sym same) (t.2.1 [] objects waits))
-    onward_front t s (inr (reply, is)) = (t.0 ++ reply, behind t reply s, t.2.1 reply after (begins is))
-
-  pub onward_done : (old now : Option (List ℕ)) (number : ℕ) (objects : Objects) → Tells old now (Onward start whole number objects [])
-      → Tells old now (λ written. Runs 1 start whole written objects)
-  onward_done old now number objects t = (t.0, t.1, subst (λ u. Runs 1 start whole u objects) (append-nil t.0) (t.2.0 [] objects done))
-
-module _ (start : Objects) (whole : List (List ℕ)) where
-  -- a reply told so before, and more was told
-  pub short_next : (Holds : List ℕ → Type 0) (old now new : Option (List ℕ)) → Tells old now (SaysShort start whole) → Tells now new Holds → Tells old new (SaysShort start whole)
-  short_next Holds old now new t s = (
-    t.0 ++ s.0,
-    Appends-both old now new t.0 s.0 t.1 s.1,
-    λ rest. subst (λ u. FallsShort 1 start whole u) (sym (append_assoc t.0 s.0 rest)) (t.2 (s.0 ++ rest)),
-  )
-
-  -- one of the replies told so
-  pub short_done : (old now : Option (List ℕ)) → Tells old now (SaysShort start whole) → Tells old now (FallsShort 1 start whole)
-  short_done old now t = (t.0, t.1, subst (λ u. FallsShort 1 start whole u) (append-nil t.0) (t.2 []))
+-- a line more was told, which isn't bad
+pub onward_next : (start : Objects) (whole : List (List ℕ)) (number : ℕ) (objects : Objects) (line : List ℕ) (lines : List (List ℕ)) (front reply : List ℕ) (after : Objects) → Onward start whole number objects (line ∷ lines) front
+    → is_bad (reading_of line) ≡ false → Replies number objects (reading_of line) reply after → Onward start whole (number + 1) after lines (front ++ reply)
+onward_next start whole number objects line lines front reply after onward more is = (
+  λ rest final r. subst (λ u. Runs 1 start whole u final) (sym (append_assoc front reply rest)) (onward.0 (reply ++ rest) final (goes_on reply rest after more is r)),
+  λ rest final r. subst (λ u. RunsInPart 1 start whole u final) (sym (append_assoc front reply rest)) (onward.1 (reply ++ rest) final (follows reply rest after more is r)),
+  λ rest r. subst (λ u. FallsShort 1 start whole u) (sym (append_assoc front reply rest)) (onward.2 (reply ++ rest) (later reply rest after more is r)),
+)
 
 -- what is told behind what was told
-pub tells_on : (old mid new : Option (List ℕ)) → Tells old mid (λ written. ⊤) → Tells mid new (λ written. ⊤) → Tells old new (λ written. ⊤)
+pub tells_on : (old mid new : Option (List ℕ)) → TellsWhole old mid (λ written. ⊤) → TellsWhole mid new (λ written. ⊤) → TellsWhole old new (λ written. ⊤)
 tells_on old mid new t s = (t.0 ++ s.0, Appends-both old mid new t.0 s.0 t.1 s.1, tt)
 
 -- what is told is written once nothing waits
-pub tells_through : (Holds : List ℕ → Type 0) (old mid contents : Option (List ℕ)) (pending : List ℕ) → Tells old mid Holds → Appends mid (append_known contents pending) [] → pending ≡ [] → Tells old contents Holds
+pub tells_through : (Holds : List ℕ → Type 0) (old mid contents : Option (List ℕ)) (pending : List ℕ) → TellsWhole old mid Holds → Appends mid (append_known contents pending) [] → pending ≡ [] → TellsWhole old contents Holds
 tells_through Holds old mid contents pending t flushed none =
     let all = subst (λ u. Appends old (append_known contents pending) u) (append-nil t.0) (Appends-both old mid (append_known contents pending) t.0 [] t.1 flushed) in
     (t.0, subst (λ u. Appends old u t.0) (ap (append_known contents) none ∙ nothing_known contents) all, t.2)
@@ -172,14 +126,16 @@ in_part number objects lines written final done = waits
 in_part number objects (line ∷ lines) written final (stops ends is) = begins is
 in_part number objects (line ∷ lines) written final (goes_on reply rest after more is runs) = follows reply rest after more is (in_part (number + 1) after lines rest final runs)
 
--- what stands where it isn't written whole is a front of it
-pub whole_front : (start : Objects) (whole : List (List ℕ)) (old now new : Option (List ℕ)) (after : Objects) → Tells old now (λ written. Runs 1 start whole written after) → StandsIn now new []
-    → TellsFront old new (λ written. RunsInPart 1 start whole written after)
-whole_front start whole old now new after t s =
-    let towards : Towards old now [] t.0 = record { front = t.0; added = t.1; joins = append-nil t.0 } in
-    (t.0, stands_in_whole old now new [] t.0 towards s, in_part 1 start whole t.0 after t.2)
-
 -- what holds holds of an error too
 pub on_err : {T E : Type 0} (r : Result T E) (P : Type 0) → P → OnErr r P
 on_err (Ok x) P p = tt
 on_err (Err e) P p = p
+
+-- what follows from what holds, holds
+pub then_ok : {T E : Type 0} (r : Result T E) (P Q : Type 0) → (P → Q) → OnOk r P → OnOk r Q
+then_ok (Ok x) P Q so p = so p
+then_ok (Err e) P Q so p = tt
+
+pub then_err : {T E : Type 0} (r : Result T E) (P Q : Type 0) → (P → Q) → OnErr r P → OnErr r Q
+then_err (Ok x) P Q so p = tt
+then_err (Err e) P Q so p = so p

@@ -3,7 +3,7 @@ use Rattle.std.proofs.Common.{◌≡◌, ℕ, ◌+◌, ◌-◌, ◌<◌, ◌≤�
 use Rattle.std.specs.Io.KnownBytes.{Consumes, Appends, Keeps, append_known}
 use Rattle.std.proofs.Math.Seq.{take-length}
 use Rattle.std.proofs.lemmas.List.{take-append-drop}
-use Rattle.lake_script.specs.Streams.{StandsIn}
+use Rattle.lake_script.specs.Streams.{WritesFront}
 use Rattle.lake_script.specs.Told.{Finishes}
 use Rattle.lake_script.specs.declared.engine.End.{End}
 use Rattle.lake_script.specs.declared.engine.End.TheVariants.{Done, BadLine, NotRead, NotWritten}
@@ -48,7 +48,7 @@ pub towards_done : (old now : Option (List ℕ)) (whole : List ℕ) → Towards 
 towards_done old now whole t = subst (λ u. Appends old now u) (sym (append-nil t.front) ∙ t.joins) t.added
 
 -- what was added so far stands in the whole
-pub towards_stands : (old now : Option (List ℕ)) (later whole : List ℕ) → Towards old now later whole → StandsIn old now whole
+pub towards_stands : (old now : Option (List ℕ)) (later whole : List ℕ) → Towards old now later whole → WritesFront old now whole
 towards_stands None now later whole t = tt
 towards_stands (Some xs) None later whole t = absurd t.added
 towards_stands (Some xs) (Some ys) later whole t =
@@ -71,7 +71,7 @@ Appends-kept (Some xs) None h = absurd h
 Appends-kept (Some xs) (Some ys) h = h ∙ sym (append-nil xs)
 
 -- a write that fails leaves what was added
-pub kept_stands : (old now new : Option (List ℕ)) (later whole : List ℕ) → Towards old now later whole → Keeps now new → StandsIn old new whole
+pub kept_stands : (old now new : Option (List ℕ)) (later whole : List ℕ) → Towards old now later whole → Keeps now new → WritesFront old new whole
 kept_stands old now new later whole t kept =
     towards_stands old new later whole (record {
       front = t.front ++ [];
@@ -80,7 +80,7 @@ kept_stands old now new later whole t kept =
     })
 
 -- what stands in what was said so far stands in the whole
-pub stands_in_whole : (old now new : Option (List ℕ)) (later whole : List ℕ) → Towards old now later whole → StandsIn now new [] → StandsIn old new whole
+pub stands_in_whole : (old now new : Option (List ℕ)) (later whole : List ℕ) → Towards old now later whole → WritesFront now new [] → WritesFront old new whole
 stands_in_whole None now new later whole t s = tt
 stands_in_whole (Some xs) None new later whole t s = absurd t.added
 stands_in_whole (Some xs) (Some ys) None later whole t s = absurd s

@@ -10,8 +10,8 @@ use Rattle.delta_checkpoint.specs.Names.{IsCheckpointName, checkpoint_name}
 use Rattle.delta_replay.specs.Support.{meta_data_of, no_meta_data}
 use Rattle.table_log.specs.Counts.{commit_count}
 use Rattle.commit_core.specs.Texts.{refused}
-use Rattle.snapshot_core.specs.Faults.{Reason, bad_log, unsupported, checked, readable_log}
-use Rattle.snapshot_core.specs.Taking.{most_bytes, IsNewestCheckpoint}
+use Rattle.snapshot_core.specs.Faults.{Reason, bad_log, unsupported, checked_for_checkpoint, readable_log}
+use Rattle.snapshot_core.specs.Taking.{most_checkpoint_bytes, IsNewestCheckpoint}
 use Rattle.snapshot_core.specs.Telling.{TellsSnapshot}
 use Rattle.source_core.specs.TailFaults.{support_text}
 use Rattle.outcomes.specs.Lines.{with_newline}
@@ -33,20 +33,20 @@ pub data NotPut : Type 0 where
   too_large : NotPut
 
 -- that of a version, for the id of its table
-abbrev pub checkpoint_of : (version : ℕ) → Option MetaDataAction → Result Checkpoint NotPut
-checkpoint_of version None = Err (by_log (unsupported no_meta_data))
-checkpoint_of version (Some m) = Ok (record { version = version; name = checkpoint_name version m.id })
+abbrev pub checkpoint_for : (version : ℕ) → Option MetaDataAction → Result Checkpoint NotPut
+checkpoint_for version None = Err (by_log (unsupported no_meta_data))
+checkpoint_for version (Some m) = Ok (record { version = version; name = checkpoint_name version m.id })
 
 -- the checkpoint of the newest version over these objects, its bytes being these, or the first reason why none is put
-abbrev pub checkpoint_by : Objects → (bytes : List ℕ) → Result Checkpoint NotPut
-checkpoint_by objects bytes = do
-  commits ← refused_as by_log (checked false objects)
-  fits ← refused_if (nat_lt most_bytes (length bytes)) too_large
-  checkpoint_of (newest_version objects) (meta_data_of commits)
+abbrev pub checkpoint_by_bytes : Objects → (bytes : List ℕ) → Result Checkpoint NotPut
+checkpoint_by_bytes objects bytes = do
+  commits ← refused_as by_log (checked_for_checkpoint false objects)
+  fits ← refused_if (nat_lt most_checkpoint_bytes (length bytes)) too_large
+  checkpoint_for (newest_version objects) (meta_data_of commits)
 
 -- the bytes are those of the checkpoint of the newest version, where there may be one
 abbrev pub IsItsCheckpoint : Objects → (bytes : List ℕ) → Type 0
-IsItsCheckpoint objects bytes = IfOk (checked false objects) (λ commits. IsNewestCheckpoint objects commits (newest_version objects) bytes)
+IsItsCheckpoint objects bytes = IfOk (checked_for_checkpoint false objects) (λ commits. IsNewestCheckpoint objects commits (newest_version objects) bytes)
 
 -- Its name is found as that of its version's checkpoint, and its bytes don't pass 64 MiB.
 abbrev pub IsWellPut : Result Checkpoint NotPut → Type 0
@@ -60,12 +60,12 @@ with_checkpoint objects bytes (Ok c) = with_object objects c.name bytes
 with_checkpoint objects bytes (Err why) = objects
 
 -- what a log says against a checkpoint or a snapshot
-abbrev pub reason_text : Reason → List ℕ
-reason_text (bad_log version) = codes "K7 BadLog " ++ decimal version
-reason_text (unsupported why) = codes "K8 Unsupported " ++ support_text why
+abbrev pub log_reason_text : Reason → List ℕ
+log_reason_text (bad_log version) = codes "K7 BadLog " ++ decimal version
+log_reason_text (unsupported why) = codes "K8 Unsupported " ++ support_text why
 
 abbrev pub not_put_text : NotPut → List ℕ
-not_put_text (by_log reason) = reason_text reason
+not_put_text (by_log reason) = log_reason_text reason
 not_put_text too_large = codes "K9 TooLarge"
 
 -- the reply where the checkpoint of that version stands
@@ -84,4 +84,4 @@ IsItsSnapshot objects text = IfOk (readable_log false objects) (λ commits. Tell
 
 abbrev pub snapshot_reply : Result (List (List Action)) Reason → (text : List ℕ) → List ℕ
 snapshot_reply (Ok commits) text = text
-snapshot_reply (Err why) text = with_newline (refused (reason_text why))
+snapshot_reply (Err why) text = with_newline (refused (log_reason_text why))

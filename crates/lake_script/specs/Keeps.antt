@@ -8,8 +8,8 @@ use Rattle.delta_actions.specs.Names.{data_file_name}
 use Rattle.table_model.specs.Table.{Batch, Entry, batches}
 use Rattle.batch_core.specs.Committing.{greatest_number}
 use Rattle.commit_core.specs.TableSchema.{Schema}
-use Rattle.read_laws.specs.Kept.{IsKept, IsReadableFile}
-use Rattle.lake_script.specs.Tables.{State, nothing, table}
+use Rattle.read_laws.specs.Kept.{KeepsTable, IsReadableFile}
+use Rattle.lake_script.specs.Tables.{TableState, nothing, table}
 
 -- the table has a batch of this application and number
 abbrev pub IsOwn : List Entry → (application : List ℕ) (number : ℕ) → Type 0
@@ -22,9 +22,9 @@ HasNoOther objects entries = (application : List ℕ) (number : ℕ) → IsUtf8 
     → IsSome (object_at objects (data_file_name application number)) → IsOwn entries application number
 
 -- The store keeps this table, or nothing stands, and it has no data file of a batch that the table hasn't.
-abbrev pub Keeps : Objects → State → Type 0
+abbrev pub Keeps : Objects → TableState → Type 0
 Keeps objects nothing = objects ≡ []
-Keeps objects (table schema entries) = IsKept objects schema entries × HasNoOther objects entries
+Keeps objects (table schema entries) = KeepsTable objects schema entries × HasNoOther objects entries
 
 -- whatever stands under such a name is a file of some rows
 abbrev pub AreFiles : Objects → Schema → Type 0
@@ -32,6 +32,6 @@ AreFiles objects schema = (application : List ℕ) (number : ℕ) (bytes : List 
     → object_at objects (data_file_name application number) ≡ Some bytes → (b : Batch) × IsReadableFile schema b bytes
 
 -- The same where data files of other batches may stand, as they do where an append was cut off.
-abbrev pub KeepsBeside : Objects → State → Type 0
+abbrev pub KeepsBeside : Objects → TableState → Type 0
 KeepsBeside objects nothing = objects ≡ []
-KeepsBeside objects (table schema entries) = IsKept objects schema entries × AreFiles objects schema
+KeepsBeside objects (table schema entries) = KeepsTable objects schema entries × AreFiles objects schema

@@ -1,9 +1,14 @@
+pub mod Answered
 pub mod AnyStore
 pub mod LineJobs
+pub mod CarriedOut
 pub mod Checkpoints
+pub mod Ended
 pub mod Endings
 pub mod Growth
+pub mod JobRuns
 pub mod Keeps
+pub mod OverStore
 pub mod Replies
 pub mod ReplyView
 pub mod Runs

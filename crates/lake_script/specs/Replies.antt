@@ -32,8 +32,8 @@ abbrev pub already : ℕ → List ℕ
 already number = codes "Already " ++ decimal number
 
 -- the reply where an application's stream was closed with the commit of that version
-abbrev pub closed_at : ℕ → List ℕ
-closed_at version = codes "Closed " ++ decimal version
+abbrev pub stream_closed_at : ℕ → List ℕ
+stream_closed_at version = codes "Closed " ++ decimal version
 
 -- the reply where it is closed already
 abbrev pub already_closed : List ℕ
@@ -43,7 +43,7 @@ already_closed = codes "AlreadyClosed"
 abbrev pub outcome_text : SinkOutcome → List ℕ
 outcome_text (Committed version) = committed_at version
 outcome_text (Already number) = already number
-outcome_text (Closed version) = closed_at version
+outcome_text (Closed version) = stream_closed_at version
 outcome_text AlreadyClosed = already_closed
 
 -- the reply to a line that sets something

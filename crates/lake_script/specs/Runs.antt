@@ -12,10 +12,10 @@ use Rattle.commit_core.specs.Histories.{unanswered}
 use Rattle.snapshot_core.specs.Taking as checkpoints
 use Rattle.lake_script.specs.Checkpoints.{not_put_text, too_large}
 use Rattle.script_lines.specs.Lines.{Statement, append, close, checkpoint, tail, create, task, snapshot, history, show, hex, tries, foreign, Reading, skipped, bad, asks, reading_of, look, world}
-use Rattle.batch_core.specs.Refusals.{refusal_text, memory, file_too_large}
+use Rattle.batch_core.specs.Refusals.{sink_refusal_text, memory, file_too_large}
 use Rattle.commit_core.specs.Texts.{create_fault_text, refused}
 use Rattle.lake_script.specs.Replies.{bad_line}
-use Rattle.lake_script.specs.Streams.{StandsIn}
+use Rattle.lake_script.specs.Streams.{WritesFront}
 use Rattle.source_core.specs.TailFaults as tail_texts
 use Rattle.source_core.specs.Tailing as tails
 use Rattle.delta_actions.specs.Commit.{lines_of}
@@ -28,13 +28,13 @@ abbrev pub no_room_to_create : List ℕ
 no_room_to_create = with_newline (refused (create_fault_text create_faults.Memory))
 
 abbrev pub no_room_to_append : List ℕ
-no_room_to_append = with_newline (refused (refusal_text memory))
+no_room_to_append = with_newline (refused (sink_refusal_text memory))
 
 abbrev pub no_room_to_show : List ℕ
 no_room_to_show = with_newline (refused (stores.fault_text store_faults.Memory))
 
 abbrev pub no_room_to_read : List ℕ
-no_room_to_read = with_newline (refused (tail_texts.refusal_text tails.memory))
+no_room_to_read = with_newline (refused (tail_texts.read_refusal_text tails.memory))
 
 abbrev pub no_room_to_tell : List ℕ
 no_room_to_tell = with_newline (refused (unanswered store_faults.Memory))
@@ -59,7 +59,7 @@ abbrev pub too_large_to_create : List ℕ
 too_large_to_create = with_newline (refused (create_fault_text create_faults.TooLarge))
 
 abbrev pub too_large_to_append : List ℕ
-too_large_to_append = with_newline (refused (refusal_text file_too_large))
+too_large_to_append = with_newline (refused (sink_refusal_text file_too_large))
 
 abbrev pub too_large_to_checkpoint : List ℕ
 too_large_to_checkpoint = with_newline (refused (not_put_text too_large))
@@ -67,20 +67,20 @@ too_large_to_checkpoint = with_newline (refused (not_put_text too_large))
 -- the reply to a line over these objects whose object would pass 64 MiB: the text to a creation, which is told so for
 -- nothing else; the text to an append, and the file of its batch would pass them; or that to a checkpoint, and its bytes
 -- would
-abbrev pub IsTooLarge : Objects → Statement → List ℕ → Type 0
-IsTooLarge objects (create id at schema) reply = reply ≡ too_large_to_create
-IsTooLarge objects (task (append application number at rows)) reply = (reply ≡ too_large_to_append) × (append_plan false objects application number at rows ≡ Err file_too_large)
-IsTooLarge objects (task checkpoint) reply = (reply ≡ too_large_to_checkpoint) × checkpoints.IsTooLarge false objects
-IsTooLarge objects (task (tail max offset)) reply = ⊥
-IsTooLarge objects (look line) reply = ⊥
-IsTooLarge objects (foreign version action) reply = ⊥
-IsTooLarge objects (task (close application at)) reply = ⊥
-IsTooLarge objects (tries count) reply = ⊥
-IsTooLarge objects (world line) reply = ⊥
+abbrev pub IsToldTooLarge : Objects → Statement → List ℕ → Type 0
+IsToldTooLarge objects (create id at schema) reply = reply ≡ too_large_to_create
+IsToldTooLarge objects (task (append application number at rows)) reply = (reply ≡ too_large_to_append) × (append_plan false objects application number at rows ≡ Err file_too_large)
+IsToldTooLarge objects (task checkpoint) reply = (reply ≡ too_large_to_checkpoint) × checkpoints.IsCheckpointTooLarge false objects
+IsToldTooLarge objects (task (tail max offset)) reply = ⊥
+IsToldTooLarge objects (look line) reply = ⊥
+IsToldTooLarge objects (foreign version action) reply = ⊥
+IsToldTooLarge objects (task (close application at)) reply = ⊥
+IsToldTooLarge objects (tries count) reply = ⊥
+IsToldTooLarge objects (world line) reply = ⊥
 
 -- the reply to a line over these objects tells that a growth was refused, or that an object would pass 64 MiB
 abbrev pub IsShort : Objects → Statement → List ℕ → Type 0
-IsShort objects statement reply = IsWantOfMemory statement reply ⊎ IsTooLarge objects statement reply
+IsShort objects statement reply = IsWantOfMemory statement reply ⊎ IsToldTooLarge objects statement reply
 
 -- the objects behind a line whose growth was refused: as they were, or with the file of the batch that it appends
 abbrev pub MayLeave : Objects → Statement → Objects → Type 0
@@ -114,10 +114,6 @@ TellsShort objects skipped reply = ⊥
 TellsShort objects bad reply = ⊥
 TellsShort objects (asks statement) reply = IsShort objects statement reply
 
--- the objects behind a line that was told nothing: it wasn't read, or its reply wasn't given
-abbrev pub IsCutOff : ℕ → Objects → Reading → Objects → Type 0
-IsCutOff number objects reading after = (after ≡ objects) ⊎ ((reply : List ℕ) × Replies number objects reading reply after)
-
 -- what may be told for these lines, of which the first has that number, and the objects behind them; a bad line ends them
 pub data Runs : ℕ → Objects → List (List ℕ) → List ℕ → Objects → Type 0 where
   done : {number : ℕ} {objects : Objects} → Runs number objects [] [] objects
@@ -150,9 +146,9 @@ abbrev pub MayBeTold : Objects → List ℕ → List ℕ → Type 0
 MayBeTold objects text written = (after : Objects) × Runs 1 objects (lines_of text) written after
 
 -- what a writer holds now is what it held, with some bytes behind it of which this is so
-abbrev pub Tells : Option (List ℕ) → Option (List ℕ) → (List ℕ → Type 0) → Type 0
-Tells old new Holds = (bytes : List ℕ) × Appends old new bytes × Holds bytes
+abbrev pub TellsWhole : Option (List ℕ) → Option (List ℕ) → (List ℕ → Type 0) → Type 0
+TellsWhole old new Holds = (bytes : List ℕ) × Appends old new bytes × Holds bytes
 
 -- what a writer holds now is a front of what it held and some bytes behind it, of which this is so
 abbrev pub TellsFront : Option (List ℕ) → Option (List ℕ) → (List ℕ → Type 0) → Type 0
-TellsFront old new Holds = (bytes : List ℕ) × StandsIn old new bytes × Holds bytes
+TellsFront old new Holds = (bytes : List ℕ) × WritesFront old new bytes × Holds bytes

@@ -6,20 +6,20 @@ use Rattle.delta_actions.specs.Commit.{lines_of}
 use Rattle.store_core.specs.Objects.{Objects}
 use Rattle.sink_core.specs.Appending.{append_plan, PutsWell}
 use Rattle.sink_core.specs.Closes.{close_plan, ClosesWell}
-use Rattle.commit_core.specs.Creating.{too_large, commit_from, CreatesWell}
-use Rattle.lake_script.specs.Checkpoints.{checkpoint_by, IsWellPut}
+use Rattle.commit_core.specs.Creating.{too_large, creation_from, CreatesWell}
+use Rattle.lake_script.specs.Checkpoints.{checkpoint_by_bytes, IsWellPut}
 use Rattle.script_lines.specs.Lines.{Statement, append, close, checkpoint, tail, create, task, tries, foreign, Reading, skipped, bad, asks, reading_of, look, world}
 use Rattle.batch_core.specs.Refusals.{file_too_large}
-use Rattle.lake_script.specs.Streams.{StandsIn}
-use Rattle.lake_script.specs.Told.{is_bad, UnlessBad, IsPrintedStatement, IsPrintedLine, ArePrintedLines, ArePrintedInPart, reply_to_statement, left_by_statement, reply_to, left_by}
+use Rattle.lake_script.specs.Streams.{WritesFront}
+use Rattle.lake_script.specs.Told.{is_bad, UnlessBad, IsPrintedStatement, ArePrintedLines, ArePrintedInPart, reply_to_statement, left_by_statement, left_by}
 use Rattle.lake_script.specs.Told as scripts
 
 -- what a line puts is well made, and didn't pass 64 MiB; another tool's commit may be anything
 abbrev pub IsSoundStatement : Objects → Statement → (printed : List ℕ) → Type 0
-IsSoundStatement objects (create id at schema) printed = CreatesWell at schema (commit_from id at schema printed) × (commit_from id at schema printed ≢ Err too_large)
+IsSoundStatement objects (create id at schema) printed = CreatesWell at schema (creation_from id at schema printed) × (creation_from id at schema printed ≢ Err too_large)
 IsSoundStatement objects (task (append application number at items)) printed = IsUtf8 application
     × PutsWell application number at (append_plan false objects application number at items) × (append_plan false objects application number at items ≢ Err file_too_large)
-IsSoundStatement objects (task checkpoint) printed = IsWellPut (checkpoint_by objects printed)
+IsSoundStatement objects (task checkpoint) printed = IsWellPut (checkpoint_by_bytes objects printed)
 IsSoundStatement objects (task (tail max offset)) printed = Unit {0}
 IsSoundStatement objects (look line) printed = Unit {0}
 IsSoundStatement objects (foreign version action) printed = Unit {0}
@@ -41,14 +41,6 @@ IsSoundLine objects skipped printed = Unit {0}
 IsSoundLine objects bad printed = Unit {0}
 IsSoundLine objects (asks statement) printed = IsSoundStatement objects statement printed
 
--- the same of a line of that number, behind whose reply the output holds `new`
-pub record IsAnsweredLine (number : ℕ) (objects : Objects) (reading : Reading) (old new : Option (List ℕ)) (after : Objects) : Type 0 where
-  pub text : List ℕ
-  pub printed : IsPrintedLine objects reading text
-  pub told : Appends old new (reply_to number objects reading text)
-  pub left : after ≡ left_by objects reading text
-  pub sound : IsSoundLine objects reading text
-
 -- what each of these lines puts is well made; a bad line ends them
 unfoldable pub AreSoundLines : Objects → (lines texts : List (List ℕ)) → Type 0
 AreSoundLines objects [] texts = Unit {0}
@@ -69,4 +61,4 @@ pub record IsScriptRun (objects : Objects) (script : List ℕ) (old new : Option
 pub record IsRunInPart (objects : Objects) (script : List ℕ) (old new : Option (List ℕ)) : Type 0 where
   pub texts : List (List ℕ)
   pub printed : ArePrintedInPart objects (lines_of script) texts
-  pub stands : StandsIn old new (scripts.expected_output objects script texts)
+  pub stands : WritesFront old new (scripts.expected_output objects script texts)

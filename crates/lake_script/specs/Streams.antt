@@ -29,7 +29,7 @@ abbrev pub held : {W : Type 0} → (W → Option (List ℕ)) → Output W → Op
 held contents output = append_known (contents output.writer) (waiting output)
 
 -- what a writer holds now is a front of what it held with these bytes behind it
-abbrev pub StandsIn : Option (List ℕ) → Option (List ℕ) → List ℕ → Type 0
-StandsIn None now bytes = ⊤
-StandsIn (Some before) None bytes = ⊥
-StandsIn (Some before) (Some now) bytes = (rest : List ℕ) × (now ++ rest ≡ before ++ bytes)
+abbrev pub WritesFront : Option (List ℕ) → Option (List ℕ) → List ℕ → Type 0
+WritesFront None now bytes = ⊤
+WritesFront (Some before) None bytes = ⊥
+WritesFront (Some before) (Some now) bytes = (rest : List ℕ) × (now ++ rest ≡ before ++ bytes)

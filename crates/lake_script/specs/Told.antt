@@ -11,15 +11,15 @@ use Rattle.lake_script.specs.declared.engine.Outcome.{Outcome}
 use Rattle.lake_script.specs.declared.faults.Fault.TheVariants.{NotYet, NoSuchName}
 use Rattle.sink_core.specs.Appending.{appended_by, append_plan, with_append}
 use Rattle.sink_core.specs.declared.sink_state.SinkOutcome.{SinkOutcome}
-use Rattle.sink_core.specs.Closes.{close_plan, closed_by, with_close}
+use Rattle.sink_core.specs.Closes.{close_plan, stream_closed_by, with_close_commit}
 use Rattle.store_core.specs.Names.{commit_name}
 use Rattle.commit_core.specs.Creating as creations
-use Rattle.commit_core.specs.Creating.{commit_from, created_by, with_creation, IsPrintedFor}
+use Rattle.commit_core.specs.Creating.{creation_from, created_by, with_creation, IsPrintedFor}
 use Rattle.commit_core.specs.Histories.{history_of}
 use Rattle.snapshot_core.specs.Faults.{readable_log}
-use Rattle.lake_script.specs.Checkpoints.{checkpoint_by, checkpoint_reply, snapshot_reply, with_checkpoint, IsItsCheckpoint, IsItsSnapshot}
+use Rattle.lake_script.specs.Checkpoints.{checkpoint_by_bytes, checkpoint_reply, snapshot_reply, with_checkpoint, IsItsCheckpoint, IsItsSnapshot}
 use Rattle.script_lines.specs.Lines.{Statement, append, close, checkpoint, tail, create, task, snapshot, history, show, hex, tries, foreign, Reading, skipped, bad, asks, reading_of, look, world}
-use Rattle.batch_core.specs.Refusals.{SinkRefusal, refusal_text}
+use Rattle.batch_core.specs.Refusals.{SinkRefusal, sink_refusal_text}
 use Rattle.lake_script.specs.Replies.{fault_text, created, noted, outcome_text, put_word, bad_line}
 use Rattle.commit_core.specs.Texts as texts
 use Rattle.commit_core.specs.Texts.{refused}
@@ -31,17 +31,17 @@ use Rattle.outcomes.specs.Lines.{with_newline}
 -- the reply to a line that creates a table
 abbrev pub created_reply : Result (List ℕ) creations.CreateRefusal → List ℕ
 created_reply (Ok bytes) = with_newline created
-created_reply (Err refusal) = with_newline (refused (texts.refusal_text refusal))
+created_reply (Err refusal) = with_newline (refused (texts.create_refusal_text refusal))
 
 -- the reply to a line that appends a batch, or closes a stream
 abbrev pub sink_reply : Result SinkOutcome SinkRefusal → List ℕ
 sink_reply (Ok outcome) = with_newline (outcome_text outcome)
-sink_reply (Err refusal) = with_newline (refused (refusal_text refusal))
+sink_reply (Err refusal) = with_newline (refused (sink_refusal_text refusal))
 
 -- the reply to a line that reads from an offset on
 abbrev pub tailed_reply : Result (List ℕ) tails.ReadRefusal → List ℕ
 tailed_reply (Ok text) = text
-tailed_reply (Err refusal) = with_newline (refused (tail_texts.refusal_text refusal))
+tailed_reply (Err refusal) = with_newline (refused (tail_texts.read_refusal_text refusal))
 
 -- an object, as it stands
 abbrev pub shown : Option (List ℕ) → List ℕ
@@ -78,25 +78,25 @@ abbrev pub reply_to_statement : Objects → Statement → (printed : List ℕ) �
 reply_to_statement objects (create id at schema) printed = created_reply (created_by objects id at schema printed)
 reply_to_statement objects (task (append application number at rows)) printed = sink_reply (appended_by false objects application number at rows)
 reply_to_statement objects (task (tail max offset)) printed = tailed_reply (tailed false objects max offset)
-reply_to_statement objects (task checkpoint) printed = checkpoint_reply (checkpoint_by objects printed)
+reply_to_statement objects (task checkpoint) printed = checkpoint_reply (checkpoint_by_bytes objects printed)
 reply_to_statement objects (look snapshot) printed = snapshot_reply (readable_log false objects) printed
 reply_to_statement objects (look history) printed = history_of objects
 reply_to_statement objects (look (show version)) printed = shown (object_at objects (commit_name version))
 reply_to_statement objects (look (hex name)) printed = in_hex (object_at objects name)
 reply_to_statement objects (foreign version action) printed = with_newline (put_word (object_at objects (commit_name version)))
-reply_to_statement objects (task (close application at)) printed = sink_reply (closed_by false objects application)
+reply_to_statement objects (task (close application at)) printed = sink_reply (stream_closed_by false objects application)
 reply_to_statement objects (tries count) printed = with_newline noted
 reply_to_statement objects (world line) printed = not_yet
 
 -- the objects that stand once a line has what it asks for
 abbrev pub left_by_statement : Objects → Statement → (printed : List ℕ) → Objects
-left_by_statement objects (create id at schema) printed = with_creation objects (commit_from id at schema printed)
+left_by_statement objects (create id at schema) printed = with_creation objects (creation_from id at schema printed)
 left_by_statement objects (task (append application number at rows)) printed = with_append objects (append_plan false objects application number at rows)
-left_by_statement objects (task checkpoint) printed = with_checkpoint objects printed (checkpoint_by objects printed)
+left_by_statement objects (task checkpoint) printed = with_checkpoint objects printed (checkpoint_by_bytes objects printed)
 left_by_statement objects (foreign version action) printed = with_object objects (commit_name version) (with_newline action)
 left_by_statement objects (task (tail max offset)) printed = objects
 left_by_statement objects (look line) printed = objects
-left_by_statement objects (task (close application at)) printed = with_close objects application at (close_plan false objects application)
+left_by_statement objects (task (close application at)) printed = with_close_commit objects application at (close_plan false objects application)
 left_by_statement objects (tries count) printed = objects
 left_by_statement objects (world line) printed = objects
 
@@ -192,8 +192,8 @@ abbrev pub left : Objects → (script : List ℕ) (texts : List (List ℕ)) → 
 left objects script texts = left_from objects (lines_of script) texts
 
 -- this is told for a script over these objects, with some texts beside its lines
-abbrev pub IsTold : Objects → (script written : List ℕ) → Type 0
-IsTold objects script written = (texts : List (List ℕ)) × ArePrintedLines objects (lines_of script) texts × (written ≡ expected_output objects script texts)
+abbrev pub IsScriptTold : Objects → (script written : List ℕ) → Type 0
+IsScriptTold objects script written = (texts : List (List ℕ)) × ArePrintedLines objects (lines_of script) texts × (written ≡ expected_output objects script texts)
 
 -- the number of a script's first bad line, if it has one
 abbrev pub first_bad : List ℕ → Option ℕ

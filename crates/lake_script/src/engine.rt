@@ -1,23 +1,21 @@
-//! The engine of `script`: it answers the lines of a text, one by one.
-ghost use Rattle.std.specs.Prelude.{◌≡◌, ◌≢◌, ◌+◌, ◌<◌, ◌≤◌, ◌^◌, suc, [], ◌⊎◌, Bool, true, false, not, length, ⊤, OnOk, OnErr, IfOk};
-ghost use Rattle.script_lines.specs.Lines.{reading_of};
-ghost use Rattle.lake_script.specs.Runs.{FallsShort, IsCutOff, Replies, Runs, RunsInPart, Tells, TellsFront, TellsShort};
+//! The engine of `script`: it answers the lines of a text over a store, one by one.
+ghost use Rattle.std.specs.Prelude.{◌≡◌, ◌≢◌, ◌+◌, ◌≤◌, ◌^◌, suc, [], ◌⊎◌, Bool, true, false, length, ⊤};
+ghost use Rattle.lake_script.specs.Runs.{FallsShort, Runs, RunsInPart, TellsWhole, TellsFront};
 ghost use Rattle.lake_script.specs.Keeps.{Keeps, KeepsBeside};
 ghost use Rattle.lake_script.specs.Scripts.{IsScript, StaysSound};
-ghost use Rattle.lake_script.specs.Sound.{IsAnsweredLine, IsScriptRun, IsRunInPart};
-ghost use Rattle.lake_script.specs.Streams.{held, waiting, write_failed, StandsIn};
-ghost use Rattle.lake_script.specs.Tables.{State, entries_of};
+ghost use Rattle.lake_script.specs.Sound.{IsScriptRun, IsRunInPart};
+ghost use Rattle.lake_script.specs.Streams.{held, waiting, write_failed};
+ghost use Rattle.lake_script.specs.Tables.{TableState, entries_of_state};
 ghost use Rattle.delta_actions.specs.Commit.{lines_of};
 ghost use Rattle.store_core.specs.Names.{greatest_version};
-ghost use Rattle.log_reading.specs.LogCache.{IsCacheOf};
 ghost use Rattle.table_log.specs.Restoring.{AreCheckpointsSound, HasOnlySoundCheckpoints, RestoresWell};
-ghost use Rattle.lake_script.specs.Told.{ArePutHere, is_bad, first_bad, Finishes, fell_short};
+ghost use Rattle.lake_script.specs.Told.{ArePutHere, first_bad, Finishes, fell_short};
+ghost use Rattle.lake_script.specs.Ended.{end_of_script, short_of};
 
+use crate::interpreter::answer_lines;
 use crate::outputs::{Output, OutputError};
-use crate::reply::execute;
-use json::Scratch;
+use crate::over_store::{OverStore, TRIES};
 use log_reading::LogCache;
-use script_lines::{Reading, first_line, reading_of};
 use std::alloc::Global;
 use std::io::Write;
 use store_core::Store;
@@ -52,6 +50,31 @@ impl Outcome {
         Outcome { end, is_short }
     }
 
+    /// A run whose lines came to this, and whether one of their replies was short.
+    pub fn of(ended: Result<Option<u64>, OutputError>, is_short: bool) -> Outcome
+        ensures end { result.end ≡ end_of_script ended }
+        ensures short { fell_short result ≡ short_of ended is_short }
+    {
+        match ended {
+            Ok(None) => Outcome {
+                end: End::Done,
+                is_short,
+            },
+            Ok(Some(number)) => Outcome {
+                end: End::BadLine(number),
+                is_short,
+            },
+            Err(OutputError::Broken) => Outcome {
+                end: End::NotWritten,
+                is_short,
+            },
+            Err(OutputError::Memory) => Outcome {
+                end: End::NotWritten,
+                is_short: true,
+            },
+        }
+    }
+
     /// Whether a growth was refused on the way, or a commit, a data file or a checkpoint would have
     /// passed 64 MiB. A run that ends by itself may have met one: its lines that did are told so.
     pub fn is_short(&self) -> bool
@@ -59,149 +82,6 @@ impl Outcome {
     {
         self.is_short
     }
-}
-
-/// How many versions an append and a close try at most, until a line says otherwise.
-pub(crate) const TRIES: u64 = 16;
-
-/// Answers one line. False where the line is bad. Where a growth was refused, it says so.
-fn answer<S: Store, W: Write>(
-    alloc: Global,
-    number: u64,
-    line: &[u8],
-    store: &mut S,
-    output: &mut Output<W>,
-    is_short: &mut bool,
-    tries: &mut u64,
-    use_checkpoints: bool,
-    cache: &mut LogCache,
-    scratch: &mut Scratch,
-) -> Result<bool, OutputError>
-    requires tries { 1 ≤ tries.old }
-    requires cache { IsCacheOf (S.objects store.old) cache.old }
-    ensures tries { 1 ≤ tries.new }
-    ensures cache { IsCacheOf (S.objects store.new) cache.new }
-    ensures whole { S.is_reliable store.old → RestoresWell use_checkpoints (S.objects store.old) → is_short.new ≡ false → OnOk result (IsAnsweredLine number (S.objects store.old) (reading_of line.now)
-        (held W.contents output.old) (held W.contents output.new) (S.objects store.new)) }
-    ensures tells { S.is_reliable store.old → RestoresWell use_checkpoints (S.objects store.old) → OnOk result (Tells (held W.contents output.old) (held W.contents output.new)
-        (λ reply. Replies number (S.objects store.old) (reading_of line.now) reply (S.objects store.new))) }
-    ensures short { S.is_reliable store.old → RestoresWell use_checkpoints (S.objects store.old) → is_short.old ≡ false → is_short.new ≡ true → OnOk result (Tells (held W.contents output.old) (held W.contents output.new)
-        (λ reply. Replies number (S.objects store.old) (reading_of line.now) reply (S.objects store.new) × TellsShort (S.objects store.old) (reading_of line.now) reply)) }
-    ensures cut_off { S.is_reliable store.old → RestoresWell use_checkpoints (S.objects store.old) → OnErr result (IsCutOff number (S.objects store.old) (reading_of line.now) (S.objects store.new)) }
-    ensures reliable { S.is_reliable store.old → S.is_reliable store.new }
-    ensures restores { S.is_reliable store.old → (every : Bool) → AreCheckpointsSound every (S.objects store.old) → AreCheckpointsSound every (S.objects store.new) }
-    ensures remembers { is_short.new ≡ false → is_short.old ≡ false }
-    ensures goes_on { IfOk result (λ goes_on. goes_on ≡ not (is_bad (reading_of line.now))) }
-    ensures stands { OnErr result (StandsIn (held W.contents output.old) (W.contents output.new.writer) []) }
-    ensures behind { OnOk result (Tells (held W.contents output.old) (held W.contents output.new) (λ reply. ⊤)) }
-    ensures unbroken { OnOk result (write_failed output.new ≡ write_failed output.old) }
-    ensures broken { result ≡ Err OutputError.Broken → write_failed output.new ≡ true }
-    ensures memory { result ≡ Err OutputError.Memory → write_failed output.new ≡ write_failed output.old }
-{
-    match reading_of(alloc, line, scratch, false)? {
-        Reading::Skipped => Ok(true),
-        Reading::Bad => {
-            output.say(format_args!("bad line {number}"))?;
-            Ok(false)
-        }
-        Reading::Asks(line) => {
-            let reply = execute(alloc, line, store, tries, use_checkpoints, cache);
-            if reply.is_short() {
-                *is_short = true;
-            }
-            reply.give(output)?;
-            Ok(true)
-        }
-    }
-}
-
-/// Answers the lines of a text, and writes the replies. The result is the number of the bad line
-/// that ended it. Where a growth was refused, it says so.
-fn answer_all<S: Store, W: Write>(
-    alloc: Global,
-    text: &[u8],
-    store: &mut S,
-    output: &mut Output<W>,
-    is_short: &mut bool,
-    use_checkpoints: bool,
-) -> Result<Option<u64>, OutputError>
-    requires { length text.now ≤ 2 ^ 30 }
-    ensures whole { S.is_reliable store.old → RestoresWell use_checkpoints (S.objects store.old) → is_short.new ≡ false → OnOk result (IsScriptRun (S.objects store.old) text.now
-        (held W.contents output.old) (held W.contents output.new) (S.objects store.new)) }
-    ensures tells { S.is_reliable store.old → RestoresWell use_checkpoints (S.objects store.old) → OnOk result (Tells (held W.contents output.old) (held W.contents output.new)
-        (λ written. Runs 1 (S.objects store.old) (lines_of text.now) written (S.objects store.new))) }
-    ensures short { S.is_reliable store.old → RestoresWell use_checkpoints (S.objects store.old) → is_short.old ≡ false → is_short.new ≡ true → OnOk result (Tells (held W.contents output.old) (held W.contents output.new)
-        (FallsShort 1 (S.objects store.old) (lines_of text.now))) }
-    ensures reliable { S.is_reliable store.old → S.is_reliable store.new }
-    ensures restores { S.is_reliable store.old → (every : Bool) → AreCheckpointsSound every (S.objects store.old) → AreCheckpointsSound every (S.objects store.new) }
-    ensures bad { IfOk result (λ bad. bad ≡ first_bad text.now) }
-    ensures stands { S.is_reliable store.old → RestoresWell use_checkpoints (S.objects store.old) → is_short.new ≡ false
-        → OnErr result (IsRunInPart (S.objects store.old) text.now (held W.contents output.old) (W.contents output.new.writer)) }
-    ensures front { S.is_reliable store.old → RestoresWell use_checkpoints (S.objects store.old) → OnErr result (TellsFront (held W.contents output.old) (W.contents output.new.writer)
-        (λ written. RunsInPart 1 (S.objects store.old) (lines_of text.now) written (S.objects store.new))) }
-    ensures behind { OnOk result (Tells (held W.contents output.old) (held W.contents output.new) (λ written. ⊤)) }
-    ensures unbroken { OnOk result (write_failed output.new ≡ write_failed output.old) }
-    ensures broken { result ≡ Err OutputError.Broken → write_failed output.new ≡ true }
-    ensures memory { result ≡ Err OutputError.Memory → write_failed output.new ≡ write_failed output.old }
-{
-    let mut number = 1u64;
-    let mut rest = Some(text);
-    let mut tries = TRIES;
-    let mut cache = LogCache::new(alloc);
-    let mut scratch = Scratch::new(alloc);
-    while let Some(text) = rest {
-        let (line, after) = first_line(text);
-        if !answer(
-            alloc,
-            number,
-            line,
-            store,
-            output,
-            is_short,
-            &mut tries,
-            use_checkpoints,
-            &mut cache,
-            &mut scratch,
-        )? {
-            return Ok(Some(number));
-        }
-        number += 1;
-        rest = after;
-    }
-    Ok(None)
-}
-
-/// Answers the lines of a text, and writes what waits then.
-fn answer_and_flush<S: Store, W: Write>(
-    alloc: Global,
-    text: &[u8],
-    store: &mut S,
-    output: &mut Output<W>,
-    is_short: &mut bool,
-    use_checkpoints: bool,
-) -> Result<Option<u64>, OutputError>
-    requires { length text.now ≤ 2 ^ 30 }
-    ensures whole { S.is_reliable store.old → RestoresWell use_checkpoints (S.objects store.old) → is_short.new ≡ false → OnOk result (IsScriptRun (S.objects store.old) text.now
-        (held W.contents output.old) (W.contents output.new.writer) (S.objects store.new)) }
-    ensures tells { S.is_reliable store.old → RestoresWell use_checkpoints (S.objects store.old) → OnOk result (Tells (held W.contents output.old) (W.contents output.new.writer)
-        (λ written. Runs 1 (S.objects store.old) (lines_of text.now) written (S.objects store.new))) }
-    ensures short { S.is_reliable store.old → RestoresWell use_checkpoints (S.objects store.old) → is_short.old ≡ false → is_short.new ≡ true → OnOk result (Tells (held W.contents output.old) (W.contents output.new.writer)
-        (FallsShort 1 (S.objects store.old) (lines_of text.now))) }
-    ensures reliable { S.is_reliable store.old → S.is_reliable store.new }
-    ensures restores { S.is_reliable store.old → (every : Bool) → AreCheckpointsSound every (S.objects store.old) → AreCheckpointsSound every (S.objects store.new) }
-    ensures through { OnOk result (waiting output.new ≡ []) }
-    ensures bad { IfOk result (λ bad. bad ≡ first_bad text.now) }
-    ensures stands { S.is_reliable store.old → RestoresWell use_checkpoints (S.objects store.old) → is_short.new ≡ false
-        → OnErr result (IsRunInPart (S.objects store.old) text.now (held W.contents output.old) (W.contents output.new.writer)) }
-    ensures front { S.is_reliable store.old → RestoresWell use_checkpoints (S.objects store.old) → OnErr result (TellsFront (held W.contents output.old) (W.contents output.new.writer)
-        (λ written. RunsInPart 1 (S.objects store.old) (lines_of text.now) written (S.objects store.new))) }
-    ensures behind { OnOk result (Tells (held W.contents output.old) (W.contents output.new.writer) (λ written. ⊤)) }
-    ensures unbroken { OnOk result (write_failed output.new ≡ write_failed output.old) }
-    ensures broken { result ≡ Err OutputError.Broken → write_failed output.new ≡ true }
-{
-    let bad = answer_all(alloc, text, store, output, is_short, use_checkpoints)?;
-    output.flush()?;
-    Ok(bad)
 }
 
 /// Runs a script that is given as text, of at most 1 GiB, over a store: answers each of its lines, up
@@ -234,29 +114,29 @@ pub fn run_text<S: Store, W: Write>(
         (λ _. IsScriptRun (S.objects store.old) text.now (held W.contents output.old) (W.contents output.new.writer) (S.objects store.new)) }
     // Where a growth was refused, each line has its reply and effect, or is told of want of memory
     // and leaves the objects as they were, but for a batch's file, which may stand.
-    ensures tells { S.is_reliable store.old → RestoresWell use_checkpoints (S.objects store.old) → Finishes result.end (λ _. Tells (held W.contents output.old) (W.contents output.new.writer)
+    ensures tells { S.is_reliable store.old → RestoresWell use_checkpoints (S.objects store.old) → Finishes result.end (λ _. TellsWhole (held W.contents output.old) (W.contents output.new.writer)
         (λ written. Runs 1 (S.objects store.old) (lines_of text.now) written (S.objects store.new))) }
     // A run that finishes is short only where a reply that is written tells so.
     ensures short { S.is_reliable store.old → RestoresWell use_checkpoints (S.objects store.old) → fell_short result ≡ true → Finishes result.end
-        (λ _. Tells (held W.contents output.old) (W.contents output.new.writer) (FallsShort 1 (S.objects store.old) (lines_of text.now))) }
+        (λ _. TellsWhole (held W.contents output.old) (W.contents output.new.writer) (FallsShort 1 (S.objects store.old) (lines_of text.now))) }
     // Over a store that keeps a table, or nothing, where there can be as many versions as it has entries and the text
     // lines, this is what the plain table tells, where no line shows an object, tells the snapshot or puts another
     // tool's commit; where none puts such a commit, what is shown is told by the objects and all else by the table, the
     // store then keeps the table that was told, and reads over it hand out its rows.
-    ensures script { (state : State) → S.is_reliable store.old → RestoresWell use_checkpoints (S.objects store.old) → Keeps (S.objects store.old) state
+    ensures script { (state : TableState) → S.is_reliable store.old → RestoresWell use_checkpoints (S.objects store.old) → Keeps (S.objects store.old) state
         → fell_short result ≡ false → Finishes result.end
-        (λ _. length (entries_of state) + length (lines_of text.now) ≤ suc greatest_version
+        (λ _. length (entries_of_state state) + length (lines_of text.now) ≤ suc greatest_version
         → IsScript state (held W.contents output.old) (W.contents output.new.writer) text.now (S.objects store.old) (S.objects store.new)) }
     // Over such a store, in which data files of other batches may stand too, that loses no call and whose checkpoints
     // are the log's, and where no line puts another tool's commit, the store that is left is sound, its log is lawful,
     // and it is such a store again, however the run ends and whatever growth is refused on the way.
-    ensures lawful { (state : State) → S.is_reliable store.old → HasOnlySoundCheckpoints (S.objects store.old) → KeepsBeside (S.objects store.old) state
+    ensures lawful { (state : TableState) → S.is_reliable store.old → HasOnlySoundCheckpoints (S.objects store.old) → KeepsBeside (S.objects store.old) state
         → ArePutHere (lines_of text.now) → StaysSound state (length (lines_of text.now)) (S.objects store.new) }
     ensures reliable { S.is_reliable store.old → S.is_reliable store.new }
     ensures restores { S.is_reliable store.old → (every : Bool) → AreCheckpointsSound every (S.objects store.old) → AreCheckpointsSound every (S.objects store.new) }
     ensures nothing_waits { Finishes result.end (λ _. waiting output.new ≡ []) }
     // Over any store, one that loses calls too, what is written stands behind what was held.
-    ensures behind { Finishes result.end (λ _. Tells (held W.contents output.old) (W.contents output.new.writer) (λ written. ⊤)) }
+    ensures behind { Finishes result.end (λ _. TellsWhole (held W.contents output.old) (W.contents output.new.writer) (λ written. ⊤)) }
     ensures finished { Finishes result.end (λ bad. (bad ≡ first_bad text.now) × (write_failed output.new ≡ write_failed output.old)) }
     ensures stands { S.is_reliable store.old → RestoresWell use_checkpoints (S.objects store.old) → fell_short result ≡ false → result.end ≡ End.NotWritten
         → IsRunInPart (S.objects store.old) text.now (held W.contents output.old) (W.contents output.new.writer) }
@@ -269,18 +149,13 @@ pub fn run_text<S: Store, W: Write>(
     ensures read { result.end ≢ End.NotRead }
 {
     let mut is_short = false;
-    match answer_and_flush(alloc, text, store, output, &mut is_short, use_checkpoints) {
-        Ok(None) => Outcome {
-            end: End::Done,
-            is_short,
-        },
-        Ok(Some(number)) => Outcome {
-            end: End::BadLine(number),
-            is_short,
-        },
-        Err(error) => Outcome {
-            end: End::NotWritten,
-            is_short: is_short || error == OutputError::Memory,
-        },
-    }
+    let mut cache = LogCache::new(alloc);
+    let mut over = OverStore {
+        store,
+        tries: TRIES,
+        use_checkpoints,
+        cache: &mut cache,
+    };
+    let ended = answer_lines(alloc, text, &mut over, output, &mut is_short);
+    Outcome::of(ended, is_short)
 }

@@ -1,11 +1,10 @@
 //! Commits that another tool puts.
 ghost use Rattle.outcomes.specs.Lines.{with_newline};
 ghost use Rattle.std.specs.Prelude.{◌≡◌, IfOk, OnOk, IsErrOf};
-ghost use Rattle.store_core.specs.Calls.{CountsFault, MayHaveLanded, put_told};
-ghost use Rattle.session_core.specs.Stores.{MayAnswerPut};
-ghost use Rattle.session_core.specs.Talks.{told_put};
+ghost use Rattle.store_core.specs.Calls.{put_told};
 ghost use Rattle.store_core.specs.Objects.{object_at, with_object};
 ghost use Rattle.store_core.specs.Names.{commit_name};
+ghost use Rattle.lake_script.specs.AnyStore.{PutsForeign};
 
 use std::alloc::{AllocError, Global};
 use store_core::{Put, Store, StoreFault, commit_name};
@@ -30,16 +29,11 @@ pub fn put_line<S: Store>(
     version: u64,
     action: &str,
 ) -> Result<Put, StoreFault>
-    ensures told { S.is_reliable store.old → IfOk result (λ put. put ≡ put_told (object_at (S.objects store.old) (commit_name version))) }
+    // Over any store, one that loses calls too: what became of the put, and of the count of faults, by the answer.
+    ensures put { PutsForeign version action.now result
+        (S.objects store.old, S.in_flight store.old) (S.objects store.new, S.in_flight store.new) (S.fault_count store.old) (S.fault_count store.new) }
     ensures landed { OnOk result (S.objects store.new ≡ with_object (S.objects store.old) (commit_name version) (with_newline action.now)) }
-    ensures lost { IsErrOf result StoreFault.Lost → MayHaveLanded (commit_name version) (with_newline action.now)
-        (S.objects store.old, S.in_flight store.old) (S.objects store.new, S.in_flight store.new) }
-    ensures memory { IsErrOf result StoreFault.Memory → S.objects store.new ≡ S.objects store.old }
-    // What any store may answer to a put, and which puts are in flight then.
-    ensures answered { IfOk result (λ put. MayAnswerPut (S.objects store.old, S.in_flight store.old) (commit_name version) (with_newline action.now)
-        (told_put put) (S.objects store.new, S.in_flight store.new)) }
-    ensures unsent { IsErrOf result StoreFault.Memory → S.in_flight store.new ≡ S.in_flight store.old }
-    ensures faults { CountsFault result (S.fault_count store.old) (S.fault_count store.new) }
+    ensures told { S.is_reliable store.old → IfOk result (λ put. put ≡ put_told (object_at (S.objects store.old) (commit_name version))) }
     ensures never_lost { S.is_reliable store.old → IsErrOf result StoreFault.Lost → ⊥ }
     ensures reliable { S.is_reliable store.old → S.is_reliable store.new }
 {

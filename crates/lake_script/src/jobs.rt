@@ -1,11 +1,11 @@
 //! What lines ask for, as jobs.
-ghost use Rattle.std.specs.Prelude.{◌≡◌, ◌<◌, ◌≤◌, ◌^◌, IfOk, Ok, Some, option_map, true};
+ghost use Rattle.std.specs.Prelude.{◌≡◌, ◌<◌, ◌≤◌, ◌^◌, IfOk, Ok, Some, false, option_map, true};
 ghost use Rattle.std.specs.Str.{IsUtf8};
 ghost use Rattle.script_lines.specs.Lines.{IsTimelyTask, task, task_view};
 ghost use Rattle.sink_core.specs.SinkSessions as sinks;
 ghost use Rattle.table_jobs.specs.Views.{job_view, new_load, stream_view};
 ghost use Rattle.lake_script.specs.LineJobs.{IsOfText, job_of_creation, job_of_task};
-ghost use Rattle.lake_script.specs.ReplyView.{is_short, reply_text};
+ghost use Rattle.lake_script.specs.ReplyView.{is_short_reply, reply_text, says_lost};
 ghost use Rattle.lake_script.specs.Runs.{IsWantOfMemory};
 
 use crate::reply::LineReply;
@@ -84,7 +84,7 @@ fn stream_job<'r>(
 ) -> Result<StreamJob<'r>, AllocError>
     requires tries { 1 ≤ tries }
     requires at { at < 2 ^ 63 }
-    ensures job { IfOk result (λ job. stream_view job ≡ record { application = application.now; task = sinks.task_view task.entry; at = at; tries = tries; load = new_load use_checkpoints }) }
+    ensures job { IfOk result (λ job. stream_view job ≡ record { application = application.now; task = sinks.sink_task_view task.entry; at = at; tries = tries; load = new_load use_checkpoints }) }
     ensures text { IsUtf8 application.now }
 {
     let application = String::from_str(alloc, application)?;
@@ -100,7 +100,8 @@ fn stream_job<'r>(
 /// What is told of a job for which there is no memory.
 pub fn no_room_for(job: &lines::Job<'_>) -> LineReply
     ensures told { IsWantOfMemory (task (task_view job.now)) (reply_text result) }
-    ensures short { is_short result ≡ true }
+    ensures short { is_short_reply result ≡ true }
+    ensures lost { says_lost result ≡ false }
 {
     match job {
         lines::Job::Append { .. } | lines::Job::Close { .. } => {

@@ -2,7 +2,7 @@
 ghost use Rattle.outcomes.specs.Lines.{with_newline};
 ghost use Rattle.std.specs.Prelude.{◌≡◌, ◌⊎◌, [], OnOk, OnErr, IfErr, IfSome, true, false};
 ghost use Rattle.std.specs.Io.KnownBytes.{Appends};
-ghost use Rattle.lake_script.specs.Streams.{held, waiting, write_failed, StandsIn};
+ghost use Rattle.lake_script.specs.Streams.{held, waiting, write_failed, WritesFront};
 
 use std::alloc::{AllocError, Global};
 use std::fmt::Display;
@@ -43,7 +43,7 @@ pub struct Output<W> {
 /// Writes all bytes, or as many as go before a write fails.
 fn write_through<W: Write>(writer: &mut W, bytes: &[u8]) -> bool
     ensures all { result ≡ true → Appends (W.contents writer.old) (W.contents writer.new) bytes.now }
-    ensures front { result ≡ false → StandsIn (W.contents writer.old) (W.contents writer.new) bytes.now }
+    ensures front { result ≡ false → WritesFront (W.contents writer.old) (W.contents writer.new) bytes.now }
 {
     let mut rest = bytes;
     while !rest.is_empty() {
@@ -75,7 +75,7 @@ impl<W: Write> Output<W> {
     pub fn flush(&mut self) -> Result<(), OutputError>
         ensures held { OnOk result (Appends (held W.contents self.old) (held W.contents self.new) []) }
         ensures through { OnOk result (waiting self.new ≡ []) }
-        ensures stands { OnErr result (StandsIn (held W.contents self.old) (W.contents self.new.writer) []) }
+        ensures stands { OnErr result (WritesFront (held W.contents self.old) (W.contents self.new.writer) []) }
         ensures unbroken { OnOk result (write_failed self.new ≡ write_failed self.old) }
         ensures broken { IfErr result (λ e. (e ≡ OutputError.Broken) × (write_failed self.new ≡ true)) }
     {
@@ -91,7 +91,7 @@ impl<W: Write> Output<W> {
     pub fn say<D: Display + Drop>(&mut self, reply: D) -> Result<(), OutputError>
         ensures held { OnOk result (IfSome (D.output reply) (λ text.
             Appends (held W.contents self.old) (held W.contents self.new) (with_newline text))) }
-        ensures stands { OnErr result (StandsIn (held W.contents self.old) (W.contents self.new.writer) []) }
+        ensures stands { OnErr result (WritesFront (held W.contents self.old) (W.contents self.new.writer) []) }
         ensures unbroken { OnOk result (write_failed self.new ≡ write_failed self.old) }
         ensures broken { result ≡ Err OutputError.Broken → write_failed self.new ≡ true }
         ensures memory { result ≡ Err OutputError.Memory → write_failed self.new ≡ write_failed self.old }
@@ -113,7 +113,7 @@ impl<W: Write> Output<W> {
     /// Gives bytes as they are. They are written with the replies that wait once they are many.
     pub fn show(&mut self, bytes: &[u8]) -> Result<(), OutputError>
         ensures held { OnOk result (Appends (held W.contents self.old) (held W.contents self.new) bytes.now) }
-        ensures stands { OnErr result (StandsIn (held W.contents self.old) (W.contents self.new.writer) []) }
+        ensures stands { OnErr result (WritesFront (held W.contents self.old) (W.contents self.new.writer) []) }
         ensures unbroken { OnOk result (write_failed self.new ≡ write_failed self.old) }
         ensures broken { result ≡ Err OutputError.Broken → write_failed self.new ≡ true }
         ensures memory { result ≡ Err OutputError.Memory → write_failed self.new ≡ write_failed self.old }

@@ -1,36 +1,35 @@
 //! What a line is told, and how it is found.
-ghost use Rattle.std.specs.Prelude.{◌≡◌, ◌≢◌, ◌<◌, ◌≤◌, ◌^◌, ◌⊎◌, ℕ, List, [], Bool, Result, Err, false, OnOk, OnErr, true};
+ghost use Rattle.std.specs.Prelude.{◌≡◌, ◌≢◌, ◌<◌, ◌≤◌, ◌⊎◌, ℕ, List, [], Bool, Result, Err, false, OnOk, OnErr, true};
 ghost use Rattle.std.specs.Io.KnownBytes.{Appends};
-ghost use Rattle.json_text.specs.Rows.{rows_data};
 ghost use Rattle.store_core.specs.Calls.{HasRisen};
 ghost use Rattle.store_core.specs.Objects.{Objects};
 ghost use Rattle.log_reading.specs.LogCache.{IsCacheOf};
 ghost use Rattle.table_log.specs.Restoring.{AreCheckpointsSound, RestoresWell};
+ghost use Rattle.lake_script.specs.AnyStore.{IsToldLost, TellsForeign, lost_to_read};
+ghost use Rattle.script_lines.specs.Lines.{foreign, tail, task, statement_view, IsTimely};
+ghost use Rattle.lake_script.specs.CarriedOut.{IsCarriedOut};
 ghost use Rattle.lake_script.specs.Growth.{MayPut};
-ghost use Rattle.lake_script.specs.AnyStore.{IsToldLost, TellsCheckpoint, TellsCreation, TellsForeign, TellsJob, TellsOver, TellsRows, lost_to_read};
-ghost use Rattle.sink_core.specs.SinkSessions.{append_job, close_job};
-ghost use Rattle.script_lines.specs.Lines.{append, checkpoint, close, create, foreign, tail, task, task_view, statement_view, IsTimely, IsTimelyTask};
-ghost use Rattle.lake_script.specs.ReplyView.{reply_text, is_short, says_lost};
+ghost use Rattle.lake_script.specs.ReplyView.{reply_text, is_short_reply, says_lost};
 ghost use Rattle.lake_script.specs.Runs.{Executes, IsShort, no_room_to_read};
 ghost use Rattle.lake_script.specs.Sound.{IsExecuted};
-ghost use Rattle.lake_script.specs.Streams.{held, waiting, write_failed, StandsIn};
+ghost use Rattle.lake_script.specs.Streams.{held, waiting, write_failed, WritesFront};
 ghost use Rattle.source_core.specs.TailFaults.{ReadGives};
 ghost use Rattle.source_core.specs.Tailing.{ReadRefusal};
 ghost use Rattle.source_core.specs.TailTexts.{tailed};
 ghost use Rattle.lake_script.specs.Told.{tailed_reply};
-ghost use Rattle.lake_script.specs.Tries.{IsLook, SetsTries};
+ghost use Rattle.lake_script.specs.Tries.{SetsTries};
 
 use crate::faults::{Fault, RefusalText};
 use crate::foreign::put_line;
 use crate::looks::{show, show_in_hex, tell_history, tell_snapshot};
 use crate::outputs::{Output, OutputError};
-use commit_core::{CreateFault, create};
-use json_text::JsonRows;
+use crate::running::{create_table, run_task};
+use commit_core::CreateFault;
 use log_reading::LogCache;
-use script_lines::{Job, Line, Look};
-use sink_core::{SinkFault, SinkOutcome, append, close};
-use snapshot_core::{SnapshotFault, checkpoint};
-use source_core::{TailFault, tail};
+use script_lines::{Line, Look};
+use sink_core::{SinkFault, SinkOutcome};
+use snapshot_core::SnapshotFault;
+use source_core::TailFault;
 use std::alloc::Global;
 use std::io::Write;
 use store_core::{Put, Store, StoreFault};
@@ -92,7 +91,7 @@ impl Drop for LineReply {
 impl LineReply {
     /// Whether a growth was refused, or an object would pass 64 MiB.
     pub fn is_short(&self) -> bool
-        ensures { result ≡ is_short self.now }
+        ensures { result ≡ is_short_reply self.now }
     {
         matches!(
             self,
@@ -108,7 +107,7 @@ impl LineReply {
     /// Gives the reply to an output.
     pub fn give<W: Write>(&self, output: &mut Output<W>) -> Result<(), OutputError>
         ensures held { OnOk result (Appends (held W.contents output.old) (held W.contents output.new) (reply_text self.now)) }
-        ensures stands { OnErr result (StandsIn (held W.contents output.old) (W.contents output.new.writer) []) }
+        ensures stands { OnErr result (WritesFront (held W.contents output.old) (W.contents output.new.writer) []) }
         ensures unbroken { OnOk result (write_failed output.new ≡ write_failed output.old) }
         ensures broken { result ≡ Err OutputError.Broken → write_failed output.new ≡ true }
         ensures memory { result ≡ Err OutputError.Memory → write_failed output.new ≡ write_failed output.old }
@@ -146,148 +145,15 @@ impl LineReply {
     }
 }
 
-/// The reply to a line that creates a table.
-fn create_table<S: Store>(
-    alloc: Global,
-    store: &mut S,
-    id: &str,
-    at: u64,
-    schema: &str,
-) -> LineReply
-    requires { at < 2 ^ 63 }
-    ensures told { S.is_reliable store.old → Executes (S.objects store.old) (create id.now at schema.now) (reply_text result) (S.objects store.new) }
-    ensures whole { S.is_reliable store.old → is_short result ≡ false → IsExecuted (S.objects store.old) (create id.now at schema.now) (reply_text result) (S.objects store.new) }
-    ensures grows { S.is_reliable store.old → MayPut (S.objects store.old) (create id.now at schema.now) (S.objects store.new) }
-    ensures short { is_short result ≡ true → IsShort (S.objects store.old) (create id.now at schema.now) (reply_text result) }
-    ensures reliable { S.is_reliable store.old → S.is_reliable store.new }
-    ensures lost { says_lost result ≡ true → HasRisen (S.fault_count store.old) (S.fault_count store.new) }
-    ensures counted { says_lost result ≡ false → S.fault_count store.new ≡ S.fault_count store.old }
-    ensures any { TellsCreation (S.is_reliable store.old) id.now at schema.now (reply_text result)
-        (S.objects store.old, S.in_flight store.old) (S.objects store.new, S.in_flight store.new) (S.fault_count store.old) (S.fault_count store.new) }
-    ensures told_lost { says_lost result ≡ true → IsToldLost (create id.now at schema.now) (reply_text result) }
-{
-    match create(alloc, store, id, at, schema) {
-        Ok(()) => LineReply::Created,
-        Err(fault) => LineReply::NotCreated(fault),
-    }
-}
-
-/// The reply to a line that appends a batch.
-fn append_batch<S: Store>(
-    alloc: Global,
-    store: &mut S,
-    application: &str,
-    number: u64,
-    at: u64,
-    rows: JsonRows<'_>,
-    tries: u64,
-    use_checkpoints: bool,
-    cache: &mut LogCache,
-) -> LineReply
-    requires at { at < 2 ^ 63 }
-    requires tries { 1 ≤ tries }
-    requires cache { IsCacheOf (S.objects store.old) cache.old }
-    ensures cache { IsCacheOf (S.objects store.new) cache.new }
-    ensures told { S.is_reliable store.old → RestoresWell use_checkpoints (S.objects store.old) → Executes (S.objects store.old) (task (append application.now number at (rows_data rows.entry))) (reply_text result) (S.objects store.new) }
-    ensures whole { S.is_reliable store.old → RestoresWell use_checkpoints (S.objects store.old) → is_short result ≡ false → IsExecuted (S.objects store.old) (task (append application.now number at (rows_data rows.entry))) (reply_text result) (S.objects store.new) }
-    ensures grows { S.is_reliable store.old → RestoresWell use_checkpoints (S.objects store.old) → MayPut (S.objects store.old) (task (append application.now number at (rows_data rows.entry))) (S.objects store.new) }
-    ensures short { RestoresWell use_checkpoints (S.objects store.old) → is_short result ≡ true → IsShort (S.objects store.old) (task (append application.now number at (rows_data rows.entry))) (reply_text result) }
-    ensures reliable { S.is_reliable store.old → S.is_reliable store.new }
-    ensures lost { says_lost result ≡ true → HasRisen (S.fault_count store.old) (S.fault_count store.new) }
-    ensures counted { says_lost result ≡ false → S.fault_count store.new ≡ S.fault_count store.old }
-    ensures any { TellsJob (S.is_reliable store.old) (append_job application.now number (rows_data rows.entry) at tries use_checkpoints cache.old.loaded) (reply_text result)
-        (S.objects store.old, S.in_flight store.old) (S.objects store.new, S.in_flight store.new) (S.fault_count store.old) (S.fault_count store.new) }
-    ensures told_lost { says_lost result ≡ true → IsToldLost (task (append application.now number at (rows_data rows.entry))) (reply_text result) }
-{
-    match append(
-        alloc,
-        store,
-        application,
-        number,
-        at,
-        rows,
-        tries,
-        use_checkpoints,
-        &mut cache.loaded,
-    ) {
-        Ok(answer) => LineReply::SinkTold(answer),
-        Err(fault) => LineReply::SinkRefused(fault),
-    }
-}
-
-/// The reply to a line that closes a stream.
-fn close_stream<S: Store>(
-    alloc: Global,
-    store: &mut S,
-    application: &str,
-    at: u64,
-    tries: u64,
-    use_checkpoints: bool,
-    cache: &mut LogCache,
-) -> LineReply
-    requires at { at < 2 ^ 63 }
-    requires tries { 1 ≤ tries }
-    requires cache { IsCacheOf (S.objects store.old) cache.old }
-    ensures cache { IsCacheOf (S.objects store.new) cache.new }
-    ensures told { S.is_reliable store.old → RestoresWell use_checkpoints (S.objects store.old) → Executes (S.objects store.old) (task (close application.now at)) (reply_text result) (S.objects store.new) }
-    ensures whole { S.is_reliable store.old → RestoresWell use_checkpoints (S.objects store.old) → is_short result ≡ false → IsExecuted (S.objects store.old) (task (close application.now at)) (reply_text result) (S.objects store.new) }
-    ensures grows { S.is_reliable store.old → RestoresWell use_checkpoints (S.objects store.old) → MayPut (S.objects store.old) (task (close application.now at)) (S.objects store.new) }
-    ensures short { is_short result ≡ true → IsShort (S.objects store.old) (task (close application.now at)) (reply_text result) }
-    ensures reliable { S.is_reliable store.old → S.is_reliable store.new }
-    ensures lost { says_lost result ≡ true → HasRisen (S.fault_count store.old) (S.fault_count store.new) }
-    ensures counted { says_lost result ≡ false → S.fault_count store.new ≡ S.fault_count store.old }
-    ensures any { TellsJob (S.is_reliable store.old) (close_job application.now at tries use_checkpoints cache.old.loaded) (reply_text result)
-        (S.objects store.old, S.in_flight store.old) (S.objects store.new, S.in_flight store.new) (S.fault_count store.old) (S.fault_count store.new) }
-    ensures told_lost { says_lost result ≡ true → IsToldLost (task (close application.now at)) (reply_text result) }
-{
-    match close(
-        alloc,
-        store,
-        application,
-        at,
-        tries,
-        use_checkpoints,
-        &mut cache.loaded,
-    ) {
-        Ok(answer) => LineReply::SinkTold(answer),
-        Err(fault) => LineReply::SinkRefused(fault),
-    }
-}
-
-/// The reply to a line that reads from an offset on.
-fn read<S: Store>(
-    alloc: Global,
-    store: &mut S,
-    max: u64,
-    offset: &str,
-    use_checkpoints: bool,
-    cache: &mut LogCache,
-) -> LineReply
-    requires { IsCacheOf (S.objects store.old) cache.old }
-    ensures cache { IsCacheOf (S.objects store.new) cache.new }
-    ensures told { S.is_reliable store.old → RestoresWell use_checkpoints (S.objects store.old) → is_short result ≡ false
-        → reply_text result ≡ tailed_reply (tailed false (S.objects store.old) max offset.now) }
-    ensures wants { is_short result ≡ true → reply_text result ≡ no_room_to_read }
-    ensures untouched { S.objects store.new ≡ S.objects store.old }
-    ensures reliable { S.is_reliable store.old → S.is_reliable store.new }
-    ensures lost { says_lost result ≡ true → HasRisen (S.fault_count store.old) (S.fault_count store.new) }
-    ensures counted { says_lost result ≡ false → S.fault_count store.new ≡ S.fault_count store.old }
-    ensures any { TellsRows use_checkpoints max offset.now (reply_text result)
-        (S.objects store.old, S.in_flight store.old) (S.objects store.new, S.in_flight store.new) (S.fault_count store.old) (S.fault_count store.new) }
-    ensures told_lost { says_lost result ≡ true → IsToldLost (task (tail max offset.now)) (reply_text result) }
-{
-    reply_of_read(tail(alloc, store, max, offset, use_checkpoints, cache))
-}
-
 /// The reply to a line that reads from an offset on, by what the read told.
 pub fn reply_of_read(told: Result<Vec<u8>, TailFault>) -> LineReply
     // Of a read that lost no call that is the reply to the line over the objects that were read.
     ensures told { (use_checkpoints : Bool) (objects : Objects) (max : ℕ) (offset : List ℕ) → RestoresWell use_checkpoints objects → told ≢ Err TailFault.Lost
-        → ReadGives (λ text. text.items) told (tailed use_checkpoints objects max offset) → is_short result ≡ false → reply_text result ≡ tailed_reply (tailed false objects max offset) }
+        → ReadGives (λ text. text.items) told (tailed use_checkpoints objects max offset) → is_short_reply result ≡ false → reply_text result ≡ tailed_reply (tailed false objects max offset) }
     ensures executed { (use_checkpoints : Bool) (objects : Objects) (max : ℕ) (offset : List ℕ) → RestoresWell use_checkpoints objects → told ≢ Err TailFault.Lost
         → ReadGives (λ text. text.items) told (tailed use_checkpoints objects max offset) → Executes objects (task (tail max offset)) (reply_text result) objects }
-    ensures wants { is_short result ≡ true → reply_text result ≡ no_room_to_read }
-    ensures short { is_short result ≡ true → told ≡ Err TailFault.Memory }
+    ensures wants { is_short_reply result ≡ true → reply_text result ≡ no_room_to_read }
+    ensures short { is_short_reply result ≡ true → told ≡ Err TailFault.Memory }
     ensures lost { says_lost result ≡ true → told ≡ Err TailFault.Lost }
     ensures unlost { says_lost result ≡ false → told ≢ Err TailFault.Lost }
     ensures answers { (said : Result (List ℕ) ReadRefusal) → told ≢ Err TailFault.Lost → ReadGives (λ text. text.items) told said
@@ -300,38 +166,12 @@ pub fn reply_of_read(told: Result<Vec<u8>, TailFault>) -> LineReply
     }
 }
 
-/// The reply to a line that puts a checkpoint.
-fn take_checkpoint<S: Store>(
-    alloc: Global,
-    store: &mut S,
-    use_checkpoints: bool,
-    cache: &mut LogCache,
-) -> LineReply
-    requires { IsCacheOf (S.objects store.old) cache.old }
-    ensures cache { IsCacheOf (S.objects store.new) cache.new }
-    ensures told { S.is_reliable store.old → RestoresWell use_checkpoints (S.objects store.old) → Executes (S.objects store.old) (task checkpoint) (reply_text result) (S.objects store.new) }
-    ensures whole { S.is_reliable store.old → RestoresWell use_checkpoints (S.objects store.old) → is_short result ≡ false → IsExecuted (S.objects store.old) (task checkpoint) (reply_text result) (S.objects store.new) }
-    ensures grows { S.is_reliable store.old → RestoresWell use_checkpoints (S.objects store.old) → MayPut (S.objects store.old) (task checkpoint) (S.objects store.new) }
-    ensures short { RestoresWell use_checkpoints (S.objects store.old) → is_short result ≡ true → IsShort (S.objects store.old) (task checkpoint) (reply_text result) }
-    ensures reliable { S.is_reliable store.old → S.is_reliable store.new }
-    ensures lost { says_lost result ≡ true → HasRisen (S.fault_count store.old) (S.fault_count store.new) }
-    ensures counted { says_lost result ≡ false → S.fault_count store.new ≡ S.fault_count store.old }
-    ensures any { TellsCheckpoint use_checkpoints (reply_text result)
-        (S.objects store.old, S.in_flight store.old) (S.objects store.new, S.in_flight store.new) (S.fault_count store.old) (S.fault_count store.new) }
-    ensures told_lost { says_lost result ≡ true → IsToldLost (task checkpoint) (reply_text result) }
-{
-    match checkpoint(alloc, store, use_checkpoints, &mut cache.loaded) {
-        Ok(version) => LineReply::Checkpointed(version),
-        Err(fault) => LineReply::NoSnapshot(fault),
-    }
-}
-
 /// The reply to a line that puts another tool's commit.
 fn put_foreign<S: Store>(alloc: Global, store: &mut S, version: u64, action: &str) -> LineReply
     ensures told { S.is_reliable store.old → Executes (S.objects store.old) (foreign version action.now) (reply_text result) (S.objects store.new) }
-    ensures whole { S.is_reliable store.old → is_short result ≡ false → IsExecuted (S.objects store.old) (foreign version action.now) (reply_text result) (S.objects store.new) }
+    ensures whole { S.is_reliable store.old → is_short_reply result ≡ false → IsExecuted (S.objects store.old) (foreign version action.now) (reply_text result) (S.objects store.new) }
     ensures grows { S.is_reliable store.old → MayPut (S.objects store.old) (foreign version action.now) (S.objects store.new) }
-    ensures short { is_short result ≡ true → IsShort (S.objects store.old) (foreign version action.now) (reply_text result) }
+    ensures short { is_short_reply result ≡ true → IsShort (S.objects store.old) (foreign version action.now) (reply_text result) }
     ensures reliable { S.is_reliable store.old → S.is_reliable store.new }
     ensures lost { says_lost result ≡ true → HasRisen (S.fault_count store.old) (S.fault_count store.new) }
     ensures counted { says_lost result ≡ false → S.fault_count store.new ≡ S.fault_count store.old }
@@ -342,63 +182,6 @@ fn put_foreign<S: Store>(alloc: Global, store: &mut S, version: u64, action: &st
     match put_line(alloc, store, version, action) {
         Ok(put) => LineReply::Put(put),
         Err(fault) => LineReply::Unanswered(fault),
-    }
-}
-
-/// Nothing is known of the log any more.
-fn forget(alloc: Global, cache: &mut LogCache)
-    ensures { (objects : Objects) → IsCacheOf objects cache.new }
-{
-    *cache = LogCache::new(alloc);
-}
-
-/// Does what a job asks for, and finds its reply.
-fn execute_job<S: Store>(
-    alloc: Global,
-    job: Job<'_>,
-    store: &mut S,
-    tries: u64,
-    use_checkpoints: bool,
-    cache: &mut LogCache,
-) -> LineReply
-    requires tries { 1 ≤ tries }
-    requires timely { IsTimelyTask (task_view job) }
-    requires cache { IsCacheOf (S.objects store.old) cache.old }
-    ensures cache { IsCacheOf (S.objects store.new) cache.new }
-    ensures whole { S.is_reliable store.old → RestoresWell use_checkpoints (S.objects store.old) → is_short result ≡ false
-        → IsExecuted (S.objects store.old) (task (task_view job.entry)) (reply_text result) (S.objects store.new) }
-    ensures told { S.is_reliable store.old → RestoresWell use_checkpoints (S.objects store.old) → Executes (S.objects store.old) (task (task_view job.entry)) (reply_text result) (S.objects store.new) }
-    ensures grows { S.is_reliable store.old → RestoresWell use_checkpoints (S.objects store.old) → MayPut (S.objects store.old) (task (task_view job.entry)) (S.objects store.new) }
-    ensures short { RestoresWell use_checkpoints (S.objects store.old) → is_short result ≡ true → IsShort (S.objects store.old) (task (task_view job.entry)) (reply_text result) }
-    ensures reliable { S.is_reliable store.old → S.is_reliable store.new }
-    ensures lost { says_lost result ≡ true → HasRisen (S.fault_count store.old) (S.fault_count store.new) }
-    ensures counted { says_lost result ≡ false → S.fault_count store.new ≡ S.fault_count store.old }
-    ensures any { TellsOver (S.is_reliable store.old) use_checkpoints tries cache.old.loaded (task (task_view job.entry)) (reply_text result)
-        (S.objects store.old, S.in_flight store.old) (S.objects store.new, S.in_flight store.new) (S.fault_count store.old) (S.fault_count store.new) }
-    ensures told_lost { says_lost result ≡ true → IsToldLost (task (task_view job.entry)) (reply_text result) }
-{
-    match job {
-        Job::Append {
-            application,
-            number,
-            at,
-            rows,
-        } => append_batch(
-            alloc,
-            store,
-            application,
-            number,
-            at,
-            rows,
-            tries,
-            use_checkpoints,
-            cache,
-        ),
-        Job::Tail { max, offset } => read(alloc, store, max, offset, use_checkpoints, cache),
-        Job::Checkpoint => take_checkpoint(alloc, store, use_checkpoints, cache),
-        Job::Close { application, at } => {
-            close_stream(alloc, store, application, at, tries, use_checkpoints, cache)
-        }
     }
 }
 
@@ -416,43 +199,22 @@ pub fn execute<S: Store>(
     requires tries { 1 ≤ tries.old }
     requires timely { IsTimely (statement_view line) }
     requires cache { IsCacheOf (S.objects store.old) cache.old }
-    ensures tries { 1 ≤ tries.new }
-    ensures set { SetsTries (statement_view line.entry) tries.old tries.new }
+    ensures tries { (1 ≤ tries.new) × SetsTries (statement_view line.entry) tries.old tries.new }
     ensures cache { IsCacheOf (S.objects store.new) cache.new }
-    // What was asked for is told and done, and what was put is well made.
-    ensures whole { S.is_reliable store.old → RestoresWell use_checkpoints (S.objects store.old) → is_short result ≡ false
-        → IsExecuted (S.objects store.old) (statement_view line.entry) (reply_text result) (S.objects store.new) }
-    // The line has its reply and effect, or is told of want of memory and leaves the objects as they
-    // were, but for a batch's file.
-    ensures told { S.is_reliable store.old → RestoresWell use_checkpoints (S.objects store.old) → Executes (S.objects store.old) (statement_view line.entry) (reply_text result) (S.objects store.new) }
-    // However it ends, what it puts is well made.
-    ensures grows { S.is_reliable store.old → RestoresWell use_checkpoints (S.objects store.old) → MayPut (S.objects store.old) (statement_view line.entry) (S.objects store.new) }
-    // A line that only looks leaves the objects as they are, whatever checkpoints stand.
-    ensures looks { IsLook (statement_view line.entry) → S.objects store.new ≡ S.objects store.old }
-    // A reply is short only where it tells so.
-    ensures short { RestoresWell use_checkpoints (S.objects store.old) → is_short result ≡ true → IsShort (S.objects store.old) (statement_view line.entry) (reply_text result) }
-    ensures reliable { S.is_reliable store.old → S.is_reliable store.new }
-    ensures restores { S.is_reliable store.old → (every : Bool) → AreCheckpointsSound every (S.objects store.old) → AreCheckpointsSound every (S.objects store.new) }
-    // Over any store, one that loses calls too: the reply says that a call was lost where one was, and nowhere else.
-    ensures lost { says_lost result ≡ true → HasRisen (S.fault_count store.old) (S.fault_count store.new) }
-    ensures counted { says_lost result ≡ false → S.fault_count store.new ≡ S.fault_count store.old }
-    // Which refusal, with which version, and what became of the store.
-    ensures any { TellsOver (S.is_reliable store.old) use_checkpoints tries.old cache.old.loaded (statement_view line.entry) (reply_text result)
+    ensures carried { IsCarriedOut (S.is_reliable store.old) use_checkpoints tries.old cache.old.loaded (statement_view line.entry) (reply_text result) (is_short_reply result) (says_lost result)
         (S.objects store.old, S.in_flight store.old) (S.objects store.new, S.in_flight store.new) (S.fault_count store.old) (S.fault_count store.new) }
-    ensures told_lost { says_lost result ≡ true → IsToldLost (statement_view line.entry) (reply_text result) }
+    ensures restores { S.is_reliable store.old → (every : Bool) → AreCheckpointsSound every (S.objects store.old) → AreCheckpointsSound every (S.objects store.new) }
+    ensures reliable { S.is_reliable store.old → S.is_reliable store.new }
 {
     match line {
-        Line::Create { id, at, schema } => {
-            forget(alloc, cache);
-            create_table(alloc, store, id, at, schema)
-        }
-        Line::Job(job) => execute_job(alloc, job, store, *tries, use_checkpoints, cache),
+        Line::Create { id, at, schema } => create_table(alloc, store, id, at, schema, cache),
+        Line::Job(job) => run_task(alloc, job, store, *tries, use_checkpoints, cache),
         Line::Look(Look::Snapshot) => tell_snapshot(alloc, store, use_checkpoints, cache),
         Line::Look(Look::History) => tell_history(alloc, store),
         Line::Look(Look::Show { version }) => show(alloc, store, version),
         Line::Look(Look::Hex { name }) => show_in_hex(alloc, store, name),
         Line::Foreign { version, action } => {
-            forget(alloc, cache);
+            *cache = LogCache::new(alloc);
             put_foreign(alloc, store, version, action)
         }
         Line::Tries { count } => {

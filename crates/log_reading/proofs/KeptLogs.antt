@@ -4,7 +4,7 @@ use Rattle.store_core.specs.Objects.{Objects, HasObjectsOf, object_at}
 use Rattle.store_core.specs.Names.{commit_name}
 use Rattle.table_log.specs.Versions.{Version, missing, version_by}
 use Rattle.log_reading.specs.LogCache.{HoldsFile}
-use Rattle.log_reading.specs.Logs.{IsPast, StandThere, standing_views}
+use Rattle.log_reading.specs.Logs.{IsPastLog, StandThere, standing_views}
 use Rattle.log_reading.specs.declared.kept_file.KeptFile.{KeptFile}
 use Rattle.log_reading.specs.declared.log.Log as code
 
@@ -20,7 +20,7 @@ module _ (objects more : Objects) (grown : HasObjectsOf objects more) where
       (there_by (commit_name one.0) (object_at objects (commit_name one.0)) one.1 refl stand.0 stand.1, stand.1, there_grown others stand.2)
 
   -- What was read of a log stays so.
-  pub past_grown : (log : code.Log) → IsPast objects log → IsPast more log
+  pub past_grown : (log : code.Log) → IsPastLog objects log → IsPastLog more log
   past_grown log past = record { start = past.start; schema = past.schema; standing = there_grown (standing_views log.standing.items) past.standing }
 
   -- A file that is kept stands so.

@@ -1,6 +1,6 @@
 //! Why a read hands out nothing.
 ghost use Rattle.std.specs.Prelude.{Some};
-ghost use Rattle.log_rows.specs.TailFaults.{refusal_text, refusal_view};
+ghost use Rattle.log_rows.specs.TailFaults.{read_refusal_text, read_refusal_view};
 
 use delta_replay::{SupportError, SupportFault};
 use parquet_footer::FileFault;
@@ -85,7 +85,7 @@ impl Drop for TailFault {
 }
 
 impl Display for TailFault {
-    ghost output = { λ fault. Some (refusal_text (refusal_view fault)) };
+    ghost output = { λ fault. Some (read_refusal_text (read_refusal_view fault)) };
 
     fn fmt<W: fmt::Write>(&self, f: &mut Formatter<W>) -> fmt::Result {
         match self {
@@ -132,9 +132,9 @@ impl<T: Drop> From<AllocFailed<T>> for TailFault {
 }
 
 impl From<StoreFault> for TailFault {
-    ghost from_gives = { λ fault e. IsUnanswered fault e };
+    ghost from_gives = { λ fault e. IsTailUnanswered fault e };
 
-    ghost use Rattle.log_rows.specs.TailFaults.{IsUnanswered};
+    ghost use Rattle.log_rows.specs.TailFaults.{IsTailUnanswered};
 
     fn from(fault: StoreFault) -> TailFault {
         match fault {
@@ -145,9 +145,9 @@ impl From<StoreFault> for TailFault {
 }
 
 impl From<SupportError> for TailFault {
-    ghost from_gives = { λ error e. IsSupportFault error e };
+    ghost from_gives = { λ error e. IsTailSupportFault error e };
 
-    ghost use Rattle.log_rows.specs.TailFaults.{IsSupportFault};
+    ghost use Rattle.log_rows.specs.TailFaults.{IsTailSupportFault};
 
     fn from(error: SupportError) -> TailFault {
         match error {

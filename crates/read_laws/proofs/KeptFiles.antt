@@ -14,7 +14,7 @@ use Rattle.source_core.specs.SourceSessions.{HasNewFiles, IsNewFile}
 use Rattle.source_core.specs.Tailing.{ReadRefusal, file_rows, missing_file, or_bad_file, LogFile}
 use Rattle.source_core.proofs.Callers.{AreEntriesFound, AreFilesFound}
 use Rattle.source_core.specs.ParquetReading.{rows_at}
-use Rattle.read_laws.specs.Kept.{IsKept}
+use Rattle.read_laws.specs.Kept.{KeepsTable}
 use Rattle.read_laws.proofs.KeptLog.{are_made, made_of}
 use Rattle.read_laws.proofs.KeptTail.{entries_found}
 use Rattle.read_laws.proofs.KeptVersions.{versions_kept}
@@ -50,7 +50,7 @@ module _ (objects : Objects) (schema : Tree) where
   log_stands (entry ∷ entries) (first ∷ commits) found (suc version) actions is path among = log_stands entries commits found.1 version actions is path among
 
 -- The files of a table that is kept stand.
-pub kept_files : (objects : Objects) (schema : Tree) (entries : List Entry) → IsKept objects schema entries → (first : ℕ) → HasNewFiles first objects
+pub kept_files : (objects : Objects) (schema : Tree) (entries : List Entry) → KeepsTable objects schema entries → (first : ℕ) → HasNewFiles first objects
 kept_files objects schema entries kept first name new =
     let commits = made_of objects schema 0 entries kept.kept in
     let found = entries_found objects schema 0 entries commits kept.kept (are_made objects schema 0 entries kept.kept) in

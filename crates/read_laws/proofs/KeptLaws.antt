@@ -16,7 +16,7 @@ use Rattle.source_core.specs.SoundTables.{IsSound}
 use Rattle.source_core.proofs.Callers.{HoldsFrom-fit}
 use Rattle.source_core.proofs.Callers.{Contains-first}
 use Rattle.source_core.specs.Tailing.{ReadRows, ReadRefusal, read_by}
-use Rattle.read_laws.specs.Kept.{FileKept, IsKept, KeptFrom}
+use Rattle.read_laws.specs.Kept.{FileKept, KeepsTable, KeptFrom}
 use Rattle.read_laws.specs.Readable.{HasReadableFiles}
 use Rattle.read_laws.proofs.KeptTails.{IsRead, kept_reads}
 
@@ -34,7 +34,7 @@ part_by (beyond next) said max offset entries out told is says = let wrong = sym
 part_by (bad_place version) said max offset entries out told is says = let wrong = sym is ∙ says in absurd cc
 
 -- A read over a store that keeps a table hands out a part of the table.
-pub kept_part : (objects : Objects) (schema : Tree) (entries : List Entry) (max : ℕ) (offset : Offset) (out : ReadRows) → IsKept objects schema entries → read_by false objects max offset ≡ Ok out
+pub kept_part : (objects : Objects) (schema : Tree) (entries : List Entry) (max : ℕ) (offset : Offset) (out : ReadRows) → KeepsTable objects schema entries → read_by false objects max offset ≡ Ok out
     → IsPart max offset out.rows out.next entries × MayEnd false max out.rows out.next entries
 kept_part objects schema entries max offset out kept says =
     part_by (read max offset entries) (read_by false objects max offset) max offset entries out refl (kept_reads objects schema entries kept max offset) says
@@ -63,7 +63,7 @@ begins_by (group bs ∷ rest) some begins = absurd begins
 begins_by (close application ∷ rest) some begins = absurd begins
 
 -- A sound store with a table keeps it, where its files can be read.
-pub sound_kept : (objects : Objects) (sound : IsSound objects) → sound.entries ≢ [] → HasReadableFiles objects sound.entries → IsKept objects sound.schema sound.entries
+pub sound_kept : (objects : Objects) (sound : IsSound objects) → sound.entries ≢ [] → HasReadableFiles objects sound.entries → KeepsTable objects sound.schema sound.entries
 sound_kept objects sound some limits =
     let first = begins_by sound.entries some sound.lawful.begins in
     record { kept = kept_from objects sound.schema 0 sound.entries sound.holds limits; rest = first.0; begins = first.1; lawful = sound.lawful; fits = omega (arith, HoldsFrom-fit objects sound.schema 0 sound.entries sound.holds); ends = sound.ends }

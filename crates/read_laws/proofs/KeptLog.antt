@@ -8,10 +8,10 @@ use Rattle.store_core.specs.Names.{commit_name, greatest_version}
 use Rattle.table_model.specs.Table.{Batch, Entry, batches_of}
 use Rattle.source_core.specs.Holds.{FileStands}
 use Rattle.source_core.proofs.Callers.{AreMadeFor}
-use Rattle.read_laws.specs.Kept.{FileKept, KeptFrom, IsKept}
+use Rattle.read_laws.specs.Kept.{FileKept, KeptFrom, KeepsTable}
 
 -- No commit of the version that comes next stands.
-pub none_behind : (objects : Objects) (schema : Tree) (entries : List Entry) → IsKept objects schema entries → length entries ≤ greatest_version → object_at objects (commit_name (length entries)) ≡ None
+pub none_behind : (objects : Objects) (schema : Tree) (entries : List Entry) → KeepsTable objects schema entries → length entries ≤ greatest_version → object_at objects (commit_name (length entries)) ≡ None
 none_behind objects schema entries kept few = kept.ends (length entries) (omega arith) few
 
 -- the actions of the commits that stand

@@ -36,7 +36,7 @@ use Rattle.delta_actions.specs.Action.{AddAction, MetaDataAction, RemoveAction, 
 use Rattle.delta_actions.specs.In.{add_in, meta_data_in, remove_in, txn_in}
 use Rattle.delta_actions.specs.Kinds.{Path}
 use Rattle.delta_replay.specs.Keys.{last as last_of}
-use Rattle.read_laws.specs.Kept.{FileKept, FilesKept, KeptFrom, IsKept, IsReadableFile}
+use Rattle.read_laws.specs.Kept.{FileKept, FilesKept, KeptFrom, KeepsTable, IsReadableFile}
 use Rattle.read_laws.proofs.KeptLog.{made_of, are_made}
 
 -- ---- the commits of a table and their files
@@ -160,7 +160,7 @@ plain_log objects schema rest (first ∷ commits) none made =
     }
 
 -- and so with one that is kept
-pub kept_plain : (objects : Objects) (schema : Tree) (entries : List Entry) (kept : IsKept objects schema entries) → IsPlain schema (made_of objects schema 0 entries kept.kept)
+pub kept_plain : (objects : Objects) (schema : Tree) (entries : List Entry) (kept : KeepsTable objects schema entries) → IsPlain schema (made_of objects schema 0 entries kept.kept)
 kept_plain objects schema entries kept =
     let commits = made_of objects schema 0 entries kept.kept in
     let none : NoCreation kept.rest = subst BeginsWithCreation kept.begins kept.lawful.begins in

@@ -15,8 +15,8 @@ use Rattle.table_log.specs.Versions.{Version, versions_of, commit}
 use Rattle.log_reading.specs.FromCheckpoints.{no_start}
 use Rattle.log_reading.specs.InForce.{SchemaText}
 use Rattle.source_core.specs.Tailing.{ReadRows, ReadRefusal, handed_by, read_by, schema_for, beyond_log, bad_place as bad_place_told}
-use Rattle.source_core.specs.Tails.{Tails, rows_handed, offset_after, with_earlier, tails, HandOutTheLog, HandOutAll, AreAnswered}
-use Rattle.read_laws.specs.Kept.{IsKept}
+use Rattle.source_core.specs.Tails.{Tails, rows_handed, offset_after, with_earlier_rows, tails, HandOutTheLog, HandOutAll, AreAnswered}
+use Rattle.read_laws.specs.Kept.{KeepsTable}
 use Rattle.read_laws.proofs.KeptLog.{made_of, are_made}
 use Rattle.read_laws.proofs.KeptVersions.{versions_kept}
 use Rattle.read_laws.proofs.KeptTail.{IsTold, kept_plain, handed_told}
@@ -78,7 +78,7 @@ record AreSame (all : Tails) (said : resumed.ResumedReads) : Type 0 where
   next : all.next ≡ said.next
 
 -- the same rows in front leave them the same
-earlier_same : (rows out : List Row) (all : Tails) (said : resumed.ResumedReads) → rows ≡ out → AreSame all said → AreSame (with_earlier rows all) (resumed.with_earlier out said)
+earlier_same : (rows out : List Row) (all : Tails) (said : resumed.ResumedReads) → rows ≡ out → AreSame all said → AreSame (with_earlier_rows rows all) (resumed.with_earlier out said)
 earlier_same rows out all said is same = record { rows = rw (is, same.rows) refl; next = same.next }
 
 module _ (objects : Objects) (entries : List Entry) (reads : ReadsAs objects entries) where
@@ -167,7 +167,7 @@ read_told (beyond next) said is = is
 read_told (bad_place version) said is = is
 
 -- so it is with reads of a table that is kept
-kept_read_as : (objects : Objects) (schema : Tree) (entries : List Entry) → IsKept objects schema entries → IsReadAs objects entries
+kept_read_as : (objects : Objects) (schema : Tree) (entries : List Entry) → KeepsTable objects schema entries → IsReadAs objects entries
 kept_read_as objects schema entries kept =
     let commits = made_of objects schema 0 entries kept.kept in
     let plain = kept_plain objects schema entries kept in
@@ -180,5 +180,5 @@ kept_read_as objects schema entries kept =
     }
 
 -- A store that keeps a table reads as it.
-pub kept_reads : (objects : Objects) (schema : Tree) (entries : List Entry) → IsKept objects schema entries → ReadsAs objects entries
+pub kept_reads : (objects : Objects) (schema : Tree) (entries : List Entry) → KeepsTable objects schema entries → ReadsAs objects entries
 kept_reads objects schema entries kept = reads_as objects entries (kept_read_as objects schema entries kept)

@@ -14,7 +14,7 @@ use Rattle.table_model.specs.declared.reading.Offset.{Offset}
 use Rattle.table_model.proofs.Callers.{stays}
 use Rattle.source_core.specs.TableSchema.{Schema}
 use Rattle.source_core.specs.SourceSessions.{SourceJob, read_told, read_view}
-use Rattle.source_core.specs.TailFaults.{ReadGives, refusal_view, says}
+use Rattle.source_core.specs.TailFaults.{ReadGives, read_refusal_view, says}
 use Rattle.source_core.specs.TailViews.{handed_view}
 use Rattle.source_core.specs.Tailing as tails
 use Rattle.source_core.specs.Tailing.{ReadRefusal, ReadRows, handed_by, read_by, schema_at, versions_at}
@@ -135,7 +135,7 @@ read_may schema offset entries r is = by_answer r.end.answer (is.told.told r.lis
     by_answer : (answer : Result code.ReadRows TailFault) → ReadGives read_view answer (read_told (job_at offset r) r.listed) → MayTellOfTable r.max offset entries answer
     by_answer (Ok handed) gives = kept_part r.listed schema entries r.max offset (handed_view handed) is.keeps (sym alike ∙ told_without (job_at offset r) r.listed _ (handed_view handed) gives)
     by_answer (Err fault) gives =
-        may_refuse r.max offset entries (refusal_view fault) (read_told (job_at offset r) r.listed) gives (λ said.
-        answer_refused r.max offset entries (read r.max offset entries) (read_by false r.listed r.max offset) (refusal_view fault) (is_beyond offset entries) (is_offset offset entries) refl refl refl
+        may_refuse r.max offset entries (read_refusal_view fault) (read_told (job_at offset r) r.listed) gives (λ said.
+        answer_refused r.max offset entries (read r.max offset entries) (read_by false r.listed r.max offset) (read_refusal_view fault) (is_beyond offset entries) (is_offset offset entries) refl refl refl
         (kept_reads r.listed schema entries is.keeps r.max offset)
-        (sym alike ∙ pair_refused (schema_at r.use_checkpoints r.listed offset) (λ (t : SchemaText). handed_by r.listed t (versions_at r.use_checkpoints r.listed offset) r.max offset) (refusal_view fault) said))
+        (sym alike ∙ pair_refused (schema_at r.use_checkpoints r.listed offset) (λ (t : SchemaText). handed_by r.listed t (versions_at r.use_checkpoints r.listed offset) r.max offset) (read_refusal_view fault) said))

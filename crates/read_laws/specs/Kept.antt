@@ -35,7 +35,7 @@ KeptFrom objects schema version (entry ∷ entries) = Stands objects (commit_nam
 -- The store keeps the table of this schema with these entries, of which the first is its creation: the table is lawful,
 -- it has no more entries than there can be versions, and no commit stands past its end. Checkpoints may stand, and any
 -- data file.
-pub record IsKept (objects : Objects) (schema : Schema) (entries : List Entry) : Type 0 where
+pub record KeepsTable (objects : Objects) (schema : Schema) (entries : List Entry) : Type 0 where
   pub kept : KeptFrom objects schema 0 entries
   pub rest : List Entry
   pub begins : entries ≡ creation ∷ rest

@@ -13,12 +13,12 @@ use Rattle.source_core.specs.TableSchema.{Schema}
 use Rattle.table_model.specs.Reads.{IsPart, MayEnd, is_beyond, is_offset}
 use Rattle.log_offsets.specs.Offsets.{offset_view}
 use Rattle.source_core.specs.SourceSessions.{SourceEnds, SourceJob}
-use Rattle.source_core.specs.TailFaults.{refusal_view}
+use Rattle.source_core.specs.TailFaults.{read_refusal_view}
 use Rattle.source_core.specs.Tailing.{ReadRefusal, bad_place, beyond_log, lost, memory}
 use Rattle.log_rows.specs.declared.read_state.ReadRows as code
 use Rattle.source_core.specs.declared.source_session.ReadEnd.{ReadEnd}
 use Rattle.log_rows.specs.declared.tail_fault.TailFault.{TailFault}
-use Rattle.read_laws.specs.Kept.{IsKept}
+use Rattle.read_laws.specs.Kept.{KeepsTable}
 
 -- One read that has ended: how many rows it was to hand out at most, whether it went by checkpoints, the versions that it knew before and
 -- the talk in which they were told, its own talk and its end; the objects that stood when its names were listed, and by which entries their table had grown
@@ -54,7 +54,7 @@ pub record IsReadAt (schema : Schema) (offset : Offset) (entries : List Entry) (
   pub shown : Shows r.talk r.listed
   pub told : SourceEnds (job_at offset r) r.before r.talk r.end
   pub restores : RestoresWell r.use_checkpoints r.listed
-  pub keeps : IsKept r.listed schema entries
+  pub keeps : KeepsTable r.listed schema entries
 
 -- what a refusal says of an offset: it is past the log's end, or in no file of its version; or a call was lost, or memory ran out
 abbrev pub MayRefuse : (offset : Offset) → List Entry → ReadRefusal → Type 0
@@ -68,7 +68,7 @@ MayRefuse offset entries refusal = ⊥
 abbrev pub MayTellOfTable : (max : ℕ) → (offset : Offset) → List Entry → Result code.ReadRows TailFault → Type 0
 MayTellOfTable max offset entries (Ok handed) =
     IsPart max offset (row_views handed.rows.items) (offset_view handed.next) entries × MayEnd false max (row_views handed.rows.items) (offset_view handed.next) entries
-MayTellOfTable max offset entries (Err fault) = MayRefuse offset entries (refusal_view fault)
+MayTellOfTable max offset entries (Err fault) = MayRefuse offset entries (read_refusal_view fault)
 
 -- Reads that follow one another from an offset in a table: each next one begins where the one before ended, and its table is that one grown.
 abbrev pub Follow : Schema → List OneRead → Offset → List Entry → Type 0

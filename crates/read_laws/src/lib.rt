@@ -13,14 +13,14 @@ ghost use Rattle.source_core.specs.TableSchema.{Schema};
 ghost use Rattle.source_core.specs.SoundTables.{IsSound};
 ghost use Rattle.source_core.specs.SourceSessions.{HasNewFiles};
 ghost use Rattle.source_core.specs.Tailing.{ReadRows, read_by};
-ghost use Rattle.read_laws.specs.Kept.{IsKept};
+ghost use Rattle.read_laws.specs.Kept.{KeepsTable};
 ghost use Rattle.read_laws.specs.Readable.{HasReadableFiles};
 ghost use Rattle.read_laws.specs.Readers.{Follow, IsReadAt, MayTellOfTable, OneRead, limit_of_all, next_of_all, rows_of_all, table_of_all};
 
 /// A read over a store that keeps a table hands out the part of the table from its offset on, up to its limit or the
 /// end of the log.
 pub fn a_read_hands_out_a_part()
-    ensures { (objects : Objects) (schema : Schema) (entries : List Entry) (max : ℕ) (offset : Offset) (out : ReadRows) → IsKept objects schema entries
+    ensures { (objects : Objects) (schema : Schema) (entries : List Entry) (max : ℕ) (offset : Offset) (out : ReadRows) → KeepsTable objects schema entries
         → read_by false objects max offset ≡ Ok out → IsPart max offset out.rows out.next entries × MayEnd false max out.rows out.next entries }
 {}
 
@@ -28,7 +28,7 @@ pub fn a_read_hands_out_a_part()
 /// said of reads over stores that keep a table is said of all sound ones whose files can be read. Whose commits they
 /// are doesn't matter.
 pub fn a_sound_store_keeps_its_table()
-    ensures { (objects : Objects) (sound : IsSound objects) → sound.entries ≢ [] → HasReadableFiles objects sound.entries → IsKept objects sound.schema sound.entries }
+    ensures { (objects : Objects) (sound : IsSound objects) → sound.entries ≢ [] → HasReadableFiles objects sound.entries → KeepsTable objects sound.schema sound.entries }
 {}
 
 /// What a read as a session may tell, whose talk shows a store that keeps a table: the part of the table from its
@@ -42,7 +42,7 @@ pub fn what_a_read_may()
 /// A store that keeps a table has all files that its commits bring, so that what a read is shown is the store as it was
 /// listed (`source_core::what_a_read_is_shown`).
 pub fn a_kept_table_has_its_files()
-    ensures { (objects : Objects) (schema : Schema) (entries : List Entry) → IsKept objects schema entries → (first : ℕ) → HasNewFiles first objects }
+    ensures { (objects : Objects) (schema : Schema) (entries : List Entry) → KeepsTable objects schema entries → (first : ℕ) → HasNewFiles first objects }
 {}
 
 /// Reads that follow one another, each from where the one before ended, hand out together the part of the table from

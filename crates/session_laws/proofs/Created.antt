@@ -6,7 +6,7 @@ use Rattle.store_core.specs.declared.store.Put.TheVariants.{Created, Exists}
 use Rattle.table_log.specs.LoadSessions.{LoadAsks}
 use Rattle.commit_core.proofs.Callers.{asked_last}
 use Rattle.snapshot_core.specs.CheckpointSessions.{CheckpointAsks}
-use Rattle.commit_core.specs.CreateSessions.{CreateAsks, CreateEnds, CreateJob, PutTold}
+use Rattle.commit_core.specs.CreateSessions.{CreateAsks, CreateEnds, CreateJob, CreationPutTold}
 use Rattle.commit_core.specs.declared.fault.CreateFault.{CreateFault}
 use Rattle.commit_core.specs.declared.fault.CreateFault.TheVariants as create_faults
 use Rattle.sink_core.specs.SinkSessions.{AnswerEnds, SinkAsks}
@@ -35,7 +35,7 @@ version_put (put_commit version bytes) = version
 version_put asked = 0
 
 -- what a creation was told is what was told last
-put_last : (job : CreateJob) (talk front : Talk) (told : Told) (version : ℕ) (bytes : List ℕ) → PutTold job talk told → talk ≡ front ++ (put_commit version bytes, told_put Created) ∷ [] → (version ≡ 0) × (told ≡ told_put Created)
+put_last : (job : CreateJob) (talk front : Talk) (told : Told) (version : ℕ) (bytes : List ℕ) → CreationPutTold job talk told → talk ≡ front ++ (put_commit version bytes, told_put Created) ∷ [] → (version ≡ 0) × (told ≡ told_put Created)
 put_last job talk front told version bytes put is =
     let same : (put_commit 0 put.0, told) ≡ (put_commit version bytes, told_put Created) = one_call (put_commit 0 put.0, told) front (put_commit version bytes, told_put Created) (sym put.2 ∙ is) in
     let versions : version ≡ 0 = sym (ap (λ (call : Asked × Told). version_put call.0) same) in

@@ -18,7 +18,7 @@ use Rattle.table_log.specs.declared.fault.LogFault.{LogFault}
 use Rattle.table_log.specs.declared.fault.LogFault.TheVariants as load_faults
 use Rattle.table_log.specs.declared.loading.Loaded.{Loaded}
 use Rattle.table_store.specs.Schema.{Schema}
-use Rattle.snapshot_core.specs.CheckpointSessions.{AnswerEnds, CheckpointAsks, IsPutBehind, IsRefusedBehind, is_lost_answer}
+use Rattle.snapshot_core.specs.CheckpointSessions.{CheckpointAnswerEnds, CheckpointAsks, IsPutBehind, IsRefusedBehind, is_lost_answer}
 use Rattle.snapshot_core.specs.Taking.{IsTableId}
 use Rattle.snapshot_core.specs.declared.fault.SnapshotFault.{SnapshotFault}
 use Rattle.snapshot_core.specs.declared.fault.SnapshotFault.TheVariants as checkpoint_faults
@@ -133,7 +133,7 @@ module _ (objects : Objects) (sound : IsSoundStore objects) (job : LoadJob) (bef
         },
       )
 
-  pub checkpoint_tells : (talk : Talk) (known : Loaded) (answer : Result ℕ SnapshotFault) → Bears objects talk → AllAsked (CheckpointAsks job before) [] talk → AnswerEnds job before talk known answer → is_lost_answer answer ≡ ends_lost talk
+  pub checkpoint_tells : (talk : Talk) (known : Loaded) (answer : Result ℕ SnapshotFault) → Bears objects talk → AllAsked (CheckpointAsks job before) [] talk → CheckpointAnswerEnds job before talk known answer → is_lost_answer answer ≡ ends_lost talk
       → MayTellOfCheckpoint objects talk known answer
   checkpoint_tells talk known (Ok version) borne asked ends lost = put_row talk version known borne ends
   checkpoint_tells talk known (Err (checkpoint_faults.BadLog version)) borne asked ends lost =

@@ -9,11 +9,11 @@ use Rattle.table_log.specs.declared.loading.Loaded.{Loaded}
 use Rattle.commit_core.specs.CommitSessions.{CommitJob, ComesTo, Winner, got_told, taken}
 use Rattle.batch_core.specs.Requests.{SinkRequest}
 use Rattle.sink_core.specs.SinkSessions.{InRace, Point, PutsFile, Reaches, Readies, SinkJob, SinkTask, anew, appends, closes, conflicts, file_of, goes_on, loaded, race_of, ready, rules, readies, stood}
-use Rattle.session_laws.specs.Rows.{next_after, next_version}
+use Rattle.session_laws.specs.Rows.{next_after_talk, next_version}
 
 -- ---- talks
 
-pub next_both : (next : ℕ) (front more : Talk) → next_after next (front ++ more) ≡ next_after (next_after next front) more
+pub next_both : (next : ℕ) (front more : Talk) → next_after_talk next (front ++ more) ≡ next_after_talk (next_after_talk next front) more
 next_both next [] more = refl
 next_both next ((list_names, told_names names) ∷ front) more = next_both _ front more
 next_both next ((list_names, told_object found) ∷ front) more = next_both next front more
@@ -30,7 +30,7 @@ next_both next ((put_commit version bytes, told_lost) ∷ front) more = next_bot
 next_both next ((put_commit version bytes, told_memory) ∷ front) more = next_both next front more
 
 -- gets leave it
-pub gets_next : (next : ℕ) (gets : Talk) → AllGets gets → next_after next gets ≡ next
+pub gets_next : (next : ℕ) (gets : Talk) → AllGets gets → next_after_talk next gets ≡ next
 gets_next next [] only = refl
 gets_next next ((list_names, told) ∷ gets) only = absurd only.0
 gets_next next ((get_object name, told) ∷ gets) only = gets_next next gets only.1
@@ -50,34 +50,34 @@ listed_next talk names listed = ap next_version listed.talked ∙ gets_next _ li
 
 -- ---- the calls of a file
 
-puts_next : (name : List ℕ) (request : SinkRequest) (calls : Talk) (size next : ℕ) → PutsFile name request calls size → next_after next calls ≡ next
+puts_next : (name : List ℕ) (request : SinkRequest) (calls : Talk) (size next : ℕ) → PutsFile name request calls size → next_after_talk next calls ≡ next
 puts_next name request calls size next (anew file written) = refl
 puts_next name request calls size next (stood file bytes written same) = refl
 
-readies_next : (job : SinkJob) (request : SinkRequest) (calls : Talk) (size next : ℕ) → Readies job request calls size → next_after next calls ≡ next
+readies_next : (job : SinkJob) (request : SinkRequest) (calls : Talk) (size next : ℕ) → Readies job request calls size → next_after_talk next calls ≡ next
 readies_next job request calls size next readied = by_task job.task readied
   where
-    by_task : (task : SinkTask) → Readies (record job { task = task }) request calls size → next_after next calls ≡ next
+    by_task : (task : SinkTask) → Readies (record job { task = task }) request calls size → next_after_talk next calls ≡ next
     by_task (appends number items) puts = puts_next (file_of job number) request calls size next puts
-    by_task closes none = ap (next_after next) none.0
+    by_task closes none = ap (next_after_talk next) none.0
 
 -- ---- races
 
 -- behind winners it is the version behind the last of them
-winners_next : (version : ℕ) (bytes : List ℕ) (winners : List Winner) → next_after version (taken version bytes winners) ≡ version + length winners
+winners_next : (version : ℕ) (bytes : List ℕ) (winners : List Winner) → next_after_talk version (taken version bytes winners) ≡ version + length winners
 winners_next version bytes [] = omega arith
 winners_next version bytes (winner ∷ winners) = omega (arith, winners_next (suc version) bytes winners)
 
 -- a race that has come to a version, from the one that comes next
 pub race_next : (put : CommitJob) (front race behind : Talk) (version : ℕ) (commits : List (List Action)) → put.version ≡ next_version front → (comes : ComesTo put race version commits behind)
-    → next_version (front ++ race) ≡ next_after version behind
+    → next_version (front ++ race) ≡ next_after_talk version behind
 race_next put front race behind version commits from comes =
     let met = taken put.version put.bytes comes.winners in
     next_both 0 front race
-    ∙ (ap (λ (n : ℕ). next_after n race) (sym from)
-    ∙ (ap (next_after put.version) comes.told
+    ∙ (ap (λ (n : ℕ). next_after_talk n race) (sym from)
+    ∙ (ap (next_after_talk put.version) comes.told
     ∙ (next_both put.version met behind
-    ∙ ap (λ (n : ℕ). next_after n behind) (winners_next put.version put.bytes comes.winners ∙ sym comes.at))))
+    ∙ ap (λ (n : ℕ). next_after_talk n behind) (winners_next put.version put.bytes comes.winners ∙ sym comes.at))))
 
 -- ---- points
 
@@ -105,6 +105,6 @@ module _ (job : SinkJob) (before : Talk) where
 
   -- where its puts have come to a version, that follows from the talk
   pub in_race_next : (talk : Talk) (P : CommitJob → Talk → Type 0) (r : InRace job before talk P) (version : ℕ) (commits : List (List Action)) (behind : Talk)
-      → ComesTo (race_of job r.readied r.known.next r.tries) r.race version commits behind → next_version talk ≡ next_after version behind
+      → ComesTo (race_of job r.readied r.known.next r.tries) r.race version commits behind → next_version talk ≡ next_after_talk version behind
   in_race_next talk P r version commits behind comes =
       ap next_version r.talked ∙ race_next (race_of job r.readied r.known.next r.tries) r.front r.race behind version commits (reaches_next r.front r.known r.tries (ready r.readied) r.reaches) comes

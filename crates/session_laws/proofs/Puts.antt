@@ -8,7 +8,7 @@ use Rattle.session_core.specs.Talks.{Bears, Talk, put_file, told_put}
 use Rattle.session_core.proofs.Callers.{bears_more}
 use Rattle.table_log.specs.LoadSessions.{LoadJob}
 use Rattle.table_log.specs.Restoring.{IsSoundCheckpoint}
-use Rattle.snapshot_core.specs.CheckpointSessions.{PutTold}
+use Rattle.snapshot_core.specs.CheckpointSessions.{CheckpointPutTold}
 use Rattle.snapshot_core.specs.Taking.{PutsFront}
 use Rattle.snapshot_core.proofs.Callers.{checkpoint_same}
 use Rattle.commit_core.specs.SoundStores.{IsSoundStore}
@@ -25,7 +25,7 @@ put_stands : (put : Put) (bytes : List ℕ) (found : Option (List ℕ)) → Stan
 put_stands Created bytes found is = rw is refl
 put_stands Exists bytes found is = is
 
-pub told_stands : (objects : Objects) (job : LoadJob) (before talk : Talk) (version : ℕ) (put : Put) → Bears objects talk → (told : PutTold job before talk version (told_put put)) → Bears objects told.front × IsSome (object_at objects told.name)
+pub told_stands : (objects : Objects) (job : LoadJob) (before talk : Talk) (version : ℕ) (put : Put) → Bears objects talk → (told : CheckpointPutTold job before talk version (told_put put)) → Bears objects told.front × IsSome (object_at objects told.name)
 told_stands objects job before talk version put borne told =
     let all = bears_more objects told.front (put_file told.name told.bytes) (told_put put) (subst (Bears objects) told.talked borne) in
     (all.0, put_stands put told.bytes (object_at objects told.name) all.1)

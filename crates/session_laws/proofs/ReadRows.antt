@@ -25,7 +25,7 @@ use Rattle.log_rows.specs.declared.read_state.ReadRows as code
 use Rattle.source_core.specs.declared.source_session.ReadEnd.{ReadEnd}
 use Rattle.log_rows.specs.declared.tail_fault.TailFault.{TailFault}
 use Rattle.log_rows.specs.declared.tail_fault.TailFault.TheVariants as faults
-use Rattle.read_laws.specs.Kept.{IsKept}
+use Rattle.read_laws.specs.Kept.{KeepsTable}
 use Rattle.read_laws.proofs.Callers.{read_may, sound_kept}
 use Rattle.session_laws.specs.May.{MayAsk}
 use Rattle.session_laws.specs.Rows.{MayTellOfRead, TellsOfListed, TellsOfNone, WasListed, next_version}
@@ -126,7 +126,7 @@ module _ (objects : Objects) (schema : Schema) (entries : List Entry) (sound : I
         none_said end.answer (subst (ReadGives read_view end.answer) (none_told job listed none) (ends.told listed was.earlier was.shown))
     of_table (first ∷ rest) is =
         let some : table.entries ≢ [] = λ none. let wrong = sym is ∙ none in absurd cc in
-        let kept : IsKept listed table.schema (first ∷ rest) = subst (IsKept listed table.schema) is (sound_kept listed table some (was.readable table.schema table.entries table.holds)) in
+        let kept : KeepsTable listed table.schema (first ∷ rest) = subst (KeepsTable listed table.schema) is (sound_kept listed table some (was.readable table.schema table.entries table.holds)) in
         read_may table.schema job.place (first ∷ rest) (record { max = job.max; use_checkpoints = job.use_checkpoints; known = job.known; before = before; talk = talk; end = end; listed = listed; more = [] })
         (record { known = was.earlier; shown = was.shown; told = ends; restores = restores; keeps = kept })
 

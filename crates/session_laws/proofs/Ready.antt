@@ -17,8 +17,8 @@ use Rattle.table_store.specs.Holds.{Holds, Stands}
 use Rattle.table_store.specs.Schema.{Schema, IsFileOf}
 use Rattle.commit_core.specs.SoundStores.{IsSoundStore}
 use Rattle.commit_core.proofs.Callers.{log_open}
-use Rattle.batch_core.specs.Committing.{data_file_name}
-use Rattle.batch_core.specs.Requests.{SinkRequest, numbered, request_behind}
+use Rattle.batch_core.specs.Committing.{batch_file_name}
+use Rattle.batch_core.specs.Requests.{SinkRequest, numbered_behind, request_behind}
 use Rattle.batch_core.specs.RowsIn.{rows_from}
 use Rattle.sink_core.specs.SinkSessions.{HoldsOf, Point, PutsFile, Reaches, Readied, Readies, SinkJob, SinkTask, anew, appends, asked_again, asked_of, closes, conflicts, file_of, goes_on, loaded, ready, rules, readied_by, readies, stood}
 use Rattle.sink_core.proofs.SinkTalks.{file_stands}
@@ -72,8 +72,8 @@ pub one_rows : (schema : Tree) (items : Items) (rows others : List Row) → rows
 one_rows schema items rows others is was = let both = sym is ∙ was in cc
 
 -- the name of a batch's file
-pub file_named : (application : List ℕ) (number : ℕ) → data_file_name application number ≡ plain_file_name application number
-unfolding data_file_name
+pub file_named : (application : List ℕ) (number : ℕ) → batch_file_name application number ≡ plain_file_name application number
+unfolding batch_file_name
 file_named application number = refl
 
 -- the batch of a job with these rows
@@ -90,7 +90,7 @@ module _ (objects : Objects) (schema : Schema) (entries : List Entry) (sound : I
     pub front : IsKnownFront objects schema entries known
     pub schema_is : request.schema ≡ schema
     pub of_job : IsBatchOf schema job (batch_by job number request.rows)
-    pub numbered_so : numbered front.log job.application number ≡ Ok request.repeats
+    pub numbered_so : numbered_behind front.log job.application number ≡ Ok request.repeats
     pub written : writable front.log ≡ Ok request.schema
 
   pub ruled_batch : (number : ℕ) (items : Items) (request : SinkRequest) → job.task ≡ appends number items → HoldsOf known (λ log. asked_of job known.next log ≡ Ok request) → IsRuledBatch number request
@@ -126,7 +126,7 @@ module _ (objects : Objects) (schema : Schema) (entries : List Entry) (sound : I
       let wants = ready_for job before talk known tries readied (ready readied) refl reaches in
       let ruled = ruled_batch objects schema entries sound holds job before talk known_before borne known tries (ready readied) reaches number items wants.request task wants.asked in
       let of_job : IsBatchOf schema job (batch_by job number readied.rows) = subst (λ (rows : List Row). IsBatchOf schema job (batch_by job number rows)) wants.rows ruled.of_job in
-      let new : numbered ruled.front.log job.application number ≡ Ok false = ruled.numbered_so ∙ ap (λ b. Ok b) wants.new in
+      let new : numbered_behind ruled.front.log job.application number ≡ Ok false = ruled.numbered_so ∙ ap (λ b. Ok b) wants.new in
       let within : IsWithinLimits schema = subst IsWithinLimits (sym wants.schema ∙ ruled.schema_is) (readied_within job before number items task talk known tries (ready readied) readied (inl refl) reaches) in
       let file = spelled_file objects schema entries sound holds (file_of job number) items readied.size (length readied.rows) within (are (file_of job number))
       (file_stands objects job before number items task known_before talk known tries (ready readied) readied (inl refl) borne reaches) in

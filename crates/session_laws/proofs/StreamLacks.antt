@@ -15,10 +15,10 @@ use Rattle.table_store.specs.Schema.{Schema}
 use Rattle.table_store.proofs.Callers.{commit_name-data_file_name}
 use Rattle.commit_core.specs.SoundStores.{IsSoundStore}
 use Rattle.commit_core.proofs.Callers.{asked_last}
-use Rattle.commit_core.specs.CommitSessions.{CommitEnds, CommitJob, ComesTo, HoldsOfCommit, got_told, put_told, taken}
+use Rattle.commit_core.specs.CommitSessions.{CommitEnds, CommitJob, ComesTo, HoldsOfCommit, got_told, put_told_at, taken}
 use Rattle.commit_core.specs.declared.commit_fault.CommitFault.{CommitFault}
 use Rattle.commit_core.specs.declared.commit_state.CommitOutcome.{CommitOutcome}
-use Rattle.batch_core.specs.Refusals.{refusal_view}
+use Rattle.batch_core.specs.Refusals.{sink_refusal_view}
 use Rattle.batch_core.specs.Requests.{SinkRequest}
 use Rattle.batch_core.specs.declared.fault.SinkFault.{SinkFault}
 use Rattle.batch_core.specs.declared.fault.SinkFault.TheVariants as faults
@@ -72,9 +72,9 @@ module _ (job : SinkJob) (before : Talk) where
       absurd (other_name version job.application file.0 file.1)
   load_asked front listed_names version listed (fine, inr (inr r)) =
       let put = race_of job r.readied r.known.next r.tries in
-      let comes : ComesTo put r.race r.holds.0 r.holds.1 (put_told put r.holds.0 (told_put Exists)) = r.holds.2 in
+      let comes : ComesTo put r.race r.holds.0 r.holds.1 (put_told_at put r.holds.0 (told_put Exists)) = r.holds.2 in
       let met = taken put.version put.bytes comes.winners in
-      let call : Talk = put_told put r.holds.0 (told_put Exists) in
+      let call : Talk = put_told_at put r.holds.0 (told_put Exists) in
       let whole : front ≡ (r.front ++ met) ++ call = r.talked ∙ (ap (λ (t : Talk). r.front ++ t) comes.told ∙ sym (append_assoc r.front met call)) in
       absurd (load_no_put front (r.front ++ met) [] listed_names r.holds.0 put.bytes listed whole)
 
@@ -116,9 +116,9 @@ module _ (objects : Objects) (schema : Schema) (entries : List Entry) (sound : I
   stream_tells (Err (faults.Lost (Some version))) ends = lost_tells objects schema entries sound holds job before known_before talk borne version ends
   stream_tells (Err (faults.Lost None)) ends = ends
   stream_tells (Err (faults.BadLog version)) ends = lacks_tells objects sound job before talk borne asked version ends
-  stream_tells (Err (faults.ReadOnly fault)) ends = ruled objects schema entries sound holds job before known_before talk borne ends.1.known ends.1.tries (rules ends.0) ends.1.reaches (Err (refusal_view (faults.ReadOnly fault))) ends.1.says
+  stream_tells (Err (faults.ReadOnly fault)) ends = ruled objects schema entries sound holds job before known_before talk borne ends.1.known ends.1.tries (rules ends.0) ends.1.reaches (Err (sink_refusal_view (faults.ReadOnly fault))) ends.1.says
   stream_tells (Err (faults.BadRow index fault)) ends =
-      ruled objects schema entries sound holds job before known_before talk borne ends.1.known ends.1.tries (rules ends.0) ends.1.reaches (Err (refusal_view (faults.BadRow index fault))) (λ log of. (ends.1.says log of).1)
+      ruled objects schema entries sound holds job before known_before talk borne ends.1.known ends.1.tries (rules ends.0) ends.1.reaches (Err (sink_refusal_view (faults.BadRow index fault))) (λ log of. (ends.1.says log of).1)
   stream_tells (Err faults.BadApp) ends = ends.1
   stream_tells (Err faults.TooLarge) ends = too_large_tells objects schema entries sound holds job before known_before talk borne ends
   stream_tells (Err faults.FileTooLarge) ends = file_too_large_tells objects schema entries sound holds job before known_before talk borne ends

@@ -26,9 +26,9 @@ use Rattle.commit_core.specs.Commits.{commit_text}
 use Rattle.commit_core.specs.CommitSessions.{CommitAsks, CommitJob, ComesTo}
 use Rattle.commit_core.proofs.Callers.{bears_end, bears_front, own_read}
 use Rattle.commit_core.proofs.CandidateLemmas.{reading_reads}
-use Rattle.batch_core.specs.Closing.{close_candidate, closing}
+use Rattle.batch_core.specs.Closing.{close_candidate, close_actions}
 use Rattle.batch_core.specs.Committing.{append_candidate, appending, batch_actions}
-use Rattle.sink_core.specs.SinkSessions.{Reaches, Readied, SinkAsks, SinkJob, SinkTask, actions_of, appends, candidate_of, closes, race_of, ready, rules}
+use Rattle.sink_core.specs.SinkSessions.{Reaches, Readied, SinkAsks, SinkJob, SinkTask, commit_actions, appends, candidate_of_job, closes, race_of, ready, rules}
 use Rattle.sink_core.proofs.ReachLemmas.{reaches_reads}
 use Rattle.session_laws.specs.Rows.{IsBatchOf, IsJobCommit, IsJobFile, MayPutNext, next_version}
 use Rattle.session_laws.proofs.Fronts.{reached_front}
@@ -39,11 +39,11 @@ use Rattle.session_laws.proofs.Ready.{batch_by, file_named, ready_batch, ready_c
 -- ---- the commit of what is readied
 
 -- its actions, of a batch and of a close
-pub batch_made : (job : SinkJob) (readied : Readied) (number : ℕ) (items : Items) → job.task ≡ appends number items → actions_of job readied ≡ batch_actions job.application number job.at readied.size (length readied.rows)
-batch_made job readied number items task = ap (λ (t : SinkTask). actions_of (record job { task = t }) readied) task
+pub batch_made : (job : SinkJob) (readied : Readied) (number : ℕ) (items : Items) → job.task ≡ appends number items → commit_actions job readied ≡ batch_actions job.application number job.at readied.size (length readied.rows)
+batch_made job readied number items task = ap (λ (t : SinkTask). commit_actions (record job { task = t }) readied) task
 
-pub close_made : (job : SinkJob) (readied : Readied) → job.task ≡ closes → actions_of job readied ≡ closing job.application job.at
-close_made job readied task = ap (λ (t : SinkTask). actions_of (record job { task = t }) readied) task
+pub close_made : (job : SinkJob) (readied : Readied) → job.task ≡ closes → commit_actions job readied ≡ close_actions job.application job.at
+close_made job readied task = ap (λ (t : SinkTask). commit_actions (record job { task = t }) readied) task
 
 -- they are a commit of the batch's entry, or of the close's
 pub batch_commit : (schema : Schema) (b : Batch) (at size : ℕ) (bytes : List ℕ) → IsCommit bytes (batch_actions b.application b.number at size (length b.rows)) → IsCommitOf schema (group (b ∷ [])) bytes
@@ -54,23 +54,23 @@ batch_commit schema b at size bytes commit = record {
   stand = record { only = refl; numbered = refl; files = (file_named b.application b.number, refl, tt) };
 }
 
-pub close_commit : (schema : Schema) (application : List ℕ) (at : ℕ) (bytes : List ℕ) → IsUtf8 application → IsCommit bytes (closing application at) → IsCommitOf schema (close application) bytes
-unfolding closing
-close_commit schema application at bytes text commit = record { actions = closing application at; commit = commit; stand = record { actions = refl; text = text } }
+pub close_commit : (schema : Schema) (application : List ℕ) (at : ℕ) (bytes : List ℕ) → IsUtf8 application → IsCommit bytes (close_actions application at) → IsCommitOf schema (close application) bytes
+unfolding close_actions
+close_commit schema application at bytes text commit = record { actions = close_actions application at; commit = commit; stand = record { actions = refl; text = text } }
 
 -- a stream's candidate reads what it is to
-own_candidate : (job : SinkJob) (readied : Readied) → ReadsItsOwn (candidate_of job readied)
+own_candidate : (job : SinkJob) (readied : Readied) → ReadsItsOwn (candidate_of_job job readied)
 own_candidate job readied = by_task job.task refl
   where
-    by_task : (task : SinkTask) → job.task ≡ task → ReadsItsOwn (candidate_of (record job { task = task }) readied)
+    by_task : (task : SinkTask) → job.task ≡ task → ReadsItsOwn (candidate_of_job (record job { task = task }) readied)
     by_task (appends number items) is = own_read (append_candidate job.application number job.at readied.size (length readied.rows)) (reading_reads (batch_actions job.application number job.at readied.size (length readied.rows)) [] [])
-    by_task closes is = own_read (close_candidate job.application job.at) (reading_reads (closing job.application job.at) [] (stream_domain job.application ∷ []))
+    by_task closes is = own_read (close_candidate job.application job.at) (reading_reads (close_actions job.application job.at) [] (stream_domain job.application ∷ []))
 
 -- its candidate has the same actions
-candidate_reads : (job : SinkJob) (readied : Readied) → IsCommit (commit_text (actions_of job readied)) (actions_of job readied) → IsCommit (commit_text (actions_of job readied)) (candidate_of job readied).actions
-candidate_reads job readied reads = subst (IsCommit (commit_text (actions_of job readied))) (by_task job.task) reads
+candidate_reads : (job : SinkJob) (readied : Readied) → IsCommit (commit_text (commit_actions job readied)) (commit_actions job readied) → IsCommit (commit_text (commit_actions job readied)) (candidate_of_job job readied).actions
+candidate_reads job readied reads = subst (IsCommit (commit_text (commit_actions job readied))) (by_task job.task) reads
   where
-    by_task : (task : SinkTask) → actions_of (record job { task = task }) readied ≡ (candidate_of (record job { task = task }) readied).actions
+    by_task : (task : SinkTask) → commit_actions (record job { task = task }) readied ≡ (candidate_of_job (record job { task = task }) readied).actions
     by_task (appends number items) = refl
     by_task closes = refl
 
@@ -114,18 +114,18 @@ module _ (objects : Objects) (schema : Schema) (entries : List Entry) (sound : I
 
   module _ (text : IsUtf8 job.application) (talk : Talk) (borne : Bears objects talk) (known : Loaded) (tries : ℕ) (readied : Readied) (reaches : Reaches job before talk known tries (ready readied)) where
     -- where its commit may be put, it is admissible behind what is known
-    pub first_admissible : known.next ≤ greatest_version → IsAdmissible objects known.next (commit_text (actions_of job readied))
+    pub first_admissible : known.next ≤ greatest_version → IsAdmissible objects known.next (commit_text (commit_actions job readied))
     first_admissible small = by_task job.task refl
       where
-        reads : IsCommit (commit_text (actions_of job readied)) (actions_of job readied)
+        reads : IsCommit (commit_text (commit_actions job readied)) (commit_actions job readied)
         reads = reaches_reads job before talk known tries (ready readied) readied (inl refl) reaches
 
-        by_task : (task : SinkTask) → job.task ≡ task → IsAdmissible objects known.next (commit_text (actions_of job readied))
+        by_task : (task : SinkTask) → job.task ≡ task → IsAdmissible objects known.next (commit_text (commit_actions job readied))
         by_task (appends number items) is =
             let own = ready_batch objects schema entries sound holds job before talk known_before borne known tries readied reaches are number items is in
             let front = own.front.front in
-            batch_next objects schema known.next small own.front.log own.written front.firsts front.stand front.lawful front.long front.made (batch_by job number readied.rows) (commit_text (actions_of job readied)) own.taken
-            (batch_commit schema (batch_by job number readied.rows) job.at readied.size (commit_text (actions_of job readied)) (subst (IsCommit (commit_text (actions_of job readied))) (batch_made job readied number items is) reads))
+            batch_next objects schema known.next small own.front.log own.written front.firsts front.stand front.lawful front.long front.made (batch_by job number readied.rows) (commit_text (commit_actions job readied)) own.taken
+            (batch_commit schema (batch_by job number readied.rows) job.at readied.size (commit_text (commit_actions job readied)) (subst (IsCommit (commit_text (commit_actions job readied))) (batch_made job readied number items is) reads))
             (own.file.0, own.file.1, own.file.2.0)
         by_task closes is =
             let wants = ready_for job before talk known tries readied (ready readied) refl reaches in
@@ -133,22 +133,22 @@ module _ (objects : Objects) (schema : Schema) (entries : List Entry) (sound : I
             let parts = ruled_close objects schema entries sound holds job before talk known_before borne known tries (ready readied) reaches wants.request is wants.asked in
             let same : wants.request.schema ≡ schema = written_front objects schema entries known.next here.log here.front wants.request.schema parts.0 in
             let front = here.front in
-            close_next objects schema known.next small here.log (parts.0 ∙ ap (λ (t : Schema). Ok t) same) front.firsts front.stand front.lawful front.long front.made job.application (commit_text (actions_of job readied))
+            close_next objects schema known.next small here.log (parts.0 ∙ ap (λ (t : Schema). Ok t) same) front.firsts front.stand front.lawful front.long front.made job.application (commit_text (commit_actions job readied))
             (ready_close objects schema entries sound holds job before talk known_before borne known tries readied reaches is)
-            (close_commit schema job.application job.at (commit_text (actions_of job readied)) text (subst (IsCommit (commit_text (actions_of job readied))) (close_made job readied is) reads))
+            (close_commit schema job.application job.at (commit_text (commit_actions job readied)) text (subst (IsCommit (commit_text (commit_actions job readied))) (close_made job readied is) reads))
 
     -- it is the job's, to the byte
-    pub own_commit : IsJobCommit objects schema job (commit_text (actions_of job readied))
+    pub own_commit : IsJobCommit objects schema job (commit_text (commit_actions job readied))
     own_commit = by_task job.task refl
       where
-        reads : IsCommit (commit_text (actions_of job readied)) (actions_of job readied)
+        reads : IsCommit (commit_text (commit_actions job readied)) (commit_actions job readied)
         reads = reaches_reads job before talk known tries (ready readied) readied (inl refl) reaches
 
-        by_task : (task : SinkTask) → job.task ≡ task → IsJobCommit objects schema job (commit_text (actions_of job readied))
+        by_task : (task : SinkTask) → job.task ≡ task → IsJobCommit objects schema job (commit_text (commit_actions job readied))
         by_task (appends number items) is =
             let own = ready_batch objects schema entries sound holds job before talk known_before borne known tries readied reaches are number items is in
-            let text = commit_text (actions_of job readied) in
-            let made : actions_of job readied ≡ batch_actions job.application number job.at (length own.file.0) (length readied.rows) =
+            let text = commit_text (commit_actions job readied) in
+            let made : commit_actions job readied ≡ batch_actions job.application number job.at (length own.file.0) (length readied.rows) =
             batch_made job readied number items is ∙ ap (λ (size : ℕ). batch_actions job.application number job.at size (length readied.rows)) own.file.2.1 in
             subst (λ (t : SinkTask). IsJobCommit objects schema (record job { task = t }) text) (sym is) (
               batch_by job number readied.rows,
@@ -157,8 +157,8 @@ module _ (objects : Objects) (schema : Schema) (entries : List Entry) (sound : I
             )
         by_task closes is =
             let made = close_made job readied is in
-            subst (λ (t : SinkTask). IsJobCommit objects schema (record job { task = t }) (commit_text (actions_of job readied))) (sym is)
-            (ap commit_text made, subst (IsCommit (commit_text (actions_of job readied))) made reads)
+            subst (λ (t : SinkTask). IsJobCommit objects schema (record job { task = t }) (commit_text (commit_actions job readied))) (sym is)
+            (ap commit_text made, subst (IsCommit (commit_text (commit_actions job readied))) made reads)
 
   -- its commit, as the version that comes next
   pub puts_commit : ((put : CommitJob) (race : Talk) (version : ℕ) (bytes : List ℕ) → IsLawfulStore objects → Bears objects race → IsAdmissible objects put.version put.bytes → IsCommit put.bytes put.candidate.actions → ReadsItsOwn put.candidate

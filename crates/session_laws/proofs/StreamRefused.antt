@@ -27,13 +27,13 @@ use Rattle.table_store.specs.Schema.{Schema, IsFileOf}
 use Rattle.commit_core.specs.SoundStores.{IsSoundStore}
 use Rattle.table_store.proofs.HoldingSchema.{only_table}
 use Rattle.sink_core.proofs.ReachLemmas.{reaches_fine}
-use Rattle.commit_core.specs.CommitSessions.{ComesTo, CommitEnds, CommitJob, HoldsOfCommit, commits_view, put_told, taken}
+use Rattle.commit_core.specs.CommitSessions.{ComesTo, CommitEnds, CommitJob, HoldsOfCommit, commits_view, put_told_at, taken}
 use Rattle.commit_core.specs.declared.commit_fault.CommitFault.{CommitFault}
 use Rattle.commit_core.specs.declared.commit_state.CommitOutcome.{CommitOutcome}
 use Rattle.commit_core.specs.declared.commit_state.CommitOutcome.TheVariants as outcomes
 use Rattle.commit_core.proofs.Callers.{bears_end, bears_front}
-use Rattle.batch_core.specs.Refusals.{SinkRefusal, read_only, refusal_view, stale, stream_closed}
-use Rattle.batch_core.specs.Requests.{SinkRequest, close_behind, has_same, numbered, request_behind}
+use Rattle.batch_core.specs.Refusals.{SinkRefusal, read_only, sink_refusal_view, stale, stream_closed}
+use Rattle.batch_core.specs.Requests.{SinkRequest, close_behind, has_same, numbered_behind, request_behind}
 use Rattle.batch_core.specs.declared.fault.SinkFault.TheVariants as faults
 use Rattle.batch_core.specs.RowsIn.{rows_from}
 use Rattle.batch_core.proofs.Callers.{IsOfNumber, asked_parts, close_parts, reads_as_file, refused_parts}
@@ -92,7 +92,7 @@ module _ (objects : Objects) (schema : Schema) (entries : List Entry) (sound : I
 
   -- a refusal for a number is one of a batch, and so of the table
   numbered_tells : (known : Loaded) (tries : ℕ) (point : Point) (reaches : Reaches job before talk known tries point) (why : SinkRefusal) → IsOfNumber why → HoldsOf known (λ log. asked_of job known.next log ≡ Err why) → (answer : AppendAnswer)
-      → ((here : IsKnownFront objects schema entries known) (b : Batch) → b.application ≡ job.application → numbered here.log b.application b.number ≡ Err why → TellsAppend answer b entries) → TellsOfBatch schema entries job answer
+      → ((here : IsKnownFront objects schema entries known) (b : Batch) → b.application ≡ job.application → numbered_behind here.log b.application b.number ≡ Err why → TellsAppend answer b entries) → TellsOfBatch schema entries job answer
   numbered_tells known tries point reaches why of says answer tells = by_task job.task refl
     where
       here : IsKnownFront objects schema entries known
@@ -199,7 +199,7 @@ module _ (objects : Objects) (schema : Schema) (entries : List Entry) (sound : I
   -- ---- its talk
 
   -- no version is left
-  pub too_large_tells : AnswerEnds job before talk (Err faults.TooLarge) → (sinks.fine job ≡ Err (refusal_view faults.TooLarge)) ⊎ (greatest_version < next_version talk)
+  pub too_large_tells : AnswerEnds job before talk (Err faults.TooLarge) → (sinks.fine job ≡ Err (sink_refusal_view faults.TooLarge)) ⊎ (greatest_version < next_version talk)
   too_large_tells (inl large) = inl large.1
   too_large_tells (inr r) =
       let next : next_version talk ≡ r.holds.0 = in_race_next job before talk _ r r.holds.0 r.holds.1 [] r.holds.2 in
@@ -209,9 +209,9 @@ module _ (objects : Objects) (schema : Schema) (entries : List Entry) (sound : I
   pub lost_tells : (version : ℕ) → AnswerEnds job before talk (Err (faults.Lost (Some version))) → LosesCommit talk version
   lost_tells version r =
       let put = race_of job r.readied r.known.next r.tries in
-      let comes : ComesTo put r.race version r.holds.0 (put_told put version told_lost) = r.holds.1 in
+      let comes : ComesTo put r.race version r.holds.0 (put_told_at put version told_lost) = r.holds.1 in
       let met = taken put.version put.bytes comes.winners in
-      (r.front ++ met, put.bytes, r.talked ∙ (ap (λ (t : Talk). r.front ++ t) comes.told ∙ sym (append_assoc r.front met (put_told put version told_lost))))
+      (r.front ++ met, put.bytes, r.talked ∙ (ap (λ (t : Talk). r.front ++ t) comes.told ∙ sym (append_assoc r.front met (put_told_at put version told_lost))))
 
   -- the version that it tells at last is the one in front of the next
   pub contended_next : (newest : ℕ) → AnswerEnds job before talk (Err (faults.Contended newest)) → next_version talk ≡ suc newest

@@ -21,14 +21,14 @@ use Rattle.table_store.proofs.HoldingOne.{one_file, one_object}
 use Rattle.commit_core.specs.SoundStores.{IsSoundStore}
 use Rattle.commit_core.proofs.Callers.{asked_last}
 use Rattle.commit_core.specs.Commits.{commit_text}
-use Rattle.commit_core.specs.CommitSessions.{CommitEnds, CommitJob, ComesTo, HoldsOfCommit, commits_view, put_told, taken}
+use Rattle.commit_core.specs.CommitSessions.{CommitEnds, CommitJob, ComesTo, HoldsOfCommit, commits_view, put_told_at, taken}
 use Rattle.commit_core.specs.declared.commit_fault.CommitFault.{CommitFault}
 use Rattle.commit_core.specs.declared.commit_state.CommitOutcome.{CommitOutcome}
 use Rattle.commit_core.specs.declared.commit_state.CommitOutcome.TheVariants as outcomes
 use Rattle.commit_core.proofs.Callers.{bears_end, bears_front}
 use Rattle.batch_core.specs.Requests.{close_behind, has_same}
 use Rattle.batch_core.proofs.Callers.{close_parts}
-use Rattle.sink_core.specs.SinkSessions.{AnswerEnds, InRace, SinkAsks, SinkJob, SinkTask, actions_of, asked_of, file_of, race_of, ready, rules}
+use Rattle.sink_core.specs.SinkSessions.{AnswerEnds, InRace, SinkAsks, SinkJob, SinkTask, commit_actions, asked_of, file_of, race_of, ready, rules}
 use Rattle.sink_core.specs.declared.sink_state.SinkOutcome.TheVariants.{Already, AlreadyClosed, Closed, Committed}
 use Rattle.sink_core.proofs.ReachLemmas.{reaches_reads}
 use Rattle.session_laws.specs.Rows.{TellsOfBatch}
@@ -59,14 +59,14 @@ module _ (objects : Objects) (schema : Schema) (entries : List Entry) (sound : I
   put_small : (version : ℕ) (r : IsPut version) → version ≤ greatest_version
   put_small version r =
       let put = race_of job r.readied r.known.next r.tries in
-      let comes : ComesTo put r.race version (commits_view r.holds.0) (put_told put version (told_put Created)) = r.holds.1 in
+      let comes : ComesTo put r.race version (commits_view r.holds.0) (put_told_at put version (told_put Created)) = r.holds.1 in
       let met = taken put.version put.bytes comes.winners in
-      let call : Talk = put_told put version (told_put Created) in
+      let call : Talk = put_told_at put version (told_put Created) in
       let whole : talk ≡ (r.front ++ met) ++ call = r.talked ∙ (ap (λ (t : Talk). r.front ++ t) comes.told ∙ sym (append_assoc r.front met call)) in
       let asks = asked_last (SinkAsks job before) [] (r.front ++ met) (put_commit version put.bytes, told_put Created) (subst (AllAsked (SinkAsks job before) []) whole asked) in
       asks.1.holds.4
 
-  put_stands : (version : ℕ) (r : IsPut version) → object_at objects (commit_name version) ≡ Some (commit_text (actions_of job r.readied))
+  put_stands : (version : ℕ) (r : IsPut version) → object_at objects (commit_name version) ≡ Some (commit_text (commit_actions job r.readied))
   put_stands version r =
       let own = bears_end objects r.front r.race (subst (Bears objects) r.talked borne) in
       (tells (race_of job r.readied r.known.next r.tries) r.race (Ok (outcomes.Committed version r.holds.0)) own r.holds.1).2
@@ -74,7 +74,7 @@ module _ (objects : Objects) (schema : Schema) (entries : List Entry) (sound : I
   front_borne : (version : ℕ) (r : IsPut version) → Bears objects r.front
   front_borne version r = bears_front objects r.front r.race (subst (Bears objects) r.talked borne)
 
-  put_reads : (version : ℕ) (r : IsPut version) → IsCommit (commit_text (actions_of job r.readied)) (actions_of job r.readied)
+  put_reads : (version : ℕ) (r : IsPut version) → IsCommit (commit_text (commit_actions job r.readied)) (commit_actions job r.readied)
   put_reads version r = reaches_reads job before r.front r.known r.tries (ready r.readied) r.readied (inl refl) r.reaches
 
   -- the table has the batch at that version
@@ -82,7 +82,7 @@ module _ (objects : Objects) (schema : Schema) (entries : List Entry) (sound : I
   committed_tells version (task, r) =
       let own = ready_batch objects schema entries sound holds job before r.front known_before (front_borne version r) r.known r.tries r.readied r.reaches are task.0 task.1 task.2 in
       let b = batch_by job task.0 r.readied.rows in
-      let text = commit_text (actions_of job r.readied) in
+      let text = commit_text (commit_actions job r.readied) in
       let made = batch_commit schema b job.at r.readied.size text (subst (IsCommit text) (batch_made job r.readied task.0 task.1 task.2) (put_reads version r)) in
       let is = has_entry objects schema entries sound.table holds version text made.actions (group (b ∷ [])) (put_small version r) (put_stands version r) made.commit made.stand ((own.file.0, own.file.1, own.file.2.0), tt) in
       (b, own.of_job, (group (b ∷ []), is, (0, omega arith, refl)))
@@ -90,7 +90,7 @@ module _ (objects : Objects) (schema : Schema) (entries : List Entry) (sound : I
   -- or the close
   pub closed_tells : IsUtf8 job.application → (version : ℕ) → AnswerEnds job before talk (Ok (Closed version)) → TellsClose (closed.Closed version) job.application entries
   closed_tells utf8 version (task, r) =
-      let text = commit_text (actions_of job r.readied) in
+      let text = commit_text (commit_actions job r.readied) in
       let made = close_commit schema job.application job.at text utf8 (subst (IsCommit text) (close_made job r.readied task) (put_reads version r)) in
       let is = has_entry objects schema entries sound.table holds version text made.actions (close job.application) (put_small version r) (put_stands version r) made.commit made.stand tt in
       (close job.application, is, (0, omega arith, refl))

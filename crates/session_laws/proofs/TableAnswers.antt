@@ -17,7 +17,7 @@ use Rattle.table_model.proofs.Facts.{append_tells, close_tells}
 use Rattle.table_store.specs.Schema.{Schema}
 use Rattle.commit_core.proofs.Callers.{log_closed, log_last, log_open, written_by}
 use Rattle.batch_core.specs.Refusals.{SinkRefusal, stale, stream_closed}
-use Rattle.batch_core.specs.Requests.{is_repeat, numbered}
+use Rattle.batch_core.specs.Requests.{is_repeat, numbered_behind}
 use Rattle.session_laws.proofs.Fronts.{IsFrontOf}
 
 -- ---- numbers
@@ -116,11 +116,11 @@ module _ (objects : Objects) (schema : Schema) (entries : List Entry) (next : �
     abbrev last_one : Option Batch
     last_one = last_batch b.application front.firsts
 
-    rule_is : numbered log b.application b.number ≡ rule b last_one (logs.is_closed b.application log)
+    rule_is : numbered_behind log b.application b.number ≡ rule b last_one (logs.is_closed b.application log)
     rule_is = ap (λ (last : Option ℕ). behind (logs.is_closed b.application log) (is_repeat b.number last)) (log_last objects schema b.application front.firsts log front.made)
 
     -- a number that is new is taken
-    pub new_answer : numbered log b.application b.number ≡ Ok false → appended b front.firsts ≡ Committed (length front.firsts)
+    pub new_answer : numbered_behind log b.application b.number ≡ Ok false → appended b front.firsts ≡ Committed (length front.firsts)
     new_answer is = by_closed (logs.is_closed b.application log) refl (sym rule_is ∙ is)
       where
         by_closed : (closed : Bool) → logs.is_closed b.application log ≡ closed → rule b last_one closed ≡ Ok false → appended b front.firsts ≡ Committed (length front.firsts)
@@ -128,17 +128,17 @@ module _ (objects : Objects) (schema : Schema) (entries : List Entry) (next : �
         by_closed false goes_on told = new_taken b front.firsts last_one refl (log_open objects schema b.application front.firsts log front.made goes_on) told
 
     -- one that is the last again
-    pub again_answer : numbered log b.application b.number ≡ Ok true → (before : Batch) × (last_batch b.application front.firsts ≡ Some before) × (before.number ≡ b.number)
+    pub again_answer : numbered_behind log b.application b.number ≡ Ok true → (before : Batch) × (last_batch b.application front.firsts ≡ Some before) × (before.number ≡ b.number)
     again_answer is = again_last b last_one (logs.is_closed b.application log) (sym rule_is ∙ is)
 
     -- one below the last
-    pub stale_answer : (last : ℕ) → numbered log b.application b.number ≡ Err (stale last) → TellsAppend (Stale last) b entries
+    pub stale_answer : (last : ℕ) → numbered_behind log b.application b.number ≡ Err (stale last) → TellsAppend (Stale last) b entries
     stale_answer last is =
         let told : appended b front.firsts ≡ Stale last = stale_told b front.firsts last_one (logs.is_closed b.application log) last refl (sym rule_is ∙ is) in
         batch_lasts_on b (Stale last) (subst (λ (answer : AppendAnswer). TellsAppend answer b (with_batch answer b front.firsts)) told (append_tells b front.firsts))
 
     -- a new one behind the close of its stream
-    pub closed_answer : IsUtf8 b.application → numbered log b.application b.number ≡ Err stream_closed → TellsAppend StreamClosed b entries
+    pub closed_answer : IsUtf8 b.application → numbered_behind log b.application b.number ≡ Err stream_closed → TellsAppend StreamClosed b entries
     closed_answer text is = by_closed (logs.is_closed b.application log) refl (sym rule_is ∙ is)
       where
         by_closed : (closed : Bool) → logs.is_closed b.application log ≡ closed → rule b last_one closed ≡ Err stream_closed → TellsAppend StreamClosed b entries

@@ -11,7 +11,7 @@ use Rattle.table_store.specs.Schema.{Schema}
 use Rattle.commit_core.specs.SoundStores.{IsSoundStore}
 use Rattle.commit_core.specs.CreateSessions.{IsCreationOf, MayTellOfCreation}
 use Rattle.sink_core.specs.SinkLaws.{TellsCommit}
-use Rattle.sink_core.specs.SinkSessions.{IsFine}
+use Rattle.sink_core.specs.SinkSessions.{IsFineJob}
 use Rattle.session_laws.specs.Rows.{IsCheckpointPut, IsJobCommit, IsJobFile, MayPutNext, MayTellOfCheckpoint, MayTellOfLoad, MayTellOfRead, MayTellOfStream}
 use Rattle.table_jobs.specs.Jobs.{Job, Outcome, checkpoint, checkpoints, creates, creation, load, loads, read, reads, stream, streams}
 use Rattle.session_laws.specs.Moves.{HasAsked, Move, asks, tells}
@@ -35,9 +35,9 @@ pub record BearsSession (objects : Objects) (schema : Schema) (entries : List En
 abbrev pub MayAsk : Objects → Schema → Job → Talk → Asked → Type 0
 MayAsk objects schema job talk list_names = Unit {0}
 MayAsk objects schema job talk (get_object name) = Unit {0}
-MayAsk objects schema (streams job) talk (put_file name bytes) = IsFine job × IsJobFile schema job name bytes
+MayAsk objects schema (streams job) talk (put_file name bytes) = IsFineJob job × IsJobFile schema job name bytes
 MayAsk objects schema (checkpoints job) talk (put_file name bytes) = IsCheckpointPut objects name bytes
-MayAsk objects schema (streams job) talk (put_commit version bytes) = IsFine job × MayPutNext objects talk version bytes × IsJobCommit objects schema job bytes
+MayAsk objects schema (streams job) talk (put_commit version bytes) = IsFineJob job × MayPutNext objects talk version bytes × IsJobCommit objects schema job bytes
 MayAsk objects schema (creates job) talk (put_commit version bytes) = MayPutNext objects talk version bytes × IsCreationOf job bytes
 MayAsk objects schema job talk asked = ⊥
 
@@ -51,14 +51,14 @@ MayTell objects schema entries (reads job) before talk (read end) = MayTellOfRea
 MayTell objects schema entries job before talk outcome = ⊥
 
 -- it tells that the commit of this version was put
-abbrev pub TellsOf : (version : ℕ) → Move → Type 0
-TellsOf version (tells (stream end)) = TellsCommit end.answer version
-TellsOf version (tells (creation (Ok done))) = version ≡ 0
-TellsOf version move = ⊥
+abbrev pub TellsOfCommit : (version : ℕ) → Move → Type 0
+TellsOfCommit version (tells (stream end)) = TellsCommit end.answer version
+TellsOfCommit version (tells (creation (Ok done))) = version ≡ 0
+TellsOfCommit version move = ⊥
 
 -- right behind a put that created its commit nothing is left but to tell that, with that very version
 abbrev pub TellsWhatWasCreated : Talk → Move → Type 0
-TellsWhatWasCreated talk move = (front : Talk) (version : ℕ) (bytes : List ℕ) → talk ≡ front ++ (put_commit version bytes, told_put Created) ∷ [] → TellsOf version move
+TellsWhatWasCreated talk move = (front : Talk) (version : ℕ) (bytes : List ℕ) → talk ≡ front ++ (put_commit version bytes, told_put Created) ∷ [] → TellsOfCommit version move
 
 abbrev pub May : Objects → Schema → List Entry → Job → (before talk : Talk) → Move → Type 0
 May objects schema entries job before talk (asks asked) = MayAsk objects schema job talk asked

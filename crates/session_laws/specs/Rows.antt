@@ -35,15 +35,15 @@ use Rattle.snapshot_core.specs.Taking.{IsLargeFor, IsTableId}
 use Rattle.snapshot_core.specs.declared.fault.SnapshotFault.{SnapshotFault}
 use Rattle.snapshot_core.specs.declared.fault.SnapshotFault.TheVariants as checkpoint_faults
 use Rattle.commit_core.specs.Commits.{commit_text}
-use Rattle.batch_core.specs.Closing.{closing}
+use Rattle.batch_core.specs.Closing.{close_actions}
 use Rattle.batch_core.specs.Committing.{batch_actions}
-use Rattle.batch_core.specs.Refusals.{SinkRefusal, refusal_view}
-use Rattle.batch_core.specs.Requests.{IsTooLarge, SinkRequest}
+use Rattle.batch_core.specs.Refusals.{SinkRefusal, sink_refusal_view}
+use Rattle.batch_core.specs.Requests.{IsFileTooLarge, SinkRequest}
 use Rattle.batch_core.specs.RowsIn.{rows_from}
 use Rattle.batch_core.specs.declared.fault.SinkFault.{SinkFault}
 use Rattle.batch_core.specs.declared.fault.SinkFault.TheVariants as faults
 use Rattle.sink_core.specs.SinkLaws.{versions_taken}
-use Rattle.sink_core.specs.SinkSessions.{IsFine, LosesOther, SinkJob, SinkTask, appends, asked_of, closes, fine}
+use Rattle.sink_core.specs.SinkSessions.{IsFineJob, LosesOther, SinkJob, SinkTask, appends, asked_of, closes, fine}
 use Rattle.sink_core.specs.declared.sink_state.SinkOutcome.{SinkOutcome}
 use Rattle.sink_core.specs.declared.sink_state.SinkOutcome.TheVariants.{Already, AlreadyClosed, Closed, Committed}
 use Rattle.source_core.specs.SourceSessions.{SourceJob}
@@ -58,15 +58,15 @@ use Rattle.session_laws.specs.Moves.{ends_lost}
 
 -- The version behind all that a talk tells of: behind the last one that the put of a commit found taken, and before any was behind the
 -- newest that was listed. A session lists the names first.
-abbrev pub next_after : (next : ℕ) → Talk → ℕ
-next_after next [] = next
-next_after next ((list_names, told_names names) ∷ talk) = next_after (count_in names) talk
-next_after next ((put_commit version bytes, told_put Exists) ∷ talk) = next_after (suc version) talk
-next_after next (call ∷ talk) = next_after next talk
+abbrev pub next_after_talk : (next : ℕ) → Talk → ℕ
+next_after_talk next [] = next
+next_after_talk next ((list_names, told_names names) ∷ talk) = next_after_talk (count_in names) talk
+next_after_talk next ((put_commit version bytes, told_put Exists) ∷ talk) = next_after_talk (suc version) talk
+next_after_talk next (call ∷ talk) = next_after_talk next talk
 
 -- the version that comes next by a talk; 0 where nothing was listed
 abbrev pub next_version : Talk → ℕ
-next_version talk = next_after 0 talk
+next_version talk = next_after_talk 0 talk
 
 -- the put of a version's commit was lost at last
 abbrev pub LosesCommit : Talk → (version : ℕ) → Type 0
@@ -77,16 +77,16 @@ abbrev pub GotNone : Talk → (name : List ℕ) → Type 0
 GotNone talk name = (front : Talk) × (talk ≡ front ++ (get_object name, told_object None) ∷ [])
 
 -- these names were listed first
-abbrev pub Lists : Talk → (names : List (List ℕ)) → Type 0
-Lists talk names = (rest : Talk) × (talk ≡ (list_names, told_names names) ∷ rest)
+abbrev pub ListsFirst : Talk → (names : List (List ℕ)) → Type 0
+ListsFirst talk names = (rest : Talk) × (talk ≡ (list_names, told_names names) ∷ rest)
 
 -- Why a version's commit is lacked: none was listed, and it is version 0; or it is below the one that comes next, and was got at last,
 -- and nothing was there; or it isn't above the newest that was listed, and not all up to that were. A sound store holds what it lists,
 -- with all versions below the newest, and what it found taken, and so gives no reason for the latter two where it answers what stands.
 pub data LacksCommit (talk : Talk) (version : ℕ) : Type 0 where
-  none_listed : (names : List (List ℕ)) → Lists talk names → count_in names ≡ 0 → version ≡ 0 → LacksCommit talk version
+  none_listed : (names : List (List ℕ)) → ListsFirst talk names → count_in names ≡ 0 → version ≡ 0 → LacksCommit talk version
   got_none : version < next_version talk → GotNone talk (commit_name version) → LacksCommit talk version
-  not_listed : (names : List (List ℕ)) → Lists talk names → version < count_in names → HasGap names → LacksCommit talk version
+  not_listed : (names : List (List ℕ)) → ListsFirst talk names → version < count_in names → HasGap names → LacksCommit talk version
 
 -- ---- logs
 
@@ -119,8 +119,8 @@ abbrev pub IsJobFile : Schema → SinkJob → (name bytes : List ℕ) → Type 0
 IsJobFile schema job name bytes = (batch : Batch) × IsBatchOf schema job batch × (name ≡ name_of batch) × IsFileOf schema bytes batch.rows × KeepsLimits bytes batch.rows
 
 -- these bytes are the text of these actions, and read as them
-abbrev pub IsTextOf : List ℕ → List Action → Type 0
-IsTextOf bytes made = (bytes ≡ commit_text made) × IsCommit bytes made
+abbrev pub IsTextOfActions : List ℕ → List Action → Type 0
+IsTextOfActions bytes made = (bytes ≡ commit_text made) × IsCommit bytes made
 
 -- Its commit, to the byte. That of a batch has the size and the count of rows of the file that stands under the batch's name, which is one
 -- of its rows.
@@ -129,8 +129,8 @@ IsJobCommit objects schema job bytes = by_task job.task
   where
     by_task : SinkTask → Type 0
     by_task (appends number items) = (batch : Batch) × IsBatchOf schema job batch
-        × Stands objects (name_of batch) (λ file. IsFileOf schema file batch.rows × IsTextOf bytes (batch_actions job.application number job.at (length file) (length batch.rows)))
-    by_task closes = IsTextOf bytes (closing job.application job.at)
+        × Stands objects (name_of batch) (λ file. IsFileOf schema file batch.rows × IsTextOfActions bytes (batch_actions job.application number job.at (length file) (length batch.rows)))
+    by_task closes = IsTextOfActions bytes (close_actions job.application job.at)
 
 -- a commit may be put as the version that comes next
 abbrev pub MayPutNext : Objects → Talk → (version : ℕ) (bytes : List ℕ) → Type 0
@@ -189,7 +189,7 @@ TellsOfBatch schema entries job answer = (batch : Batch) × IsBatchOf schema job
 -- What of the job can be seen before the log is read is in order, and the rules say this of the commits that were listed and of the winners
 -- that were found.
 pub record RulesSay (objects : Objects) (job : SinkJob) (talk : Talk) (said : Result SinkRequest SinkRefusal) : Type 0 where
-  pub seen : IsFine job
+  pub seen : IsFineJob job
   pub log : List (List Action)
   pub stand : IsLogBehind objects talk log
   pub says : asked_of job (next_version talk) log ≡ said
@@ -208,7 +208,7 @@ pub record HasLargeFile (objects : Objects) (job : SinkJob) (talk : Talk) : Type
   pub request : SinkRequest
   pub ruled : RulesSay objects job talk (Ok request)
   pub new : request.repeats ≡ false
-  pub large : IsTooLarge request.schema request.rows
+  pub large : IsFileTooLarge request.schema request.rows
 
 abbrev pub MayTellOfStream : Objects → Schema → List Entry → SinkJob → Talk → Result SinkOutcome SinkFault → Type 0
 MayTellOfStream objects schema entries job talk (Ok (Committed version)) = TellsOfBatch schema entries job (appended.Committed version)
@@ -223,11 +223,11 @@ MayTellOfStream objects schema entries job talk (Err (faults.Contended newest)) 
 MayTellOfStream objects schema entries job talk (Err (faults.Lost (Some version))) = LosesCommit talk version
 MayTellOfStream objects schema entries job talk (Err (faults.Lost None)) = LosesOther talk
 MayTellOfStream objects schema entries job talk (Err (faults.BadLog version)) = LacksCommit talk version
-MayTellOfStream objects schema entries job talk (Err (faults.ReadOnly fault)) = RulesSay objects job talk (Err (refusal_view (faults.ReadOnly fault)))
-MayTellOfStream objects schema entries job talk (Err (faults.BadRow index fault)) = RulesSay objects job talk (Err (refusal_view (faults.BadRow index fault)))
-MayTellOfStream objects schema entries job talk (Err faults.BadApp) = fine job ≡ Err (refusal_view faults.BadApp)
+MayTellOfStream objects schema entries job talk (Err (faults.ReadOnly fault)) = RulesSay objects job talk (Err (sink_refusal_view (faults.ReadOnly fault)))
+MayTellOfStream objects schema entries job talk (Err (faults.BadRow index fault)) = RulesSay objects job talk (Err (sink_refusal_view (faults.BadRow index fault)))
+MayTellOfStream objects schema entries job talk (Err faults.BadApp) = fine job ≡ Err (sink_refusal_view faults.BadApp)
 -- a limit of the job's, or there is no version any more that a commit can have
-MayTellOfStream objects schema entries job talk (Err faults.TooLarge) = (fine job ≡ Err (refusal_view faults.TooLarge)) ⊎ (greatest_version < next_version talk)
+MayTellOfStream objects schema entries job talk (Err faults.TooLarge) = (fine job ≡ Err (sink_refusal_view faults.TooLarge)) ⊎ (greatest_version < next_version talk)
 MayTellOfStream objects schema entries job talk (Err faults.FileTooLarge) = HasLargeFile objects job talk
 -- no winner of a sound store has a metadata
 MayTellOfStream objects schema entries job talk (Err (faults.SchemaChanged version)) = ⊥
@@ -246,7 +246,7 @@ pub record WasListed (objects : Objects) (before talk : Talk) (listed : Objects)
   pub readable : IsReadable listed
   pub grown : HasObjectsOf listed objects
   pub earlier : Bears listed before
-  pub lists : Lists talk (names_of listed)
+  pub lists : ListsFirst talk (names_of listed)
   pub shown : Shows talk listed
 
 -- of a log without versions a read tells that version 0 is missing; or that a call was lost, or memory ran out

@@ -33,7 +33,7 @@ pub fn create_step(
     ensures steps { Steps (λ s. create_sessions.awaited_at s.stage) (λ s. create_sessions.left_at s.stage) (λ s. create_sessions.is_ended s.stage) session.old session.new result }
     ensures goes { (before talk : Talk) (asked : Option Asked) → create_sessions.CreateFits before session.old talk asked
         → Goes (create_sessions.CreateFits before) (create_sessions.CreateAsks (create_sessions.job_of session.old) before) (create_sessions.CreateEnds (create_sessions.job_of session.old) before) session.new (heard talk asked (option_map told_view reply)) result }
-    ensures told { TellsLost create_sessions.tells_lost (option_map told_view reply) result }
+    ensures told { TellsLost create_sessions.creation_tells_lost (option_map told_view reply) result }
     ensures same { create_sessions.job_of session.new ≡ create_sessions.job_of session.old }
     ensures may { (objects : Objects) (schema : Schema) (entries : List Entry) (before talk now : Talk) (asked : Option Asked) → create_sessions.CreateFits before session.old talk asked
         → Hears talk asked (option_map told_view reply) now → BearsSession objects schema entries (creates (create_sessions.job_of session.old)) before now

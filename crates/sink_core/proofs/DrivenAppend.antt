@@ -27,13 +27,13 @@ use Rattle.commit_core.specs.Commits.{commit_text}
 use Rattle.commit_core.specs.CommitSessions.{CommitEnds}
 use Rattle.commit_core.specs.declared.commit_fault.CommitFault.TheVariants as commit_faults
 use Rattle.commit_core.specs.declared.commit_state.CommitOutcome.TheVariants as outcomes
-use Rattle.batch_core.specs.Committing.{batch_actions, data_file_name}
-use Rattle.batch_core.specs.Refusals.{SinkRefusal, bad_log, differs, file_too_large, refusal_view, says}
-use Rattle.batch_core.specs.Requests.{SinkRequest, IsTooLarge, IsWrittenFor, checked, has_same, request_behind, unless_other, where_same}
+use Rattle.batch_core.specs.Committing.{batch_actions, batch_file_name}
+use Rattle.batch_core.specs.Refusals.{SinkRefusal, bad_log, differs, file_too_large, sink_refusal_view, says}
+use Rattle.batch_core.specs.Requests.{SinkRequest, IsFileTooLarge, IsWrittenFor, checked, has_same, request_behind, unless_other_rows, where_same}
 use Rattle.batch_core.specs.declared.fault.SinkFault.{SinkFault}
 use Rattle.batch_core.specs.declared.fault.SinkFault.TheVariants as faults
 use Rattle.sink_core.specs.Appending.{EncodedBatch, AppendPlan, puts, stands, IsWellMade, append_plan, batch_of, new_plan, plan_of, put_plan, repeated_plan, request_of, size_behind, with_file}
-use Rattle.sink_core.specs.SinkSessions.{AnswerEnds, HoldsOf, InRace, IsFine, IsNewBatch, IsOldBatch, IsUnput, LooksAt, Reaches, Readied, SinkAsks, SinkJob, actions_of, append_job, asked_of, filed, only_read, raced, ready, repeated, rules, readied_by, taken}
+use Rattle.sink_core.specs.SinkSessions.{AnswerEnds, HoldsOf, InRace, IsFineJob, IsNewBatch, IsOldBatch, IsUnput, LooksAt, Reaches, Readied, SinkAsks, SinkJob, commit_actions, append_job, asked_of, filed, only_read, raced, ready, repeated, rules, readied_by, taken}
 use Rattle.sink_core.specs.declared.sink_state.SinkOutcome.{SinkOutcome}
 use Rattle.sink_core.specs.declared.sink_state.SinkOutcome.TheVariants.{Committed, Already, Closed, AlreadyClosed}
 use Rattle.sink_core.proofs.Driven.{asked_behind, listed_quiet, loaded_quiet, raced_quiet, reads_quiet, ruled_quiet, undecided_quiet, unfine_behind, unread_behind}
@@ -49,7 +49,7 @@ module _ (application : List ℕ) (number : ℕ) (items : Items) (at tries : ℕ
   job = append_job application number items at tries use_checkpoints first
 
   abbrev name : List ℕ
-  name = data_file_name application number
+  name = batch_file_name application number
 
   abbrev found : Option (List ℕ)
   found = object_at old.0 name
@@ -64,13 +64,13 @@ module _ (application : List ℕ) (number : ℕ) (items : Items) (at tries : ℕ
   asks commits = request_behind (commit_count old.0) commits application number items
 
   -- the rules over the log that was loaded
-  request_is : (known : Loaded) → IsFine job → IsLoaded use_checkpoints old.0 known → (said : Result SinkRequest SinkRefusal) → HoldsOf known (λ log. asked_of job known.next log ≡ said) → request_here ≡ said
+  request_is : (known : Loaded) → IsFineJob job → IsLoaded use_checkpoints old.0 known → (said : Result SinkRequest SinkRefusal) → HoldsOf known (λ log. asked_of job known.next log ≡ said) → request_here ≡ said
   unfolding request_of
   request_is known fine is said asked =
       asked_behind (checked application number (items_len items)) (replayed use_checkpoints old.0) asks is.commits fine is.read
       ∙ (ap (λ (next : ℕ). request_behind next is.commits application number items) (sym is.next) ∙ asked is.commits is.snapshot)
 
-  unread : (version : ℕ) → IsFine job → replayed use_checkpoints old.0 ≡ Err version → request_here ≡ Err (bad_log version)
+  unread : (version : ℕ) → IsFineJob job → replayed use_checkpoints old.0 ≡ Err version → request_here ≡ Err (bad_log version)
   unfolding request_of
   unread version fine is = unread_behind (checked application number (items_len items)) (replayed use_checkpoints old.0) asks version fine is
 
@@ -111,17 +111,17 @@ module _ (application : List ℕ) (number : ℕ) (items : Items) (at tries : ℕ
   unfolding batch_of
   batch_is request file written = rw written refl
 
-  batch_large : (request : SinkRequest) → IsTooLarge request.schema request.rows → batch_of found request application number at ≡ Err file_too_large
+  batch_large : (request : SinkRequest) → IsFileTooLarge request.schema request.rows → batch_of found request application number at ≡ Err file_too_large
   unfolding batch_of
   batch_large request large = rw large.1 refl
 
   new_as : (request : SinkRequest) (batch : Result EncodedBatch SinkRefusal) → request_here ≡ Ok request → request.repeats ≡ false → batch_of found request application number at ≡ batch → plan ≡ (batch >>= put_plan old.0)
   new_as request batch is new made = plan_for (Ok request) is ∙ (by_repeats request false new ∙ ap (λ (b : Result EncodedBatch SinkRefusal). b >>= put_plan old.0) made)
 
-  large_as : (request : SinkRequest) → request_here ≡ Ok request → request.repeats ≡ false → IsTooLarge request.schema request.rows → plan ≡ Err file_too_large
+  large_as : (request : SinkRequest) → request_here ≡ Ok request → request.repeats ≡ false → IsFileTooLarge request.schema request.rows → plan ≡ Err file_too_large
   large_as request is new large = new_as request (Err file_too_large) is new (batch_large request large)
 
-  put_as : (request : SinkRequest) (file : List ℕ) (fits : Result (Unit {0}) SinkRefusal) → request_here ≡ Ok request → request.repeats ≡ false → written_file request.schema request.rows ≡ Ok file → unless_other request.schema request.rows name found ≡ fits
+  put_as : (request : SinkRequest) (file : List ℕ) (fits : Result (Unit {0}) SinkRefusal) → request_here ≡ Ok request → request.repeats ≡ false → written_file request.schema request.rows ≡ Ok file → unless_other_rows request.schema request.rows name found ≡ fits
       → plan ≡ (fits >>= λ fits. Ok (puts (batch_with request file)))
   put_as request file fits is new written other =
       new_as request (Ok (batch_with request file)) is new (batch_is request file written) ∙ ap (λ (f : Result (Unit {0}) SinkRefusal). f >>= λ fits. Ok (puts (batch_with request file))) other
@@ -138,10 +138,10 @@ module _ (application : List ℕ) (number : ℕ) (items : Items) (at tries : ℕ
     pub is : plan ≡ Ok (puts batch)
     pub made : IsWellMade application number at batch
     pub version : batch.version ≡ known.next
-    pub commit : commit_text (actions_of job readied) ≡ batch.commit
+    pub commit : commit_text (commit_actions job readied) ≡ batch.commit
     pub file : now.0 ≡ with_file old.0 batch
 
-  ready_put : (now : State) (known : Loaded) (count : ℕ) (readied : Readied) → IsFine job → QuietReady job old now known count readied → IsPut now known readied
+  ready_put : (now : State) (known : Loaded) (count : ℕ) (readied : Readied) → IsFineJob job → QuietReady job old now known count readied → IsPut now known readied
   ready_put now known count readied fine is =
       let request = is.request in
       let file = is.needs.0 in
@@ -150,9 +150,9 @@ module _ (application : List ℕ) (number : ℕ) (items : Items) (at tries : ℕ
       record {
         batch = batch_with request file;
         is = put_as request file (Ok tt) here is.new is.needs.1.written is.needs.2;
-        made = made_of request file is.needs.1 (subst (λ (s : Readied). IsCommit (commit_text (actions_of job s)) (actions_of job s)) readied_is is.reads);
+        made = made_of request file is.needs.1 (subst (λ (s : Readied). IsCommit (commit_text (commit_actions job s)) (commit_actions job s)) readied_is is.reads);
         version = version_is known request is.is is.asked;
-        commit = ap (λ (s : Readied). commit_text (actions_of job s)) readied_is;
+        commit = ap (λ (s : Readied). commit_text (commit_actions job s)) readied_is;
         file = ap (λ (s : State). s.0) is.needs.4;
       }
 
@@ -193,18 +193,18 @@ module _ (application : List ℕ) (number : ℕ) (items : Items) (at tries : ℕ
       -- ---- the rules
 
       after_rules : (refusal : SinkRefusal) (fault : SinkFault) (known : Loaded) (left : ℕ) (readied : Option Readied) → Reaches job before talk known left (rules readied) → HoldsOf known (λ log. asked_of job known.next log ≡ Err refusal)
-          → says (refusal_view fault) ≡ refuses refusal → After (Err fault)
+          → says (sink_refusal_view fault) ≡ refuses refusal → After (Err fault)
       after_rules refusal fault known left readied reaches asked told_as =
           let quiet = ruled_quiet job before old bears some new talk known left readied reaches told in
           let fine = reaches_fine job before talk known left (rules readied) reaches in
           refused application number at old.0 new.0 refusal fault plan (refused_plan refusal (request_is known fine quiet.1 (Err refusal) asked)) (ap (λ (s : State). s.0) quiet.0) told_as
 
-      after_bad : (version : ℕ) → IsFine job → IsBadBehind job.load before talk version → After (Err (faults.BadLog version))
+      after_bad : (version : ℕ) → IsFineJob job → IsBadBehind job.load before talk version → After (Err (faults.BadLog version))
       after_bad version fine bad =
           let quiet = listed_quiet old new talk bad.names bad.listed may in
           refused application number at old.0 new.0 (bad_log version) (faults.BadLog version) plan (refused_plan (bad_log version) (unread version fine (bad.whole old.0 bears quiet.0))) quiet.1.0 refl
 
-      after_unfine : (refusal : SinkRefusal) (fault : SinkFault) → talk ≡ [] → checked application number (items_len items) ≡ Err refusal → says (refusal_view fault) ≡ refuses refusal → After (Err fault)
+      after_unfine : (refusal : SinkRefusal) (fault : SinkFault) → talk ≡ [] → checked application number (items_len items) ≡ Err refusal → says (sink_refusal_view fault) ≡ refuses refusal → After (Err fault)
       after_unfine refusal fault none wrong told_as =
           let same : new ≡ old = subst (λ (t : Talk). Talked Answers old t new) none told in
           refused application number at old.0 new.0 refusal fault plan (refused_plan refusal (unfine refusal wrong)) (ap (λ (s : State). s.0) same) told_as
@@ -217,16 +217,16 @@ module _ (application : List ℕ) (number : ℕ) (items : Items) (at tries : ℕ
       -- ---- the file
 
       -- what stands under the name of the last number's file is what was found, and nothing changed
-      old_found : (front : Talk) (other : ℕ) (request : SinkRequest) (is : IsOldBatch job before front other request) (got : Option (List ℕ)) → talk ≡ front ++ (get_object (data_file_name application other), told_object got) ∷ []
+      old_found : (front : Talk) (other : ℕ) (request : SinkRequest) (is : IsOldBatch job before front other request) (got : Option (List ℕ)) → talk ≡ front ++ (get_object (batch_file_name application other), told_object got) ∷ []
           → (other ≡ number) × (request_here ≡ Ok request) × (got ≡ found) × (new.0 ≡ old.0)
       old_found front other request is got talked =
           let same : other ≡ number = same_number number other items is.items is.task in
-          let last = talked_last Answers old new front (get_object (data_file_name application other)) (told_object got) (subst (λ (t : Talk). Talked Answers old t new) talked told) in
+          let last = talked_last Answers old new front (get_object (batch_file_name application other)) (told_object got) (subst (λ (t : Talk). Talked Answers old t new) talked told) in
           let quiet = ruled_quiet job before old bears some last.0 front is.known is.tries is.old is.reaches last.1 in
           let fine = reaches_fine job before front is.known is.tries (rules is.old) is.reaches in (
             same,
             request_is is.known fine quiet.1 (Ok request) is.asked,
-            last.2.0 ∙ (ap (λ (s : State). object_at s.0 (data_file_name application other)) quiet.0 ∙ ap (λ (n : ℕ). object_at old.0 (data_file_name application n)) same),
+            last.2.0 ∙ (ap (λ (s : State). object_at s.0 (batch_file_name application other)) quiet.0 ∙ ap (λ (n : ℕ). object_at old.0 (batch_file_name application n)) same),
             last.2.1.0 ∙ ap (λ (s : State). s.0) quiet.0,
           )
 
@@ -255,20 +255,20 @@ module _ (application : List ℕ) (number : ℕ) (items : Items) (at tries : ℕ
       after_looked front _ _ got (repeated _ other request is) talked unlike =
           let here = old_found front other request is got talked in
           let unlike_here : has_same request.schema request.rows found ≡ false = subst (λ (f : Option (List ℕ)). has_same request.schema request.rows f ≡ false) here.2 unlike in
-          let named : differs name ≡ differs (data_file_name application other) = ap (λ (n : ℕ). differs (data_file_name application n)) (sym here.0) in
+          let named : differs name ≡ differs (batch_file_name application other) = ap (λ (n : ℕ). differs (batch_file_name application n)) (sym here.0) in
           (repeated_as request (Err (differs name)) here.1 is.again (other_where request.schema request.rows name found unlike_here) ∙ ap (λ (r : SinkRefusal). Err r) named, here.3)
       after_looked front _ _ got (taken start _ other request file is written put) talked unlike =
-          let own = data_file_name application other in
+          let own = batch_file_name application other in
           let last = talked_last Answers old new front (get_object own) (told_object got) (subst (λ (t : Talk). Talked Answers old t new) talked told) in
           let call = talked_last Answers old last.0 start (put_file own file) (told_put Exists) (subst (λ (t : Talk). Talked Answers old t last.0) put last.1) in
           let here = new_found start other request call.0 is call.1 in
           let some_stood : is_some (object_at call.0.0 own) ≡ true = exists_some (object_at call.0.0 own) call.2.0 in
           let kept : last.0.0 ≡ old.0 = call.2.1.0 ∙ (with_object_stands call.0.0 own file some_stood ∙ ap (λ (s : State). s.0) here.2) in
-          let own_found : object_at old.0 own ≡ found = ap (λ (n : ℕ). object_at old.0 (data_file_name application n)) here.0 in
+          let own_found : object_at old.0 own ≡ found = ap (λ (n : ℕ). object_at old.0 (batch_file_name application n)) here.0 in
           let is_found : got ≡ found = last.2.0 ∙ (ap (λ (o : Objects). object_at o own) kept ∙ own_found) in
           let stands_here : is_some found ≡ true = ap is_some (sym (ap (λ (s : State). object_at s.0 own) here.2 ∙ own_found)) ∙ some_stood in
           let unlike_here : has_same request.schema request.rows found ≡ false = subst (λ (f : Option (List ℕ)). has_same request.schema request.rows f ≡ false) is_found unlike in
-          let named : differs name ≡ differs own = ap (λ (n : ℕ). differs (data_file_name application n)) (sym here.0) in (
+          let named : differs name ≡ differs own = ap (λ (n : ℕ). differs (batch_file_name application n)) (sym here.0) in (
             put_as request file (Err (differs name)) here.1 is.new written.written (other_unless request.schema request.rows name found stands_here unlike_here) ∙ ap (λ (r : SinkRefusal). Err r) named,
             last.2.1.0 ∙ kept,
           )
@@ -276,33 +276,33 @@ module _ (application : List ℕ) (number : ℕ) (items : Items) (at tries : ℕ
       -- ---- where memory ran out
 
       after_filed : (front rest : Talk) (other : ℕ) (request : SinkRequest) (file : List ℕ) (answered : Told) → IsNewBatch job before front other request → IsWrittenFor request.schema request.rows file → AllReads rest
-          → talk ≡ front ++ (put_file (data_file_name application other) file, answered) ∷ rest → After (Err faults.Memory)
+          → talk ≡ front ++ (put_file (batch_file_name application other) file, answered) ∷ rest → After (Err faults.Memory)
       after_filed front rest other request file answered is written reads talked =
-          let own = data_file_name application other in
+          let own = batch_file_name application other in
           let parts = talked_behind Answers old new front ((put_file own file, answered) ∷ rest) (subst (λ (t : Talk). Talked Answers old t new) talked told) in
           let put = parts.2 in
           let here = new_found front other request parts.0 is parts.1 in
           let rested : new.0 ≡ put.0.0 = reads_quiet put.0 new rest reads put.2 in
           by_told answered parts.0 put.0 here rested put.1
         where
-          by_told : (answered : Told) (mid behind : State) → (other ≡ number) × (request_here ≡ Ok request) × (mid ≡ old) → new.0 ≡ behind.0 → Answers mid (put_file (data_file_name application other) file) answered behind → After (Err faults.Memory)
+          by_told : (answered : Told) (mid behind : State) → (other ≡ number) × (request_here ≡ Ok request) × (mid ≡ old) → new.0 ≡ behind.0 → Answers mid (put_file (batch_file_name application other) file) answered behind → After (Err faults.Memory)
           by_told (told_names names) mid behind here rested is_told = absurd is_told
           by_told (told_object got) mid behind here rested is_told = absurd is_told
           by_told told_lost mid behind here rested is_told = absurd is_told
           by_told told_memory mid behind here rested is_told = nothing application number at old.0 new.0 plan (rested ∙ (is_told.0 ∙ ap (λ (s : State). s.0) here.2))
           by_told (told_put Exists) mid behind here rested is_told =
-              let own = data_file_name application other in
+              let own = batch_file_name application other in
               let kept : behind.0 ≡ mid.0 = is_told.1.0 ∙ with_object_stands mid.0 own file (exists_some (object_at mid.0 own) is_told.0) in
               nothing application number at old.0 new.0 plan (rested ∙ (kept ∙ ap (λ (s : State). s.0) here.2))
           by_told (told_put Created) mid behind here rested is_told =
-              let own = data_file_name application other in
-              let same_name : own ≡ name = ap (λ (n : ℕ). data_file_name application n) here.0 in
+              let own = batch_file_name application other in
+              let same_name : own ≡ name = ap (λ (n : ℕ). batch_file_name application n) here.0 in
               let none : found ≡ None = ap (object_at old.0) (sym same_name) ∙ (ap (λ (s : State). object_at s.0 own) (sym here.2) ∙ created_none (object_at mid.0 own) is_told.0) in
               let size : size_behind file found ≡ length file = ap (size_behind file) none in
               let fine = reaches_fine job before front is.known is.tries (rules None) is.reaches in
               let reads_so : IsCommit (commit_text (batch_actions application number at (size_behind file found) (length request.rows))) (batch_actions application number at (size_behind file found) (length request.rows))
               = batch_reads application number at (size_behind file found) (length request.rows) utf8 (checked_small application number (items_len items) fine) at_small (rw size (omega (arith, written.limits.size))) (omega (arith, written.limits.most_rows)) in
-              let fits : unless_other request.schema request.rows name found ≡ Ok tt = ap (unless_other request.schema request.rows name) none in
+              let fits : unless_other_rows request.schema request.rows name found ≡ Ok tt = ap (unless_other_rows request.schema request.rows name) none in
               let landed : new.0 ≡ with_object old.0 name file = rested ∙ (is_told.1.0 ∙ (ap (λ (s : State). with_object s.0 own file) here.2 ∙ ap (λ (n : List ℕ). with_object old.0 n file) same_name)) in
               unfinished application number at old.0 new.0 (batch_with request file) (made_of request file written reads_so) plan (put_as request file (Ok tt) here.1 is.new written.written fits) landed
 

@@ -22,14 +22,14 @@ use Rattle.table_log.specs.declared.loading.Loaded.{Loaded}
 use Rattle.commit_core.specs.CommitSessions.{CommitEnds}
 use Rattle.commit_core.specs.declared.commit_fault.CommitFault.TheVariants as commit_faults
 use Rattle.commit_core.specs.declared.commit_state.CommitOutcome.TheVariants as outcomes
-use Rattle.batch_core.specs.Closing.{closing}
-use Rattle.batch_core.specs.Refusals.{SinkRefusal, SinkGives, bad_log, read_only, refusal_view, says, too_large}
+use Rattle.batch_core.specs.Closing.{close_actions}
+use Rattle.batch_core.specs.Refusals.{SinkRefusal, SinkGives, bad_log, read_only, sink_refusal_view, says, too_large}
 use Rattle.batch_core.specs.Requests.{SinkRequest, close_behind, named}
 use Rattle.batch_core.specs.declared.fault.SinkFault.{SinkFault}
 use Rattle.batch_core.specs.declared.fault.SinkFault.TheVariants as faults
 use Rattle.sink_core.specs.Appending.{is_past}
-use Rattle.sink_core.specs.Closes.{ClosesWell, MayClose, close_answer, close_of, close_plan, close_text, closing_version, with_close}
-use Rattle.sink_core.specs.SinkSessions.{AnswerEnds, HoldsOf, InRace, IsFine, IsUnput, LooksAt, Reaches, Readied, SinkAsks, SinkJob, appends, asked_of, close_job, closes, filed, only_read, raced, ready, repeated, rules, taken}
+use Rattle.sink_core.specs.Closes.{ClosesWell, MayClose, close_answer, close_of, close_plan, close_text, closing_version, with_close_commit}
+use Rattle.sink_core.specs.SinkSessions.{AnswerEnds, HoldsOf, InRace, IsFineJob, IsUnput, LooksAt, Reaches, Readied, SinkAsks, SinkJob, appends, asked_of, close_job, closes, filed, only_read, raced, ready, repeated, rules, taken}
 use Rattle.sink_core.specs.declared.sink_state.SinkOutcome.{SinkOutcome}
 use Rattle.sink_core.specs.declared.sink_state.SinkOutcome.TheVariants.{Committed, Already, Closed, AlreadyClosed}
 use Rattle.sink_core.proofs.Driven.{asked_behind, listed_quiet, raced_quiet, reads_quiet, ruled_quiet, undecided_quiet, unfine_behind, unread_behind}
@@ -41,7 +41,7 @@ use Rattle.sink_core.proofs.ReachLemmas.{reaches_fine}
 -- what a close that has this plan answered and left
 pub record IsClosedSo (application : List ℕ) (at : ℕ) (old new : Objects) (plan : Result (Option ℕ) SinkRefusal) (answer : Result SinkOutcome SinkFault) : Type 0 where
   pub told : SinkGives (λ given. given) answer (plan >>= close_answer)
-  pub left : answer ≢ Err faults.Memory → new ≡ with_close old application at plan
+  pub left : answer ≢ Err faults.Memory → new ≡ with_close_commit old application at plan
   pub short : answer ≡ Err faults.Memory → new ≡ old
   pub well_put : answer ≢ Err faults.Memory → ClosesWell application at plan
   pub grows : MayClose application at plan old new
@@ -53,7 +53,7 @@ great_past : (version : ℕ) → greatest_version < version → is_past version 
 great_past version great = grind (arith, nat_tests)
 
 module _ (application : List ℕ) (at : ℕ) (old new : Objects) where
-  refused : (refusal : SinkRefusal) (fault : SinkFault) (plan : Result (Option ℕ) SinkRefusal) → plan ≡ Err refusal → new ≡ old → says (refusal_view fault) ≡ refuses refusal → IsClosedSo application at old new plan (Err fault)
+  refused : (refusal : SinkRefusal) (fault : SinkFault) (plan : Result (Option ℕ) SinkRefusal) → plan ≡ Err refusal → new ≡ old → says (sink_refusal_view fault) ≡ refuses refusal → IsClosedSo application at old new plan (Err fault)
   refused refusal fault plan is same told =
       let of : IsClosedSo application at old new (Err refusal) (Err fault) = record { told = rw told refl; left = λ other. same; short = λ memory. same; well_put = λ other. tt; grows = inl same } in
       subst (λ (p : Result (Option ℕ) SinkRefusal). IsClosedSo application at old new p (Err fault)) (sym is) of
@@ -66,12 +66,12 @@ module _ (application : List ℕ) (at : ℕ) (old new : Objects) where
   nothing : (plan : Result (Option ℕ) SinkRefusal) → new ≡ old → IsClosedSo application at old new plan (Err faults.Memory)
   nothing plan same = record { told = tt; left = λ other. absurd (other refl); short = λ memory. same; well_put = λ other. absurd (other refl); grows = inl same }
 
-  module _ (version : ℕ) (made : IsCommit (close_text application at) (closing application at)) (plan : Result (Option ℕ) SinkRefusal) (is : plan ≡ Ok (Some version)) where
+  module _ (version : ℕ) (made : IsCommit (close_text application at) (close_actions application at)) (plan : Result (Option ℕ) SinkRefusal) (is : plan ≡ Ok (Some version)) where
     committed : version ≤ greatest_version → new ≡ with_object old (commit_name version) (close_text application at) → IsClosedSo application at old new plan (Ok (Closed version))
     committed small put =
         let past : is_past version ≡ false = small_past version small in
         let answers : close_answer (Some version) ≡ Ok (Closed version) = rw past refl in
-        let leaves : new ≡ with_close old application at (Ok (Some version)) = rw past put in
+        let leaves : new ≡ with_close_commit old application at (Ok (Some version)) = rw past put in
         let of : IsClosedSo application at old new (Ok (Some version)) (Ok (Closed version)) = record { told = answers; left = λ other. leaves; short = λ memory. absurd cc; well_put = λ other. made; grows = inr (made, leaves) } in
         subst (λ (p : Result (Option ℕ) SinkRefusal). IsClosedSo application at old new p (Ok (Closed version))) (sym is) of
 
@@ -79,7 +79,7 @@ module _ (application : List ℕ) (at : ℕ) (old new : Objects) where
     passed great same =
         let past : is_past version ≡ true = great_past version great in
         let answers : close_answer (Some version) ≡ Err too_large = rw past refl in
-        let leaves : new ≡ with_close old application at (Ok (Some version)) = rw past same in
+        let leaves : new ≡ with_close_commit old application at (Ok (Some version)) = rw past same in
         let of : IsClosedSo application at old new (Ok (Some version)) (Err faults.TooLarge) = record { told = answers; left = λ other. leaves; short = λ memory. same; well_put = λ other. made; grows = inl same } in
         subst (λ (p : Result (Option ℕ) SinkRefusal). IsClosedSo application at old new p (Err faults.TooLarge)) (sym is) of
 
@@ -108,16 +108,16 @@ module _ (application : List ℕ) (at tries : ℕ) (use_checkpoints : Bool) (fir
   asks commits = close_behind (commit_count old.0) commits application
 
   -- the rules over the log that was loaded
-  request_at : (known : Loaded) → IsFine job → (is : IsLoaded use_checkpoints old.0 known) (said : Result SinkRequest SinkRefusal) → close_behind known.next is.commits application ≡ said → request_here ≡ said
+  request_at : (known : Loaded) → IsFineJob job → (is : IsLoaded use_checkpoints old.0 known) (said : Result SinkRequest SinkRefusal) → close_behind known.next is.commits application ≡ said → request_here ≡ said
   unfolding close_of
   request_at known fine is said asked =
       asked_behind (named application) (replayed use_checkpoints old.0) asks is.commits fine is.read
       ∙ (ap (λ (next : ℕ). close_behind next is.commits application) (sym is.next) ∙ asked)
 
-  request_is : (known : Loaded) → IsFine job → IsLoaded use_checkpoints old.0 known → (said : Result SinkRequest SinkRefusal) → HoldsOf known (λ log. asked_of job known.next log ≡ said) → request_here ≡ said
+  request_is : (known : Loaded) → IsFineJob job → IsLoaded use_checkpoints old.0 known → (said : Result SinkRequest SinkRefusal) → HoldsOf known (λ log. asked_of job known.next log ≡ said) → request_here ≡ said
   request_is known fine is said asked = request_at known fine is said (asked is.commits is.snapshot)
 
-  unread : (version : ℕ) → IsFine job → replayed use_checkpoints old.0 ≡ Err version → request_here ≡ Err (bad_log version)
+  unread : (version : ℕ) → IsFineJob job → replayed use_checkpoints old.0 ≡ Err version → request_here ≡ Err (bad_log version)
   unfolding close_of
   unread version fine is = unread_behind (named application) (replayed use_checkpoints old.0) asks version fine is
 
@@ -140,10 +140,10 @@ module _ (application : List ℕ) (at tries : ℕ) (use_checkpoints : Bool) (fir
   -- The close that is put where its commit may be.
   pub record IsPut (now : State) (known : Loaded) (readied : Readied) : Type 0 where
     pub is : plan ≡ Ok (Some known.next)
-    pub made : IsCommit (close_text application at) (closing application at)
+    pub made : IsCommit (close_text application at) (close_actions application at)
     pub same : now ≡ old
 
-  ready_put : (now : State) (known : Loaded) (count : ℕ) (readied : Readied) → IsFine job → QuietReady job old now known count readied → IsPut now known readied
+  ready_put : (now : State) (known : Loaded) (count : ℕ) (readied : Readied) → IsFineJob job → QuietReady job old now known count readied → IsPut now known readied
   ready_put now known count readied fine is =
       let request = is.request in
       let here = request_is known fine is.is (Ok request) is.asked in
@@ -181,18 +181,18 @@ module _ (application : List ℕ) (at tries : ℕ) (use_checkpoints : Bool) (fir
       -- ---- the rules
 
       after_rules : (refusal : SinkRefusal) (fault : SinkFault) (known : Loaded) (left : ℕ) (readied : Option Readied) → Reaches job before talk known left (rules readied) → HoldsOf known (λ log. asked_of job known.next log ≡ Err refusal)
-          → says (refusal_view fault) ≡ refuses refusal → After (Err fault)
+          → says (sink_refusal_view fault) ≡ refuses refusal → After (Err fault)
       after_rules refusal fault known left readied reaches asked told_as =
           let quiet = ruled_quiet job before old bears some new talk known left readied reaches told in
           let fine = reaches_fine job before talk known left (rules readied) reaches in
           refused application at old.0 new.0 refusal fault plan (refused_plan refusal (request_is known fine quiet.1 (Err refusal) asked)) (ap (λ (s : State). s.0) quiet.0) told_as
 
-      after_bad : (version : ℕ) → IsFine job → IsBadBehind job.load before talk version → After (Err (faults.BadLog version))
+      after_bad : (version : ℕ) → IsFineJob job → IsBadBehind job.load before talk version → After (Err (faults.BadLog version))
       after_bad version fine bad =
           let quiet = listed_quiet old new talk bad.names bad.listed may in
           refused application at old.0 new.0 (bad_log version) (faults.BadLog version) plan (refused_plan (bad_log version) (unread version fine (bad.whole old.0 bears quiet.0))) quiet.1.0 refl
 
-      after_unfine : (refusal : SinkRefusal) (fault : SinkFault) → talk ≡ [] → named application ≡ Err refusal → says (refusal_view fault) ≡ refuses refusal → After (Err fault)
+      after_unfine : (refusal : SinkRefusal) (fault : SinkFault) → talk ≡ [] → named application ≡ Err refusal → says (sink_refusal_view fault) ≡ refuses refusal → After (Err fault)
       after_unfine refusal fault none wrong told_as =
           let same : new ≡ old = subst (λ (t : Talk). Talked Answers old t new) none told in
           refused application at old.0 new.0 refusal fault plan (refused_plan refusal (unfine refusal wrong)) (ap (λ (s : State). s.0) same) told_as

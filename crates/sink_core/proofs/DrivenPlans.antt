@@ -16,8 +16,8 @@ use Rattle.delta_replay.specs.Closes.{is_closed}
 use Rattle.delta_replay.specs.Keys.{last_number}
 use Rattle.delta_replay.specs.Support.{writable}
 use Rattle.batch_core.specs.Committing.{greatest_number}
-use Rattle.batch_core.specs.Refusals.{SinkRefusal, SinkGives, differs, read_only, refusal_view, says, stream_closed, too_large}
-use Rattle.batch_core.specs.Requests.{SinkRequest, checked, has_same, is_repeat, named, request_behind, unless_other, where_same}
+use Rattle.batch_core.specs.Refusals.{SinkRefusal, SinkGives, differs, read_only, sink_refusal_view, says, stream_closed, too_large}
+use Rattle.batch_core.specs.Requests.{SinkRequest, checked, has_same, is_repeat, named, request_behind, unless_other_rows, where_same}
 use Rattle.batch_core.specs.RowsIn.{rows_from, takes_rows}
 use Rattle.batch_core.specs.declared.fault.SinkFault.{SinkFault}
 use Rattle.batch_core.specs.declared.fault.SinkFault.TheVariants as faults
@@ -43,7 +43,7 @@ great_past : (version : ℕ) → greatest_version < version → is_past version 
 great_past version great = grind (arith, nat_tests)
 
 module _ (application : List ℕ) (number at : ℕ) (old new : Objects) where
-  pub refused : (refusal : SinkRefusal) (fault : SinkFault) (plan : Result AppendPlan SinkRefusal) → plan ≡ Err refusal → new ≡ old → says (refusal_view fault) ≡ refuses refusal → Appended application number at old new plan (Err fault)
+  pub refused : (refusal : SinkRefusal) (fault : SinkFault) (plan : Result AppendPlan SinkRefusal) → plan ≡ Err refusal → new ≡ old → says (sink_refusal_view fault) ≡ refuses refusal → Appended application number at old new plan (Err fault)
   refused refusal fault plan is same told =
       let of : Appended application number at old new (Err refusal) (Err fault) = record { told = rw told refl; left = λ other. same; short = λ memory. inl same; well_put = λ other. tt; grows = inl same } in
       subst (λ (p : Result AppendPlan SinkRefusal). Appended application number at old new p (Err fault)) (sym is) of
@@ -133,7 +133,7 @@ pub other_where : (schema : Tree) (rows : List Row) (name : List ℕ) (found : O
 other_where schema rows name None is = refl
 other_where schema rows name (Some old) is = ap (λ (b : Bool). refused_if (not b) (differs name)) is
 
-pub other_unless : (schema : Tree) (rows : List Row) (name : List ℕ) (found : Option (List ℕ)) → is_some found ≡ true → has_same schema rows found ≡ false → unless_other schema rows name found ≡ Err (differs name)
+pub other_unless : (schema : Tree) (rows : List Row) (name : List ℕ) (found : Option (List ℕ)) → is_some found ≡ true → has_same schema rows found ≡ false → unless_other_rows schema rows name found ≡ Err (differs name)
 other_unless schema rows name None some is = absurd cc
 other_unless schema rows name (Some old) some is = ap (λ (b : Bool). refused_if (not b) (differs name)) is
 

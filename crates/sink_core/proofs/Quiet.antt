@@ -23,16 +23,16 @@ use Rattle.table_log.specs.LoadSessions.{HasListed}
 use Rattle.table_log.specs.declared.loading.Loaded.{Loaded}
 use Rattle.commit_core.proofs.Callers.{commit_name-data_file_name}
 use Rattle.commit_core.specs.Commits.{commit_text}
-use Rattle.commit_core.specs.CommitSessions.{CommitEnds, CommitJob, ComesTo, IsUnfinished, Winner, got_told, put_told, taken}
+use Rattle.commit_core.specs.CommitSessions.{CommitEnds, CommitJob, ComesTo, IsUnfinished, Winner, got_told, put_told_at, taken}
 use Rattle.commit_core.specs.declared.commit_fault.CommitFault.{CommitFault}
 use Rattle.commit_core.specs.declared.commit_fault.CommitFault.TheVariants as commit_faults
 use Rattle.commit_core.specs.declared.commit_state.CommitOutcome.{CommitOutcome}
 use Rattle.commit_core.specs.declared.commit_state.CommitOutcome.TheVariants as outcomes
-use Rattle.batch_core.specs.Committing.{data_file_name}
+use Rattle.batch_core.specs.Committing.{batch_file_name}
 use Rattle.batch_core.specs.Refusals.{SinkRefusal, differs}
-use Rattle.batch_core.specs.Requests.{SinkRequest, IsWrittenFor, unless_other}
+use Rattle.batch_core.specs.Requests.{SinkRequest, IsWrittenFor, unless_other_rows}
 use Rattle.sink_core.specs.Appending.{size_behind}
-use Rattle.sink_core.specs.SinkSessions.{HoldsOf, IsUndecided, Point, PutsFile, Reaches, Readied, Readies, SinkAsks, SinkJob, SinkTask, actions_of, anew, appends, asked_of, closes, conflicts, file_of, goes_on, loaded, race_of, ready, rules, readied_by, readies, stood}
+use Rattle.sink_core.specs.SinkSessions.{HoldsOf, IsUndecided, Point, PutsFile, Reaches, Readied, Readies, SinkAsks, SinkJob, SinkTask, commit_actions, anew, appends, asked_of, closes, conflicts, file_of, goes_on, loaded, race_of, ready, rules, readied_by, readies, stood}
 use Rattle.sink_core.proofs.LogEnd.{log_end}
 
 -- what its commit needs is readied: the batch's file stands besides what stood, and where one stood it has the same rows; for a close
@@ -41,7 +41,7 @@ abbrev pub QuietReadied : SinkJob → (old now : State) → SinkRequest → Read
 QuietReadied job old now request readied = by_task job.task
   where
     by_task : SinkTask → Type 0
-    by_task (appends number items) = (file : List ℕ) × IsWrittenFor request.schema request.rows file × (unless_other request.schema request.rows (file_of job number) (object_at old.0 (file_of job number)) ≡ Ok tt)
+    by_task (appends number items) = (file : List ℕ) × IsWrittenFor request.schema request.rows file × (unless_other_rows request.schema request.rows (file_of job number) (object_at old.0 (file_of job number)) ≡ Ok tt)
         × (readied ≡ readied_by request (size_behind file (object_at old.0 (file_of job number)))) × (now ≡ (with_object old.0 (file_of job number) file, old.1))
     by_task closes = (readied ≡ readied_by request 0) × (now ≡ old)
 
@@ -53,7 +53,7 @@ pub record QuietReady (job : SinkJob) (old now : State) (known : Loaded) (tries 
   pub asked : HoldsOf known (λ log. asked_of job known.next log ≡ Ok request)
   pub new : request.repeats ≡ false
   pub needs : QuietReadied job old now request readied
-  pub reads : IsCommit (commit_text (actions_of job readied)) (actions_of job readied)
+  pub reads : IsCommit (commit_text (commit_actions job readied)) (commit_actions job readied)
 
 -- What stands where a session has come to a point: behind the load what stood, and once its commit may be put its file besides. It
 -- doesn't come to the rules again.
@@ -215,7 +215,7 @@ module _ (put : CommitJob) (race : Talk) (mid new : State) (told : Talked Answer
   unfinished_leaves : (version : ℕ) (behind : Talk) → IsUnfinished put version behind → Talked Answers mid behind new → new ≡ mid
   unfinished_leaves version behind (inl none) is = subst (λ (t : Talk). Talked Answers mid t new) none is
   unfinished_leaves version behind (inr (inl (one, other, talked))) is =
-      let last : Talked Answers mid (put_told put version one) new = subst (λ (t : Talk). Talked Answers mid t new) talked is in
+      let last : Talked Answers mid (put_told_at put version one) new = subst (λ (t : Talk). Talked Answers mid t new) talked is in
       last.2 ∙ put_leaves mid last.0 (commit_name version) put.bytes one other last.1
   unfinished_leaves version behind (inr (inr (one, talked))) is =
       let last : Talked Answers mid (got_told put version one) new = subst (λ (t : Talk). Talked Answers mid t new) talked is in
@@ -236,7 +236,7 @@ module _ (put : CommitJob) (before race : Talk) (mid new : State) (some : 1 ≤ 
   -- they create it at that version, or end without it
   pub quiet_race : AllSmall race → (outcome : Result CommitOutcome CommitFault) → CommitEnds put before race outcome → QuietRace put mid new outcome
   quiet_race small (Ok (outcomes.Committed version winners)) ends =
-      let behind = put_told put version (told_put Created) in
+      let behind = put_told_at put version (told_put Created) in
       let last = behind_winners put race mid new told version _ behind ends in
       let fits : version ≤ greatest_version = (small_last put race mid new told version _ behind small ends).0 in
       let first : version ≡ put.version = at_first put race mid new told (free (omega (arith, ends.at, fits))) version _ behind ends in
@@ -256,15 +256,15 @@ module _ (put : CommitJob) (before race : Talk) (mid new : State) (some : 1 ≤ 
       let behind = got_told put version (told_object ends.1) in
       let fits : version ≤ greatest_version = (small_last put race mid new told version ends.0 behind small ends.2).0 in
       not_taken put race mid new told (free (omega (arith, ends.2.at, fits))) version ends.0 (told_object ends.1) ends.2
-  quiet_race small (Err (commit_faults.Lost (Some version))) ends = (behind_winners put race mid new told version ends.0 (put_told put version told_lost) ends.1).1
+  quiet_race small (Err (commit_faults.Lost (Some version))) ends = (behind_winners put race mid new told version ends.0 (put_told_at put version told_lost) ends.1).1
   quiet_race small (Err (commit_faults.Lost None)) ends = (behind_winners put race mid new told ends.0 ends.1 (got_told put ends.0 told_lost) ends.2).2.1
   quiet_race small (Err commit_faults.Memory) ends = quiet_undecided ends
 
 -- ---- points
 
 -- no commit is named as a batch's file
-commit_apart : (version : ℕ) (application : List ℕ) (number : ℕ) → commit_name version ≢ data_file_name application number
-unfolding data_file_name
+commit_apart : (version : ℕ) (application : List ℕ) (number : ℕ) → commit_name version ≢ batch_file_name application number
+unfolding batch_file_name
 commit_apart version application number = commit_name-data_file_name version application number
 
 -- no commit stands besides a batch's file where none stood
@@ -281,7 +281,7 @@ needs_free job old now request readied version needs free = by_task job.task nee
 module _ (name : List ℕ) (request : SinkRequest) (old now : State) where
   -- what is so of the file that was put, and of the size of the one that stands
   abbrev QuietFile : (size : ℕ) → Type 0
-  QuietFile size = (file : List ℕ) × IsWrittenFor request.schema request.rows file × (unless_other request.schema request.rows name (object_at old.0 name) ≡ Ok tt)
+  QuietFile size = (file : List ℕ) × IsWrittenFor request.schema request.rows file × (unless_other_rows request.schema request.rows name (object_at old.0 name) ≡ Ok tt)
       × (readied_by request size ≡ readied_by request (size_behind file (object_at old.0 name))) × (now ≡ (with_object old.0 name file, old.1))
 
   quiet_file : (calls : Talk) (size : ℕ) → PutsFile name request calls size → Talked Answers old calls now → QuietFile size
@@ -290,7 +290,7 @@ module _ (name : List ℕ) (request : SinkRequest) (old now : State) where
       let landed : told.0 ≡ (with_object old.0 name file, old.1) = λ i. (told.1.1.0 i, told.1.1.1 i) in (
         file,
         written,
-        ap (λ (found : Option (List ℕ)). unless_other request.schema request.rows name found) none,
+        ap (λ (found : Option (List ℕ)). unless_other_rows request.schema request.rows name found) none,
         ap (λ (found : Option (List ℕ)). readied_by request (size_behind file found)) (sym none),
         told.2 ∙ landed,
       )
@@ -301,7 +301,7 @@ module _ (name : List ℕ) (request : SinkRequest) (old now : State) where
       let left : told.2.0 ≡ told.0 = get_leaves told.0 told.2.0 name (told_object (Some bytes)) told.2.1 in (
         file,
         written,
-        ap (λ (kept : Option (List ℕ)). unless_other request.schema request.rows name kept) found ∙ ap (λ (b : Bool). refused_if {E = SinkRefusal} (not b) (differs name)) same,
+        ap (λ (kept : Option (List ℕ)). unless_other_rows request.schema request.rows name kept) found ∙ ap (λ (b : Bool). refused_if {E = SinkRefusal} (not b) (differs name)) same,
         ap (λ (kept : Option (List ℕ)). readied_by request (size_behind file kept)) (sym found),
         told.2.2 ∙ (left ∙ landed),
       )

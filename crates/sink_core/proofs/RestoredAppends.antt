@@ -13,7 +13,7 @@ use Rattle.table_log.proofs.Callers.{same_values, replayed_alike}
 use Rattle.batch_core.specs.Requests.{SinkRequest, checked, close_behind, named, request_behind}
 use Rattle.batch_core.specs.Refusals.{SinkRefusal, bad_log}
 use Rattle.sink_core.specs.Appending.{AppendPlan, plan_answer, appended_by, request_of, append_plan, plan_of}
-use Rattle.sink_core.specs.Closes.{close_answer, close_of, close_plan, closed_by, closing_version}
+use Rattle.sink_core.specs.Closes.{close_answer, close_of, close_plan, stream_closed_by, closing_version}
 
 -- behind logs that leave the same for each key the same is asked
 pub request_same : (log other : List (List Action)) → ((key : Key) → at key log ≡ at key other) → (next : ℕ) (application : List ℕ) (number : ℕ) (items : Items)
@@ -69,5 +69,5 @@ module _ (use_checkpoints : Bool) (objects : Objects) (well : RestoresWell use_c
   close_plan_alike = ap (λ (asked : Result SinkRequest SinkRefusal). asked >>= λ request. Ok (closing_version request)) close_alike
 
   -- what it answers
-  pub closed_alike : closed_by use_checkpoints objects application ≡ closed_by false objects application
+  pub closed_alike : stream_closed_by use_checkpoints objects application ≡ stream_closed_by false objects application
   closed_alike = ap (λ (plan : Result (Option ℕ) SinkRefusal). plan >>= close_answer) close_plan_alike

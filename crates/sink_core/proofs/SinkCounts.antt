@@ -14,7 +14,7 @@ use Rattle.batch_core.specs.Requests.{SinkRequest}
 use Rattle.batch_core.specs.declared.fault.SinkFault.{SinkFault}
 use Rattle.batch_core.specs.declared.fault.SinkFault.TheVariants as faults
 use Rattle.sink_core.specs.SinkLaws.{versions_taken}
-use Rattle.sink_core.specs.SinkSessions.{AnswerEnds, HoldsOf, InRace, IsOldBatch, IsNoCommitPut, LooksAt, Point, PutsFile, Reaches, Readied, Readies, SinkAsks, SinkJob, SinkTask, actions_of, anew, appends, asked_of, closes, conflicts, file_of, goes_on, loaded, race_of, ready, repeated, rules, readied_by, readies, stood}
+use Rattle.sink_core.specs.SinkSessions.{AnswerEnds, HoldsOf, InRace, IsOldBatch, IsNoCommitPut, LooksAt, Point, PutsFile, Reaches, Readied, Readies, SinkAsks, SinkJob, SinkTask, commit_actions, anew, appends, asked_of, closes, conflicts, file_of, goes_on, loaded, race_of, ready, repeated, rules, readied_by, readies, stood}
 use Rattle.sink_core.specs.SinkSessions as talks
 use Rattle.sink_core.specs.declared.sink_state.SinkOutcome.{SinkOutcome}
 

@@ -13,18 +13,18 @@ use Rattle.delta_replay.specs.Support.{writable}
 use Rattle.table_log.specs.Loads.{IsFront, checkpoint_of}
 use Rattle.table_log.specs.declared.loading.Loaded.{Loaded}
 use Rattle.commit_core.specs.Commits.{commit_text}
-use Rattle.commit_core.specs.CommitSessions.{CommitEnds, CommitJob, ComesTo, HoldsOfCommit, IsUnfinished, commits_view, got_told, put_told, taken}
+use Rattle.commit_core.specs.CommitSessions.{CommitEnds, CommitJob, ComesTo, HoldsOfCommit, IsUnfinished, commits_view, got_told, put_told_at, taken}
 use Rattle.commit_core.specs.declared.commit_fault.CommitFault.{CommitFault}
 use Rattle.commit_core.specs.declared.commit_state.CommitOutcome.{CommitOutcome}
 use Rattle.commit_core.specs.declared.commit_state.CommitOutcome.TheVariants as outcomes
 use Rattle.commit_core.proofs.Callers.{bears_end, bears_front}
-use Rattle.batch_core.specs.Requests.{SinkRequest, has_same, numbered}
+use Rattle.batch_core.specs.Requests.{SinkRequest, has_same, numbered_behind}
 use Rattle.batch_core.specs.RowsIn.{rows_from}
 use Rattle.batch_core.specs.declared.fault.SinkFault.{SinkFault}
 use Rattle.batch_core.specs.declared.fault.SinkFault.TheVariants as faults
 use Rattle.batch_core.proofs.Callers.{HasRead, asked_parts, numbered_parts, reads_as_file, repeats_last}
-use Rattle.sink_core.specs.SinkLaws.{FileOfItems, HadSchema, IsCommittedIn, IsCommitOfJob, IsFileOfJob, StandsIn, TellsCommit, WasSo}
-use Rattle.sink_core.specs.SinkSessions.{AnswerEnds, HoldsOf, InRace, IsOldBatch, IsNoCommitPut, LooksAt, Point, PutsFile, Reaches, Readied, Readies, SinkAsks, SinkJob, SinkTask, actions_of, anew, appends, asked_of, closes, conflicts, file_of, goes_on, loaded, race_of, ready, repeated, rules, readied_by, readies, stood}
+use Rattle.sink_core.specs.SinkLaws.{FileOfItems, HadSchema, IsCommittedIn, IsCommitOfJob, IsFileOfJob, BatchStandsIn, TellsCommit, WasSo}
+use Rattle.sink_core.specs.SinkSessions.{AnswerEnds, HoldsOf, InRace, IsOldBatch, IsNoCommitPut, LooksAt, Point, PutsFile, Reaches, Readied, Readies, SinkAsks, SinkJob, SinkTask, commit_actions, anew, appends, asked_of, closes, conflicts, file_of, goes_on, loaded, race_of, ready, repeated, rules, readied_by, readies, stood}
 use Rattle.sink_core.specs.SinkSessions as talks
 use Rattle.sink_core.specs.declared.sink_state.SinkOutcome.{SinkOutcome}
 use Rattle.sink_core.specs.declared.sink_state.SinkOutcome.TheVariants.{Already, AlreadyClosed, Closed, Committed}
@@ -53,7 +53,7 @@ module _ (objects : Objects) (job : SinkJob) (before : Talk) (number : ℕ) (ite
   known_front talk known tries point bears reaches = reaches_known job before talk known tries point reaches objects borne bears
 
   asked_here : (known : Loaded) (request : SinkRequest) (front : IsFront objects known) → HoldsOf known (λ log. asked_of job known.next log ≡ Ok request)
-      → HasRead front.1.commits items request.schema request.rows × (numbered front.1.commits job.application number ≡ Ok request.repeats) × (request.version ≡ known.next)
+      → HasRead front.1.commits items request.schema request.rows × (numbered_behind front.1.commits job.application number ≡ Ok request.repeats) × (request.version ≡ known.next)
   asked_here known request front asked =
       asked_parts known.next front.1.commits job.application number items request
       (subst (λ (t : SinkTask). asked_of (record job { task = t }) known.next front.1.commits ≡ Ok request) task (asked front.1.commits front.1.snapshot))
@@ -124,14 +124,14 @@ module _ (objects : Objects) (job : SinkJob) (before : Talk) (number : ℕ) (ite
 
 module _ (objects : Objects) (job : SinkJob) (before : Talk) (borne : Bears objects before) where
   -- its commit is that of its job, with the size of the file that stands
-  pub commit_of_job : (talk : Talk) (known : Loaded) (tries : ℕ) (readied : Readied) → Bears objects talk → Reaches job before talk known tries (ready readied) → IsCommitOfJob objects job (commit_text (actions_of job readied))
+  pub commit_of_job : (talk : Talk) (known : Loaded) (tries : ℕ) (readied : Readied) → Bears objects talk → Reaches job before talk known tries (ready readied) → IsCommitOfJob objects job (commit_text (commit_actions job readied))
   commit_of_job talk known tries readied bears reaches = by_task job.task refl
     where
-      by_task : (task : SinkTask) → job.task ≡ task → IsCommitOfJob objects job (commit_text (actions_of job readied))
+      by_task : (task : SinkTask) → job.task ≡ task → IsCommitOfJob objects job (commit_text (commit_actions job readied))
       by_task (appends number items) is =
-          subst (λ (t : SinkTask). IsCommitOfJob objects (record job { task = t }) (commit_text (actions_of (record job { task = t }) readied))) (sym is)
+          subst (λ (t : SinkTask). IsCommitOfJob objects (record job { task = t }) (commit_text (commit_actions (record job { task = t }) readied))) (sym is)
           (readied.size, length readied.rows, refl, file_stands objects job before number items is borne talk known tries (ready readied) readied (inl refl) bears reaches)
-      by_task closes is = subst (λ (t : SinkTask). IsCommitOfJob objects (record job { task = t }) (commit_text (actions_of (record job { task = t }) readied))) (sym is) refl
+      by_task closes is = subst (λ (t : SinkTask). IsCommitOfJob objects (record job { task = t }) (commit_text (commit_actions (record job { task = t }) readied))) (sym is) refl
 
   pub puts_own_commit : (talk : Talk) (version : ℕ) (bytes : List ℕ) → Bears objects talk → SinkAsks job before talk (put_commit version bytes) → IsCommitOfJob objects job bytes
   puts_own_commit talk version bytes bears asks =
@@ -152,11 +152,11 @@ module _ (objects : Objects) (job : SinkJob) (before : Talk) (borne : Bears obje
   -- its commit stands at the version that it tells
   committed_stands : (talk : Talk) (P : CommitJob → Talk → Type 0) (r : InRace job before talk P) (version : ℕ) → Bears objects talk → object_at objects (commit_name version) ≡ Some (race_of job r.readied r.known.next r.tries).bytes → IsCommittedIn objects job version
   committed_stands talk P r version bears stands =
-      (commit_text (actions_of job r.readied), stands, commit_of_job r.front r.known r.tries r.readied (bears_front objects r.front r.race (subst (Bears objects) r.talked bears)) r.reaches)
+      (commit_text (commit_actions job r.readied), stands, commit_of_job r.front r.known r.tries r.readied (bears_front objects r.front r.race (subst (Bears objects) r.talked bears)) r.reaches)
 
   -- what stands under the name that was got has the rows of the batch
   found_stands : (talk front : Talk) (number : ℕ) (request : SinkRequest) (found : Option (List ℕ)) → IsOldBatch job before front number request → Bears objects (front ++ (get_object (file_of job number), told_object found) ∷ [])
-      → has_same request.schema request.rows found ≡ true → StandsIn objects job number
+      → has_same request.schema request.rows found ≡ true → BatchStandsIn objects job number
   found_stands talk front number request None is bears same = absurd cc
   found_stands talk front number request (Some bytes) is bears same =
       let call : Talk = (get_object (file_of job number), told_object (Some bytes)) ∷ [] in
@@ -184,7 +184,7 @@ module _ (objects : Objects) (job : SinkJob) (before : Talk) (borne : Bears obje
       )
 
   -- where it tells that its batch stands already, such a file stands
-  pub already_stands : (talk : Talk) (number : ℕ) → Bears objects talk → AnswerEnds job before talk (Ok (Already number)) → StandsIn objects job number
+  pub already_stands : (talk : Talk) (number : ℕ) → Bears objects talk → AnswerEnds job before talk (Ok (Already number)) → BatchStandsIn objects job number
   already_stands talk number bears ends = found_stands talk ends.0 number ends.1 ends.2 ends.3 (subst (Bears objects) ends.4 bears) ends.5
 
   -- where it tells that its commit was put, that stands; the puts of a commit tell no less
@@ -250,7 +250,7 @@ module _ (job : SinkJob) (before talk : Talk) (version : ℕ) (bytes : List ℕ)
         never (subst NotCreated (sym r.talked) (race_uncreated own_put r.front r.race at commits behind (reaches_uncreated job before r.front r.known r.tries (ready r.readied) r.reaches) comes is))
 
     -- where its commit was put, that is the put which created it
-    race_ends : (at : ℕ) (commits : List (List Action)) → ComesTo own_put r.race at commits (put_told own_put at (told_put Created)) → at ≡ version
+    race_ends : (at : ℕ) (commits : List (List Action)) → ComesTo own_put r.race at commits (put_told_at own_put at (told_put Created)) → at ≡ version
     race_ends at commits comes =
         let put = (put_commit at own_put.bytes, told_put Created) ∷ [] in
         let gone = taken own_put.version own_put.bytes comes.winners in
@@ -277,7 +277,7 @@ module _ (job : SinkJob) (before talk : Talk) (version : ℕ) (bytes : List ℕ)
   created_told (Err (faults.SchemaChanged at)) ends = at_no_point ends.0.1.known ends.0.1.tries (rules (Some ends.0.0)) ends.0.1.reaches
   created_told (Err (faults.Contended newest)) (inl ready_for) = at_no_point ready_for.0 0 (ready ready_for.1) ready_for.2
   created_told (Err (faults.Contended newest)) (inr r) = race_never _ r (suc newest) (commits_view r.holds.0) [] r.holds.1.0 (inl refl)
-  created_told (Err (faults.Lost (Some at))) r = race_never _ r at r.holds.0 (put_told (race_of job r.readied r.known.next r.tries) at told_lost) r.holds.1 (inr (inl (told_lost, (λ e. absurd cc), refl)))
+  created_told (Err (faults.Lost (Some at))) r = race_never _ r at r.holds.0 (put_told_at (race_of job r.readied r.known.next r.tries) at told_lost) r.holds.1 (inr (inl (told_lost, (λ e. absurd cc), refl)))
   created_told (Err (faults.Lost None)) ends = never (subst NotCreated (sym ends.talked) (other_uncreated ends.front ends.asked ends.other))
   created_told (Err faults.Memory) ends = never (unput_uncreated job before created ends)
 
@@ -289,6 +289,6 @@ module _ (job : SinkJob) (before talk : Talk) (version : ℕ) (bytes : List ℕ)
   created_quiet (get_object name) (fine, inr (inl (request, talks.taken front _ number _ file is written talked))) =
       never (subst NotCreated (sym talked) (file_uncreated front (file_of job number) file (told_put Exists)))
   created_quiet (get_object name) (fine, inr (inr r)) =
-      race_never _ r r.holds.0 r.holds.1 (put_told (race_of job r.readied r.known.next r.tries) r.holds.0 (told_put Exists)) r.holds.2 (inr (inl (told_put Exists, (λ e. absurd cc), refl)))
+      race_never _ r r.holds.0 r.holds.1 (put_told_at (race_of job r.readied r.known.next r.tries) r.holds.0 (told_put Exists)) r.holds.2 (inr (inl (told_put Exists, (λ e. absurd cc), refl)))
   created_quiet (put_file name file) (fine, puts) = at_no_point puts.is.known puts.is.tries (rules None) puts.is.reaches
   created_quiet (put_commit at text) (fine, r) = race_never _ r at r.holds.0 [] r.holds.1 (inl refl)

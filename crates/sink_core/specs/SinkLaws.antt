@@ -14,7 +14,7 @@ use Rattle.table_log.specs.Counts.{commit_count}
 use Rattle.table_log.specs.Loads.{IsFrom, replayed_below}
 use Rattle.table_log.specs.Restoring.{Restored}
 use Rattle.commit_core.specs.Commits.{commit_text}
-use Rattle.batch_core.specs.Closing.{closing}
+use Rattle.batch_core.specs.Closing.{close_actions}
 use Rattle.batch_core.specs.Committing.{batch_actions}
 use Rattle.batch_core.specs.Requests.{IsWrittenFor, has_same}
 use Rattle.batch_core.specs.RowsIn.{rows_from}
@@ -60,7 +60,7 @@ IsCommitOfJob objects job bytes = by_task job.task
   where
     by_task : SinkTask → Type 0
     by_task (appends number items) = (size : ℕ) × (rows : ℕ) × (bytes ≡ commit_text (batch_actions job.application number job.at size rows)) × FileOfItems objects (file_of job number) items size rows
-    by_task closes = bytes ≡ commit_text (closing job.application job.at)
+    by_task closes = bytes ≡ commit_text (close_actions job.application job.at)
 
 -- The file of an append is written for its rows, as they are spelled for a schema that the table had, under the batch's name; a close
 -- has none.
@@ -92,8 +92,8 @@ IsCommittedIn objects job version = (bytes : List ℕ) × (object_at objects (co
 
 -- The batch of that number is the job's; its number was the last one of the application at some version of the table; and a file of its
 -- rows stands under its name.
-abbrev pub StandsIn : Objects → SinkJob → (number : ℕ) → Type 0
-StandsIn objects job number =
+abbrev pub BatchStandsIn : Objects → SinkJob → (number : ℕ) → Type 0
+BatchStandsIn objects job number =
     (items : Items) × (job.task ≡ appends number items) × WasSo objects (λ log. last_number job.application log ≡ Some number) × ((size : ℕ) × (rows : ℕ) × FileOfItems objects (file_of job number) items size rows)
 
 -- how many puts of a commit found their version taken

@@ -1,5 +1,5 @@
 //! The sink of a table: batches of rows are appended, and streams closed, each by a session that loads the log, puts
-//! what the rules let be put, and goes past the commits of others; and over one store, which drives such a session.
+//! what the rules let be put, and goes past the commits of others.
 #![tactic(auto)]
 
 mod filing;
@@ -8,7 +8,6 @@ mod rules;
 mod sink_laws;
 mod sink_session;
 mod sink_state;
-mod sinking;
 
 pub use batch_core::{GREATEST_NUMBER, MOST_ID_BYTES, MOST_ROWS, SinkFault};
 pub use sink_laws::{
@@ -16,4 +15,3 @@ pub use sink_laws::{
     a_sink_hands_back_what_it_learnt, what_a_sink_may,
 };
 pub use sink_state::{Readied, SinkEnd, SinkOutcome, SinkSession, SinkStage, SinkTask};
-pub use sinking::{append, close};

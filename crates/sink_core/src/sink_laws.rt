@@ -6,7 +6,7 @@ ghost use Rattle.store_core.specs.declared.store.Put.TheVariants.{Created};
 ghost use Rattle.session_core.specs.Sessions.{AllAsked};
 ghost use Rattle.session_core.specs.Talks.{Asked, Bears, Talk, list_names, put_commit, put_file, told_names, told_put};
 ghost use Rattle.batch_core.specs.declared.fault.SinkFault.TheVariants.{Contended};
-ghost use Rattle.sink_core.specs.SinkLaws.{IsBehindRules, IsCommittedIn, IsCommitOfJob, IsFileOfJob, StandsIn, TellsCommit, versions_taken};
+ghost use Rattle.sink_core.specs.SinkLaws.{IsBehindRules, IsCommittedIn, IsCommitOfJob, IsFileOfJob, BatchStandsIn, TellsCommit, versions_taken};
 ghost use Rattle.sink_core.specs.SinkSessions.{HandsBack, SinkAsks, SinkEnds, SinkJob};
 ghost use Rattle.sink_core.specs.declared.sink_state.SinkEnd.{SinkEnd};
 ghost use Rattle.sink_core.specs.declared.sink_state.SinkOutcome.TheVariants.{Already};
@@ -26,7 +26,7 @@ pub fn what_a_sink_may()
     ensures committed { (objects : Objects) (job : SinkJob) (before talk : Talk) (end : SinkEnd) (version : ℕ) → Bears objects before → Bears objects talk → SinkEnds job before talk end → TellsCommit end.answer version
         → IsCommittedIn objects job version }
     ensures already { (objects : Objects) (job : SinkJob) (before talk : Talk) (end : SinkEnd) (number : ℕ) → Bears objects before → Bears objects talk → SinkEnds job before talk end → end.answer ≡ Ok (Already number)
-        → StandsIn objects job number }
+        → BatchStandsIn objects job number }
 {
     what_a_commit_may();
 }

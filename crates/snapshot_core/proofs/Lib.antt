@@ -5,3 +5,4 @@ pub mod FrontLemmas
 pub mod KnownLemmas
 pub mod LogLemmas
 pub mod RestoredLaws
+pub mod ToldLemmas

@@ -13,8 +13,8 @@ use Rattle.delta_replay.specs.Support.{Unsupported, checkpointable, readable}
 use Rattle.table_log.specs.Restoring.{AreAlike, AreCheckpointsSound, IsSoundCheckpoint, RestoresWell, replayed}
 use Rattle.table_log.specs.Versions.{commits_in, log_of, versions_from}
 use Rattle.table_log.proofs.Callers.{own_checkpoint, same_values, replayed_alike, sound_with, whole_log}
-use Rattle.snapshot_core.specs.Faults.{Reason, bad_log, checked, readable_log, says, unsupported}
-use Rattle.snapshot_core.specs.Taking.{IsNewestCheckpoint, IsRefusal, IsTooLarge, PutsCheckpoint}
+use Rattle.snapshot_core.specs.Faults.{Reason, bad_log, checked_for_checkpoint, readable_log, says, unsupported}
+use Rattle.snapshot_core.specs.Taking.{IsNewestCheckpoint, IsRefusal, IsCheckpointTooLarge, PutsCheckpoint}
 use Rattle.snapshot_core.specs.Telling.{TellsLists, TellsSnapshot}
 use Rattle.snapshot_core.specs.declared.fault.SnapshotFault.{SnapshotFault}
 use Rattle.snapshot_core.specs.declared.fault.SnapshotFault.TheVariants as faults
@@ -116,7 +116,7 @@ module _ (use_checkpoints : Bool) (objects : Objects) (well : RestoresWell use_c
       }
 
   -- So is one that is too large.
-  large_alike : IsTooLarge use_checkpoints objects → IsTooLarge false objects
+  large_alike : IsCheckpointTooLarge use_checkpoints objects → IsCheckpointTooLarge false objects
   large_alike large =
       let whole = read_whole large.commits large.read in
       let values = same_values large.commits whole.commits whole.same in
@@ -180,7 +180,7 @@ module _ {X : Type 0} (tests : List (List Action) → Result X Unsupported) (tes
 
 module _ (use_checkpoints : Bool) (objects : Objects) (well : RestoresWell use_checkpoints objects) where
   -- what a checkpoint is refused for, the whole log says
-  checked_alike : AreRefusedAlike (checked use_checkpoints objects) (checked false objects)
+  checked_alike : AreRefusedAlike (checked_for_checkpoint use_checkpoints objects) (checked_for_checkpoint false objects)
   checked_alike = refused_alike checkpointable (λ log other same. (same_values log other same).checkpointed) (replayed use_checkpoints objects) (log_of objects) (replayed_alike use_checkpoints objects well)
 
   -- A checkpoint that isn't put is refused for what the whole log says.

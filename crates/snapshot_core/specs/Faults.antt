@@ -25,8 +25,8 @@ pub data Reason : Type 0 where
 
 -- The commits that a log is seen as whose checkpoint is put, or the first reason why it isn't: the first version that has
 -- no commit that can be read, and what the table has or lacks.
-abbrev pub checked : (use_checkpoints : Bool) → Objects → Result (List (List Action)) Reason
-checked use_checkpoints objects = do
+abbrev pub checked_for_checkpoint : (use_checkpoints : Bool) → Objects → Result (List (List Action)) Reason
+checked_for_checkpoint use_checkpoints objects = do
   commits ← refused_as bad_log (replayed use_checkpoints objects)
   fine ← refused_as unsupported (checkpointable commits)
   Ok commits
@@ -47,17 +47,17 @@ says faults.Lost = says_nothing
 says faults.Memory = says_nothing
 
 -- a call of the store that has no answer
-abbrev pub IsUnanswered : StoreFault → SnapshotFault → Type 0
-IsUnanswered stores.Lost fault = fault ≡ faults.Lost
-IsUnanswered stores.Memory fault = fault ≡ faults.Memory
+abbrev pub IsSnapshotUnanswered : StoreFault → SnapshotFault → Type 0
+IsSnapshotUnanswered stores.Lost fault = fault ≡ faults.Lost
+IsSnapshotUnanswered stores.Memory fault = fault ≡ faults.Memory
 
 -- a log that isn't loaded
-abbrev pub IsLogFault : LogFault → SnapshotFault → Type 0
-IsLogFault (logs.BadLog version) fault = fault ≡ faults.BadLog version
-IsLogFault logs.Lost fault = fault ≡ faults.Lost
-IsLogFault logs.Memory fault = fault ≡ faults.Memory
+abbrev pub IsSnapshotLogFault : LogFault → SnapshotFault → Type 0
+IsSnapshotLogFault (logs.BadLog version) fault = fault ≡ faults.BadLog version
+IsSnapshotLogFault logs.Lost fault = fault ≡ faults.Lost
+IsSnapshotLogFault logs.Memory fault = fault ≡ faults.Memory
 
 -- a table that isn't read, or whose checkpoint isn't put
-abbrev pub IsSupportFault : SupportError → SnapshotFault → Type 0
-IsSupportFault (errors.Fault why) fault = fault ≡ faults.Unsupported why
-IsSupportFault errors.Memory fault = fault ≡ faults.Memory
+abbrev pub IsSnapshotSupportFault : SupportError → SnapshotFault → Type 0
+IsSnapshotSupportFault (errors.Fault why) fault = fault ≡ faults.Unsupported why
+IsSnapshotSupportFault errors.Memory fault = fault ≡ faults.Memory

@@ -3,3 +3,4 @@ pub mod Faults
 pub mod FaultTexts
 pub mod Taking
 pub mod Telling
+pub mod ToldSnapshots

@@ -15,13 +15,13 @@ use Rattle.table_log.specs.Counts.{commit_count}
 use Rattle.table_log.specs.Loads.{IsFrom, IsFrontFrom, IsLoaded, checkpoint_of, replayed_below}
 use Rattle.table_log.specs.Restoring.{Restored, replayed, restored_if}
 use Rattle.table_log.specs.declared.loading.Loaded.{Loaded}
-use Rattle.snapshot_core.specs.Faults.{checked, says}
+use Rattle.snapshot_core.specs.Faults.{checked_for_checkpoint, says}
 use Rattle.snapshot_core.specs.declared.fault.SnapshotFault.{SnapshotFault}
 use Rattle.snapshot_core.specs.declared.fault.SnapshotFault.TheVariants as faults
 
 -- how many bytes a checkpoint has at most: 64 MiB
-abbrev pub most_bytes : ℕ
-most_bytes = 67_108_864
+abbrev pub most_checkpoint_bytes : ℕ
+most_checkpoint_bytes = 67_108_864
 
 -- The id of the table of a log: that of its newest metadata.
 pub record IsTableId (log : List (List Action)) (id : List ℕ) : Type 0 where
@@ -45,7 +45,7 @@ pub record PutsCheckpoint (use_checkpoints : Bool) (objects : Objects) (version 
   pub id : List ℕ
   pub of_table : IsTableId commits id
   pub checkpoint : IsNewestCheckpoint objects commits version bytes
-  pub fits : length bytes ≤ most_bytes
+  pub fits : length bytes ≤ most_checkpoint_bytes
   pub named : name ≡ checkpoint_name version id
   -- by its name it is found
   pub found : IsCheckpointName version name
@@ -58,7 +58,7 @@ pub record IsCheckpointFor (commits : List (List Action)) (version : ℕ) (name 
   pub of_table : IsTableId commits id
   pub checkpoint : IsCheckpoint bytes version commits
   pub ordered : (actions : List Action) × ListsAll commits actions × IsPrintedCommit bytes (checkpoint_metadata (record { version = version }) ∷ actions)
-  pub fits : length bytes ≤ most_bytes
+  pub fits : length bytes ≤ most_checkpoint_bytes
   pub named : name ≡ checkpoint_name version id
   -- by its name it is found
   pub found : IsCheckpointName version name
@@ -131,21 +131,21 @@ KeepsLog use_checkpoints faults.Lost old new known = IsUntouched old new ⊎ (Lo
 KeepsLog use_checkpoints fault old new known = Unit {0}
 
 -- The checkpoint of the newest version may be put, but passes 64 MiB.
-pub record IsTooLarge (use_checkpoints : Bool) (objects : Objects) : Type 0 where
+pub record IsCheckpointTooLarge (use_checkpoints : Bool) (objects : Objects) : Type 0 where
   pub commits : List (List Action)
   pub read : replayed use_checkpoints objects ≡ Ok commits
   pub supported : checkpointable commits ≡ Ok tt
   pub version : ℕ
   pub bytes : List ℕ
   pub checkpoint : IsNewestCheckpoint objects commits version bytes
-  pub large : most_bytes < length bytes
+  pub large : most_checkpoint_bytes < length bytes
 
 -- These bytes are the checkpoint of a version, where the commits up to it are seen as these. It may be put, but passes 64 MiB.
 pub record IsLargeFor (commits : List (List Action)) (version : ℕ) (bytes : List ℕ) : Type 0 where
   pub supported : checkpointable commits ≡ Ok tt
   pub checkpoint : IsCheckpoint bytes version commits
   pub ordered : (actions : List Action) × ListsAll commits actions × IsPrintedCommit bytes (checkpoint_metadata (record { version = version }) ∷ actions)
-  pub large : most_bytes < length bytes
+  pub large : most_checkpoint_bytes < length bytes
 
 -- What a fault says of the commits of the versions below one: why they have no checkpoint that may be put, or that it is too
 -- large.
@@ -177,5 +177,5 @@ IsUnsupported fault snapshot = ⊥
 
 -- What a fault says stands in the log: why it has no checkpoint that may be put, or that it is too large.
 abbrev pub IsRefusal : (use_checkpoints : Bool) → SnapshotFault → Objects → Type 0
-IsRefusal use_checkpoints faults.TooLarge objects = IsTooLarge use_checkpoints objects
-IsRefusal use_checkpoints fault objects = IsSaid (says fault) (checked use_checkpoints objects)
+IsRefusal use_checkpoints faults.TooLarge objects = IsCheckpointTooLarge use_checkpoints objects
+IsRefusal use_checkpoints fault objects = IsSaid (says fault) (checked_for_checkpoint use_checkpoints objects)

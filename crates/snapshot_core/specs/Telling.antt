@@ -12,7 +12,7 @@ use Rattle.delta_replay.specs.Lists.{ListsClosed, ListsEach}
 use Rattle.delta_replay.specs.Support.{protocol_of, readable}
 use Rattle.table_log.specs.Counts.{commit_count}
 use Rattle.table_log.specs.Restoring.{replayed}
-use Rattle.table_log.specs.SchemaTexts.{IsPrinted}
+use Rattle.table_log.specs.SchemaTexts.{IsPrintedSchema}
 use Rattle.outcomes.specs.Lines.{with_newline}
 
 -- an application's id, as JSON
@@ -72,5 +72,5 @@ pub record TellsSnapshot (use_checkpoints : Bool) (objects : Objects) (text : Li
   pub protocol : ProtocolAction
   pub of_log : protocol_of commits ≡ Some protocol
   pub schema_text : List ℕ
-  pub printed : IsPrinted schema schema_text
+  pub printed : IsPrintedSchema schema schema_text
   pub lists : TellsLists commits (settings_text version protocol schema_text) text

@@ -2,7 +2,7 @@
 
 ghost use Rattle.std.specs.Prelude.{◌≡◌, Some};
 ghost use Rattle.snapshot_core.specs.FaultTexts.{fault_text};
-ghost use Rattle.snapshot_core.specs.Faults.{IsLogFault, IsSupportFault, IsUnanswered};
+ghost use Rattle.snapshot_core.specs.Faults.{IsSnapshotLogFault, IsSnapshotSupportFault, IsSnapshotUnanswered};
 ghost use Rattle.snapshot_core.specs.declared.fault.SnapshotFault.TheVariants as faults;
 
 use delta_replay::{SupportError, SupportFault};
@@ -60,7 +60,7 @@ impl<T: Drop> From<AllocFailed<T>> for SnapshotFault {
 }
 
 impl From<StoreFault> for SnapshotFault {
-    ghost from_gives = { λ fault e. IsUnanswered fault e };
+    ghost from_gives = { λ fault e. IsSnapshotUnanswered fault e };
 
     fn from(fault: StoreFault) -> SnapshotFault {
         match fault {
@@ -71,7 +71,7 @@ impl From<StoreFault> for SnapshotFault {
 }
 
 impl From<LogFault> for SnapshotFault {
-    ghost from_gives = { λ fault e. IsLogFault fault e };
+    ghost from_gives = { λ fault e. IsSnapshotLogFault fault e };
 
     fn from(fault: LogFault) -> SnapshotFault {
         match fault {
@@ -83,7 +83,7 @@ impl From<LogFault> for SnapshotFault {
 }
 
 impl From<SupportError> for SnapshotFault {
-    ghost from_gives = { λ error e. IsSupportFault error e };
+    ghost from_gives = { λ error e. IsSnapshotSupportFault error e };
 
     fn from(error: SupportError) -> SnapshotFault {
         match error {

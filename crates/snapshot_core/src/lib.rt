@@ -3,7 +3,6 @@
 
 mod checkpoint_laws;
 mod checkpoint_session;
-mod checkpointing;
 mod fault;
 mod lines;
 mod making;
@@ -11,6 +10,5 @@ mod telling;
 
 pub use checkpoint_laws::{a_checkpoint_asks_for_little, what_is_known_stands};
 pub use checkpoint_session::{CheckpointEnd, CheckpointSession, CheckpointStage};
-pub use checkpointing::checkpoint;
 pub use fault::SnapshotFault;
 pub use telling::{snapshot, snapshot_text};

@@ -14,7 +14,7 @@ use Rattle.table_model.specs.Reads.{placed_rows, placed_files, placed_from, is_b
 use Rattle.table_model.specs.declared.reading.Offset.{Offset}
 use Rattle.delta_actions.specs.In.{new_files}
 use Rattle.log_rows.specs.Tailing as tails
-use Rattle.log_rows.specs.Tailing.{LogFile, file_rows, numbered}
+use Rattle.log_rows.specs.Tailing.{LogFile, file_rows, numbered_files}
 use Rattle.source_core.proofs.LogFiles.{files_from}
 use Rattle.source_core.proofs.KeptTailWalk.{Found, file_of, rows_in, AreFound}
 
@@ -49,7 +49,7 @@ as_many_commits objects schema (entry ∷ entries) (made ∷ commits) found = ap
 
 -- a file is that of a place or stands behind it
 abbrev pub is_ahead : Offset → LogFile → Bool
-is_ahead place file = not (tails.is_before place file.version file.file)
+is_ahead place file = not (tails.is_file_before place file.version file.file)
 
 -- a row stands before a place
 abbrev pub stands_before : Offset → Offset × Row → Bool
@@ -62,7 +62,7 @@ abbrev pub IsPast : Offset → (version file : ℕ) → Type 0
 IsPast place version file = (place.version < version) ⊎ ((place.version ≡ version) × (place.file < file))
 
 -- it is ahead
-past_file : (place : Offset) (version file : ℕ) → IsPast place version file → not (tails.is_before place version file) ≡ true
+past_file : (place : Offset) (version file : ℕ) → IsPast place version file → not (tails.is_file_before place version file) ≡ true
 past_file place version file past = grind (arith, nat_tests, past)
 
 -- none of its rows stands before the place
@@ -104,7 +104,7 @@ module _ (objects : Objects) (schema : Tree) (place : Offset) where
   -- the files of a version in front, from one on that stands behind that of the place
   pub files_behind : (version file : ℕ) (paths : List Path) (files : List (List Row)) (late_files : List LogFile) (late_rows : List (Offset × Row))
       → IsPast place version file → AreFilesFound objects schema paths files → Behind objects schema place late_files late_rows
-      → Behind objects schema place (numbered version file paths ++ late_files) (placed_files version file files ++ late_rows)
+      → Behind objects schema place (numbered_files version file paths ++ late_files) (placed_files version file files ++ late_rows)
   files_behind version file [] [] late_files late_rows past found late = late
   files_behind version file [] (rows ∷ files) late_files late_rows past found late = absurd found
   files_behind version file (path ∷ paths) [] late_files late_rows past found late = absurd found
@@ -112,7 +112,7 @@ module _ (objects : Objects) (schema : Tree) (place : Offset) where
       let first : Found = record { version = version; file = file; path = path; rows = rows } in
       let others = files_behind version (suc file) paths files late_files late_rows (past_next place version file past) found.1 late in
       rw (append_assoc (placed_rows version file 0 rows) (placed_files version (suc file) files) late_rows)
-      (behind_first first (numbered version (suc file) paths ++ late_files) (placed_files version (suc file) files ++ late_rows) past (found.0 version file) others)
+      (behind_first first (numbered_files version (suc file) paths ++ late_files) (placed_files version (suc file) files ++ late_rows) past (found.0 version file) others)
 
   -- the files of the versions behind that of the place
   pub log_behind : (version : ℕ) (entries : List Entry) (commits : List (List actions.Action)) → place.version < version → AreEntriesFound objects schema entries commits
@@ -131,7 +131,7 @@ abbrev pub IsEarlier : Offset → (version file : ℕ) → Type 0
 IsEarlier place version file = (version < place.version) ⊎ ((version ≡ place.version) × (file < place.file))
 
 -- it isn't ahead
-earlier_file : (place : Offset) (version file : ℕ) → IsEarlier place version file → not (tails.is_before place version file) ≡ false
+earlier_file : (place : Offset) (version file : ℕ) → IsEarlier place version file → not (tails.is_file_before place version file) ≡ false
 earlier_file place version file earlier = grind (arith, nat_tests, earlier)
 
 -- each of its rows stands before the place
@@ -155,7 +155,7 @@ file_passed place f earlier = record {
 }
 
 -- the files of an earlier version
-numbered_passed : (place : Offset) (version file : ℕ) (paths : List Path) → version < place.version → filter (is_ahead place) (numbered version file paths) ≡ []
+numbered_passed : (place : Offset) (version file : ℕ) (paths : List Path) → version < place.version → filter (is_ahead place) (numbered_files version file paths) ≡ []
 numbered_passed place version file [] lt = refl
 numbered_passed place version file (path ∷ paths) lt = rw (earlier_file place version file (inl lt)) (numbered_passed place version (suc file) paths lt)
 
@@ -165,13 +165,13 @@ files_passed place version file (rows ∷ files) lt =
     filter-append (stands_before place) (placed_rows version file 0 rows) (placed_files version (suc file) files)
     ∙ rw (earlier_rows place version file 0 rows (inl lt), files_passed place version (suc file) files lt) refl
 
-pub version_passed : (place : Offset) (version : ℕ) (paths : List Path) (files : List (List Row)) → version < place.version → Passed place (numbered version 0 paths) (placed_files version 0 files)
+pub version_passed : (place : Offset) (version : ℕ) (paths : List Path) (files : List (List Row)) → version < place.version → Passed place (numbered_files version 0 paths) (placed_files version 0 files)
 version_passed place version paths files lt = record { none_ahead = numbered_passed place version 0 paths lt; all_before = files_passed place version 0 files lt }
 
 -- ---- the file of a place
 
 -- it is ahead
-pub file_here : (place : Offset) (version file : ℕ) → place.version ≡ version → place.file ≡ file → not (tails.is_before place version file) ≡ true
+pub file_here : (place : Offset) (version file : ℕ) → place.version ≡ version → place.file ≡ file → not (tails.is_file_before place version file) ≡ true
 file_here place version file at here = grind (arith, nat_tests, at, here)
 
 -- how many of its rows stand before the place

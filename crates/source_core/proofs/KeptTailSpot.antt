@@ -14,7 +14,7 @@ use Rattle.table_model.specs.Table.{Entry, files_of}
 use Rattle.table_model.specs.Reads.{placed_rows, placed_files, placed_from, is_in_files, is_offset_from}
 use Rattle.table_model.specs.declared.reading.Offset.{Offset}
 use Rattle.delta_actions.specs.In.{new_files}
-use Rattle.log_rows.specs.Tailing.{LogFile, ReadRefusal, file_rows, numbered, unless_no_file, bad_place}
+use Rattle.log_rows.specs.Tailing.{LogFile, ReadRefusal, file_rows, numbered_files, unless_no_file, bad_place}
 use Rattle.source_core.proofs.LogFiles.{files_from, commit_at}
 use Rattle.source_core.proofs.KeptTailWalk.{Found, file_of, rows_in, AreFound, AreWithin, within_none}
 use Rattle.source_core.proofs.KeptTailPlace.{AreFilesFound, AreEntriesFound, is_ahead, stands_before, Behind, files_behind, log_behind, Passed, file_passed, version_passed, file_here, rows_before}
@@ -173,7 +173,7 @@ module _ (objects : Objects) (schema : Tree) (place : Offset) where
       (late : Behind objects schema place late_files late_rows) where
     -- the tests in a version of so many files, of which these are the files from one on
     spot_in_files : (file k : ℕ) (paths : List Path) (files : List (List Row)) → AreFilesFound objects schema paths files → place.file ≡ file + k → count ≡ file + length paths
-        → SpotIn objects schema place (is_in_files k place.row files) (unless_no_file place count) (numbered version file paths ++ late_files) (placed_files version file files ++ late_rows)
+        → SpotIn objects schema place (is_in_files k place.row files) (unless_no_file place count) (numbered_files version file paths ++ late_files) (placed_files version file files ++ late_rows)
     spot_in_files file k [] (rows ∷ files) found here many = absurd found
     spot_in_files file k (path ∷ paths) [] found here many = absurd found
     spot_in_files file zero [] [] found here many =
@@ -187,13 +187,13 @@ module _ (objects : Objects) (schema : Tree) (place : Offset) where
         let first : Found = record { version = version; file = file; path = path; rows = rows } in
         let others = files_behind objects schema place version (suc file) paths files late_files late_rows (inr (at, omega arith)) found.1 late in
         rw (append_assoc (placed_rows version file 0 rows) (placed_files version (suc file) files) late_rows)
-        (spot_in_file first (numbered version (suc file) paths ++ late_files) (placed_files version (suc file) files ++ late_rows) at (omega arith) (found.0 version file) others
+        (spot_in_file first (numbered_files version (suc file) paths ++ late_files) (placed_files version (suc file) files ++ late_rows) at (omega arith) (found.0 version file) others
         (unless_no_file place count) (in_files place count (omega arith)))
     spot_in_files file (suc k) (path ∷ paths) (rows ∷ files) found here many =
         let first : Found = record { version = version; file = file; path = path; rows = rows } in
         let passed = file_passed place first (inr (omega arith, omega arith)) in
         rw (append_assoc (placed_rows version file 0 rows) (placed_files version (suc file) files) late_rows)
-        (spot_on (is_in_files k place.row files) (unless_no_file place count) (file_of first ∷ []) (numbered version (suc file) paths ++ late_files) (placed_rows version file 0 rows)
+        (spot_on (is_in_files k place.row files) (unless_no_file place count) (file_of first ∷ []) (numbered_files version (suc file) paths ++ late_files) (placed_rows version file 0 rows)
         (placed_files version (suc file) files ++ late_rows) passed (spot_in_files (suc file) k paths files found.1 (omega arith) (omega arith)))
 
 module _ (objects : Objects) (schema : Tree) where
@@ -215,7 +215,7 @@ module _ (objects : Objects) (schema : Tree) where
   spot_later place version behind entry entries made commits lt later =
       let other = ne_eqb place.version version (λ e. omega arith) in
       rw other (spot_on objects schema place (is_offset_from (suc version) place entries) (unless_no_file place (length (new_files (commit_at behind commits))))
-      (numbered version 0 (new_files made)) (files_from (suc version) commits) (placed_files version 0 (files_of entry)) (placed_from (suc version) entries)
+      (numbered_files version 0 (new_files made)) (files_from (suc version) commits) (placed_files version 0 (files_of entry)) (placed_from (suc version) entries)
       (version_passed place version (new_files made) (files_of entry) lt) later)
 
   -- what the tests say of a place that is at most the start of the version that comes next

@@ -19,18 +19,18 @@ use Rattle.table_log.specs.Versions.{commit}
 use Rattle.table_model.specs.declared.reading.Offset.{Offset}
 use Rattle.delta_actions.specs.In.{new_files}
 use Rattle.outcomes.specs.Results.{refused_if, ◌>>=◌}
-use Rattle.log_rows.specs.Tailing.{LogFile, Item, data_file, numbered, fault_of, items_from, is_before, item_before, items_at, unless_beyond, unless_gone, unless_no_file, actions_in, bad_place, hand, handed_by, is_start, schema_for}
+use Rattle.log_rows.specs.Tailing.{LogFile, Item, data_file, numbered_files, fault_of_version, items_from, is_file_before, item_before, items_at, unless_beyond, unless_gone, unless_no_file, actions_in, bad_place, hand, handed_by, is_start, schema_for}
 
 -- ---- its files
 
 -- the files of commits, whose versions are counted from one on
 abbrev pub files_from : ℕ → List (List Action) → List LogFile
 files_from version [] = []
-files_from version (actions ∷ commits) = numbered version 0 (new_files actions) ++ files_from (suc version) commits
+files_from version (actions ∷ commits) = numbered_files version 0 (new_files actions) ++ files_from (suc version) commits
 
 -- the files from that of a place on
 abbrev pub files_at : Offset → List (List Action) → List LogFile
-files_at place commits = filter (λ file. not (is_before place file.version file.file)) (files_from 0 commits)
+files_at place commits = filter (λ file. not (is_file_before place file.version file.file)) (files_from 0 commits)
 
 -- the actions of a version's commit
 abbrev pub commit_at : ℕ → List (List Action) → List Action
@@ -62,32 +62,32 @@ KeepsRows commits = RemoveNone commits × TellNoneLater commits
 -- ---- what a read meets
 
 -- a list of data files is filtered as the files are
-filter-files : (place : Offset) (files : List LogFile) → filter (λ item. not (item_before place item)) (map data_file files) ≡ map data_file (filter (λ file. not (is_before place file.version file.file)) files)
+filter-files : (place : Offset) (files : List LogFile) → filter (λ item. not (item_before place item)) (map data_file files) ≡ map data_file (filter (λ file. not (is_file_before place file.version file.file)) files)
 filter-files place [] = refl
 filter-files place (file ∷ files) =
-    elim (cases_Bool (not (is_before place file.version file.file))) [
+    elim (cases_Bool (not (is_file_before place file.version file.file))) [
       | inl ahead ↦ rw (ahead, filter-files place files) refl
       | inr before ↦ rw (before, filter-files place files) refl
     ]
 
 module _ (told : SchemaText) (place : Offset) where
   -- nothing is wrong with a commit without a metadata
-  no_fault : (version : ℕ) (actions : List Action) → removes_rows actions ≡ false → last (filter_map meta_data_in actions) ≡ None → fault_of told place version (commit actions) ≡ None
+  no_fault : (version : ℕ) (actions : List Action) → removes_rows actions ≡ false → last (filter_map meta_data_in actions) ≡ None → fault_of_version told place version (commit actions) ≡ None
   no_fault version actions kept none = rw (kept, none, and-false (nat_lt place.version version)) refl
 
   -- nor with the first commit
-  no_first_fault : (actions : List Action) → removes_rows actions ≡ false → fault_of told place 0 (commit actions) ≡ None
+  no_first_fault : (actions : List Action) → removes_rows actions ≡ false → fault_of_version told place 0 (commit actions) ≡ None
   no_first_fault actions kept = rw (kept, le-ltb place.version 0 (omega arith)) refl
 
   later_items : (version : ℕ) (commits : List (List Action)) → RemoveNone commits → TellNone commits → items_from told place version (map commit commits) ≡ map data_file (files_from version commits)
   later_items version [] kept none = refl
   later_items version (actions ∷ commits) kept none =
-      rw (no_fault version actions kept.0 none.0, later_items (suc version) commits kept.1 none.1) (sym (map-append data_file (numbered version 0 (new_files actions)) (files_from (suc version) commits)))
+      rw (no_fault version actions kept.0 none.0, later_items (suc version) commits kept.1 none.1) (sym (map-append data_file (numbered_files version 0 (new_files actions)) (files_from (suc version) commits)))
 
   all_items : (commits : List (List Action)) → KeepsRows commits → items_from told place 0 (map commit commits) ≡ map data_file (files_from 0 commits)
   all_items [] keeps = refl
   all_items (actions ∷ commits) keeps =
-      rw (no_first_fault actions keeps.0.0, later_items 1 commits keeps.0.1 keeps.1) (sym (map-append data_file (numbered 0 0 (new_files actions)) (files_from 1 commits)))
+      rw (no_first_fault actions keeps.0.0, later_items 1 commits keeps.0.1 keeps.1) (sym (map-append data_file (numbered_files 0 0 (new_files actions)) (files_from 1 commits)))
 
 -- a read meets the files from that of its place on
 pub plain_items : (told : SchemaText) (place : Offset) (commits : List (List Action)) → KeepsRows commits → items_at told place (map commit commits) ≡ map data_file (files_at place commits)

@@ -10,8 +10,8 @@ use Rattle.log_reading.specs.Reads.{first_from}
 use Rattle.table_log.specs.Versions.{Version, missing, unreadable, commit}
 use Rattle.log_reading.proofs.Callers.{length-from_version}
 use Rattle.table_model.specs.declared.reading.Offset.{Offset}
-use Rattle.log_rows.specs.Tailing.{Item, ReadRefusal, data_file, fault_of, found_at, handed_by, is_start, items_from, items_in, numbered, paths_in, unless_gone}
-use Rattle.log_rows.specs.Handings.{kept}
+use Rattle.log_rows.specs.Tailing.{Item, ReadRefusal, data_file, fault_of_version, found_at, handed_by, is_start, items_from, items_in, numbered_files, paths_in, unless_gone}
+use Rattle.log_rows.specs.Handings.{items_not_before}
 use Rattle.log_rows.proofs.Callers.{fault_passed, kept_both}
 
 -- what stands at a place's version
@@ -43,22 +43,22 @@ module _ (place : Offset) where
 -- ---- the items from a place on
 
 -- the files of an earlier version are passed over
-files_passed : (place : Offset) (version file : ℕ) (paths : List Path) → version < place.version → kept place (map data_file (numbered version file paths)) ≡ []
+files_passed : (place : Offset) (version file : ℕ) (paths : List Path) → version < place.version → items_not_before place (map data_file (numbered_files version file paths)) ≡ []
 files_passed place version file [] below = refl
 files_passed place version file (path ∷ paths) below = rw (lt-ltb version place.version below) (files_passed place version (suc file) paths below)
 
 -- and so are all its items
-items_passed : (place : Offset) (version : ℕ) (fault : Option ReadRefusal) (paths : List Path) → version < place.version → kept place (items_in version fault paths) ≡ []
+items_passed : (place : Offset) (version : ℕ) (fault : Option ReadRefusal) (paths : List Path) → version < place.version → items_not_before place (items_in version fault paths) ≡ []
 items_passed place version (Some refusal) paths below = fault_passed place version refusal paths below
 items_passed place version None paths below = files_passed place version 0 paths below
 
 module _ (told : SchemaText) (place : Offset) where
-  first_passed : (version : ℕ) (found : Version) (others : List Item) → version < place.version → kept place (items_in version (fault_of told place version found) (paths_in found) ++ others) ≡ kept place others
+  first_passed : (version : ℕ) (found : Version) (others : List Item) → version < place.version → items_not_before place (items_in version (fault_of_version told place version found) (paths_in found) ++ others) ≡ items_not_before place others
   first_passed version found others below =
-      kept_both place (items_in version (fault_of told place version found) (paths_in found)) others
-      ∙ ap (λ (front : List Item). front ++ kept place others) (items_passed place version (fault_of told place version found) (paths_in found) below)
+      kept_both place (items_in version (fault_of_version told place version found) (paths_in found)) others
+      ∙ ap (λ (front : List Item). front ++ items_not_before place others) (items_passed place version (fault_of_version told place version found) (paths_in found) below)
 
-  items_alike : (n from : ℕ) (versions : List Version) → from + n ≤ place.version → kept place (items_from told place from (from_version n versions)) ≡ kept place (items_from told place from versions)
+  items_alike : (n from : ℕ) (versions : List Version) → from + n ≤ place.version → items_not_before place (items_from told place from (from_version n versions)) ≡ items_not_before place (items_from told place from versions)
   items_alike zero from versions short = refl
   items_alike (suc n) from [] short = refl
   items_alike (suc n) from (found ∷ more) short =

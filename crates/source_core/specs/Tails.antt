@@ -25,14 +25,14 @@ pub record Tails : Type 0 where
   pub next : Offset
 
 -- the same with the rows of an earlier read in front
-abbrev pub with_earlier : List Row → Tails → Tails
-with_earlier before later = record { rows = before ++ later.rows; next = later.next }
+abbrev pub with_earlier_rows : List Row → Tails → Tails
+with_earlier_rows before later = record { rows = before ++ later.rows; next = later.next }
 
 -- Reads over the same objects, each with its own limit: the first begins at an offset, and each next one where the one
 -- before ended.
 unfoldable pub tails : Objects → List ℕ → Offset → Tails
 tails objects [] offset = record { rows = []; next = offset }
-tails objects (max ∷ limits) offset = with_earlier (rows_handed (read_by false objects max offset)) (tails objects limits (offset_after offset (read_by false objects max offset)))
+tails objects (max ∷ limits) offset = with_earlier_rows (rows_handed (read_by false objects max offset)) (tails objects limits (offset_after offset (read_by false objects max offset)))
 
 -- ---- laws on tails
 

@@ -22,9 +22,9 @@ use Rattle.session_laws.specs.Moves.{Does, HasAsked, asks}
 use Rattle.session_core.proofs.Callers.{asked_more}
 use Rattle.session_laws.proofs.Callers.{batch_commit, close_commit, reached_front, reaches_some, bears_front}
 use Rattle.stream_model.specs.Events.{Event, IsOfBytes}
-use Rattle.stream_model.specs.Puts.{HasTable, IsGoodPut, IsMade, Submitted, WasBegun, a_checkpoint, a_commit, a_file}
+use Rattle.stream_model.specs.Puts.{HasTable, IsGoodPut, IsCommitMade, Submitted, WasBegun, a_checkpoint, a_commit, a_file}
 use Rattle.stream_model.specs.Puts as made
-use Rattle.stream_model.specs.Worlds.{told_by, left_by}
+use Rattle.stream_model.specs.Worlds.{told_by_call, left_by_call}
 
 -- ---- what is asked for
 
@@ -50,10 +50,10 @@ module _ (events : List Event) (objects : Objects) (schema : Schema) (entries : 
     same_number number other items others is = cc
 
     -- what its commit holds
-    commit_made : HasTable objects schema → (version : ℕ) (bytes : List ℕ) → IsJobCommit objects schema job bytes → IsMade events objects version bytes
+    commit_made : HasTable objects schema → (version : ℕ) (bytes : List ℕ) → IsJobCommit objects schema job bytes → IsCommitMade events objects version bytes
     commit_made table version bytes commit = by_task job.task refl commit
       where
-        by_task : (task : SinkTask) → job.task ≡ task → IsJobCommit objects schema (record job { task = task }) bytes → IsMade events objects version bytes
+        by_task : (task : SinkTask) → job.task ≡ task → IsJobCommit objects schema (record job { task = task }) bytes → IsCommitMade events objects version bytes
         by_task (appends number items) is (b, of_job, file) =
             let task : job.task ≡ appends b.number of_job.items = is ∙ of_job.task in
             let number_is : number ≡ b.number = same_number number b.number items of_job.items of_job.task in
@@ -118,7 +118,7 @@ got_borne objects name None is = tt
 got_borne objects name (Some bytes) is = is
 
 -- What a call that takes effect tells is borne by what it leaves.
-pub told_borne : (objects : Objects) (asked : Asked) → IsBorne (left_by objects asked) asked (told_by objects asked)
+pub told_borne : (objects : Objects) (asked : Asked) → IsBorne (left_by_call objects asked) asked (told_by_call objects asked)
 told_borne objects list_names = λ name has. (listed_iff_stands objects name).0 has
 told_borne objects (get_object name) = got_borne objects name (object_at objects name) refl
 told_borne objects (put_file name bytes) = put_borne objects name bytes

@@ -6,7 +6,7 @@ use Rattle.store_core.specs.Objects.{Objects}
 use Rattle.session_core.specs.Talks.{Asked, Talk}
 use Rattle.session_laws.specs.Jobs.{Job, Outcome}
 use Rattle.stream_model.specs.Effects.{HasEffect, HasStepped, IsAnswered}
-use Rattle.stream_model.specs.Events.{Event, Fits, Happens, Takes, acts, begins, begins_now, dies, ends, goes_on, lands, loses, nothing_happens, takes}
+use Rattle.stream_model.specs.Events.{Event, FitsWorld, Happens, ComesToTalk, acts, begins, begins_now, dies, ends, goes_on, lands, loses, nothing_happens, takes}
 use Rattle.stream_model.specs.Worlds.{Actor, Hand, How, World, asking, ended, late, lost, once, short, told_how, twice, with_actor}
 
 -- the actor of a number that was changed
@@ -14,7 +14,7 @@ actor_there : (w : World) (name : ℕ) (found : Option Actor) → (with_actor w 
 actor_there w name found = let same : (name == name) ≡ true = grind (arith, nat_tests) in rw same refl
 
 -- by an event of its own a session goes on
-gone_on : (w : World) (event : Event) (name : ℕ) (actor : Actor) (now : Talk) (hand : Hand) → HasStepped hand → Takes w event name actor now
+gone_on : (w : World) (event : Event) (name : ℕ) (actor : Actor) (now : Talk) (hand : Hand) → HasStepped hand → ComesToTalk w event name actor now
     → HasEffect w event (with_actor w name (Some (record { job = actor.job; talk = now; hand = hand })))
 gone_on w _ _ _ _ hand stepped (begins_now name actor has is) =
     record { actor = actor; now = []; taken = begins_now name actor has is; hand = hand; stepped = stepped; there = actor_there w name _; objects = refl; flight = refl }
@@ -24,7 +24,7 @@ gone_on w _ _ _ _ hand stepped (loses name actor call told has is) =
     record { actor = actor; now = _; taken = loses name actor call told has is; hand = hand; stepped = stepped; there = actor_there w name _; objects = refl; flight = refl }
 
 -- such an event fits
-taken_fits : (w : World) (event : Event) (name : ℕ) (actor : Actor) (now : Talk) → Takes w event name actor now → Fits w event
+taken_fits : (w : World) (event : Event) (name : ℕ) (actor : Actor) (now : Talk) → ComesToTalk w event name actor now → FitsWorld w event
 taken_fits w _ _ _ _ (begins_now name actor has is) = (actor, has, inl is)
 taken_fits w _ _ _ _ (takes name actor call told has is) = (actor, has, inr (call, told, is))
 taken_fits w _ _ _ _ (loses name actor call told has is) = (actor, call, told, has, is)
@@ -37,7 +37,7 @@ is_answered late objects call = refl
 is_answered lost objects call = refl
 is_answered short objects call = refl
 
-pub has_effect : (w later : World) (event : Event) (told : Option (Job × Outcome)) → Happens w event told later → Fits w event → HasEffect w event later
+pub has_effect : (w later : World) (event : Event) (told : Option (Job × Outcome)) → Happens w event told later → FitsWorld w event → HasEffect w event later
 has_effect w _ _ _ (begins name job can) fits = actor_there w name _
 has_effect w _ _ _ (dies name) fits = actor_there w name None
 has_effect w _ _ _ (acts name how actor call has is) fits =
@@ -47,7 +47,7 @@ has_effect w _ event _ (ends _ name actor now outcome taken does) fits = gone_on
 has_effect w _ _ _ (lands place put is) fits = (put, is, object_at-with_object_same w.objects put.0 put.1, refl)
 has_effect w _ _ _ (nothing_happens event unfit) fits = absurd (unfit fits)
 
-pub has_none : (w later : World) (event : Event) (told : Option (Job × Outcome)) → Happens w event told later → (Fits w event → ⊥) → (later ≡ w) × (told ≡ None)
+pub has_none : (w later : World) (event : Event) (told : Option (Job × Outcome)) → Happens w event told later → (FitsWorld w event → ⊥) → (later ≡ w) × (told ≡ None)
 has_none w _ _ _ (begins name job can) unfit = absurd (unfit can)
 has_none w _ _ _ (dies name) unfit = absurd (unfit tt)
 has_none w _ _ _ (acts name how actor call has is) unfit = absurd (unfit (actor, call, has, is))

@@ -35,7 +35,7 @@ use Rattle.row_core.specs.Views.{row_views}
 use Rattle.session_laws.specs.Jobs.{Asks, Job, Outcome, read, reads, stream, streams}
 use Rattle.session_laws.specs.Moves.{Does, HasAsked, tells}
 use Rattle.stream_model.specs.Events.{Event}
-use Rattle.stream_model.specs.Headline.{IsPartOf, IsSoOf}
+use Rattle.stream_model.specs.Headline.{IsPartOfTable, IsSoOf}
 use Rattle.stream_model.specs.Puts.{IsGoodPut, Submitted, WasBegun}
 use Rattle.stream_model.specs.Worlds.{Actor, Hand, World, asking, ended, fresh, waiting}
 use Rattle.stream_model.proofs.Calls.{IsGoodCall}
@@ -72,7 +72,7 @@ IsToldSo objects outs = (job : SinkJob) (end : SinkEnd) → Contains outs (strea
 
 -- what reads handed out are parts of it
 abbrev pub AreReadSo : Objects → List (Job × Outcome) → Type 0
-AreReadSo objects outs = (job : SourceJob) (end : ReadEnd) → Contains outs (reads job, read end) → (schema : Schema) (entries : List Entry) → Holds objects schema entries → IsPartOf entries job end.answer
+AreReadSo objects outs = (job : SourceJob) (end : ReadEnd) → Contains outs (reads job, read end) → (schema : Schema) (entries : List Entry) → Holds objects schema entries → IsPartOfTable entries job end.answer
 
 -- each job that an outcome was told of was handed in
 abbrev pub AreHandedIn : List Event → List (Job × Outcome) → Type 0
@@ -197,11 +197,11 @@ module _ (laws : AreLaws) (objects more : Objects) (sound : IsSound objects) (st
   pub told_lasts : (outs : List (Job × Outcome)) → IsToldSo objects outs → IsToldSo more outs
   told_lasts outs told = λ job end has schema entries held. so_lasts schema entries held job end.answer (told job end has sound.schema sound.entries sound.holds)
 
-  part_lasts : (schema : Schema) (entries : List Entry) → Holds more schema entries → (job : SourceJob) (answer : Result ReadRows TailFault) → IsPartOf sound.entries job answer → IsPartOf entries job answer
+  part_lasts : (schema : Schema) (entries : List Entry) → Holds more schema entries → (job : SourceJob) (answer : Result ReadRows TailFault) → IsPartOfTable sound.entries job answer → IsPartOfTable entries job answer
   part_lasts schema entries held job (Err fault) part = tt
   part_lasts schema entries held job (Ok out) part =
       let later = front objects more sound.schema grown schema sound.entries entries sound.lawful.begins sound.holds held in
-      subst (λ (es : List Entry). IsPartOf es job (Ok out)) (sym later.1) (laws.part_stays job.max job.place (offset_view out.next) sound.entries later.0 (row_views out.rows.items) part)
+      subst (λ (es : List Entry). IsPartOfTable es job (Ok out)) (sym later.1) (laws.part_stays job.max job.place (offset_view out.next) sound.entries later.0 (row_views out.rows.items) part)
 
   pub parts_last : (outs : List (Job × Outcome)) → AreReadSo objects outs → AreReadSo more outs
   parts_last outs parts = λ job end has schema entries held. part_lasts schema entries held job end.answer (parts job end has sound.schema sound.entries sound.holds)

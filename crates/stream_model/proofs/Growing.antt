@@ -15,7 +15,7 @@ use Rattle.sink_core.specs.SinkSessions.{SinkJob}
 use Rattle.session_laws.specs.Jobs.{Job, streams}
 use Rattle.session_laws.specs.Jobs as jobs
 use Rattle.stream_model.specs.Events.{Event}
-use Rattle.stream_model.specs.Puts.{HasTable, IsGoodPut, IsMade, IsSubmittedFile, Submitted, WasBegun, a_checkpoint, a_commit, a_file, appends, closes, creates}
+use Rattle.stream_model.specs.Puts.{HasTable, IsGoodPut, IsCommitMade, IsSubmittedFile, Submitted, WasBegun, a_checkpoint, a_commit, a_file, appends, closes, creates}
 
 -- the table of a sound store is lawful, whichever it is said to be
 pub lawful_held : (objects : Objects) (schema : Schema) (entries : List Entry) → IsSound objects → Holds objects schema entries → IsLawful entries
@@ -33,7 +33,7 @@ module _ (objects more : Objects) (sound : IsSound objects) (still : IsSound mor
   file_grows : (schema : Schema) (b : Batch) → FileStands objects schema b → FileStands more schema b
   file_grows schema b file = (file.0, grown (data_file_name b.application b.number) file.0 file.1, file.2)
 
-  made_grows : (events : List Event) (version : ℕ) (bytes : List ℕ) → IsMade events objects version bytes → IsMade events more version bytes
+  made_grows : (events : List Event) (version : ℕ) (bytes : List ℕ) → IsCommitMade events objects version bytes → IsCommitMade events more version bytes
   made_grows events version bytes (creates job begun is made) = creates job begun is made
   made_grows events version bytes (appends schema job b table submitted of_job commit file) = appends schema job b (table_grows schema table) submitted of_job commit (file_grows schema b file)
   made_grows events version bytes (closes schema job submitted task commit) = closes schema job submitted task commit
@@ -57,7 +57,7 @@ submitted_more events event job submitted = begun_more events event (streams job
 pub file_more : (events : List Event) (event : Event) (schema : Schema) (name bytes : List ℕ) → IsSubmittedFile events schema name bytes → IsSubmittedFile (events ++ event ∷ []) schema name bytes
 file_more events event schema name bytes (job, submitted, file) = (job, submitted_more events event job submitted, file)
 
-made_more : (events : List Event) (event : Event) (objects : Objects) (version : ℕ) (bytes : List ℕ) → IsMade events objects version bytes → IsMade (events ++ event ∷ []) objects version bytes
+made_more : (events : List Event) (event : Event) (objects : Objects) (version : ℕ) (bytes : List ℕ) → IsCommitMade events objects version bytes → IsCommitMade (events ++ event ∷ []) objects version bytes
 made_more events event objects version bytes (creates job begun is made) = creates job (begun_more events event (jobs.creates job) begun) is made
 made_more events event objects version bytes (appends schema job b table submitted of_job commit file) = appends schema job b table (submitted_more events event job submitted) of_job commit file
 made_more events event objects version bytes (closes schema job submitted task commit) = closes schema job (submitted_more events event job submitted) task commit

@@ -13,10 +13,10 @@ use Rattle.table_store.specs.Holds.{Holds}
 use Rattle.table_store.specs.Schema.{Schema}
 use Rattle.table_store.specs.Sound.{IsSound}
 use Rattle.log_laws.specs.Sound.{IsSoundStore}
-use Rattle.session_laws.specs.Rows.{LacksCommit, Lists, got_none, next_after, next_version, none_listed, not_listed}
+use Rattle.session_laws.specs.Rows.{LacksCommit, ListsFirst, got_none, next_after_talk, next_version, none_listed, not_listed}
 use Rattle.session_laws.proofs.Callers.{entry_at, get_next, within_table}
 use Rattle.stream_model.specs.Headline.{ListsCommit}
-use Rattle.stream_model.specs.Worlds.{told_by}
+use Rattle.stream_model.specs.Worlds.{told_by_call}
 
 -- ---- what a session was told
 
@@ -24,7 +24,7 @@ use Rattle.stream_model.specs.Worlds.{told_by}
 abbrev pub WasTold : (front : Talk) → Asked → Told → Type 0
 WasTold front asked told_lost = Unit {0}
 WasTold front asked told_memory = Unit {0}
-WasTold front asked told = (past : Objects) × IsSoundStore past × Bears past front × (told ≡ told_by past asked)
+WasTold front asked told = (past : Objects) × IsSoundStore past × Bears past front × (told ≡ told_by_call past asked)
 
 -- a commit is put as a version that one can have
 abbrev pub HasVersion : Asked → Type 0
@@ -35,7 +35,7 @@ abbrev pub AllTold : (first talk : Talk) → Type 0
 AllTold first [] = Unit {0}
 AllTold first (call ∷ talk) = WasTold first call.0 call.1 × HasVersion call.0 × AllTold (first ++ call ∷ []) talk
 
-pub was_told : (past : Objects) (front : Talk) → IsSoundStore past → Bears past front → (asked : Asked) → WasTold front asked (told_by past asked)
+pub was_told : (past : Objects) (front : Talk) → IsSoundStore past → Bears past front → (asked : Asked) → WasTold front asked (told_by_call past asked)
 was_told past front sound borne list_names = (past, sound, borne, refl)
 was_told past front sound borne (get_object name) = (past, sound, borne, refl)
 was_told past front sound borne (put_file name bytes) = (past, sound, borne, refl)
@@ -81,7 +81,7 @@ module _ (objects : Objects) (sound : IsSound objects) where
       by_count (suc last) is low = let newest = newest_named names last is in below_stands last newest.1 (stand (commit_name last) newest.0) version (omega (arith, low))
 
   -- and each below the one that comes next by a talk that is borne
-  next_stand : (talk : Talk) (first : Talk) (next : ℕ) → ((version : ℕ) → version < next → IsSome (object_at objects (commit_name version))) → AllTold first talk → Bears objects talk → (version : ℕ) → version < next_after next talk → IsSome (object_at objects (commit_name version))
+  next_stand : (talk : Talk) (first : Talk) (next : ℕ) → ((version : ℕ) → version < next → IsSome (object_at objects (commit_name version))) → AllTold first talk → Bears objects talk → (version : ℕ) → version < next_after_talk next talk → IsSome (object_at objects (commit_name version))
   next_stand [] first next stand all borne = stand
   next_stand ((list_names, told_names names) ∷ talk) first next stand all borne = next_stand talk (first ++ (list_names, told_names names) ∷ []) (count_in names) (listed_stand names borne.0) all.2 borne.1
   next_stand ((list_names, told_object found) ∷ talk) first next stand all borne = next_stand talk (first ++ (list_names, told_object found) ∷ []) next stand all.2 borne.1
@@ -99,7 +99,7 @@ module _ (objects : Objects) (sound : IsSound objects) where
   next_stand ((put_commit at bytes, told_memory) ∷ talk) first next stand all borne = next_stand talk (first ++ (put_commit at bytes, told_memory) ∷ []) next stand all.2 borne.1
 
   -- the version that comes next is one behind one that a commit can have
-  next_fits : (talk : Talk) (first : Talk) (next : ℕ) → next ≤ suc greatest_version → AllTold first talk → next_after next talk ≤ suc greatest_version
+  next_fits : (talk : Talk) (first : Talk) (next : ℕ) → next ≤ suc greatest_version → AllTold first talk → next_after_talk next talk ≤ suc greatest_version
   next_fits [] first next fits all = fits
   next_fits ((list_names, told_names names) ∷ talk) first next fits all = next_fits talk (first ++ (list_names, told_names names) ∷ []) (count_in names) (by_count (count_in names) refl) all.2
     where
@@ -146,7 +146,7 @@ abbrev listed_first : Talk → List (List ℕ)
 listed_first ((list_names, told_names names) ∷ talk) = names
 listed_first talk = []
 
-same_names : (talk : Talk) (names others : List (List ℕ)) → Lists talk names → Lists talk others → names ≡ others
+same_names : (talk : Talk) (names others : List (List ℕ)) → ListsFirst talk names → ListsFirst talk others → names ≡ others
 same_names talk names others one two = sym (ap listed_first one.1) ∙ ap listed_first two.1
 
 -- Behind a list that had a commit none is lacked.

@@ -29,7 +29,7 @@ use Rattle.log_laws.specs.Sound.{IsSoundStore}
 use Rattle.sink_core.specs.SinkSessions.{SinkJob}
 use Rattle.session_laws.specs.Rows.{IsBatchOf}
 use Rattle.stream_model.specs.Events.{Event}
-use Rattle.stream_model.specs.Puts.{HasTable, IsGoodPut, IsMade, IsSubmittedFile, Submitted, a_checkpoint, a_commit, a_file, appends, closes, creates}
+use Rattle.stream_model.specs.Puts.{HasTable, IsGoodPut, IsCommitMade, IsSubmittedFile, Submitted, a_checkpoint, a_commit, a_file, appends, closes, creates}
 use Rattle.stream_model.proofs.Growing.{lawful_held, table_grows}
 
 -- ---- objects
@@ -140,7 +140,7 @@ module _ (events : List Event) (objects : Objects) (sound : IsSound objects) (ve
       (same, one_batch b c (subst (λ (e : Entry). Contains (batches_of e) b) entry has))
 
   -- the batches of the entry that an admissible commit of a job adds were handed in
-  pub added_submitted : IsMade events objects version bytes → (b : Batch) → Contains (batches_of new.entry) b → IsSubmitted events new.schema b
+  pub added_submitted : IsCommitMade events objects version bytes → (b : Batch) → Contains (batches_of new.entry) b → IsSubmitted events new.schema b
   added_submitted (creates job begun is made) b has = absurd (first_none (none_long new.entries (new.at ∙ is)) b has)
     where
       none_long : (es : List Entry) → length es ≡ 0 → es ≡ []
@@ -152,7 +152,7 @@ module _ (events : List Event) (objects : Objects) (sound : IsSound objects) (ve
       (job, submitted, subst (λ (s : Schema). IsBatchOf s job b) both.0 (subst (IsBatchOf schema job) both.1 of_job))
 
   -- So are all batches then.
-  pub commit_submitted : AreSubmitted events objects → IsSound (with_object objects (commit_name version) bytes) → IsMade events objects version bytes → AreSubmitted events (with_object objects (commit_name version) bytes)
+  pub commit_submitted : AreSubmitted events objects → IsSound (with_object objects (commit_name version) bytes) → IsCommitMade events objects version bytes → AreSubmitted events (with_object objects (commit_name version) bytes)
   commit_submitted all later made = by_name (object_at objects (commit_name version)) refl
     where
       by_name : (found : Option (List ℕ)) → object_at objects (commit_name version) ≡ found → AreSubmitted events (with_object objects (commit_name version) bytes)

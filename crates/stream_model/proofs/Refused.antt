@@ -14,7 +14,7 @@ use Rattle.log_laws.proofs.Callers.{count_held, log_checkpointable}
 use Rattle.session_laws.specs.May.{MayTell}
 use Rattle.source_core.specs.SourceSessions.{SourceJob}
 use Rattle.source_core.specs.declared.source_session.ReadEnd.{ReadEnd}
-use Rattle.session_laws.specs.Rows.{IsLogBehind, Lists, MayTellOfCheckpoint, MayTellOfRead, MayTellOfStream, TellsOfListed, next_version}
+use Rattle.session_laws.specs.Rows.{IsLogBehind, ListsFirst, MayTellOfCheckpoint, MayTellOfRead, MayTellOfStream, TellsOfListed, next_version}
 use Rattle.session_laws.specs.Jobs.{Job, Outcome, checkpoints, creates, loads, read, reads, streams}
 use Rattle.session_laws.specs.Moves.{HasAsked, tells}
 use Rattle.session_laws.proofs.Callers.{IsFrontOf, front_of, listed_count}
@@ -117,7 +117,7 @@ module _ (laws : AreLaws) (events : List Event) (outs : List (Job × Outcome)) (
 -- What a read told that listed names is so of the versions that were listed: it told none of the refusals but two, that version 0 is missing
 -- where none was listed, that a call was lost, or that memory ran out.
 pub read_told_so : (laws : AreLaws) (events : List Event) (outs : List (Job × Outcome)) (w : World) → IsGoodWorld events outs w → (name : ℕ) (actor : Actor) (job : SourceJob) (end : ReadEnd) → HasActor w name actor → actor.job ≡ reads job
-    → actor.hand ≡ ended (read end) → (names : List (List ℕ)) → Lists actor.talk names → (schema : Schema) (entries : List Entry) → Holds w.objects schema entries → IsReadSo entries job actor.talk names end.answer
+    → actor.hand ≡ ended (read end) → (names : List (List ℕ)) → ListsFirst actor.talk names → (schema : Schema) (entries : List Entry) → Holds w.objects schema entries → IsReadSo entries job actor.talk names end.answer
 read_told_so laws events outs w good name actor job end is of_job hand names lists schema entries holds = record {
   stand = take_length (count_in names) entries within;
   told = subst (λ (n : ℕ). TellsOfListed (take n entries) job end.answer) count (told_of_listed events w.objects entries job actor.talk end.answer names lists seen told);

@@ -14,7 +14,7 @@ use Rattle.session_laws.specs.Rows.{IsBatchOf}
 use Rattle.session_laws.specs.Jobs.{Job, Outcome, CanBegin}
 use Rattle.stream_model.specs.Events.{Event, Happens, IsWorldOf, Ran, acts, at_first, begin, begins, die, dies, ends, goes_on, lands, nothing_happens, then_one, with_told}
 use Rattle.stream_model.specs.Headline.{Acknowledges, IsHeadline, IsSoOf, already, committed}
-use Rattle.stream_model.specs.Worlds.{How, World, empty_world, fresh, late, left_by, left_how, lost, once, short, twice}
+use Rattle.stream_model.specs.Worlds.{How, World, empty_world, fresh, late, left_by_call, left_how, lost, once, short, twice}
 use Rattle.stream_model.proofs.Calls.{got_one}
 use Rattle.stream_model.proofs.Good.{IsGoodWorld, world_more}
 use Rattle.stream_model.proofs.Growing.{lawful_held}
@@ -82,7 +82,7 @@ module _ (laws : AreLaws) where
 -- ---- later worlds
 
 -- objects stay through an event
-call_grew : (objects : Objects) (call : Asked) → HasObjectsOf objects (left_by objects call)
+call_grew : (objects : Objects) (call : Asked) → HasObjectsOf objects (left_by_call objects call)
 call_grew objects list_names = λ name bytes stands. stands
 call_grew objects (get_object asked) = λ name bytes stands. stands
 call_grew objects (put_file file bytes) = put_grew objects file bytes
@@ -90,7 +90,7 @@ call_grew objects (put_commit version bytes) = put_grew objects (commit_name ver
 
 how_grew : (how : How) (objects : Objects) (call : Asked) → HasObjectsOf objects (left_how how objects call)
 how_grew once objects call = call_grew objects call
-how_grew twice objects call = λ name bytes stands. call_grew (left_by objects call) call name bytes (call_grew objects call name bytes stands)
+how_grew twice objects call = λ name bytes stands. call_grew (left_by_call objects call) call name bytes (call_grew objects call name bytes stands)
 how_grew late objects call = λ name bytes stands. stands
 how_grew lost objects call = λ name bytes stands. stands
 how_grew short objects call = λ name bytes stands. stands

@@ -18,10 +18,10 @@ use Rattle.session_laws.specs.ParquetFile.{KeepsLimits}
 use Rattle.row_core.specs.Rows.{Row}
 use Rattle.source_core.specs.SourceSessions.{HasNewFiles, IsNewFile, SourceAsks, SourceJob}
 use Rattle.session_laws.proofs.Callers.{kept_files, sound_kept, batch_file, no_versions}
-use Rattle.session_laws.specs.Rows.{IsReadable, Lists}
+use Rattle.session_laws.specs.Rows.{IsReadable, ListsFirst}
 use Rattle.session_laws.specs.Jobs.{Asks, Job, reads}
 use Rattle.stream_model.specs.Events.{Event}
-use Rattle.stream_model.specs.Worlds.{left_by, told_by}
+use Rattle.stream_model.specs.Worlds.{left_by_call, told_by_call}
 use Rattle.stream_model.proofs.Growing.{file_more, lawful_held, submitted_more}
 use Rattle.stream_model.proofs.Landing.{IsGoodStore, put_grew}
 
@@ -35,7 +35,7 @@ pub record WasSeen (events : List Event) (objects : Objects) (talk : Talk) (name
 
 -- so it is where the job is a read
 abbrev pub SeesWell : List Event → Objects → Job → Talk → Type 0
-SeesWell events objects job talk = (read : SourceJob) → job ≡ reads read → (names : List (List ℕ)) → Lists talk names → WasSeen events objects talk names
+SeesWell events objects job talk = (read : SourceJob) → job ≡ reads read → (names : List (List ℕ)) → ListsFirst talk names → WasSeen events objects talk names
 
 -- ---- what stays
 
@@ -112,18 +112,18 @@ told_first [] = told_lost
 told_first (call ∷ talk) = call.1
 
 -- the names that are listed first, where one call more was told
-same_names : (talk gets : Talk) (names others : List (List ℕ)) (call : Asked × Told) → talk ≡ (list_names, told_names names) ∷ gets → Lists (talk ++ call ∷ []) others → names ≡ others
+same_names : (talk gets : Talk) (names others : List (List ℕ)) (call : Asked × Told) → talk ≡ (list_names, told_names names) ∷ gets → ListsFirst (talk ++ call ∷ []) others → names ≡ others
 same_names talk gets names others call is lists =
     let told : told_names names ≡ told_names others = ap told_first (ap (λ (t : Talk). t ++ call ∷ []) (sym is) ∙ lists.1) in
     cc
 
 -- of a talk that begins with a list it is what was told of that
-listed_told : (talk : Talk) (told : Told) (names : List (List ℕ)) → talk ≡ [] → Lists (talk ++ (list_names, told) ∷ []) names → told ≡ told_names names
+listed_told : (talk : Talk) (told : Told) (names : List (List ℕ)) → talk ≡ [] → ListsFirst (talk ++ (list_names, told) ∷ []) names → told ≡ told_names names
 listed_told talk told names is lists = ap told_first (ap (λ (t : Talk). t ++ (list_names, told) ∷ []) (sym is) ∙ lists.1)
 
 module _ (events : List Event) (objects : Objects) (read : SourceJob) (talk : Talk) (seen : SeesWell events objects (reads read) talk) where
   -- an answer that tells nothing
-  lost_one : (call : Asked) (told : Told) → (told ≡ told_lost) ⊎ (told ≡ told_memory) → SourceAsks read [] talk call → (names : List (List ℕ)) → Lists (talk ++ (call, told) ∷ []) names → WasSeen events objects (talk ++ (call, told) ∷ []) names
+  lost_one : (call : Asked) (told : Told) → (told ≡ told_lost) ⊎ (told ≡ told_memory) → SourceAsks read [] talk call → (names : List (List ℕ)) → ListsFirst (talk ++ (call, told) ∷ []) names → WasSeen events objects (talk ++ (call, told) ∷ []) names
   lost_one list_names told (inl is) asks names lists = let wrong = sym is ∙ listed_told talk told names asks lists in absurd cc
   lost_one list_names told (inr is) asks names lists = let wrong = sym is ∙ listed_told talk told names asks lists in absurd cc
   lost_one (put_file name bytes) told none asks names lists = absurd asks
@@ -138,7 +138,7 @@ module _ (events : List Event) (objects : Objects) (read : SourceJob) (talk : Ta
       nothing listed (inr is) = rw is (tt, tt)
 
   -- and one that tells what stands
-  told_one : (call : Asked) → IsGoodStore events objects → SourceAsks read [] talk call → (names : List (List ℕ)) → Lists (talk ++ (call, told_by objects call) ∷ []) names → WasSeen events objects (talk ++ (call, told_by objects call) ∷ []) names
+  told_one : (call : Asked) → IsGoodStore events objects → SourceAsks read [] talk call → (names : List (List ℕ)) → ListsFirst (talk ++ (call, told_by_call objects call) ∷ []) names → WasSeen events objects (talk ++ (call, told_by_call objects call) ∷ []) names
   told_one list_names good asks names lists =
       let talked : talk ++ (list_names, told_names (names_of objects)) ∷ [] ≡ (list_names, told_names (names_of objects)) ∷ [] = ap (λ (t : Talk). t ++ (list_names, told_names (names_of objects)) ∷ []) asks in
       let told = listed_told talk (told_names (names_of objects)) names asks lists in
@@ -165,15 +165,15 @@ pub seen_lost : (events : List Event) (objects : Objects) (job : Job) (talk : Ta
 seen_lost events objects job talk call told none asks seen = λ read is.
     lost_one events objects read talk (subst (λ (j : Job). SeesWell events objects j talk) is seen) call told none (subst (λ (j : Job). Asks j [] talk call) is asks)
 
-pub seen_told : (events : List Event) (objects : Objects) (job : Job) (talk : Talk) (call : Asked) → IsGoodStore events objects → Asks job [] talk call → SeesWell events objects job talk → SeesWell events objects job (talk ++ (call, told_by objects call) ∷ [])
+pub seen_told : (events : List Event) (objects : Objects) (job : Job) (talk : Talk) (call : Asked) → IsGoodStore events objects → Asks job [] talk call → SeesWell events objects job talk → SeesWell events objects job (talk ++ (call, told_by_call objects call) ∷ [])
 seen_told events objects job talk call good asks seen = λ read is.
     told_one events objects read talk (subst (λ (j : Job). SeesWell events objects j talk) is seen) call good (subst (λ (j : Job). Asks j [] talk call) is asks)
 
 -- over what the call leaves
-pub seen_left : (events : List Event) (objects : Objects) → IsGoodStore events objects → (job : Job) (talk : Talk) (call : Asked) → Asks job [] talk call → SeesWell events objects job talk → SeesWell events (left_by objects call) job (talk ++ (call, told_by objects call) ∷ [])
+pub seen_left : (events : List Event) (objects : Objects) → IsGoodStore events objects → (job : Job) (talk : Talk) (call : Asked) → Asks job [] talk call → SeesWell events objects job talk → SeesWell events (left_by_call objects call) job (talk ++ (call, told_by_call objects call) ∷ [])
 seen_left events objects good job talk list_names asks seen = seen_told events objects job talk list_names good asks seen
 seen_left events objects good job talk (get_object name) asks seen = seen_told events objects job talk (get_object name) good asks seen
 seen_left events objects good job talk (put_file name bytes) asks seen =
-    seen_lasts events objects (with_object objects name bytes) job (talk ++ (put_file name bytes, told_by objects (put_file name bytes)) ∷ []) (put_grew objects name bytes) (seen_told events objects job talk (put_file name bytes) good asks seen)
+    seen_lasts events objects (with_object objects name bytes) job (talk ++ (put_file name bytes, told_by_call objects (put_file name bytes)) ∷ []) (put_grew objects name bytes) (seen_told events objects job talk (put_file name bytes) good asks seen)
 seen_left events objects good job talk (put_commit version bytes) asks seen =
-    seen_lasts events objects (with_object objects (commit_name version) bytes) job (talk ++ (put_commit version bytes, told_by objects (put_commit version bytes)) ∷ []) (put_grew objects (commit_name version) bytes) (seen_told events objects job talk (put_commit version bytes) good asks seen)
+    seen_lasts events objects (with_object objects (commit_name version) bytes) job (talk ++ (put_commit version bytes, told_by_call objects (put_commit version bytes)) ∷ []) (put_grew objects (commit_name version) bytes) (seen_told events objects job talk (put_commit version bytes) good asks seen)

@@ -22,10 +22,10 @@ use Rattle.session_laws.specs.May.{BearsSession, MayAsk, MayTell}
 use Rattle.session_laws.specs.Rows.{MayTellOfStream}
 use Rattle.session_laws.specs.Jobs.{Asks, Job, Outcome, checkpoint, checkpoints, creates, creation, load, loads, read, reads, stream, streams}
 use Rattle.session_laws.specs.Moves.{Does, HasAsked, asks, tells}
-use Rattle.stream_model.specs.Events.{Event, HasActor, IsOfBytes, Takes, begins_now, loses, takes, with_told}
-use Rattle.stream_model.specs.Headline.{IsPartOf, IsSoOf}
+use Rattle.stream_model.specs.Events.{Event, HasActor, IsOfBytes, ComesToTalk, begins_now, loses, takes, with_told}
+use Rattle.stream_model.specs.Headline.{IsPartOfTable, IsSoOf}
 use Rattle.stream_model.specs.Puts.{IsGoodPut, WasBegun}
-use Rattle.stream_model.specs.Worlds.{Actor, Hand, How, World, acted, asking, ended, late, left_by, lost, once, sent, short, told_by, twice, waiting, with_actor}
+use Rattle.stream_model.specs.Worlds.{Actor, Hand, How, World, acted, asking, ended, late, left_by_call, lost, once, sent, short, told_by_call, twice, waiting, with_actor}
 use Rattle.stream_model.proofs.Calls.{IsGoodCall, call_good, heard_so, lost_borne, memory_borne, told_borne}
 use Rattle.stream_model.proofs.Good.{IsGoodActor, IsGoodHand, IsGoodWorld, actor_lasts, parts_last, puts_last, told_lasts}
 use Rattle.stream_model.proofs.Landing.{IsGoodStore, none_in, put_grew, put_lands}
@@ -92,7 +92,7 @@ module _ (laws : AreLaws) where
       world_grows events outs w (with_object w.objects name bytes) good (put_grew w.objects name bytes) (put_lands laws.commit_lands laws.file_lands laws.checkpoint_lands events w.objects name bytes good.store put of_bytes)
 
   -- a call takes effect, and stays good
-  world_call : (events : List Event) (outs : List (Job × Outcome)) (w : World) (call : Asked) → IsGoodWorld events outs w → IsGoodCall events w.objects call → IsGoodWorld events outs (record w { objects = left_by w.objects call })
+  world_call : (events : List Event) (outs : List (Job × Outcome)) (w : World) (call : Asked) → IsGoodWorld events outs w → IsGoodCall events w.objects call → IsGoodWorld events outs (record w { objects = left_by_call w.objects call })
   world_call events outs w list_names good one = good
   world_call events outs w (get_object name) good one = good
   world_call events outs w (put_file name bytes) good one = world_put events outs w name bytes good one.0 one.1
@@ -157,15 +157,15 @@ module _ (laws : AreLaws) where
     pub world_acts : (how : How) → IsGoodWorld events outs (acted w name actor call how)
     world_acts once =
         let here = good.actors name actor is in
-        answered (left_by w.objects call) (told_by w.objects call) (world_call events outs w call good own.2) (was_told w.objects actor.talk good.store.sound here.borne call) (told_borne w.objects call)
+        answered (left_by_call w.objects call) (told_by_call w.objects call) (world_call events outs w call good own.2) (was_told w.objects actor.talk good.store.sound here.borne call) (told_borne w.objects call)
         (seen_left events w.objects good.store actor.job actor.talk call own.0 here.seen)
     world_acts twice =
         let first = world_call events outs w call good own.2 in
         let there = first.actors name actor is in
-        let again = hand_asks events (left_by w.objects call) actor call hand there in
-        answered (left_by (left_by w.objects call) call) (told_by (left_by w.objects call) call) (world_call events outs (record w { objects = left_by w.objects call }) call first again.2)
-        (was_told (left_by w.objects call) actor.talk first.store.sound there.borne call) (told_borne (left_by w.objects call) call)
-        (seen_left events (left_by w.objects call) first.store actor.job actor.talk call own.0 there.seen)
+        let again = hand_asks events (left_by_call w.objects call) actor call hand there in
+        answered (left_by_call (left_by_call w.objects call) call) (told_by_call (left_by_call w.objects call) call) (world_call events outs (record w { objects = left_by_call w.objects call }) call first again.2)
+        (was_told (left_by_call w.objects call) actor.talk first.store.sound there.borne call) (told_borne (left_by_call w.objects call) call)
+        (seen_left events (left_by_call w.objects call) first.store actor.job actor.talk call own.0 there.seen)
     world_acts late = with_good events outs (record w { flight = w.flight ++ sent call }) name (record actor { hand = waiting call told_lost }) call_sent (waits events w.objects actor call told_lost (good.actors name actor is) own.0 own.1 tt (lost_borne w.objects call) (lost_seen told_lost (inl refl)))
     world_acts lost = answered w.objects told_lost good tt (lost_borne w.objects call) (lost_seen told_lost (inl refl))
     world_acts short = answered w.objects told_memory good tt (memory_borne w.objects call) (lost_seen told_memory (inr refl))
@@ -176,7 +176,7 @@ module _ (laws : AreLaws) where
   abbrev IsGoodTalk : List Event → Objects → Job → Talk → Type 0
   IsGoodTalk events objects job now = Bears objects now × HasAsked job [] now × AllTold [] now × SeesWell events objects job now
 
-  actor_of : (w : World) (event : Event) (name : ℕ) (actor : Actor) (now : Talk) → Takes w event name actor now → HasActor w name actor
+  actor_of : (w : World) (event : Event) (name : ℕ) (actor : Actor) (now : Talk) → ComesToTalk w event name actor now → HasActor w name actor
   actor_of w event name actor now (begins_now called one is hand) = is
   actor_of w event name actor now (takes called one call told is hand) = is
   actor_of w event name actor now (loses called one call told is hand) = is
@@ -188,7 +188,7 @@ module _ (laws : AreLaws) where
       let so = heard_so laws.bears_both objects actor.job actor.talk call told good.borne good.asked (borne hand.3) hand.0 in
       (so.0, so.1, told_more [] actor.talk call told good.told (was hand.2) hand.1, seen hand)
 
-  taken_so : (events : List Event) (w : World) (actor : Actor) (event : Event) (name : ℕ) (now : Talk) → IsGoodActor events w.objects actor → Takes w event name actor now → IsGoodTalk events w.objects actor.job now
+  taken_so : (events : List Event) (w : World) (actor : Actor) (event : Event) (name : ℕ) (now : Talk) → IsGoodActor events w.objects actor → ComesToTalk w event name actor now → IsGoodTalk events w.objects actor.job now
   taken_so events w actor event name now good (begins_now called one is hand) = (tt, tt, tt, none_seen events w.objects actor.job)
   taken_so events w actor event name now good (takes called one call told is hand) = heard_of events w.objects actor call told told good hand (λ was. was) (λ borne. borne) (λ waits_so. waits_so.4)
   taken_so events w actor event name now good (loses called one call told is hand) = heard_of events w.objects actor call told told_lost good hand (λ was. tt) (λ borne. lost_borne w.objects call)
@@ -205,7 +205,7 @@ module _ (laws : AreLaws) where
   version_of objects schema (checkpoints job) now (put_commit version bytes) may = absurd may
   version_of objects schema (reads job) now (put_commit version bytes) may = absurd may
 
-  module _ (events : List Event) (outs : List (Job × Outcome)) (w : World) (event : Event) (name : ℕ) (actor : Actor) (now : Talk) (taken : Takes w event name actor now) (good : IsGoodWorld events outs w) where
+  module _ (events : List Event) (outs : List (Job × Outcome)) (w : World) (event : Event) (name : ℕ) (actor : Actor) (now : Talk) (taken : ComesToTalk w event name actor now) (good : IsGoodWorld events outs w) where
     acting : IsGoodActor events w.objects actor
     acting = good.actors name actor (actor_of w event name actor now taken)
 
@@ -277,7 +277,7 @@ module _ (laws : AreLaws) where
 
     -- what a read tells is a part of the table
     part_so : (schema : Schema) (entries : List Entry) (own : Job) (outcome : Outcome) → MayTell w.objects schema entries own [] now outcome → Does own [] now (tells outcome) → HasAsked own [] now → SeesWell events w.objects own now
-        → (job : SourceJob) (end : ReadEnd) → own ≡ reads job → outcome ≡ read end → IsPartOf entries job end.answer
+        → (job : SourceJob) (end : ReadEnd) → own ≡ reads job → outcome ≡ read end → IsPartOfTable entries job end.answer
     part_so schema entries own outcome may does asked seen job end of_job as_told = by_read (subst IsAll of_job (subst IsTold as_told (may, does), asked, seen))
       where
         IsTold : Outcome → Type 0
@@ -286,7 +286,7 @@ module _ (laws : AreLaws) where
         IsAll : Job → Type 0
         IsAll j = (MayTell w.objects schema entries j [] now (read end) × Does j [] now (tells (read end))) × HasAsked j [] now × SeesWell events w.objects j now
 
-        by_read : IsAll (reads job) → IsPartOf entries job end.answer
+        by_read : IsAll (reads job) → IsPartOfTable entries job end.answer
         by_read all = read_part laws events w.objects entries job now end all.2 all.1 all.0.1.0 all.0.0
 
     pub world_tells : (outcome : Outcome) → Does actor.job [] now (tells outcome) → IsGoodWorld events (with_told outs (Some (actor.job, outcome))) (with_actor w name (Some (record { job = actor.job; talk = now; hand = ended outcome })))

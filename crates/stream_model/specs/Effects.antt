@@ -2,8 +2,8 @@
 use Rattle.std.specs.Prelude.{◌≡◌, ℕ, List, [], Some, None, slice_get, unwrap_or}
 use Rattle.store_core.specs.Objects.{Objects, object_at}
 use Rattle.session_core.specs.Talks.{Asked, Talk, Told, told_lost, told_memory}
-use Rattle.stream_model.specs.Events.{Event, HasActor, Takes, act, answer, begin, die, land, lose_answer}
-use Rattle.stream_model.specs.Worlds.{Actor, Hand, How, World, acted, asking, ended, fresh, late, left_by, lost, once, short, told_by, twice, waiting}
+use Rattle.stream_model.specs.Events.{Event, HasActor, ComesToTalk, act, answer, begin, die, land, lose_answer}
+use Rattle.stream_model.specs.Worlds.{Actor, Hand, How, World, acted, asking, ended, fresh, late, left_by_call, lost, once, short, told_by_call, twice, waiting}
 
 -- a session that has made a step asks for a call, or has ended
 abbrev pub HasStepped : Hand → Type 0
@@ -16,7 +16,7 @@ HasStepped hand = ⊥
 pub record HasGoneOn (w : World) (event : Event) (name : ℕ) (later : World) : Type 0 where
   pub actor : Actor
   pub now : Talk
-  pub taken : Takes w event name actor now
+  pub taken : ComesToTalk w event name actor now
   pub hand : Hand
   pub stepped : HasStepped hand
   pub there : HasActor later name (record { job = actor.job; talk = now; hand = hand })
@@ -24,14 +24,14 @@ pub record HasGoneOn (w : World) (event : Event) (name : ℕ) (later : World) : 
   pub flight : later.flight ≡ w.flight
 
 -- a put has taken effect: its name stands, with the bytes that it had, and else with those of the put
-abbrev pub HasLanded : (objects later : Objects) → (put : List ℕ × List ℕ) → Type 0
-HasLanded objects later put = object_at later put.0 ≡ Some (unwrap_or (object_at objects put.0) put.1)
+abbrev pub HasTakenEffect : (objects later : Objects) → (put : List ℕ × List ℕ) → Type 0
+HasTakenEffect objects later put = object_at later put.0 ≡ Some (unwrap_or (object_at objects put.0) put.1)
 
 -- What is told of a call: where it takes effect what it does, at the second time where it does so twice; and else that it was lost, or that
 -- memory ran out.
 abbrev pub IsAnswered : How → Objects → Asked → Told → Type 0
-IsAnswered once objects call told = told ≡ told_by objects call
-IsAnswered twice objects call told = told ≡ told_by (left_by objects call) call
+IsAnswered once objects call told = told ≡ told_by_call objects call
+IsAnswered twice objects call told = told ≡ told_by_call (left_by_call objects call) call
 IsAnswered late objects call told = told ≡ told_lost
 IsAnswered lost objects call told = told ≡ told_lost
 IsAnswered short objects call told = told ≡ told_memory
@@ -54,4 +54,4 @@ HasEffect w (die name) later = later.actors name ≡ None
 HasEffect w (act name how) later = HasAnswered w name how later
 HasEffect w (answer name) later = HasGoneOn w (answer name) name later
 HasEffect w (lose_answer name) later = HasGoneOn w (lose_answer name) name later
-HasEffect w (land place) later = (put : List ℕ × List ℕ) × (slice_get w.flight place ≡ Some put) × HasLanded w.objects later.objects put × (later.flight ≡ w.flight)
+HasEffect w (land place) later = (put : List ℕ × List ℕ) × (slice_get w.flight place ≡ Some put) × HasTakenEffect w.objects later.objects put × (later.flight ≡ w.flight)

@@ -22,19 +22,19 @@ abbrev pub HasActor : World → ℕ → Actor → Type 0
 HasActor w name actor = w.actors name ≡ Some actor
 
 -- whether an event fits a world: the job can begin, the actor waits for it, or the put is in flight
-abbrev pub Fits : World → Event → Type 0
-Fits w (begin name job) = CanBegin job
-Fits w (die name) = Unit {0}
-Fits w (act name how) = (actor : Actor) × (call : Asked) × HasActor w name actor × (actor.hand ≡ asking call)
-Fits w (answer name) = (actor : Actor) × HasActor w name actor × ((actor.hand ≡ fresh) ⊎ ((call : Asked) × (told : Told) × (actor.hand ≡ waiting call told)))
-Fits w (lose_answer name) = (actor : Actor) × (call : Asked) × (told : Told) × HasActor w name actor × (actor.hand ≡ waiting call told)
-Fits w (land place) = (put : List ℕ × List ℕ) × (slice_get w.flight place ≡ Some put)
+abbrev pub FitsWorld : World → Event → Type 0
+FitsWorld w (begin name job) = CanBegin job
+FitsWorld w (die name) = Unit {0}
+FitsWorld w (act name how) = (actor : Actor) × (call : Asked) × HasActor w name actor × (actor.hand ≡ asking call)
+FitsWorld w (answer name) = (actor : Actor) × HasActor w name actor × ((actor.hand ≡ fresh) ⊎ ((call : Asked) × (told : Told) × (actor.hand ≡ waiting call told)))
+FitsWorld w (lose_answer name) = (actor : Actor) × (call : Asked) × (told : Told) × HasActor w name actor × (actor.hand ≡ waiting call told)
+FitsWorld w (land place) = (put : List ℕ × List ℕ) × (slice_get w.flight place ≡ Some put)
 
 -- By an event the session of an actor comes to this talk: it makes its first step, or takes the answer to its call, or that it was lost.
-pub data Takes (w : World) : Event → (name : ℕ) → Actor → (now : Talk) → Type 0 where
-  begins_now : (name : ℕ) (actor : Actor) → HasActor w name actor → actor.hand ≡ fresh → Takes w (answer name) name actor []
-  takes : (name : ℕ) (actor : Actor) (call : Asked) (told : Told) → HasActor w name actor → actor.hand ≡ waiting call told → Takes w (answer name) name actor (actor.talk ++ (call, told) ∷ [])
-  loses : (name : ℕ) (actor : Actor) (call : Asked) (told : Told) → HasActor w name actor → actor.hand ≡ waiting call told → Takes w (lose_answer name) name actor (actor.talk ++ (call, told_lost) ∷ [])
+pub data ComesToTalk (w : World) : Event → (name : ℕ) → Actor → (now : Talk) → Type 0 where
+  begins_now : (name : ℕ) (actor : Actor) → HasActor w name actor → actor.hand ≡ fresh → ComesToTalk w (answer name) name actor []
+  takes : (name : ℕ) (actor : Actor) (call : Asked) (told : Told) → HasActor w name actor → actor.hand ≡ waiting call told → ComesToTalk w (answer name) name actor (actor.talk ++ (call, told) ∷ [])
+  loses : (name : ℕ) (actor : Actor) (call : Asked) (told : Told) → HasActor w name actor → actor.hand ≡ waiting call told → ComesToTalk w (lose_answer name) name actor (actor.talk ++ (call, told_lost) ∷ [])
 
 -- what is put is of numbers of eight bits
 abbrev pub IsOfBytes : Asked → Type 0
@@ -48,12 +48,12 @@ pub data Happens (w : World) : Event → (told : Option (Job × Outcome)) → Wo
   begins : (name : ℕ) (job : Job) → CanBegin job → Happens w (begin name job) None (with_actor w name (Some (record { job = job; talk = []; hand = fresh })))
   dies : (name : ℕ) → Happens w (die name) None (with_actor w name None)
   acts : (name : ℕ) (how : How) (actor : Actor) (call : Asked) → HasActor w name actor → actor.hand ≡ asking call → Happens w (act name how) None (acted w name actor call how)
-  goes_on : (event : Event) (name : ℕ) (actor : Actor) (now : Talk) (call : Asked) → Takes w event name actor now → Does actor.job [] now (asks call) → IsOfBytes call
+  goes_on : (event : Event) (name : ℕ) (actor : Actor) (now : Talk) (call : Asked) → ComesToTalk w event name actor now → Does actor.job [] now (asks call) → IsOfBytes call
       → Happens w event None (with_actor w name (Some (record { job = actor.job; talk = now; hand = asking call })))
-  ends : (event : Event) (name : ℕ) (actor : Actor) (now : Talk) (outcome : Outcome) → Takes w event name actor now → Does actor.job [] now (tells outcome)
+  ends : (event : Event) (name : ℕ) (actor : Actor) (now : Talk) (outcome : Outcome) → ComesToTalk w event name actor now → Does actor.job [] now (tells outcome)
       → Happens w event (Some (actor.job, outcome)) (with_actor w name (Some (record { job = actor.job; talk = now; hand = ended outcome })))
   lands : (place : ℕ) (put : List ℕ × List ℕ) → slice_get w.flight place ≡ Some put → Happens w (land place) None (record w { objects = with_object w.objects put.0 put.1 })
-  nothing_happens : (event : Event) → (Fits w event → ⊥) → Happens w event None w
+  nothing_happens : (event : Event) → (FitsWorld w event → ⊥) → Happens w event None w
 
 -- the outcomes with one more, if one was told
 abbrev pub with_told : List (Job × Outcome) → Option (Job × Outcome) → List (Job × Outcome)

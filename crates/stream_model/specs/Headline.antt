@@ -30,7 +30,7 @@ use Rattle.log_rows.specs.declared.tail_fault.TailFault.{TailFault}
 use Rattle.source_core.specs.declared.source_session.ReadEnd.{ReadEnd}
 use Rattle.log_rows.specs.declared.tail_fault.TailFault.TheVariants as read_faults
 use Rattle.session_laws.specs.Readers.{next_told, rows_told}
-use Rattle.session_laws.specs.Rows.{IsBatchOf, Lists, TellsOfBatch, TellsOfListed}
+use Rattle.session_laws.specs.Rows.{IsBatchOf, ListsFirst, TellsOfBatch, TellsOfListed}
 use Rattle.session_laws.specs.Jobs.{Job, Outcome, checkpoint, load, read, reads, stream, streams}
 use Rattle.session_laws.specs.Moves.{ends_lost}
 use Rattle.stream_model.specs.Events.{Event}
@@ -40,7 +40,7 @@ use Rattle.stream_model.specs.Puts.{Submitted}
 
 -- it listed the names first, and a commit was among them
 abbrev pub ListsCommit : Talk → Type 0
-ListsCommit talk = (names : List (List ℕ)) × Lists talk names × (0 < count_in names)
+ListsCommit talk = (names : List (List ℕ)) × ListsFirst talk names × (0 < count_in names)
 
 -- the outcome tells that a version's commit is missing or can't be read
 pub data TellsBadLog : Outcome → Type 0 where
@@ -78,9 +78,9 @@ IsSoOf schema entries job (Err faults.StreamClosed) = TellsOfBatch schema entrie
 IsSoOf schema entries job (Err fault) = Unit {0}
 
 -- What a read handed out is a part of the table, from its offset up to where the next read begins. A refused one hands out nothing.
-abbrev pub IsPartOf : List Entry → SourceJob → Result ReadRows TailFault → Type 0
-IsPartOf entries job (Ok handed) = IsPart job.max job.place (row_views handed.rows.items) (offset_view handed.next) entries
-IsPartOf entries job (Err fault) = Unit {0}
+abbrev pub IsPartOfTable : List Entry → SourceJob → Result ReadRows TailFault → Type 0
+IsPartOfTable entries job (Ok handed) = IsPart job.max job.place (row_views handed.rows.items) (offset_view handed.next) entries
+IsPartOfTable entries job (Err fault) = Unit {0}
 
 -- the outcome tells that the job's batch stands: it was committed, or stood already
 pub data Acknowledges (end : SinkEnd) : Type 0 where
@@ -100,9 +100,9 @@ Resume outs offset [] = Unit {0}
 Resume outs offset (one ∷ later) = Contains outs (reads one.0, read one.1) × (one.0.place ≡ offset) × Resume outs (next_told offset one.1.answer) later
 
 -- the rows that they handed out, in order
-abbrev pub rows_handed : List (SourceJob × ReadEnd) → List Row
-rows_handed [] = []
-rows_handed (one ∷ later) = rows_told one.1.answer ++ rows_handed later
+abbrev pub all_rows_handed : List (SourceJob × ReadEnd) → List Row
+all_rows_handed [] = []
+all_rows_handed (one ∷ later) = rows_told one.1.answer ++ all_rows_handed later
 
 -- the offset that was returned last, and the first one where none was
 abbrev pub last_offset : Offset → List (SourceJob × ReadEnd) → Offset
@@ -116,8 +116,8 @@ most_rows those = sum_by (λ (one : SourceJob × ReadEnd). one.0.max) those
 -- What a reader was handed that began at the beginning is the table's first rows, as many as stand before its last offset; of one that began
 -- at another of the table's offsets, the rows from there up to its last. Each once, in the order of the log.
 pub record HandsOutTheLog (outs : List (Job × Outcome)) (entries : List Entry) : Type 0 where
-  pub from_beginning : (those : List (SourceJob × ReadEnd)) → Resume outs beginning those → rows_handed those ≡ take (position (last_offset beginning those) entries) (rows entries)
-  pub from_offset : (offset : Offset) (those : List (SourceJob × ReadEnd)) → is_offset offset entries ≡ true → Resume outs offset those → IsPart (most_rows those) offset (rows_handed those) (last_offset offset those) entries
+  pub from_beginning : (those : List (SourceJob × ReadEnd)) → Resume outs beginning those → all_rows_handed those ≡ take (position (last_offset beginning those) entries) (rows entries)
+  pub from_offset : (offset : Offset) (those : List (SourceJob × ReadEnd)) → is_offset offset entries ≡ true → Resume outs offset those → IsPart (most_rows those) offset (all_rows_handed those) (last_offset offset those) entries
 
 -- Of the table that a store holds: each batch stands once, each application's numbers rise, and none of it stands with or behind its close;
 -- each batch that was acknowledged was handed in, and stands; each batch that stands was handed in, with these rows; what a stream was
@@ -129,5 +129,5 @@ pub record IsHeadline (events : List Event) (outs : List (Job × Outcome)) (sche
   pub acknowledged : (job : SinkJob) (end : SinkEnd) → Contains outs (streams job, stream end) → Acknowledges end → Submitted events job × (b : Batch) × IsBatchOf schema job b × Contains (batches entries) b
   pub submitted : (b : Batch) → Contains (batches entries) b → (job : SinkJob) × Submitted events job × IsBatchOf schema job b
   pub told : (job : SinkJob) (end : SinkEnd) → Contains outs (streams job, stream end) → IsSoOf schema entries job end.answer
-  pub parts : (job : SourceJob) (end : ReadEnd) → Contains outs (reads job, read end) → IsPartOf entries job end.answer
+  pub parts : (job : SourceJob) (end : ReadEnd) → Contains outs (reads job, read end) → IsPartOfTable entries job end.answer
   pub handed : HandsOutTheLog outs entries

@@ -1,3 +1,4 @@
+pub mod Actors
 pub mod Effects
 pub mod Events
 pub mod Headline

@@ -34,14 +34,14 @@ HasTable objects schema = (first : Entry) × (rest : List Entry) × Holds object
 
 -- What a commit holds that a session puts: as version 0, the creation that a job asks for; a batch that was handed in, whose file stands; or
 -- the close that a job asks for.
-pub data IsMade (events : List Event) (objects : Objects) (version : ℕ) (bytes : List ℕ) : Type 0 where
-  creates : (job : CreateJob) → WasBegun events (jobs.creates job) → version ≡ 0 → IsCreationOf job bytes → IsMade events objects version bytes
-  appends : (schema : Schema) (job : SinkJob) (b : Batch) → HasTable objects schema → Submitted events job → IsBatchOf schema job b → IsCommitOf schema (group (b ∷ [])) bytes → FileStands objects schema b → IsMade events objects version bytes
-  closes : (schema : Schema) (job : SinkJob) → Submitted events job → job.task ≡ tasks.closes → IsCommitOf schema (close job.application) bytes → IsMade events objects version bytes
+pub data IsCommitMade (events : List Event) (objects : Objects) (version : ℕ) (bytes : List ℕ) : Type 0 where
+  creates : (job : CreateJob) → WasBegun events (jobs.creates job) → version ≡ 0 → IsCreationOf job bytes → IsCommitMade events objects version bytes
+  appends : (schema : Schema) (job : SinkJob) (b : Batch) → HasTable objects schema → Submitted events job → IsBatchOf schema job b → IsCommitOf schema (group (b ∷ [])) bytes → FileStands objects schema b → IsCommitMade events objects version bytes
+  closes : (schema : Schema) (job : SinkJob) → Submitted events job → job.task ≡ tasks.closes → IsCommitOf schema (close job.application) bytes → IsCommitMade events objects version bytes
 
 -- A put is good: an admissible commit of a job's creation, of a batch that was handed in or of a job's close (not told to the byte but for a
 -- creation); a sound checkpoint; or a file of a batch that was handed in.
 pub data IsGoodPut (events : List Event) (objects : Objects) (name bytes : List ℕ) : Type 0 where
-  a_commit : (version : ℕ) → name ≡ commit_name version → IsAdmissible objects version bytes → IsMade events objects version bytes → IsGoodPut events objects name bytes
+  a_commit : (version : ℕ) → name ≡ commit_name version → IsAdmissible objects version bytes → IsCommitMade events objects version bytes → IsGoodPut events objects name bytes
   a_checkpoint : (version : ℕ) → checkpoint_version name ≡ Some version → IsSoundCheckpoint objects version bytes → IsGoodPut events objects name bytes
   a_file : (schema : Schema) → HasTable objects schema → IsSubmittedFile events schema name bytes → IsGoodPut events objects name bytes

@@ -36,17 +36,17 @@ with_actor w name found = record w { actors = λ other. if other == name then fo
 -- ---- calls that take effect
 
 -- what a call that takes effect tells
-abbrev pub told_by : Objects → Asked → Told
-told_by objects list_names = told_names (names_of objects)
-told_by objects (get_object name) = told_object (object_at objects name)
-told_by objects (put_file name bytes) = told_put (put_told (object_at objects name))
-told_by objects (put_commit version bytes) = told_put (put_told (object_at objects (commit_name version)))
+abbrev pub told_by_call : Objects → Asked → Told
+told_by_call objects list_names = told_names (names_of objects)
+told_by_call objects (get_object name) = told_object (object_at objects name)
+told_by_call objects (put_file name bytes) = told_put (put_told (object_at objects name))
+told_by_call objects (put_commit version bytes) = told_put (put_told (object_at objects (commit_name version)))
 
 -- and what it leaves: a put makes an absent name stand
-abbrev pub left_by : Objects → Asked → Objects
-left_by objects (put_file name bytes) = with_object objects name bytes
-left_by objects (put_commit version bytes) = with_object objects (commit_name version) bytes
-left_by objects asked = objects
+abbrev pub left_by_call : Objects → Asked → Objects
+left_by_call objects (put_file name bytes) = with_object objects name bytes
+left_by_call objects (put_commit version bytes) = with_object objects (commit_name version) bytes
+left_by_call objects asked = objects
 
 -- the put that goes in flight; a list and a get don't
 abbrev pub sent : Asked → Flight
@@ -69,16 +69,16 @@ pub data How : Type 0 where
 
 -- what such an answer tells
 abbrev pub told_how : How → Objects → Asked → Told
-told_how once objects asked = told_by objects asked
-told_how twice objects asked = told_by (left_by objects asked) asked
+told_how once objects asked = told_by_call objects asked
+told_how twice objects asked = told_by_call (left_by_call objects asked) asked
 told_how late objects asked = told_lost
 told_how lost objects asked = told_lost
 told_how short objects asked = told_memory
 
 -- which objects it leaves
 abbrev pub left_how : How → Objects → Asked → Objects
-left_how once objects asked = left_by objects asked
-left_how twice objects asked = left_by (left_by objects asked) asked
+left_how once objects asked = left_by_call objects asked
+left_how twice objects asked = left_by_call (left_by_call objects asked) asked
 left_how how objects asked = objects
 
 -- which puts are in flight then

@@ -1,22 +1,17 @@
 //! What is so of every world, whatever happened in it: laws, each a function that does nothing.
 
-ghost use Rattle.std.specs.Prelude.{◌≡◌, ℕ, List, [], ◌∷◌, ◌++◌, None, Option, Some, Contains, codes, true};
-ghost use Rattle.delta_replay.specs.Support.{has_key_inside};
-ghost use Rattle.store_core.specs.Objects.{AreBytes, HasObjectsOf, Objects, object_at};
-ghost use Rattle.session_core.specs.Talks.{Bears};
+ghost use Rattle.std.specs.Prelude.{◌≡◌, ℕ, List, ◌∷◌, ◌++◌, None, Option, Some, Contains};
+ghost use Rattle.store_core.specs.Objects.{AreBytes, HasObjectsOf, object_at};
 ghost use Rattle.delta_actions.specs.Names.{data_file_name};
 ghost use Rattle.table_model.specs.Table.{Entry};
 ghost use Rattle.table_store.specs.Holds.{Holds};
 ghost use Rattle.table_store.specs.Schema.{Schema};
 ghost use Rattle.log_laws.specs.Sound.{IsSoundStore};
-ghost use Rattle.source_core.specs.SourceSessions.{SourceJob};
-ghost use Rattle.source_core.specs.declared.source_session.ReadEnd.{ReadEnd};
-ghost use Rattle.session_laws.specs.Rows.{Lists, WasListed};
-ghost use Rattle.session_laws.specs.Jobs.{Job, Outcome, read, reads, CanBegin};
-ghost use Rattle.session_laws.specs.Moves.{HasAsked};
+ghost use Rattle.session_laws.specs.Jobs.{Job, Outcome};
+ghost use Rattle.stream_model.specs.Actors.{EndsSo, IsBorneBy};
 ghost use Rattle.stream_model.specs.Effects.{HasEffect};
-ghost use Rattle.stream_model.specs.Events.{Event, Fits, HasActor, Happens, IsWorldOf, Ran};
-ghost use Rattle.stream_model.specs.Headline.{IsHeadline, IsReadSo, ListsCommit, TellsBadLog, TellsSchemaChanged, TellsUnsupported};
+ghost use Rattle.stream_model.specs.Events.{Event, FitsWorld, HasActor, Happens, IsWorldOf, Ran};
+ghost use Rattle.stream_model.specs.Headline.{IsHeadline};
 ghost use Rattle.stream_model.specs.Puts.{HasTable, IsGoodPut, IsSubmittedFile};
 ghost use Rattle.stream_model.specs.Worlds.{Actor, World, ended};
 
@@ -32,8 +27,8 @@ use table_model::{a_part_from_the_beginning_is_a_front, parts_that_follow_are_on
 /// Over every list of events, of any length and with any number of actors, from a world in which nothing stands:
 /// - the store is sound, its checkpoints too (`sound`), and each object is of numbers of eight bits (`bytes`);
 /// - it bears what each session was told, each call that a session had an answer to is one that its job asks for there,
-///   and its job can begin (`borne`); a read that listed names was shown a sound store, as it stood then, whose files
-///   can be read and which has grown since (`shown`); so what a job does next by its talk it may do, as
+///   and its job can begin; a read that listed names was shown a sound store, as it stood then, whose files can be read
+///   and which has grown since (all of this is `borne`); so what a job does next by its talk it may do, as
 ///   `what_a_session_may` has it;
 /// - each put in flight may take effect at any time: it is a file of a batch that was handed in, an admissible commit
 ///   of a creation or a close that a job asks for or of such a batch, or a checkpoint of the log's commits up to its
@@ -52,10 +47,10 @@ use table_model::{a_part_from_the_beginning_is_a_front, parts_that_follow_are_on
 ///   its offset on, as many as it was to hand out or up to the start of the version that came next then; that its
 ///   offset is past their end (O2), or in no file of its version (O10); where no commit was listed, that version 0 is
 ///   missing (O12); that a call was lost, right behind one that was; or that memory ran out. No other refusal of a read
-///   comes (`reads`);
-/// - a session that has ended, and whose list had a commit, didn't tell that one is missing or can't be read
-///   (`listed`); none told that a winner changed the schema (`schema`); and one told that a checkpoint isn't put for
-///   what the table asks of its writers only where a field has `delta.invariants` (`supported`).
+///   comes;
+/// - a session that has ended, and whose list had a commit, didn't tell that one is missing or can't be read; none told
+///   that a winner changed the schema; and one told that a checkpoint isn't put for what the table asks of its writers
+///   only where a field has `delta.invariants` (`ends`, of reads too).
 ///
 /// A put takes effect on a free name alone; when it takes effect, a get gives what stands under its name, and a list
 /// all names that stand; and all objects are put by these sessions, of numbers of eight bits, as a program's bytes are.
@@ -65,24 +60,14 @@ use table_model::{a_part_from_the_beginning_is_a_front, parts_that_follow_are_on
 pub fn every_world()
     ensures sound { (events : List Event) (outs : List (Job × Outcome)) (w : World) → IsWorldOf events outs w → IsSoundStore w.objects }
     ensures bytes { (events : List Event) (outs : List (Job × Outcome)) (w : World) → IsWorldOf events outs w → AreBytes w.objects }
-    ensures borne { (events : List Event) (outs : List (Job × Outcome)) (w : World) → IsWorldOf events outs w → (name : ℕ) (actor : Actor) → HasActor w name actor
-        → Bears w.objects actor.talk × HasAsked actor.job [] actor.talk × CanBegin actor.job }
-    ensures shown { (events : List Event) (outs : List (Job × Outcome)) (w : World) → IsWorldOf events outs w → (name : ℕ) (actor : Actor) (job : SourceJob) → HasActor w name actor → actor.job ≡ reads job
-        → (names : List (List ℕ)) → Lists actor.talk names → (listed : Objects) × WasListed w.objects [] actor.talk listed }
+    ensures borne { (events : List Event) (outs : List (Job × Outcome)) (w : World) → IsWorldOf events outs w → (name : ℕ) (actor : Actor) → HasActor w name actor → IsBorneBy w.objects actor }
     ensures flight { (events : List Event) (outs : List (Job × Outcome)) (w : World) → IsWorldOf events outs w → (put : List ℕ × List ℕ) → Contains w.flight put → IsGoodPut events w.objects put.0 put.1 }
     ensures files { (events : List Event) (outs : List (Job × Outcome)) (w : World) → IsWorldOf events outs w
         → (application : List ℕ) (number : ℕ) (bytes : List ℕ) → object_at w.objects (data_file_name application number) ≡ Some bytes
         → (schema : Schema) × HasTable w.objects schema × IsSubmittedFile events schema (data_file_name application number) bytes }
     ensures headline { (events : List Event) (outs : List (Job × Outcome)) (w : World) → IsWorldOf events outs w → (schema : Schema) (entries : List Entry) → Holds w.objects schema entries → IsHeadline events outs schema entries }
-    ensures listed { (events : List Event) (outs : List (Job × Outcome)) (w : World) → IsWorldOf events outs w → (name : ℕ) (actor : Actor) (outcome : Outcome) → HasActor w name actor → actor.hand ≡ ended outcome
-        → ListsCommit actor.talk → TellsBadLog outcome → ⊥ }
-    ensures schema { (events : List Event) (outs : List (Job × Outcome)) (w : World) → IsWorldOf events outs w → (name : ℕ) (actor : Actor) (outcome : Outcome) → HasActor w name actor → actor.hand ≡ ended outcome
-        → TellsSchemaChanged outcome → ⊥ }
-    ensures reads { (events : List Event) (outs : List (Job × Outcome)) (w : World) → IsWorldOf events outs w → (name : ℕ) (actor : Actor) (job : SourceJob) (end : ReadEnd) → HasActor w name actor → actor.job ≡ reads job
-        → actor.hand ≡ ended (read end) → (names : List (List ℕ)) → Lists actor.talk names → (schema : Schema) (entries : List Entry) → Holds w.objects schema entries
-        → IsReadSo entries job actor.talk names end.answer }
-    ensures supported { (events : List Event) (outs : List (Job × Outcome)) (w : World) → IsWorldOf events outs w → (name : ℕ) (actor : Actor) (outcome : Outcome) → HasActor w name actor → actor.hand ≡ ended outcome
-        → (schema : Schema) (entries : List Entry) → Holds w.objects schema entries → TellsUnsupported outcome → has_key_inside (codes "delta.invariants") schema ≡ true }
+    ensures ends { (events : List Event) (outs : List (Job × Outcome)) (w : World) → IsWorldOf events outs w → (name : ℕ) (actor : Actor) (outcome : Outcome) → HasActor w name actor → actor.hand ≡ ended outcome
+        → EndsSo w.objects actor outcome }
 {
     an_empty_store_is_sound();
     an_admissible_commit_lands();
@@ -116,6 +101,6 @@ pub fn what_stands_in_a_world_stays()
 /// it; a put in flight takes effect, where its name is free, and stays in flight. One that doesn't fit changes nothing,
 /// and tells nothing (`nothing`).
 pub fn an_event_that_fits_has_its_effect()
-    ensures effect { (w later : World) (event : Event) (told : Option (Job × Outcome)) → Happens w event told later → Fits w event → HasEffect w event later }
-    ensures nothing { (w later : World) (event : Event) (told : Option (Job × Outcome)) → Happens w event told later → (Fits w event → ⊥) → (later ≡ w) × (told ≡ None) }
+    ensures effect { (w later : World) (event : Event) (told : Option (Job × Outcome)) → Happens w event told later → FitsWorld w event → HasEffect w event later }
+    ensures nothing { (w later : World) (event : Event) (told : Option (Job × Outcome)) → Happens w event told later → (FitsWorld w event → ⊥) → (later ≡ w) × (told ≡ None) }
 {}

@@ -6,10 +6,10 @@ use Rattle.session_core.specs.Talks.{Asked, Talk, asked_view, told_view}
 use Rattle.session_core.specs.declared.asking.Reply.{Reply}
 use Rattle.session_core.specs.declared.asking.Request.{Request}
 use Rattle.table_jobs.specs.Jobs.{Job}
-use Rattle.stream_model.specs.Events.{Fits, HasActor, act, acts}
+use Rattle.stream_model.specs.Events.{FitsWorld, HasActor, act, acts}
 use Rattle.stream_model.specs.Worlds.{Actor, Hand, How, World, acted, asking, ended, fresh, told_how, waiting}
 use Rattle.table_jobs.specs.Sessions.{SessionFits, job_of}
-use Rattle.stream_world.specs.Standing.{ActorStands, Becomes, HandStands, HasEnded, Meets, SlotStands}
+use Rattle.stream_world.specs.Standing.{ActorStands, Becomes, HandStands, HasEnded, CallMeets, SlotStands}
 use Rattle.stream_world.specs.declared.actor.Actor as code
 use Rattle.stream_world.specs.declared.actor.Hand as code_hand
 use Rattle.stream_world.specs.declared.actor.Hand.TheVariants as hands
@@ -19,11 +19,11 @@ use Rattle.stream_world.proofs.Steps.{nothing_became, stands_alike}
 -- an actor asks for a call
 asks_so : (w : World) (name : ℕ) (job : Job) (talk : Talk) (p : Hand) (how : How) (actor later : code.Actor) (request : Request) (reply : Reply) (objects : Objects) (flight : Flight)
     → HasActor w name (record { job = job; talk = talk; hand = p }) → ActorStands actor (record { job = job; talk = talk; hand = p }) → HandStands (hands.Asks request) talk p
-    → Meets how (asked_view request) (told_view reply) w.objects w.flight objects flight → later.session ≡ actor.session → later.hand ≡ hands.Waits reply
+    → CallMeets how (asked_view request) (told_view reply) w.objects w.flight objects flight → later.session ≡ actor.session → later.hand ≡ hands.Waits reply
     → Becomes w (act name how) name None objects flight (Some later)
 asks_so w name job talk (asking call) how actor later request reply objects flight has stands same meets session hand =
     let plain : Actor = record { job = job; talk = talk; hand = asking call } in
-    let meets_call : Meets how call (told_view reply) w.objects w.flight objects flight = subst (λ (c : Asked). Meets how c (told_view reply) w.objects w.flight objects flight) same meets in
+    let meets_call : CallMeets how call (told_view reply) w.objects w.flight objects flight = subst (λ (c : Asked). CallMeets how c (told_view reply) w.objects w.flight objects flight) same meets in
     let met : How = meets_call.met in
     let next : Actor = record { job = job; talk = talk; hand = waiting call (told_how met w.objects call) } in
     let there : ActorStands later next = record {
@@ -49,7 +49,7 @@ asks_so w name job talk (ended outcome) how actor later request reply objects fl
 
 -- A call that an actor asks for is answered.
 pub acted_on : (w : World) (name : ℕ) (how : How) (actor later : code.Actor) (request : Request) (reply : Reply) (objects : Objects) (flight : Flight)
-    → SlotStands (Some actor) (w.actors name) → actor.hand ≡ hands.Asks request → Meets how (asked_view request) (told_view reply) w.objects w.flight objects flight
+    → SlotStands (Some actor) (w.actors name) → actor.hand ≡ hands.Asks request → CallMeets how (asked_view request) (told_view reply) w.objects w.flight objects flight
     → later.session ≡ actor.session → later.hand ≡ hands.Waits reply → Becomes w (act name how) name None objects flight (Some later)
 acted_on w name how actor later request reply objects flight stands asks meets session hand = by_actor (w.actors name) refl stands
   where
@@ -63,10 +63,10 @@ acted_on w name how actor later request reply objects flight stands asks meets s
 same_actor : (one other : Actor) → Some one ≡ Some other → one ≡ other
 same_actor one other is = cc
 
-fits_asking : (w : World) (name : ℕ) (how : How) (plain : Actor) → HasActor w name plain → Fits w (act name how) → (call : Asked) × (plain.hand ≡ asking call)
+fits_asking : (w : World) (name : ℕ) (how : How) (plain : Actor) → HasActor w name plain → FitsWorld w (act name how) → (call : Asked) × (plain.hand ≡ asking call)
 fits_asking w name how plain has (actor, call, has_so, is) = (call, ap (λ (a : Actor). a.hand) (same_actor plain actor (sym has ∙ has_so)) ∙ is)
 
-nobody_fits : (w : World) (name : ℕ) (how : How) → w.actors name ≡ None → Fits w (act name how) → ⊥
+nobody_fits : (w : World) (name : ℕ) (how : How) → w.actors name ≡ None → FitsWorld w (act name how) → ⊥
 nobody_fits w name how none (actor, call, has, is) = absurd cc
 
 -- it has asked for nothing yet, or an answer waits
@@ -92,7 +92,7 @@ pub not_acted : (w : World) (name : ℕ) (how : How) (actor later : code.Actor) 
 not_acted w name how actor later stands none session hand =
     nothing_became w (act name how) name (Some later) (stands_alike actor later (w.actors name) session hand stands) (by_actor (w.actors name) refl stands)
   where
-    by_actor : (found : Option Actor) → w.actors name ≡ found → SlotStands (Some actor) found → Fits w (act name how) → ⊥
+    by_actor : (found : Option Actor) → w.actors name ≡ found → SlotStands (Some actor) found → FitsWorld w (act name how) → ⊥
     by_actor None has stands_so fits = stands_so
     by_actor (Some plain) has stands_so fits = let at = fits_asking w name how plain has fits in asks_nothing actor.hand plain.talk plain.hand stands_so.hand none at.0 at.1
 
@@ -100,6 +100,6 @@ not_acted w name how actor later stands none session hand =
 pub nobody_acted : (w : World) (name : ℕ) (how : How) → SlotStands None (w.actors name) → Becomes w (act name how) name None w.objects w.flight None
 nobody_acted w name how stands = nothing_became w (act name how) name None stands (by_actor (w.actors name) refl stands)
   where
-    by_actor : (found : Option Actor) → w.actors name ≡ found → SlotStands None found → Fits w (act name how) → ⊥
+    by_actor : (found : Option Actor) → w.actors name ≡ found → SlotStands None found → FitsWorld w (act name how) → ⊥
     by_actor None has stands_so fits = nobody_fits w name how has fits
     by_actor (Some plain) has stands_so fits = let at = fits_asking w name how plain has fits in ended_asks_nothing plain.hand stands_so at.0 at.1

@@ -11,7 +11,7 @@ use Rattle.stream_model.specs.Events as events
 use Rattle.stream_model.specs.Headline.{IsHeadline}
 use Rattle.stream_model.specs.Worlds.{World}
 use Rattle.stream_world.specs.EventViews.{event_view}
-use Rattle.stream_world.specs.Running.{AreRun, HasRun, IsTold, at_first, then_one}
+use Rattle.stream_world.specs.Running.{AreRun, HasRun, IsRunTold, at_first, then_one}
 use Rattle.stream_world.specs.Standing.{HasHappened, WorldStands, quiet_world}
 use Rattle.stream_world.specs.declared.event.Event as code_event
 use Rattle.table_jobs.specs.declared.job_session.JobEnd as code_end
@@ -43,7 +43,7 @@ run_more objects first seen event told next world later run happens =
 pub told_so : {S : Type 0} (objects : S → Objects) (first : Objects) (seen : List code_event.Event) (told : List (Option code_end.JobEnd)) (world : code_world.World S) → HasRun objects first seen told world → first ≡ []
     → ((met : List Event) (outs : List (Job × Outcome)) (w : World) → IsWorldOf met outs w → IsSoundStore w.objects)
     → ((met : List Event) (outs : List (Job × Outcome)) (w : World) → IsWorldOf met outs w → (schema : Schema) (entries : List Entry) → Holds w.objects schema entries → IsHeadline met outs schema entries)
-    → IsTold objects seen told world
+    → IsRunTold objects seen told world
 told_so objects first seen told world was nothing sound headline =
     let run : HasRun objects [] seen told world = subst (λ (o : Objects). HasRun objects o seen told world) nothing was in
     let of_world : IsWorldOf run.met run.outs run.w = ran_so (quiet_world []) seen told run.met run.outs run.w run.ran in

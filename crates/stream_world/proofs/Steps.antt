@@ -7,9 +7,9 @@ use Rattle.session_core.specs.Talks as talks
 use Rattle.session_core.specs.Talks.{Asked, Talk, Told, asked_view, heard, told_lost, told_view}
 use Rattle.session_core.specs.declared.asking.Reply.{Reply}
 use Rattle.session_core.specs.declared.asking.Reply.TheVariants as replies
-use Rattle.table_jobs.specs.Jobs.{Asks, Ends, Job, Outcome, is_lost}
+use Rattle.table_jobs.specs.Jobs.{Asks, Ends, Job, Outcome, is_lost_outcome}
 use Rattle.stream_model.specs.Moves.{Does, asks, ends_lost, tells}
-use Rattle.stream_model.specs.Events.{Event, Fits, HasActor, Takes, act, answer, begin, begins_now, die, ends, goes_on, land, lose_answer, loses, nothing_happens, takes}
+use Rattle.stream_model.specs.Events.{Event, FitsWorld, HasActor, ComesToTalk, act, answer, begin, begins_now, die, ends, goes_on, land, lose_answer, loses, nothing_happens, takes}
 use Rattle.stream_model.specs.Worlds.{Actor, Hand, How, World, asking, ended, fresh, waiting, with_actor}
 use Rattle.stream_model.specs.Worlds as worlds
 use Rattle.stream_world.specs.Acting.{AsksNext, GoesOnAs, HasNext, TellsNext}
@@ -42,7 +42,7 @@ met_so (lose_answer name) = refl
 met_so (land place) = refl
 
 -- where an event doesn't fit, nothing happens
-pub nothing_became : (w : World) (event : Event) (name : ℕ) (slot : Option code.Actor) → SlotStands slot (w.actors name) → (Fits w event → ⊥) → Becomes w event name None w.objects w.flight slot
+pub nothing_became : (w : World) (event : Event) (name : ℕ) (slot : Option code.Actor) → SlotStands slot (w.actors name) → (FitsWorld w event → ⊥) → Becomes w event name None w.objects w.flight slot
 nothing_became w event name slot stands unfit = record {
   met = event;
   is = met_so event;
@@ -83,7 +83,7 @@ ends_last (one ∷ next ∷ talk) call told = ends_last (next ∷ talk) call tol
 -- by an event of its own an actor takes what its session is told next
 pub record IsTaken (w : World) (event : Event) (name : ℕ) (plain : Actor) (reply : Option Reply) : Type 0 where
   pub now : Talk
-  pub taken : Takes w event name plain now
+  pub taken : ComesToTalk w event name plain now
   pub hears : heard plain.talk (call_of plain.hand) (option_map told_view reply) ≡ now
   pub lost : hears_lost (option_map told_view reply) ≡ ends_lost now
 
@@ -188,7 +188,7 @@ HasAnswer false fresh = Unit {0}
 HasAnswer is_lost (waiting call told) = Unit {0}
 HasAnswer is_lost hand = ⊥
 
-has_answer : (w : World) (name : ℕ) (plain : Actor) (is_lost_now : Bool) → HasActor w name plain → Fits w (taking name is_lost_now) → HasAnswer is_lost_now plain.hand
+has_answer : (w : World) (name : ℕ) (plain : Actor) (is_lost_now : Bool) → HasActor w name plain → FitsWorld w (taking name is_lost_now) → HasAnswer is_lost_now plain.hand
 has_answer w name plain false has (actor, has_so, inl is) =
     subst (HasAnswer false) (sym (ap (λ (a : Actor). a.hand) (same_actor plain actor (sym has ∙ has_so)) ∙ is)) tt
 has_answer w name plain false has (actor, has_so, inr (call, told, is)) =
@@ -196,7 +196,7 @@ has_answer w name plain false has (actor, has_so, inr (call, told, is)) =
 has_answer w name plain true has (actor, call, told, has_so, is) =
     subst (HasAnswer true) (sym (ap (λ (a : Actor). a.hand) (same_actor plain actor (sym has ∙ has_so)) ∙ is)) tt
 
-has_none : (w : World) (name : ℕ) (is_lost_now : Bool) → w.actors name ≡ None → Fits w (taking name is_lost_now) → ⊥
+has_none : (w : World) (name : ℕ) (is_lost_now : Bool) → w.actors name ≡ None → FitsWorld w (taking name is_lost_now) → ⊥
 has_none w name false none (actor, has, is) = absurd cc
 has_none w name true none (actor, call, told, has, is) = absurd cc
 
@@ -233,7 +233,7 @@ pub stayed : (w : World) (name : ℕ) (is_lost_now : Bool) (actor later : code.A
 stayed w name is_lost_now actor later left stands next session hand =
     nothing_became w (taking name is_lost_now) name (Some later) (stands_alike actor later (w.actors name) session hand stands) (by_actor (w.actors name) refl stands)
   where
-    by_actor : (found : Option Actor) → w.actors name ≡ found → SlotStands (Some actor) found → Fits w (taking name is_lost_now) → ⊥
+    by_actor : (found : Option Actor) → w.actors name ≡ found → SlotStands (Some actor) found → FitsWorld w (taking name is_lost_now) → ⊥
     by_actor None has stands_so fits = stands_so
     by_actor (Some plain) has stands_so fits = takes_none is_lost_now actor.hand left plain.talk plain.hand stands_so.hand next (has_answer w name plain is_lost_now has fits)
 
@@ -248,6 +248,6 @@ ended_takes_none is_lost_now (waiting call told) is has = is
 pub nobody_took : (w : World) (name : ℕ) (is_lost_now : Bool) → SlotStands None (w.actors name) → Becomes w (taking name is_lost_now) name None w.objects w.flight None
 nobody_took w name is_lost_now stands = nothing_became w (taking name is_lost_now) name None stands (by_actor (w.actors name) refl stands)
   where
-    by_actor : (found : Option Actor) → w.actors name ≡ found → SlotStands None found → Fits w (taking name is_lost_now) → ⊥
+    by_actor : (found : Option Actor) → w.actors name ≡ found → SlotStands None found → FitsWorld w (taking name is_lost_now) → ⊥
     by_actor None has stands_so fits = has_none w name is_lost_now has fits
     by_actor (Some plain) has stands_so fits = ended_takes_none is_lost_now plain.hand stands_so (has_answer w name plain is_lost_now has fits)

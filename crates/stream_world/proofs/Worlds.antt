@@ -13,7 +13,7 @@ use Rattle.store_core.specs.declared.fault.StoreFault.TheVariants.{Lost, Memory}
 use Rattle.store_core.specs.declared.store.Put.{Put}
 use Rattle.store_core.specs.declared.store.Put.TheVariants.{Created, Exists}
 use Rattle.table_jobs.specs.Jobs.{Job, CanBegin}
-use Rattle.stream_model.specs.Events.{Event, Fits, begin, begins, die, dies, land, lands, nothing_happens}
+use Rattle.stream_model.specs.Events.{Event, FitsWorld, begin, begins, die, dies, land, lands, nothing_happens}
 use Rattle.stream_model.specs.Worlds.{Actor, World, fresh, with_actor}
 use Rattle.table_jobs.specs.Sessions.{SessionFits, job_of}
 use Rattle.stream_world.specs.Standing.{ActorStands, Becomes, HandStands, HasHappened, LandsAs, SlotStands, WorldStands, landing_told, slot_at}
@@ -193,5 +193,5 @@ module _ {S : Type 0} (objects : S → Objects) (old new : code_world.World S) (
         },
       )
         where
-          unfit : Fits w (land place) → ⊥
+          unfit : FitsWorld w (land place) → ⊥
           unfit (put, is) = let there : slice_get (puts_sent old.store) place ≡ Some put = subst (λ (flight : Flight). slice_get flight place ≡ Some put) stands.flight is in absurd cc

@@ -4,7 +4,7 @@ use Rattle.session_core.specs.Sessions.{hears_lost}
 use Rattle.session_core.specs.Talks.{Asked, Talk, asked_view, heard, told_view}
 use Rattle.session_core.specs.declared.asking.Reply as code_reply
 use Rattle.session_core.specs.declared.asking.Reply.TheVariants as replies
-use Rattle.table_jobs.specs.Jobs.{Asks, Ends, is_lost}
+use Rattle.table_jobs.specs.Jobs.{Asks, Ends, is_lost_outcome}
 use Rattle.stream_model.specs.Events.{IsOfBytes}
 use Rattle.table_jobs.specs.Sessions.{SessionFits, job_of, end_view}
 use Rattle.stream_world.specs.declared.actor.Actor.{Actor}
@@ -32,7 +32,7 @@ AsksNext session reply later hand = ⊥
 abbrev pub TellsNext : JobSession → Option code_reply.Reply → code_end.JobEnd → Type 0
 TellsNext session reply outcome =
     ((talk : Talk) (asked : Option Asked) → SessionFits [] session talk asked → Ends (job_of session) [] (heard talk asked (option_map told_view reply)) (end_view outcome))
-    × (is_lost (end_view outcome) ≡ hears_lost (option_map told_view reply))
+    × (is_lost_outcome (end_view outcome) ≡ hears_lost (option_map told_view reply))
 
 -- A session that was told this asks for a call that its job asks for then, or tells what its job tells then.
 abbrev pub GoesOnAs : JobSession → Option code_reply.Reply → Option code_end.JobEnd → Option Actor → Type 0

@@ -1,6 +1,6 @@
 -- How many calls an actor's session still makes, and what it has at hand.
 use Rattle.std.specs.Prelude.{ℕ, Bool, true, false, Option, None, Some}
-use Rattle.table_jobs.specs.Sessions.{left}
+use Rattle.table_jobs.specs.Sessions.{session_calls_left}
 use Rattle.stream_world.specs.declared.actor.Actor.{Actor}
 use Rattle.stream_world.specs.declared.actor.Hand.{Hand}
 use Rattle.stream_world.specs.declared.actor.Hand.TheVariants.{Fresh, Asks, Waits}
@@ -8,7 +8,7 @@ use Rattle.stream_world.specs.declared.actor.Hand.TheVariants.{Fresh, Asks, Wait
 -- how many calls the session of an actor still makes at most
 abbrev pub calls_left : Option Actor → ℕ
 calls_left None = 0
-calls_left (Some actor) = left actor.session
+calls_left (Some actor) = session_calls_left actor.session
 
 -- the session asks for a call
 abbrev pub asks_hand : Hand → Bool

@@ -32,7 +32,7 @@ pub record HasRun {S : Type 0} (objects : S → Objects) (first : Objects) (even
   pub stands : WorldStands objects world w
 
 -- These events were run over nothing and told this: the store is sound, and what was told is so of the table that it holds now.
-pub record IsTold {S : Type 0} (objects : S → Objects) (events : List code_event.Event) (told : List (Option code_end.JobEnd)) (world : code_world.World S) : Type 0 where
+pub record IsRunTold {S : Type 0} (objects : S → Objects) (events : List code_event.Event) (told : List (Option code_end.JobEnd)) (world : code_world.World S) : Type 0 where
   pub run : HasRun objects [] events told world
   pub sound : IsSoundStore (objects world.store.store)
   pub headline : (schema : Schema) (entries : List Entry) → Holds (objects world.store.store) schema entries → IsHeadline run.met run.outs schema entries

@@ -79,7 +79,7 @@ TellsAs (Some outcome) (Some told) = told.1 ≡ end_view outcome
 TellsAs outcome told = ⊥
 
 -- A call is answered in this way, or memory ran out in it: what is told, and what stands and is in flight then.
-pub record Meets (how : How) (call : Asked) (told : Told) (objects : Objects) (flight : Flight) (objects_new : Objects) (flight_new : Flight) : Type 0 where
+pub record CallMeets (how : How) (call : Asked) (told : Told) (objects : Objects) (flight : Flight) (objects_new : Objects) (flight_new : Flight) : Type 0 where
   pub met : How
   pub is : IsMetIn how met
   pub told_so : told ≡ told_how met objects call

@@ -5,7 +5,7 @@ ghost use Rattle.store_core.specs.Turns.{puts_sent};
 ghost use Rattle.session_core.specs.Talks.{IsAnswerOf, asked_view, kind_of, told_view};
 ghost use Rattle.stream_world.specs.Calling.{IsSentCall, again, sent_told};
 ghost use Rattle.stream_world.specs.EventViews.{how_view};
-ghost use Rattle.stream_world.specs.Standing.{Meets};
+ghost use Rattle.stream_world.specs.Standing.{CallMeets};
 
 use crate::event::How;
 use session_core::{Reply, Request, ask};
@@ -22,7 +22,7 @@ pub(crate) fn answer<S: Store>(
 ) -> Reply
     ensures kind { IsAnswerOf (kind_of (asked_view request)) (told_view result) }
     ensures meets { S.is_reliable store.old.store
-        → Meets (how_view how) (asked_view request) (told_view result) (S.objects store.old.store) (puts_sent store.old) (S.objects store.new.store) (puts_sent store.new) }
+        → CallMeets (how_view how) (asked_view request) (told_view result) (S.objects store.old.store) (puts_sent store.old) (S.objects store.new.store) (puts_sent store.new) }
     ensures reliable { S.is_reliable store.old.store → S.is_reliable store.new.store }
 {
     match how {

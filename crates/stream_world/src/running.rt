@@ -1,7 +1,7 @@
 //! Lists of events, and what was told by them.
 
 ghost use Rattle.std.specs.Prelude.{◌≡◌, [], IfOk, length};
-ghost use Rattle.stream_world.specs.Running.{HasRun, IsTold};
+ghost use Rattle.stream_world.specs.Running.{HasRun, IsRunTold};
 
 use crate::event::Event;
 use crate::world::World;
@@ -34,7 +34,7 @@ pub fn run<S: Store + Drop>(
 ) -> Result<Ran<S>, AllocError>
     ensures each { IfOk result (λ ran. length ran.told.items ≡ length events.items) }
     ensures happens { S.is_reliable store → IfOk result (λ ran. HasRun S.objects (S.objects store) events.items ran.told.items ran.world) }
-    ensures headline { S.is_reliable store → S.objects store ≡ [] → IfOk result (λ ran. IsTold S.objects events.items ran.told.items ran.world) }
+    ensures headline { S.is_reliable store → S.objects store ≡ [] → IfOk result (λ ran. IsRunTold S.objects events.items ran.told.items ran.world) }
 {
     every_world();
     let mut world = World::new(alloc, store);

@@ -8,18 +8,18 @@ use Rattle.delta_actions.specs.Commit.{IsCommit}
 use Rattle.store_core.specs.Names.{commit_name, commit_version}
 use Rattle.table_store.specs.Commits.{without_commit_info}
 use Rattle.table_store.specs.Groups.{added}
-use Rattle.table_audit.specs.Audits.{ReadFiles, ReadFront, ReadInTurn, ReadLast, ReadLog, ReadToEnd, ReadVersion, ReadVersions, is_commit, names_in}
-use Rattle.table_audit.specs.Calls.{ReaderCall, Traced, reads}
+use Rattle.table_audit.specs.Audits.{ReadFiles, ReadFront, ReadInTurn, ReadLast, ReadLog, ReadToEnd, ReadVersion, ReadVersions, is_commit_name, names_of_files}
+use Rattle.table_audit.specs.Calls.{ReaderCall, ReaderTraced, reads}
 
 -- ---- traces
 
 -- a trace goes on with another
-pub traced_on : {R : Type 0} → (makes : R → ReaderCall → R → Type 0) (old mid new : R) (calls more : List ReaderCall) → Traced makes old calls mid → Traced makes mid more new → Traced makes old (calls ++ more) new
-traced_on {R} makes old mid new [] more is on = subst (λ (r : R). Traced makes r more new) is on
+pub traced_on : {R : Type 0} → (makes : R → ReaderCall → R → Type 0) (old mid new : R) (calls more : List ReaderCall) → ReaderTraced makes old calls mid → ReaderTraced makes mid more new → ReaderTraced makes old (calls ++ more) new
+traced_on {R} makes old mid new [] more is on = subst (λ (r : R). ReaderTraced makes r more new) is on
 traced_on {R} makes old mid new (call ∷ calls) more is on = (is.0, is.1, traced_on makes is.0 mid new calls more is.2 on)
 
 -- one call was made
-pub traced_once : {R : Type 0} → (makes : R → ReaderCall → R → Type 0) (old new : R) (call : ReaderCall) → makes old call new → Traced makes old (call ∷ []) new
+pub traced_once : {R : Type 0} → (makes : R → ReaderCall → R → Type 0) (old new : R) (call : ReaderCall) → makes old call new → ReaderTraced makes old (call ∷ []) new
 traced_once makes old new call is = (new, is, refl)
 
 -- ---- names that were read in turn
@@ -40,27 +40,27 @@ one_fails p name fails = rw fails refl
 
 -- a commit was read, and what is no commit wasn't
 pub commit_read : {R : Type 0} → (makes : R → ReaderCall → R → Type 0) (old new : R) (name : List ℕ) (told : Option (Option (List ℕ))) → is_some (commit_version name) ≡ true → makes old (reads name told) new
-    → (calls : List ReaderCall) × Traced makes old calls new × ReadInTurn (filter is_commit (name ∷ [])) calls
+    → (calls : List ReaderCall) × ReaderTraced makes old calls new × ReadInTurn (filter is_commit_name (name ∷ [])) calls
 commit_read makes old new name told commit is =
-    (reads name told ∷ [], traced_once makes old new (reads name told) is, subst (λ (names : List (List ℕ)). ReadInTurn names (reads name told ∷ [])) (sym (one_passes is_commit name commit)) (turn_once name told))
+    (reads name told ∷ [], traced_once makes old new (reads name told) is, subst (λ (names : List (List ℕ)). ReadInTurn names (reads name told ∷ [])) (sym (one_passes is_commit_name name commit)) (turn_once name told))
 
 pub none_read : {R : Type 0} → (makes : R → ReaderCall → R → Type 0) (old : R) (name : List ℕ) → is_some (commit_version name) ≡ false
-    → (calls : List ReaderCall) × Traced makes old calls old × ReadInTurn (filter is_commit (name ∷ [])) calls
-none_read makes old name none = ([], refl, subst (λ (names : List (List ℕ)). ReadInTurn names []) (sym (one_fails is_commit name none)) refl)
+    → (calls : List ReaderCall) × ReaderTraced makes old calls old × ReadInTurn (filter is_commit_name (name ∷ [])) calls
+none_read makes old name none = ([], refl, subst (λ (names : List (List ℕ)). ReadInTurn names []) (sym (one_fails is_commit_name name none)) refl)
 
 -- the commits of one name more
 pub commits_more : {R : Type 0} → (makes : R → ReaderCall → R → Type 0) (old mid new : R) (names : List (String Global)) (i : ℕ) (x : String Global) (name : List ℕ) → i < length names → x ≡ get_or names i x → name ≡ string_bytes x
-    → (calls : List ReaderCall) × Traced makes old calls mid × ReadInTurn (filter is_commit (map string_bytes (take i names))) calls
-    → (calls : List ReaderCall) × Traced makes mid calls new × ReadInTurn (filter is_commit (name ∷ [])) calls
-    → (calls : List ReaderCall) × Traced makes old calls new × ReadInTurn (filter is_commit (map string_bytes (take (i + 1) names))) calls
+    → (calls : List ReaderCall) × ReaderTraced makes old calls mid × ReadInTurn (filter is_commit_name (map string_bytes (take i names))) calls
+    → (calls : List ReaderCall) × ReaderTraced makes mid calls new × ReadInTurn (filter is_commit_name (name ∷ [])) calls
+    → (calls : List ReaderCall) × ReaderTraced makes old calls new × ReadInTurn (filter is_commit_name (map string_bytes (take (i + 1) names))) calls
 commits_more makes old mid new names i x name more at is_name front one =
     let seen : map string_bytes (take (i + 1) names) ≡ map string_bytes (take i names) ++ name ∷ [] =
     map_more string_bytes names i x more ∙ ap (λ (last : List ℕ). map string_bytes (take i names) ++ last ∷ []) (ap string_bytes (sym at) ∙ sym is_name) in
-    let both : filter is_commit (map string_bytes (take (i + 1) names)) ≡ filter is_commit (map string_bytes (take i names)) ++ filter is_commit (name ∷ []) =
-    ap (filter is_commit) seen ∙ filter-append is_commit (map string_bytes (take i names)) (name ∷ []) in (
+    let both : filter is_commit_name (map string_bytes (take (i + 1) names)) ≡ filter is_commit_name (map string_bytes (take i names)) ++ filter is_commit_name (name ∷ []) =
+    ap (filter is_commit_name) seen ∙ filter-append is_commit_name (map string_bytes (take i names)) (name ∷ []) in (
       front.0 ++ one.0,
       traced_on makes old mid new front.0 one.0 front.1 one.1,
-      subst (λ (ns : List (List ℕ)). ReadInTurn ns (front.0 ++ one.0)) (sym both) (turn_on (filter is_commit (map string_bytes (take i names))) (filter is_commit (name ∷ [])) front.0 one.0 front.2 one.2),
+      subst (λ (ns : List (List ℕ)). ReadInTurn ns (front.0 ++ one.0)) (sym both) (turn_on (filter is_commit_name (map string_bytes (take i names))) (filter is_commit_name (name ∷ [])) front.0 one.0 front.2 one.2),
     )
 
 -- ---- files
@@ -76,7 +76,7 @@ pub front_none : (names : List (List ℕ)) → ReadFront names []
 front_none names = (0, refl)
 
 -- of a commit's files
-pub files_front : (bytes : List ℕ) (actions : List Action) (calls : List ReaderCall) → IsCommit bytes actions → ReadFront (names_in (added (without_commit_info actions))) calls → ReadFiles bytes calls
+pub files_front : (bytes : List ℕ) (actions : List Action) (calls : List ReaderCall) → IsCommit bytes actions → ReadFront (names_of_files (added (without_commit_info actions))) calls → ReadFiles bytes calls
 files_front bytes actions [] is front = tt
 files_front bytes actions (call ∷ calls) is front = (actions, is, front)
 

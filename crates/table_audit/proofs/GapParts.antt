@@ -8,7 +8,7 @@ use Rattle.store_core.proofs.Callers.{named, own_version}
 use Rattle.table_check.specs.Named.{least_named}
 use Rattle.table_check.proofs.NameLists.{least_low}
 use Rattle.table_log.proofs.Callers.{checkpoint_named}
-use Rattle.table_audit.specs.Reasons.{IsNamed, IsReasonOf}
+use Rattle.table_audit.specs.Reasons.{IsNamedBehindGap, IsReasonOf}
 use Rattle.table_audit.specs.declared.reason.Reason.{Reason}
 use Rattle.table_audit.specs.declared.reason.Reason.TheVariants.{CommitBehindGap, CheckpointBehindGap}
 
@@ -33,7 +33,7 @@ module _ (objects : Objects) where
   untold version own none None is = refl
   untold version own none (Some bytes) is = absurd (none (commit_name version) ((listed_iff_stands objects (commit_name version)).1 (subst (λ (o : Option (List ℕ)). IsSome o) (sym is) refl)) own)
 
-  pub gap_reason : (next version : ℕ) (reason : Reason) → object_at objects (commit_name next) ≡ None → least_named next (names_of objects) ≡ Some version → IsNamed (names_of objects) version reason → IsReasonOf objects version reason
+  pub gap_reason : (next version : ℕ) (reason : Reason) → object_at objects (commit_name next) ≡ None → least_named next (names_of objects) ≡ Some version → IsNamedBehindGap (names_of objects) version reason → IsReasonOf objects version reason
   gap_reason next version (CommitBehindGap at) none least is =
       let stands : IsSome (object_at objects (commit_name version)) =
       subst (λ (name : List ℕ). IsSome (object_at objects name)) (sym (named is.1.0 version is.1.2).0) (stands_at is.1.0 is.1.1) in

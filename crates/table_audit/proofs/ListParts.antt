@@ -20,7 +20,7 @@ use Rattle.table_check.proofs.Counts.{Among, all_from, among_from, among_to, eac
 use Rattle.table_check.proofs.NameLists.{picked}
 use Rattle.table_check.proofs.WalkEnds.{listed}
 use Rattle.table_store.proofs.GroupLemmas.{all_push, map_turn}
-use Rattle.table_audit.specs.Listed.{IsRising, IsTold, listed_view, told}
+use Rattle.table_audit.specs.Listed.{IsRising, IsVersionTold, listed_view, told}
 use Rattle.table_audit.specs.declared.listing.Listed.{Listed}
 
 -- ---- what is picked
@@ -33,9 +33,9 @@ kept_all : {A B : Type 0} (f : A → Option B) (P : B → Type 0) → ((x : A) (
 kept_all f P each [] = tt
 kept_all f P each (x ∷ xs) = kept_more f P each x xs (f x) refl (kept_all f P each xs)
 
-own_told : (name : List ℕ) (p : ℕ × List ℕ) (version : Option ℕ) → checkpoint_version name ≡ version → option_map (λ v. (v, name)) version ≡ Some p → IsTold p
+own_told : (name : List ℕ) (p : ℕ × List ℕ) (version : Option ℕ) → checkpoint_version name ≡ version → option_map (λ v. (v, name)) version ≡ Some p → IsVersionTold p
 own_told name p None is told = absurd cc
-own_told name p (Some version) is told = let same : (version, name) ≡ p = cc in subst IsTold same is
+own_told name p (Some version) is told = let same : (version, name) ≡ p = cc in subst IsVersionTold same is
 
 -- ---- in the order of versions
 
@@ -54,10 +54,10 @@ module _ (names : List (List ℕ)) (before after : List (ℕ × List ℕ)) (is :
       let there : Among (version, name) before = subst (Among (version, name)) (sym is) (picked told names name (version, name) (among_from name names has) one) in
       Contains-permutation before after (version, name) same (among_to (version, name) before there)
 
-  pub sorted_own : AllByRecursion IsTold after
+  pub sorted_own : AllByRecursion IsVersionTold after
   sorted_own =
-      let own : AllByRecursion IsTold before = subst (AllByRecursion IsTold) (sym is) (kept_all told IsTold (λ name p tells. own_told name p (checkpoint_version name) refl tells) names) in
-      all_from IsTold after (λ p among. each_among IsTold p before own (among_from p before (Contains-permutation after before p (IsPermutation-sym before after same) (among_to p after among))))
+      let own : AllByRecursion IsVersionTold before = subst (AllByRecursion IsVersionTold) (sym is) (kept_all told IsVersionTold (λ name p tells. own_told name p (checkpoint_version name) refl tells) names) in
+      all_from IsVersionTold after (λ p among. each_among IsVersionTold p before own (among_from p before (Contains-permutation after before p (IsPermutation-sym before after same) (among_to p after among))))
 
   pub sorted_same : IsPermutation (filter_map told names) after
   sorted_same = subst (λ (ps : List (ℕ × List ℕ)). IsPermutation ps after) is same
@@ -150,16 +150,16 @@ of_part P (q ∷ taken) p rest all = of_part P taken p rest all.1
 
 -- checkpoints, by version
 pub record AreListed (items : List Listed) : Type 0 where
-  pub own : AllByRecursion IsTold (map listed_view items)
+  pub own : AllByRecursion IsVersionTold (map listed_view items)
   pub up : IsRising (map listed_view items)
 
-pub are_listed : (items seen : List Listed) → seen ≡ items → AllByRecursion IsTold (map listed_view items) → IsRising (map listed_view items) → AreListed seen
+pub are_listed : (items seen : List Listed) → seen ≡ items → AllByRecursion IsVersionTold (map listed_view items) → IsRising (map listed_view items) → AreListed seen
 are_listed items seen same own up = subst AreListed (sym same) (record { own = own; up = up })
 
 module _ (items : List Listed) (are : AreListed items) (i : ℕ) (x : Listed) (more : i < length items) (at : x ≡ get_or items i x) where
   -- the checkpoint at a place
   pub told_at : checkpoint_version (string_bytes x.name) ≡ Some x.version
-  told_at = of_part IsTold (map listed_view (take i items)) (listed_view x) (map listed_view (drop (i + 1) items)) (subst (AllByRecursion IsTold) (parts_at items i x more at) are.own)
+  told_at = of_part IsVersionTold (map listed_view (take i items)) (listed_view x) (map listed_view (drop (i + 1) items)) (subst (AllByRecursion IsVersionTold) (parts_at items i x more at) are.own)
 
   pub small_at : x.version ≤ greatest_version
   small_at = (checkpoint_named (string_bytes x.name) x.version told_at).small

@@ -16,7 +16,7 @@ use Rattle.table_store.specs.Commits.{without_commit_info}
 use Rattle.table_store.specs.Groups.{added, numbers}
 use Rattle.table_store.specs.Schema.{Schema}
 use Rattle.table_store.proofs.GroupLemmas.{files_count}
-use Rattle.table_audit.specs.Reasons.{AreNoFiles, AreOld, AreTogether, IsBehind, IsNoBatch, IsNoClose, IsNoFile, IsNoNext, IsOld, IsOtherCheckpoint, IsReasonOf, IsUnread}
+use Rattle.table_audit.specs.Reasons.{AreNoFiles, AreOld, AreTogether, IsCommitBehind, IsNoBatch, IsNoClose, IsNoFile, IsNoNext, IsOldNumber, IsOtherCheckpoint, IsReasonOf, IsUnread}
 use Rattle.table_audit.specs.Walks.{IsWalk}
 use Rattle.table_audit.specs.declared.reason.Reason.{Reason}
 use Rattle.table_audit.specs.declared.reason.Reason.TheVariants.{BadCommit, NoCreation, NoEntry, Twice, NotAbove, Closed, OtherFile, CommitBehindGap, CheckpointBehindGap, BadCheckpoint, OtherCheckpoint}
@@ -28,7 +28,7 @@ contains_at f xs i x low at = (i, omega (arith, low, length-map xs f), get_or-ma
 
 -- ---- of one to of all
 
-pub one_old : (log : List (List actions.Action)) (version : ℕ) (ns : List (List ℕ × ℕ)) (n : List ℕ × ℕ) (reason : Reason) → Contains ns n → IsOld log n reason → AreOld log version ns reason
+pub one_old : (log : List (List actions.Action)) (version : ℕ) (ns : List (List ℕ × ℕ)) (n : List ℕ × ℕ) (reason : Reason) → Contains ns n → IsOldNumber log n reason → AreOld log version ns reason
 one_old log version ns n (NoEntry at) among is = absurd is
 one_old log version ns n (Twice at application) among is = absurd is
 one_old log version ns n _ among is = (n, among, is)
@@ -63,7 +63,7 @@ module _ (objects : Objects) (schema : Schema) (version : ℕ) (log : List (List
   next_by_files (Closed number application) is = absurd is.3
   next_by_files _ is = is
 
-  pub reason_behind : (reason : Reason) → IsBehind objects schema version log beside → IsNoNext objects schema version log beside reason → IsReasonOf objects version reason
+  pub reason_behind : (reason : Reason) → IsCommitBehind objects schema version log beside → IsNoNext objects schema version log beside reason → IsReasonOf objects version reason
   reason_behind (BadCommit at fault) behind is = absurd is.3
   reason_behind NoCreation behind is = absurd is.3
   reason_behind (CommitBehindGap at) behind is = absurd is.3
@@ -74,7 +74,7 @@ module _ (objects : Objects) (schema : Schema) (version : ℕ) (log : List (List
 
   -- a commit behind those that were walked over
   pub behind_walked : IsWalked objects schema version log → (bytes : List ℕ) (made : List actions.Action) → object_at objects (commit_name version) ≡ Some bytes → IsCommit bytes made → beside ≡ without_commit_info made → IsNoClose beside
-      → IsBehind objects schema version log beside
+      → IsCommitBehind objects schema version log beside
   behind_walked walked bytes made there lines is no_close = record {
     created = walked.stand.0;
     before = walked.read;

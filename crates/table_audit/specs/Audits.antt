@@ -22,13 +22,13 @@ ReadFront names calls = (n : ℕ) × ReadInTurn (take n names) calls
 -- ---- an audit
 
 -- the names of files
-abbrev pub names_in : List AddAction → List (List ℕ)
-names_in files = map (λ file. file.path.key) files
+abbrev pub names_of_files : List AddAction → List (List ℕ)
+names_of_files files = map (λ file. file.path.key) files
 
 -- Of the files that the commit of some bytes adds a front was read, each once, in their order.
 abbrev pub ReadFiles : (bytes : List ℕ) → List ReaderCall → Type 0
 ReadFiles bytes [] = Unit {0}
-ReadFiles bytes (call ∷ calls) = (actions : List Action) × IsCommit bytes actions × ReadFront (names_in (added (without_commit_info actions))) (call ∷ calls)
+ReadFiles bytes (call ∷ calls) = (actions : List Action) × IsCommit bytes actions × ReadFront (names_of_files (added (without_commit_info actions))) (call ∷ calls)
 
 -- The commit of a version was read once, which told its bytes, and then files that it adds.
 abbrev pub ReadVersion : (version : ℕ) → List ReaderCall → Type 0
@@ -73,13 +73,13 @@ Audits calls = (told : Option (List (List ℕ))) × (more : List ReaderCall) × 
 -- ---- what lies beside a table
 
 -- a name is that of a version's commit
-abbrev pub is_commit : (name : List ℕ) → Bool
-is_commit name = is_some (commit_version name)
+abbrev pub is_commit_name : (name : List ℕ) → Bool
+is_commit_name name = is_some (commit_version name)
 
 -- behind a listing, the commits of a front of the names were read
 abbrev pub ReadCommits : (told : Option (List (List ℕ))) → List ReaderCall → Type 0
 ReadCommits None calls = calls ≡ []
-ReadCommits (Some names) calls = (n : ℕ) × ReadInTurn (filter is_commit (take n names)) calls
+ReadCommits (Some names) calls = (n : ℕ) × ReadInTurn (filter is_commit_name (take n names)) calls
 
 -- The calls of a look for what lies beside a table: the names were listed once, first. Then the commits among them were
 -- read, each once, in the order of the names; only a front of them where it failed.
@@ -88,4 +88,4 @@ LooksBeside calls = (told : Option (List (List ℕ))) × (more : List ReaderCall
 
 -- of a whole look: all of them
 abbrev pub HasLookedBeside : List ReaderCall → Type 0
-HasLookedBeside calls = (names : List (List ℕ)) × (more : List ReaderCall) × (calls ≡ lists (Some names) ∷ more) × ReadInTurn (filter is_commit names) more
+HasLookedBeside calls = (names : List (List ℕ)) × (more : List ReaderCall) × (calls ≡ lists (Some names) ∷ more) × ReadInTurn (filter is_commit_name names) more

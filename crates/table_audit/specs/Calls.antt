@@ -11,11 +11,11 @@ pub data ReaderCall : Type 0 where
   reads : (name : List ℕ) (told : Option (Option (List ℕ))) → ReaderCall
 
 -- what a call told, if it wasn't lost
-abbrev pub told_by : {X Y : Type 0} → (X → Y) → Result X StoreFault → Option Y
-told_by view (Ok x) = Some (view x)
-told_by view (Err fault) = None
+abbrev pub told_by_reader : {X Y : Type 0} → (X → Y) → Result X StoreFault → Option Y
+told_by_reader view (Ok x) = Some (view x)
+told_by_reader view (Err fault) = None
 
 -- Just these calls were made, one behind the other: `makes` says what one call may make of a reader.
-abbrev pub Traced : {R : Type 0} → (makes : R → ReaderCall → R → Type 0) → R → List ReaderCall → R → Type 0
-Traced {R} makes old [] new = new ≡ old
-Traced {R} makes old (call ∷ calls) new = (mid : R) × makes old call mid × Traced makes mid calls new
+abbrev pub ReaderTraced : {R : Type 0} → (makes : R → ReaderCall → R → Type 0) → R → List ReaderCall → R → Type 0
+ReaderTraced {R} makes old [] new = new ≡ old
+ReaderTraced {R} makes old (call ∷ calls) new = (mid : R) × makes old call mid × ReaderTraced makes mid calls new

@@ -26,7 +26,7 @@ abbrev pub AreOwnLines : (version : ℕ) → List (List Action) → List (List �
 AreOwnLines version log lines = (own : List ℕ) × HasLines own lines × IsCheckpoint own version log
 
 -- what is found is told rightly
-abbrev pub IsCheckpointOf : Found → List ℕ → (version : ℕ) → List (List Action) → Type 0
-IsCheckpointOf Same bytes version log = IsCheckpoint bytes version log
-IsCheckpointOf Other bytes version log = IsOtherCheckpoint version log bytes
-IsCheckpointOf (Bad fault) bytes version log = IsUnread fault bytes × (IsCheckpoint bytes version log → ⊥)
+abbrev pub IsFoundRightly : Found → List ℕ → (version : ℕ) → List (List Action) → Type 0
+IsFoundRightly Same bytes version log = IsCheckpoint bytes version log
+IsFoundRightly Other bytes version log = IsOtherCheckpoint version log bytes
+IsFoundRightly (Bad fault) bytes version log = IsUnread fault bytes × (IsCheckpoint bytes version log → ⊥)

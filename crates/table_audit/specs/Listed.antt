@@ -13,8 +13,8 @@ abbrev pub told : List ℕ → Option (ℕ × List ℕ)
 told name = option_map (λ version. (version, name)) (checkpoint_version name)
 
 -- a checkpoint's name tells its version
-abbrev pub IsTold : ℕ × List ℕ → Type 0
-IsTold p = checkpoint_version p.1 ≡ Some p.0
+abbrev pub IsVersionTold : ℕ × List ℕ → Type 0
+IsVersionTold p = checkpoint_version p.1 ≡ Some p.0
 
 -- no version is greater than one behind it
 abbrev pub IsRising : List (ℕ × List ℕ) → Type 0

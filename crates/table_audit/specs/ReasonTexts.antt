@@ -8,17 +8,17 @@ use Rattle.table_audit.specs.declared.reason.Reason.{Reason}
 use Rattle.table_audit.specs.declared.reason.Reason.TheVariants.{BadCommit, NoCreation, NoEntry, Twice, NotAbove, Closed, OtherFile, NoFile, BadFile, CommitBehindGap, CheckpointBehindGap, BadCheckpoint, OtherCheckpoint}
 
 -- the id of an application, as it is told
-abbrev pub id_text : ApplicationId → List ℕ
-id_text application = string_bytes application.text
+abbrev pub application_id_text : ApplicationId → List ℕ
+application_id_text application = string_bytes application.text
 
 abbrev pub reason_text : Reason → List ℕ
 reason_text (BadCommit version fault) = codes "commit " ++ (decimal version ++ (codes ": " ++ actions.fault_text fault))
 reason_text NoCreation = codes "commit 0: no creation of a table"
 reason_text (NoEntry version) = codes "commit " ++ (decimal version ++ codes ": no group and no close")
-reason_text (Twice version application) = codes "commit " ++ (decimal version ++ (codes ": " ++ (id_text application ++ codes " stands twice")))
-reason_text (NotAbove number application last) = codes "number " ++ (decimal number ++ (codes " of " ++ (id_text application ++ (codes " is not above " ++ decimal last))))
-reason_text (Closed number application) = codes "number " ++ (decimal number ++ (codes " of " ++ (id_text application ++ codes " is behind its close")))
-reason_text (OtherFile number application) = codes "number " ++ (decimal number ++ (codes " of " ++ (id_text application ++ codes " adds another file")))
+reason_text (Twice version application) = codes "commit " ++ (decimal version ++ (codes ": " ++ (application_id_text application ++ codes " stands twice")))
+reason_text (NotAbove number application last) = codes "number " ++ (decimal number ++ (codes " of " ++ (application_id_text application ++ (codes " is not above " ++ decimal last))))
+reason_text (Closed number application) = codes "number " ++ (decimal number ++ (codes " of " ++ (application_id_text application ++ codes " is behind its close")))
+reason_text (OtherFile number application) = codes "number " ++ (decimal number ++ (codes " of " ++ (application_id_text application ++ codes " adds another file")))
 reason_text (NoFile name) = codes "file " ++ (string_bytes name ++ codes ": missing")
 reason_text (BadFile name fault) = codes "file " ++ (string_bytes name ++ (codes ": " ++ files.fault_text fault))
 reason_text (CommitBehindGap version) = codes "commit " ++ (decimal version ++ codes " behind a gap")

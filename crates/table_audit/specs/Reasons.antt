@@ -34,10 +34,10 @@ IsId application id = string_bytes application.text ≡ compact_text (string id)
 
 -- Why a number of an application isn't new in a log: it isn't above the one that the application has come to, or its
 -- stream is closed.
-abbrev pub IsOld : List (List Action) → List ℕ × ℕ → Reason → Type 0
-IsOld log n (NotAbove number application last) = (number ≡ n.1) × IsId application n.0 × (last_number n.0 log ≡ Some last) × (number ≤ last)
-IsOld log n (Closed number application) = (number ≡ n.1) × IsId application n.0 × (is_closed n.0 log ≡ true)
-IsOld log n _ = ⊥
+abbrev pub IsOldNumber : List (List Action) → List ℕ × ℕ → Reason → Type 0
+IsOldNumber log n (NotAbove number application last) = (number ≡ n.1) × IsId application n.0 × (last_number n.0 log ≡ Some last) × (number ≤ last)
+IsOldNumber log n (Closed number application) = (number ≡ n.1) × IsId application n.0 × (is_closed n.0 log ≡ true)
+IsOldNumber log n _ = ⊥
 
 -- one of the numbers is of this application, and another behind it is, too
 abbrev pub IsTwice : (id : List ℕ) → List (List ℕ × ℕ) → Type 0
@@ -47,7 +47,7 @@ IsTwice id ns = (front behind : List (List ℕ × ℕ)) × (number : ℕ) × (ns
 abbrev pub AreOld : List (List Action) → (version : ℕ) → List (List ℕ × ℕ) → Reason → Type 0
 AreOld log version ns (NoEntry at) = (at ≡ version) × (ns ≡ [])
 AreOld log version ns (Twice at application) = (at ≡ version) × ((id : List ℕ) × IsId application id × IsTwice id ns)
-AreOld log version ns reason = (n : List ℕ × ℕ) × Contains ns n × IsOld log n reason
+AreOld log version ns reason = (n : List ℕ × ℕ) × Contains ns n × IsOldNumber log n reason
 
 -- ---- files
 
@@ -96,7 +96,7 @@ IsNoNext objects schema version log beside reason = AreNoFiles objects schema ve
 
 -- The first commit creates a table, those below a version are a log, and the version's one, which is no close, has these
 -- actions beside its own.
-pub record IsBehind (objects : Objects) (schema : Schema) (version : ℕ) (log : List (List Action)) (beside : List Action) : Type 0 where
+pub record IsCommitBehind (objects : Objects) (schema : Schema) (version : ℕ) (log : List (List Action)) (beside : List Action) : Type 0 where
   pub created : Stands objects (commit_name 0) (IsCommitOf schema creation)
   pub before : commits_in 0 (versions_from version 0 objects) ≡ Ok log
   pub stands : Stands objects (commit_name version) (λ bytes. (made : List Action) × IsCommit bytes made × (beside ≡ without_commit_info made))
@@ -117,11 +117,11 @@ abbrev pub IsBehindGap : Objects → (version : ℕ) → Type 0
 IsBehindGap objects version = (gap : ℕ) × (gap < version) × (object_at objects (commit_name gap) ≡ None)
 
 -- Which of names are of a version: a commit's, or else a checkpoint's.
-abbrev pub IsNamed : List (List ℕ) → (version : ℕ) → Reason → Type 0
-IsNamed names version (CommitBehindGap at) = (at ≡ version) × ((name : List ℕ) × Contains names name × (commit_version name ≡ Some version))
-IsNamed names version (CheckpointBehindGap told) = Contains names (string_bytes told) × (checkpoint_version (string_bytes told) ≡ Some version)
+abbrev pub IsNamedBehindGap : List (List ℕ) → (version : ℕ) → Reason → Type 0
+IsNamedBehindGap names version (CommitBehindGap at) = (at ≡ version) × ((name : List ℕ) × Contains names name × (commit_version name ≡ Some version))
+IsNamedBehindGap names version (CheckpointBehindGap told) = Contains names (string_bytes told) × (checkpoint_version (string_bytes told) ≡ Some version)
     × ((name : List ℕ) → Contains names name → commit_version name ≡ Some version → ⊥)
-IsNamed names version _ = ⊥
+IsNamedBehindGap names version _ = ⊥
 
 -- bytes are a commit's, and not the checkpoint of a version and a log
 abbrev pub IsOtherCheckpoint : (version : ℕ) → List (List Action) → (bytes : List ℕ) → Type 0
@@ -137,4 +137,4 @@ IsReasonOf objects version (CheckpointBehindGap name) = (checkpoint_version (str
 IsReasonOf objects version (BadCheckpoint name fault) = (checkpoint_version (string_bytes name) ≡ Some version) × Stands objects (string_bytes name) (IsUnread fault)
 IsReasonOf objects version (OtherCheckpoint name) = (checkpoint_version (string_bytes name) ≡ Some version)
     × ((log : List (List Action)) × (commits_in 0 (versions_from (suc version) 0 objects) ≡ Ok log) × Stands objects (string_bytes name) (IsOtherCheckpoint version log))
-IsReasonOf objects version reason = (schema : Schema) × (log : List (List Action)) × (beside : List Action) × IsBehind objects schema version log beside × IsNoNext objects schema version log beside reason
+IsReasonOf objects version reason = (schema : Schema) × (log : List (List Action)) × (beside : List Action) × IsCommitBehind objects schema version log beside × IsNoNext objects schema version log beside reason

@@ -7,7 +7,7 @@ use Rattle.store_core.specs.Objects.{Objects, names_of}
 use Rattle.table_check.specs.Below.{IsSoundBelow}
 use Rattle.table_check.specs.Named.{least_named}
 use Rattle.table_check.specs.Walked.{IsWalked}
-use Rattle.table_audit.specs.Reasons.{IsNamed, IsReasonOf}
+use Rattle.table_audit.specs.Reasons.{IsNamedBehindGap, IsReasonOf}
 use Rattle.table_audit.specs.Verdicts.{IsVerdictOf}
 use Rattle.table_audit.specs.declared.verdict.Verdict.{Verdict}
 use Rattle.table_audit.specs.declared.verdict.Verdict.TheVariants.{Sound, Unsound}
@@ -28,9 +28,9 @@ abbrev pub IsWalkOver : Objects → List (List ℕ) → Walk → Type 0
 IsWalkOver objects names walk = (names ≡ names_of objects) × IsWalk objects walk
 
 -- a walk begins behind the creation, or the first commit breaks the store, for this reason
-abbrev pub Begins : Objects → Beginning → Type 0
-Begins objects (Created walk) = IsWalk objects walk
-Begins objects (Wrong reason) = (IsSoundBelow objects 1 → ⊥) × IsReasonOf objects 0 reason
+abbrev pub BeginsWalk : Objects → Beginning → Type 0
+BeginsWalk objects (Created walk) = IsWalk objects walk
+BeginsWalk objects (Wrong reason) = (IsSoundBelow objects 1 → ⊥) × IsReasonOf objects 0 reason
 
 -- the version that comes next is the second one
 abbrev pub IsBehindFirst : Beginning → Type 0
@@ -41,17 +41,17 @@ IsBehindFirst (Wrong reason) = Unit {0}
 -- for this reason
 abbrev pub IsEnd : (next : ℕ) → List (List ℕ) → Verdict → Type 0
 IsEnd next names (Sound versions) = (least_named next names ≡ None) × (versions ≡ next)
-IsEnd next names (Unsound unsound) = (least_named next names ≡ Some unsound.version) × IsNamed names unsound.version unsound.reason
+IsEnd next names (Unsound unsound) = (least_named next names ≡ Some unsound.version) × IsNamedBehindGap names unsound.version unsound.reason
 
 -- a walk goes on, or it is known what the store is
-abbrev pub IsReached : Objects → Walk → Reached → Type 0
-IsReached objects walk Behind = IsWalk objects walk
-IsReached objects walk (Over verdict) = IsVerdictOf objects verdict
+abbrev pub IsWalkOrVerdict : Objects → Walk → Reached → Type 0
+IsWalkOrVerdict objects walk Behind = IsWalk objects walk
+IsWalkOrVerdict objects walk (Over verdict) = IsVerdictOf objects verdict
 
 -- a walk that goes on is behind a version
-abbrev pub IsBehind : (last : ℕ) → Walk → Reached → Type 0
-IsBehind last walk Behind = walk.next ≡ suc last
-IsBehind last walk (Over verdict) = Unit {0}
+abbrev pub IsWalkBehind : (last : ℕ) → Walk → Reached → Type 0
+IsWalkBehind last walk Behind = walk.next ≡ suc last
+IsWalkBehind last walk (Over verdict) = Unit {0}
 
 -- this is so of a walk that goes on
 abbrev pub IfBehind : Type 0 → Reached → Type 0

@@ -6,7 +6,7 @@ ghost use Rattle.store_core.specs.Objects.{object_at};
 ghost use Rattle.table_check.specs.Below.{IsSoundBelow};
 ghost use Rattle.table_log.specs.Restoring.{IsSoundCheckpoint, checkpoint_version};
 ghost use Rattle.table_audit.specs.Audits.{AreCheckpointsOf, Audits, ReadLog};
-ghost use Rattle.table_audit.specs.Calls.{ReaderCall, Traced, reads};
+ghost use Rattle.table_audit.specs.Calls.{ReaderCall, ReaderTraced, reads};
 ghost use Rattle.table_audit.specs.LargeFiles.{TellsLarge, TellsLargeFile, TellsNoFile};
 ghost use Rattle.table_audit.specs.Reasons.{IsReasonOf};
 ghost use Rattle.table_audit.specs.Verdicts.{IsVerdictOf};
@@ -35,7 +35,7 @@ use store_core::{GREATEST_VERSION, commit_name};
 pub fn audit<R: ObjectReader>(alloc: Global, reader: &mut R) -> Result<Verdict, AuditError>
     ensures told { R.is_steady reader.old → IfOk result (λ verdict. IsVerdictOf (R.objects reader.old) verdict) }
     // These calls are made of the reader, and no others.
-    ensures called { (calls : List ReaderCall) × Traced R.makes reader.old calls reader.new × Audits calls }
+    ensures called { (calls : List ReaderCall) × ReaderTraced R.makes reader.old calls reader.new × Audits calls }
     ensures untouched { R.is_steady reader.old → R.objects reader.new ≡ R.objects reader.old }
     ensures steady { R.is_steady reader.old → R.is_steady reader.new }
     ensures reliable { R.is_reliable reader.old → R.is_reliable reader.new }
@@ -61,7 +61,7 @@ fn audit_walk<R: ObjectReader>(
 ) -> Result<Verdict, AuditError>
     requires { walk.next ≡ 1 }
     ensures told { R.is_steady reader.old → IsWalkOver (R.objects reader.old) (map string_bytes names.now) walk → IfOk result (λ verdict. IsVerdictOf (R.objects reader.old) verdict) }
-    ensures called { (calls : List ReaderCall) × (checkpoints : List (ℕ × List ℕ)) × Traced R.makes reader.old calls reader.new
+    ensures called { (calls : List ReaderCall) × (checkpoints : List (ℕ × List ℕ)) × ReaderTraced R.makes reader.old calls reader.new
         × AreCheckpointsOf (map string_bytes names.now) checkpoints × ReadLog checkpoints walk.next calls }
     ensures untouched { R.is_steady reader.old → R.objects reader.new ≡ R.objects reader.old }
     ensures steady { R.is_steady reader.old → R.is_steady reader.new }

@@ -7,8 +7,8 @@ ghost use Rattle.delta_actions.specs.Action.{path_view, view, views};
 ghost use Rattle.store_core.specs.Objects.{names_of};
 ghost use Rattle.table_log.specs.Views.{version_view};
 ghost use Rattle.table_check.specs.Named.{version_named};
-ghost use Rattle.table_audit.specs.Audits.{HasLookedBeside, LooksBeside, ReadCommits, ReadInTurn, is_commit};
-ghost use Rattle.table_audit.specs.Calls.{ReaderCall, Traced};
+ghost use Rattle.table_audit.specs.Audits.{HasLookedBeside, LooksBeside, ReadCommits, ReadInTurn, is_commit_name};
+ghost use Rattle.table_audit.specs.Calls.{ReaderCall, ReaderTraced};
 ghost use Rattle.table_audit.specs.Beside.{adds, is_unnamed, name_adds, version_adds};
 ghost use Rattle.table_audit.specs.LargeFiles.{TellsNoFile};
 
@@ -30,8 +30,8 @@ use table_log::{Version, version_of};
 pub fn unnamed<R: ObjectReader>(alloc: Global, reader: &mut R) -> Result<Vec<String>, AuditError>
     ensures told { R.is_steady reader.old → IfOk result (λ names. map string_bytes names.items ≡ filter (is_unnamed (R.objects reader.old)) (names_of (R.objects reader.old))) }
     // These calls are made of the reader, and no others.
-    ensures called { (calls : List ReaderCall) × Traced R.makes reader.old calls reader.new × LooksBeside calls }
-    ensures whole { IfOk result (λ names. (calls : List ReaderCall) × Traced R.makes reader.old calls reader.new × HasLookedBeside calls) }
+    ensures called { (calls : List ReaderCall) × ReaderTraced R.makes reader.old calls reader.new × LooksBeside calls }
+    ensures whole { IfOk result (λ names. (calls : List ReaderCall) × ReaderTraced R.makes reader.old calls reader.new × HasLookedBeside calls) }
     ensures untouched { R.is_steady reader.old → R.objects reader.new ≡ R.objects reader.old }
     ensures steady { R.is_steady reader.old → R.is_steady reader.new }
     ensures reliable { R.is_reliable reader.old → R.is_reliable reader.new }
@@ -50,8 +50,8 @@ fn files_added<R: ObjectReader>(
     names: &[String],
 ) -> Result<BTreeSet<String>, AuditError>
     ensures added { R.is_steady reader.old → IfOk result (λ files. (name : List ℕ) → contains_text files name ≡ list_any (name_adds (R.objects reader.old) name) (map string_bytes names.now)) }
-    ensures called { (calls : List ReaderCall) × Traced R.makes reader.old calls reader.new × ReadCommits (Some (map string_bytes names.now)) calls }
-    ensures whole { IfOk result (λ files. (calls : List ReaderCall) × Traced R.makes reader.old calls reader.new × ReadInTurn (filter is_commit (map string_bytes names.now)) calls) }
+    ensures called { (calls : List ReaderCall) × ReaderTraced R.makes reader.old calls reader.new × ReadCommits (Some (map string_bytes names.now)) calls }
+    ensures whole { IfOk result (λ files. (calls : List ReaderCall) × ReaderTraced R.makes reader.old calls reader.new × ReadInTurn (filter is_commit_name (map string_bytes names.now)) calls) }
     ensures untouched { R.is_steady reader.old → R.objects reader.new ≡ R.objects reader.old }
     ensures steady { R.is_steady reader.old → R.is_steady reader.new }
     ensures reliable { R.is_reliable reader.old → R.is_reliable reader.new }
@@ -73,7 +73,7 @@ fn add_files_under<R: ObjectReader>(
     files: &mut BTreeSet<String>,
 ) -> Result<(), AuditError>
     ensures added { R.is_steady reader.old → OnOk result ((file : List ℕ) → contains_text files.new file ≡ (contains_text files.old file || name_adds (R.objects reader.old) file name.now)) }
-    ensures called { (calls : List ReaderCall) × Traced R.makes reader.old calls reader.new × ReadInTurn (filter is_commit (name.now ∷ [])) calls }
+    ensures called { (calls : List ReaderCall) × ReaderTraced R.makes reader.old calls reader.new × ReadInTurn (filter is_commit_name (name.now ∷ [])) calls }
     ensures untouched { R.is_steady reader.old → R.objects reader.new ≡ R.objects reader.old }
     ensures steady { R.is_steady reader.old → R.is_steady reader.new }
     ensures reliable { R.is_reliable reader.old → R.is_reliable reader.new }

@@ -14,7 +14,7 @@ ghost use Rattle.delta_actions.specs.declared.fault.ActionFault.TheVariants as f
 ghost use Rattle.delta_checkpoint.specs.Checkpoints.{IsCheckpoint};
 ghost use Rattle.delta_replay.specs.Snapshots.{IsSnapshotOf};
 ghost use Rattle.table_check.specs.Lines.{AreLinesOf, ArePrintedOf};
-ghost use Rattle.table_audit.specs.Lines.{AreOwnLines, HasLines, IsCheckpointOf};
+ghost use Rattle.table_audit.specs.Lines.{AreOwnLines, HasLines, IsFoundRightly};
 ghost use Rattle.table_audit.specs.Reasons.{IsUnread};
 
 use delta_actions::{Action, ActionFault, print_line, read_commit};
@@ -41,7 +41,7 @@ pub(crate) fn checkpoint_found(
     bytes: &[u8],
 ) -> Result<Found, AllocError>
     requires { version < 2 ^ 63 }
-    ensures { (log : List (List kinds.Action)) → IsSnapshotOf log snapshot.now → AllByRecursion (AllByRecursion IsPrintable) log → IfOk result (λ found. IsCheckpointOf found bytes.now version log) }
+    ensures { (log : List (List kinds.Action)) → IsSnapshotOf log snapshot.now → AllByRecursion (AllByRecursion IsPrintable) log → IfOk result (λ found. IsFoundRightly found bytes.now version log) }
 {
     let lines = match lines_in(alloc, bytes) {
         Ok(lines) => lines,

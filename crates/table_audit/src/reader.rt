@@ -4,7 +4,7 @@ ghost use Rattle.std.specs.Prelude.{◌≡◌, map, IfOk, IsErrOf};
 ghost use Rattle.std.specs.Option.{option_map};
 ghost use Rattle.std.specs.String.{string_bytes};
 ghost use Rattle.store_core.specs.Objects.{Objects, names_of, object_at};
-ghost use Rattle.table_audit.specs.Calls.{ReaderCall, lists, reads, told_by};
+ghost use Rattle.table_audit.specs.Calls.{ReaderCall, lists, reads, told_by_reader};
 
 use store_core::{Store, StoreFault};
 
@@ -31,7 +31,7 @@ pub trait ObjectReader {
         ensures names { is_steady self.old → IfOk result (λ names. map string_bytes names.items ≡ names_of (objects self.old)) }
         ensures untouched { is_steady self.old → objects self.new ≡ objects self.old }
         ensures steady { is_steady self.old → is_steady self.new }
-        ensures called { makes self.old (lists (told_by (λ names. map string_bytes names.items) result)) self.new }
+        ensures called { makes self.old (lists (told_by_reader (λ names. map string_bytes names.items) result)) self.new }
         ensures never_lost { is_reliable self.old → IsErrOf result StoreFault.Lost → ⊥ }
         ensures stays_reliable { is_reliable self.old → is_reliable self.new };
 
@@ -40,7 +40,7 @@ pub trait ObjectReader {
         ensures object { is_steady self.old → IfOk result (λ found. option_map (λ bytes. bytes.items) found ≡ object_at (objects self.old) name.now) }
         ensures untouched { is_steady self.old → objects self.new ≡ objects self.old }
         ensures steady { is_steady self.old → is_steady self.new }
-        ensures called { makes self.old (reads name.now (told_by (option_map (λ bytes. bytes.items)) result)) self.new }
+        ensures called { makes self.old (reads name.now (told_by_reader (option_map (λ bytes. bytes.items)) result)) self.new }
         ensures never_lost { is_reliable self.old → IsErrOf result StoreFault.Lost → ⊥ }
         ensures stays_reliable { is_reliable self.old → is_reliable self.new };
 }

@@ -2,7 +2,7 @@
 
 ghost use Rattle.std.specs.Prelude.{IfOk, Some};
 ghost use Rattle.table_audit.specs.Reasons.{IsId};
-ghost use Rattle.table_audit.specs.ReasonTexts.{id_text, reason_text};
+ghost use Rattle.table_audit.specs.ReasonTexts.{application_id_text, reason_text};
 
 use delta_actions::ActionFault;
 use parquet_footer::FileFault;
@@ -38,7 +38,7 @@ impl ApplicationId {
 }
 
 impl Display for ApplicationId {
-    ghost output = { λ application. Some (id_text application) };
+    ghost output = { λ application. Some (application_id_text application) };
 
     fn fmt<W: fmt::Write>(&self, f: &mut Formatter<W>) -> fmt::Result {
         f.write_str(&self.text)

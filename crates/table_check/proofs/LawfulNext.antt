@@ -13,7 +13,7 @@ use Rattle.table_model.proofs.Batches.{IsAbove, Rises-push, numbers_by-append, n
 use Rattle.table_model.proofs.Facts.{cut_at}
 use Rattle.table_model.proofs.Kept.{begins-push, cut, each_push}
 use Rattle.table_model.proofs.LawfulLemmas.{none_by}
-use Rattle.table_check.specs.Following.{IsAboveLast, IsNewBatch}
+use Rattle.table_check.specs.Following.{IsAboveLast, IsNewToTable}
 use Rattle.table_check.proofs.Counts.{Among, all_from, among_to, each_among, find}
 
 -- ---- the numbers of a group
@@ -117,13 +117,13 @@ module _ (entries : List Entry) (bs : List Batch) where
       ]
 
   -- The batches of a lawful table's last group are new.
-  pub group_is_new : IsLawful (entries ++ group bs ∷ []) → IsWellGrouped (group bs) × AllByRecursion (IsNewBatch entries) bs
-  group_is_new lawful = (grouped, all_from (IsNewBatch entries) bs new)
+  pub group_is_new : IsLawful (entries ++ group bs ∷ []) → IsWellGrouped (group bs) × AllByRecursion (IsNewToTable entries) bs
+  group_is_new lawful = (grouped, all_from (IsNewToTable entries) bs new)
     where
       grouped : IsWellGrouped (group bs)
       grouped = each_last IsWellGrouped entries (group bs) lawful.groups
 
-      new : (b : Batch) → Among b bs → IsNewBatch entries b
+      new : (b : Batch) → Among b bs → IsNewToTable entries b
       new b among =
           let own = one_number b bs grouped.1 among in
           let rises : Rises (numbers_by b.application entries ++ b.number ∷ []) =
@@ -131,7 +131,7 @@ module _ (entries : List Entry) (bs : List Batch) where
           (above_last (numbers_by b.application entries) b.number rises, still_open lawful b among own)
 
 -- an application's numbers in a group: its batch's, or none
-module _ (rest : List Entry) (bs : List Batch) (lawful : IsLawful (creation ∷ rest)) (grouped : IsWellGrouped (group bs)) (new : AllByRecursion (IsNewBatch (creation ∷ rest)) bs) where
+module _ (rest : List Entry) (bs : List Batch) (lawful : IsLawful (creation ∷ rest)) (grouped : IsWellGrouped (group bs)) (new : AllByRecursion (IsNewToTable (creation ∷ rest)) bs) where
   own_or_none : (application : List ℕ) → ((b : Batch) × Among b bs × (b.application ≡ application)) ⊎ (numbers_in application bs ≡ [])
   own_or_none application =
       elim (find (λ b. bytes_eq b.application application) bs) [
@@ -144,7 +144,7 @@ module _ (rest : List Entry) (bs : List Batch) (lawful : IsLawful (creation ∷ 
       elim (own_or_none application) [
         | inl own ↦ subst (λ (a : List ℕ). Rises (numbers_by a ((creation ∷ rest) ++ group bs ∷ []))) own.2
             (subst Rises (sym (numbers_more own.0.application (creation ∷ rest) bs ∙ ap (λ (ns : List ℕ). numbers_by own.0.application (creation ∷ rest) ++ ns) (one_number own.0 bs grouped.1 own.1)))
-            (Rises-push (numbers_by own.0.application (creation ∷ rest)) own.0.number (lawful.rises own.0.application) (is_above own.0.number (last (numbers_by own.0.application (creation ∷ rest))) (each_among (IsNewBatch (creation ∷ rest)) own.0 bs new own.1).0)))
+            (Rises-push (numbers_by own.0.application (creation ∷ rest)) own.0.number (lawful.rises own.0.application) (is_above own.0.number (last (numbers_by own.0.application (creation ∷ rest))) (each_among (IsNewToTable (creation ∷ rest)) own.0 bs new own.1).0)))
         | inr none ↦
             let same : numbers_by application ((creation ∷ rest) ++ group bs ∷ []) ≡ numbers_by application (creation ∷ rest) =
             numbers_more application (creation ∷ rest) bs ∙ (ap (λ (ns : List ℕ). numbers_by application (creation ∷ rest) ++ ns) none ∙ append-nil (numbers_by application (creation ∷ rest))) in
@@ -156,7 +156,7 @@ module _ (rest : List Entry) (bs : List Batch) (lawful : IsLawful (creation ∷ 
       elim (own_or_none application) [
         | inr none ↦ none
         | inl own ↦
-            let still : is_closed application (creation ∷ rest) ≡ false = subst (λ (a : List ℕ). is_closed a (creation ∷ rest) ≡ false) own.2 (each_among (IsNewBatch (creation ∷ rest)) own.0 bs new own.1).1 in
+            let still : is_closed application (creation ∷ rest) ≡ false = subst (λ (a : List ℕ). is_closed a (creation ∷ rest) ≡ false) own.2 (each_among (IsNewToTable (creation ∷ rest)) own.0 bs new own.1).1 in
             absurd (false≢true (sym still ∙ shut))
       ]
 

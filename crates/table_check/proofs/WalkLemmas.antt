@@ -25,7 +25,7 @@ use Rattle.table_store.proofs.HeldLemmas.{HoldsFirst-push}
 use Rattle.table_store.proofs.LawfulLogLemmas.{AreMadeFor}
 use Rattle.log_laws.proofs.Callers.{front_made, log_last, log_open}
 use Rattle.table_check.specs.Below.{AreCheckpointsSoundBelow}
-use Rattle.table_check.specs.Following.{AreNewIn, IsAboveLast, IsNewBatch, IsNewIn, MayFollow}
+use Rattle.table_check.specs.Following.{AreNewIn, IsAboveLast, IsNewToTable, IsNewIn, MayFollow}
 use Rattle.table_check.specs.Walked.{IsWalked}
 use Rattle.table_check.proofs.LawfulNext.{close_kept, group_kept}
 
@@ -56,14 +56,14 @@ module _ (objects : Objects) where
     made_for = front_made objects schema (creation ∷ walked.later) log walked.stand (subst (λ (v : ℕ). commits_in 0 (versions_from v 0 objects) ≡ Ok log) (sym walked.at) walked.read)
 
     -- what is new in the log is new in the table
-    new_batch : (b : Batch) → IsNewIn log (named b) → IsNewBatch (creation ∷ walked.later) b
+    new_batch : (b : Batch) → IsNewIn log (named b) → IsNewToTable (creation ∷ walked.later) b
     new_batch b new =
         let entries = creation ∷ walked.later in
         let last : last_number b.application log ≡ tables.last (tables.numbers_by b.application entries) =
         log_last objects schema b.application entries log made_for ∙ sym (last_of_numbers b.application entries) in
         (subst (IsAboveLast b.number) last new.0, log_open objects schema b.application entries log made_for new.1)
 
-    new_batches : (bs : List Batch) → AllByRecursion (IsNewIn log) (map named bs) → AllByRecursion (IsNewBatch (creation ∷ walked.later)) bs
+    new_batches : (bs : List Batch) → AllByRecursion (IsNewIn log) (map named bs) → AllByRecursion (IsNewToTable (creation ∷ walked.later)) bs
     new_batches [] new = tt
     new_batches (b ∷ bs) new = (new_batch b new.0, new_batches bs new.1)
 

@@ -21,7 +21,7 @@ use Rattle.table_store.proofs.HoldingOne.{named, one_commit, one_entry, one_list
 use Rattle.table_store.proofs.HoldingSchema.{one_creation_of}
 use Rattle.log_laws.proofs.Callers.{log_closed, log_last}
 use Rattle.table_check.specs.Below.{IsSoundBelow}
-use Rattle.table_check.specs.Following.{IsAboveLast, IsNewBatch, IsNewIn, MayFollow}
+use Rattle.table_check.specs.Following.{IsAboveLast, IsNewToTable, IsNewIn, MayFollow}
 use Rattle.table_check.specs.Walked.{IsWalked}
 use Rattle.table_check.proofs.LawfulNext.{group_is_new, no_creation_behind}
 use Rattle.table_check.proofs.WalkLemmas.{made_for}
@@ -115,7 +115,7 @@ module _ (objects : Objects) (schema : Schema) (version : ℕ) (log : List (List
 
   -- ---- what is new in the table is new in the log
 
-  new_in : (bs : List Batch) → AllByRecursion (λ n. IsUtf8 n.0) (map named bs) → AllByRecursion (IsNewBatch (creation ∷ walked.later)) bs → AllByRecursion (IsNewIn log) (map named bs)
+  new_in : (bs : List Batch) → AllByRecursion (λ n. IsUtf8 n.0) (map named bs) → AllByRecursion (IsNewToTable (creation ∷ walked.later)) bs → AllByRecursion (IsNewIn log) (map named bs)
   new_in [] texts new = tt
   new_in (b ∷ bs) texts new =
       let entries = creation ∷ walked.later in

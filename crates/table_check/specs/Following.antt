@@ -14,8 +14,8 @@ IsAboveLast number None = Unit {0}
 IsAboveLast number (Some before) = before < number
 
 -- A batch's number is above its application's last one in a table, and its stream is open there.
-abbrev pub IsNewBatch : List Entry → Batch → Type 0
-IsNewBatch entries b = IsAboveLast b.number (last (numbers_by b.application entries)) × (tables.is_closed b.application entries ≡ false)
+abbrev pub IsNewToTable : List Entry → Batch → Type 0
+IsNewToTable entries b = IsAboveLast b.number (last (numbers_by b.application entries)) × (tables.is_closed b.application entries ≡ false)
 
 -- An application's number is above the one that it has come to in a log, and its stream is open there.
 abbrev pub IsNewIn : List (List Action) → List ℕ × ℕ → Type 0

@@ -23,7 +23,7 @@ ghost use Rattle.table_store.specs.Groups.{numbers};
 ghost use Rattle.table_store.specs.Holds.{FilesStand};
 ghost use Rattle.table_store.specs.Schema.{Schema};
 ghost use Rattle.table_check.specs.Below.{AreCheckpointsSoundBelow, IsFirstUnsound, IsSoundBelow};
-ghost use Rattle.table_check.specs.Following.{IsNewBatch, MayFollow};
+ghost use Rattle.table_check.specs.Following.{IsNewToTable, MayFollow};
 ghost use Rattle.table_check.specs.Lines.{AreLinesOf};
 ghost use Rattle.table_check.specs.Named.{least_named};
 ghost use Rattle.table_check.specs.Walked.{IsWalked};
@@ -44,8 +44,8 @@ pub fn a_store_is_sound_or_has_one_first_unsound_version()
 /// different applications, each has a number above its application's last one, and its stream is open. A close always
 /// may, and a creation never.
 pub fn a_lawful_table_goes_on()
-    ensures group { (later : List Entry) (bs : List Batch) → IsLawful (creation ∷ later) → IsWellGrouped (group bs) → AllByRecursion (IsNewBatch (creation ∷ later)) bs → IsLawful ((creation ∷ later) ++ group bs ∷ []) }
-    ensures new { (entries : List Entry) (bs : List Batch) → IsLawful (entries ++ group bs ∷ []) → IsWellGrouped (group bs) × AllByRecursion (IsNewBatch entries) bs }
+    ensures group { (later : List Entry) (bs : List Batch) → IsLawful (creation ∷ later) → IsWellGrouped (group bs) → AllByRecursion (IsNewToTable (creation ∷ later)) bs → IsLawful ((creation ∷ later) ++ group bs ∷ []) }
+    ensures new { (entries : List Entry) (bs : List Batch) → IsLawful (entries ++ group bs ∷ []) → IsWellGrouped (group bs) × AllByRecursion (IsNewToTable entries) bs }
     ensures closed { (application : List ℕ) (later : List Entry) → IsLawful (creation ∷ later) → IsLawful ((creation ∷ later) ++ close application ∷ []) }
     ensures created { (later : List Entry) → IsLawful ((creation ∷ later) ++ creation ∷ []) → ⊥ }
 {}

@@ -1,2 +1,3 @@
 pub mod Callers
+mod OverJobs
 mod QuietJobs

@@ -16,7 +16,7 @@ use Rattle.batch_core.specs.Refusals.{SinkGives}
 use Rattle.batch_core.specs.declared.fault.SinkFault.{SinkFault}
 use Rattle.batch_core.specs.declared.fault.SinkFault.TheVariants as faults
 use Rattle.sink_core.specs.Appending.{MayAppend, MayHoldFile, PutsWell, append_plan, appended_by, with_append}
-use Rattle.sink_core.specs.Closes.{ClosesWell, MayClose, close_plan, closed_by, with_close}
+use Rattle.sink_core.specs.Closes.{ClosesWell, MayClose, close_plan, stream_closed_by, with_close_commit}
 use Rattle.sink_core.specs.SinkSessions.{SinkJob, SinkTask, appends, closes}
 use Rattle.sink_core.specs.declared.sink_state.SinkOutcome.{SinkOutcome}
 use Rattle.snapshot_core.specs.Taking.{HasPut, IsRefusal}
@@ -40,8 +40,8 @@ pub record IsAppended (use_checkpoints : Bool) (application : List ℕ) (number 
 
 -- so a stream was closed, or not
 pub record IsClosed (use_checkpoints : Bool) (application : List ℕ) (at : ℕ) (old new : Objects) (answer : Result SinkOutcome SinkFault) : Type 0 where
-  pub told : SinkGives (λ given. given) answer (closed_by use_checkpoints old application)
-  pub left : answer ≢ Err faults.Memory → new ≡ with_close old application at (close_plan use_checkpoints old application)
+  pub told : SinkGives (λ given. given) answer (stream_closed_by use_checkpoints old application)
+  pub left : answer ≢ Err faults.Memory → new ≡ with_close_commit old application at (close_plan use_checkpoints old application)
   pub short : answer ≡ Err faults.Memory → new ≡ old
   pub well_put : answer ≢ Err faults.Memory → ClosesWell application at (close_plan use_checkpoints old application)
   pub grows : MayClose application at (close_plan use_checkpoints old application) old new

@@ -7,7 +7,7 @@ use Rattle.table_log.specs.declared.fault.LogFault.{LogFault}
 use Rattle.table_log.specs.declared.loading.Loaded.{Loaded}
 use Rattle.snapshot_core.specs.CheckpointSessions.{CheckpointAsks, CheckpointEnds, is_lost_checkpoint}
 use Rattle.snapshot_core.specs.declared.checkpoint_session.CheckpointEnd.{CheckpointEnd}
-use Rattle.commit_core.specs.CreateSessions.{CreateAsks, CreateEnds, CreateJob, tells_lost}
+use Rattle.commit_core.specs.CreateSessions.{CreateAsks, CreateEnds, CreateJob, creation_tells_lost}
 use Rattle.commit_core.specs.declared.fault.CreateFault.{CreateFault}
 use Rattle.sink_core.specs.SinkSessions.{SinkAsks, SinkEnds, SinkJob, is_lost_end}
 use Rattle.sink_core.specs.declared.sink_state.SinkEnd.{SinkEnd}
@@ -49,12 +49,12 @@ Ends (reads job) before talk (read end) = SourceEnds job before talk end
 Ends job before talk outcome = ⊥
 
 -- the outcome tells that a call was lost
-abbrev pub is_lost : Outcome → Bool
-is_lost (creation result) = tells_lost result
-is_lost (load result) = is_lost_load result
-is_lost (checkpoint end) = is_lost_checkpoint end
-is_lost (stream end) = is_lost_end end
-is_lost (read end) = is_lost_read end
+abbrev pub is_lost_outcome : Outcome → Bool
+is_lost_outcome (creation result) = creation_tells_lost result
+is_lost_outcome (load result) = is_lost_load result
+is_lost_outcome (checkpoint end) = is_lost_checkpoint end
+is_lost_outcome (stream end) = is_lost_end end
+is_lost_outcome (read end) = is_lost_read end
 
 -- a stream's application is a text, and its job tries a version at least
 abbrev pub IsValidJob : Job → Type 0

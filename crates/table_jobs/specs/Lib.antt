@@ -1,4 +1,5 @@
 pub mod Done
 pub mod Jobs
+pub mod Over
 pub mod Sessions
 pub mod Views

@@ -38,12 +38,12 @@ SessionFits before (Stream session) talk asked = sinks.SinkFits before session t
 SessionFits before (Read session) talk asked = reading.SourceFits before session talk asked
 
 -- how many calls it still makes at most
-abbrev pub left : JobSession → ℕ
-left (Create session) = creating.left_at session.stage
-left (Load session) = loading.left_at session.stage
-left (Checkpoint session) = checkpointing.left_at session.stage session.load
-left (Stream session) = sinks.left_at session.stage session
-left (Read session) = reading.left_of session.stage
+abbrev pub session_calls_left : JobSession → ℕ
+session_calls_left (Create session) = creating.left_at session.stage
+session_calls_left (Load session) = loading.left_at session.stage
+session_calls_left (Checkpoint session) = checkpointing.left_at session.stage session.load
+session_calls_left (Stream session) = sinks.left_at session.stage session
+session_calls_left (Read session) = reading.left_of session.stage
 
 -- whether it has ended
 abbrev pub is_ended : JobSession → Bool

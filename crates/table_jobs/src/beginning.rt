@@ -1,22 +1,26 @@
 //! The session that does a job.
 ghost use Rattle.std.specs.Prelude.{◌≡◌, [], None, false};
+ghost use Rattle.store_core.specs.Objects.{Objects};
+ghost use Rattle.log_reading.specs.LogCache.{IsCacheOf};
+ghost use Rattle.table_log.specs.Loads.{IsFront};
 ghost use Rattle.table_log.specs.declared.load_session.LoadStage.TheVariants as load_stages;
 ghost use Rattle.sink_core.specs.SinkFits.{SinkFits};
 ghost use Rattle.sink_core.specs.SinkSessions as sinks;
 ghost use Rattle.sink_core.specs.declared.sink_state.SinkStage.TheVariants as sink_stages;
-ghost use Rattle.session_core.specs.Talks.{Talk};
+ghost use Rattle.session_core.specs.Talks.{Bears, Talk};
 ghost use Rattle.table_jobs.specs.Jobs.{CanBegin, IsValidJob, streams};
 ghost use Rattle.table_jobs.specs.Sessions.{SessionFits, awaited, is_ended, job_of};
-ghost use Rattle.table_jobs.specs.Views.{job_view, stream_view};
+ghost use Rattle.table_jobs.specs.Views.{KeepsRest, job_view, known_load, stream_view, with_known};
 
 use crate::job::{Creation, Job, StreamJob};
 use crate::job_session::JobSession;
 use commit_core::CreateSession;
-use log_reading::Log;
+use log_reading::{Log, LogCache};
 use sink_core::{SinkSession, SinkTask};
 use snapshot_core::CheckpointSession;
 use source_core::SourceSession;
 use std::alloc::Global;
+use std::mem;
 use table_log::{LoadSession, Loaded};
 
 impl<'r> JobSession<'r> {
@@ -29,6 +33,23 @@ impl<'r> JobSession<'r> {
         // Every job of the code can begin.
         ensures can { CanBegin (job_view job.entry) }
     {
+        JobSession::behind(alloc, job, &mut LogCache::new(alloc))
+    }
+
+    /// The session that does a job, which has asked for nothing yet. It takes what it needs of what is known of the
+    /// log out of the cache: a read what was read, the file and the schema, every other job but a creation what was
+    /// loaded.
+    pub fn behind(alloc: Global, job: Job<'r>, cache: &mut LogCache) -> JobSession<'r>
+        ensures job { job_of result ≡ with_known cache.old (job_view job.entry) }
+        ensures new { awaited result ≡ None }
+        ensures unended { is_ended result ≡ false }
+        // What was known goes before its talk, in stores of which it is so.
+        ensures fits { (before : Talk) → ((objects : Objects) → Bears objects before → IsCacheOf objects cache.old) → SessionFits before result [] None }
+        ensures valid { IsValidJob (job_view job.entry) }
+        // What it doesn't need stays in the cache; what is there is so where it was.
+        ensures rest { KeepsRest (job_view job.entry) cache.old cache.new }
+        ensures cache { (objects : Objects) → IsCacheOf objects cache.old → IsCacheOf objects cache.new }
+    {
         match job {
             Job::Create(Creation { id, at, schema }) => {
                 JobSession::Create(CreateSession::new(alloc, id, at, schema))
@@ -36,37 +57,45 @@ impl<'r> JobSession<'r> {
             Job::Load { use_checkpoints } => JobSession::Load(LoadSession::new(
                 alloc,
                 use_checkpoints,
-                Loaded::new(alloc),
+                mem::replace(&mut cache.loaded, Loaded::new(alloc)),
             )),
             Job::Checkpoint { use_checkpoints } => JobSession::Checkpoint(CheckpointSession::new(
                 alloc,
                 use_checkpoints,
-                Loaded::new(alloc),
+                mem::replace(&mut cache.loaded, Loaded::new(alloc)),
             )),
-            Job::Stream(job) => JobSession::Stream(stream_session(alloc, job)),
+            Job::Stream(job) => {
+                let known = mem::replace(&mut cache.loaded, Loaded::new(alloc));
+                JobSession::Stream(stream_session(alloc, job, known))
+            }
             Job::Read {
                 place,
                 max,
                 use_checkpoints,
-            } => JobSession::Read(SourceSession::read(
-                alloc,
-                place,
-                max,
-                use_checkpoints,
-                Log::new(alloc),
-                None,
-                None,
-            )),
+            } => {
+                let known = mem::replace(&mut cache.log, Log::new(alloc));
+                let file = cache.file.take();
+                let schema = cache.schema.take();
+                JobSession::Read(SourceSession::read(
+                    alloc,
+                    place,
+                    max,
+                    use_checkpoints,
+                    known,
+                    file,
+                    schema,
+                ))
+            }
         }
     }
 }
 
-/// The session of an append or a close.
-fn stream_session<'r>(alloc: Global, job: StreamJob<'r>) -> SinkSession<'r>
-    ensures job { sinks.job_of result ≡ stream_view job.entry }
+/// The session of an append or a close, which knows this of the log.
+fn stream_session<'r>(alloc: Global, job: StreamJob<'r>, known: Loaded) -> SinkSession<'r>
+    ensures job { sinks.job_of result ≡ record (stream_view job.entry) { load = known_load known (stream_view job.entry).load } }
     ensures stage { result.stage ≡ sink_stages.Loading }
     ensures load { result.load.stage ≡ load_stages.New }
-    ensures fits { (before : Talk) → SinkFits before result [] None }
+    ensures fits { (before : Talk) → ((objects : Objects) → Bears objects before → IsFront objects known) → SinkFits before result [] None }
     ensures valid { IsValidJob (streams (stream_view job.entry)) }
 {
     let StreamJob {
@@ -76,7 +105,6 @@ fn stream_session<'r>(alloc: Global, job: StreamJob<'r>) -> SinkSession<'r>
         tries,
         use_checkpoints,
     } = job;
-    let known = Loaded::new(alloc);
     match task {
         SinkTask::Append { number, rows } => SinkSession::append(
             alloc,

@@ -45,8 +45,8 @@ impl<'r> Drop for JobSession<'r> {
 }
 
 impl<'r> Session for JobSession<'r> {
-    ghost use Rattle.table_jobs.specs.Jobs.{Asks, Ends, Job, is_lost};
-    ghost use Rattle.table_jobs.specs.Sessions.{SessionFits, awaited, is_ended, job_of, left, end_view};
+    ghost use Rattle.table_jobs.specs.Jobs.{Asks, Ends, Job, is_lost_outcome};
+    ghost use Rattle.table_jobs.specs.Sessions.{SessionFits, awaited, is_ended, job_of, session_calls_left, end_view};
 
     type Outcome = JobEnd;
 
@@ -58,7 +58,7 @@ impl<'r> Session for JobSession<'r> {
 
     ghost fits = { SessionFits };
 
-    ghost left = { left };
+    ghost left = { session_calls_left };
 
     ghost done = { is_ended };
 
@@ -66,7 +66,7 @@ impl<'r> Session for JobSession<'r> {
 
     ghost ends = { λ job before talk outcome. Ends job before talk (end_view outcome) };
 
-    ghost lost = { λ outcome. is_lost (end_view outcome) };
+    ghost lost = { λ outcome. is_lost_outcome (end_view outcome) };
 
     fn is_done(&self) -> bool {
         match self {

@@ -1,7 +1,7 @@
 //! A job that may be kept, with the rows of its batch.
 ghost use Rattle.std.specs.Prelude.{◌≡◌, IfOk, Ok};
 ghost use Rattle.json_text.specs.Rows.{rows_data};
-ghost use Rattle.sink_core.specs.SinkSessions.{task_view};
+ghost use Rattle.sink_core.specs.SinkSessions.{sink_task_view};
 ghost use Rattle.table_jobs.specs.Views.{job_view};
 
 use crate::job::{Job, StreamJob};
@@ -50,7 +50,7 @@ impl Job<'_> {
 }
 
 fn owned_task(task: SinkTask<'_>) -> Result<SinkTask<'static>, AllocError>
-    ensures { IfOk result (λ owned. task_view owned ≡ task_view task.entry) }
+    ensures { IfOk result (λ owned. sink_task_view owned ≡ sink_task_view task.entry) }
 {
     match task {
         SinkTask::Append { number, rows } => {

@@ -19,13 +19,13 @@ use Rattle.table_model.specs.Table.{Entry}
 use Rattle.table_store.specs.Holds.{Holds}
 use Rattle.table_store.specs.Schema.{Schema}
 use Rattle.world_script.specs.Acting as acting
-use Rattle.world_script.specs.Acting.{GoesOn, Leads, LeadsThrough, Meets, Steps}
+use Rattle.world_script.specs.Acting.{IsLedOn, Leads, LeadsThrough, ActorMeets, ActorSteps}
 use Rattle.world_script.specs.Lines as does
-use Rattle.world_script.specs.Lines.{IsNamed, Lands, LineDoes, RunsAlone, Starts, TellsOf, deed_does}
+use Rattle.world_script.specs.Lines.{IsDoneToActor, Lands, LineDoes, RunsAlone, Starts, TellsOfObjects, deed_does}
 use Rattle.world_script.specs.Playing as plays
 use Rattle.world_script.specs.Playing.{HasPlayed, HasPlayedText, IsSoOfTable, Plays, PlaysInPart, PlaysShort, PlaysSo, PlaysText, StaysSo}
 use Rattle.world_script.specs.Scenes.{Scene, first_scene, part_for}
-use Rattle.lake_script.specs.Runs.{Tells}
+use Rattle.lake_script.specs.Runs.{TellsWhole}
 use Rattle.lake_script.specs.declared.engine.End.{End}
 use Rattle.lake_script.specs.declared.engine.End.TheVariants.{BadLine, Done, NotRead, NotWritten}
 use Rattle.world_script.specs.declared.named.Deed.{Deed}
@@ -47,17 +47,17 @@ ran_on first seen outs w of _ _ _ (events.then_one before earlier old event one 
 one_ran : (w : World) (event : Event) (told : Option (Job × Outcome)) (later : World) → Happens w event told later → Ran w (event ∷ []) (with_told [] told) later
 one_ran w event told later happens = events.then_one [] [] w event told later events.at_first happens
 
-steps_ran : (n : ℕ) (kind : Kind) (w : World) (seen : List Event) (told : Option (Job × Outcome)) (later : World) → Steps n kind w seen told later → Ran w seen (with_told [] told) later
+steps_ran : (n : ℕ) (kind : Kind) (w : World) (seen : List Event) (told : Option (Job × Outcome)) (later : World) → ActorSteps n kind w seen told later → Ran w seen (with_told [] told) later
 steps_ran n kind w _ _ _ (acting.begins told later next happens) = one_ran w (answer n) told later happens
 steps_ran n kind w _ _ _ (acting.calls c how mid told later next met acted happens) =
-    events.then_one (act n how ∷ []) [] mid (taking n (acting.loses kind how)) told later (one_ran w (act n how) None mid acted) happens
+    events.then_one (act n how ∷ []) [] mid (taking n (acting.loses_how kind how)) told later (one_ran w (act n how) None mid acted) happens
 
-meets_ran : (n : ℕ) (kind : Kind) (w : World) (seen : List Event) (told : Option (Job × Outcome)) (later : World) → Meets n kind w seen told later → Ran w seen (with_told [] told) later
+meets_ran : (n : ℕ) (kind : Kind) (w : World) (seen : List Event) (told : Option (Job × Outcome)) (later : World) → ActorMeets n kind w seen told later → Ran w seen (with_told [] told) later
 meets_ran n kind w _ _ _ (acting.meets_now c seen told later next steps) = steps_ran n kind w seen told later steps
 meets_ran n kind w _ _ _ (acting.ends_before seen told later next steps) = steps_ran n kind w seen (Some told) later steps
 meets_ran n kind w _ _ _ (acting.meets_then seen mid more told later next steps then_steps) = ran_on w seen [] mid (steps_ran n kind w seen None mid steps) more (with_told [] told) later (steps_ran n kind mid more told later then_steps)
 
-on_ran : (n : ℕ) (h : Bool) (w : World) (seen : List Event) (later : World) → GoesOn n h w seen later → Ran w seen [] later
+on_ran : (n : ℕ) (h : Bool) (w : World) (seen : List Event) (later : World) → IsLedOn n h w seen later → Ran w seen [] later
 on_ran n h w _ _ acting.at_first = events.at_first
 on_ran n h w _ _ (acting.then_one seen mid more later on go_on steps) = ran_on w seen [] mid (on_ran n h w seen mid on) more [] later (steps_ran n Pass mid more None later steps)
 
@@ -84,7 +84,7 @@ deed_ran (deeds.Step kind) n w seen told later meets = meets_ran n kind w seen t
 deed_ran deeds.Finish n w seen told later leads = leads_ran n false w seen told later leads
 deed_ran deeds.Die n w _ _ _ (does.dies_now later happens) = one_ran w (die n) None later happens
 
-named_ran : (s : Scene) (name : List ℕ) (deed : Deed) (seen : List Event) (outs : List (Job × Outcome)) (reply : List ℕ) (later : Scene) → IsNamed s name deed seen outs reply later → Ran s.world seen outs later.world
+named_ran : (s : Scene) (name : List ℕ) (deed : Deed) (seen : List Event) (outs : List (Job × Outcome)) (reply : List ℕ) (later : Scene) → IsDoneToActor s name deed seen outs reply later → Ran s.world seen outs later.world
 named_ran s name deed _ _ _ _ (does.unknown none) = events.at_first
 named_ran s name deed _ _ _ _ (does.gone part there was none) = events.at_first
 named_ran s name deed _ _ _ _ (does.refuses part later there was now) = same_ran s.world later.world now.world_now
@@ -106,7 +106,7 @@ lands_ran : (s : Scene) (place : ℕ) (seen : List Event) (reply : List ℕ) (la
 lands_ran s place _ _ _ (does.lands_now w happens) = one_ran s.world (land place) None w happens
 lands_ran s place _ _ _ does.no_room_to_land = events.at_first
 
-tells_ran : (s : Scene) (statement : Statement) (reply : List ℕ) (later : Scene) → IsLook statement → TellsOf s statement reply later → Ran s.world [] [] later.world
+tells_ran : (s : Scene) (statement : Statement) (reply : List ℕ) (later : Scene) → IsLook statement → TellsOfObjects s statement reply later → Ran s.world [] [] later.world
 tells_ran s statement _ _ look (does.tells_of reply objects told looks) = subst (λ (o : Objects). Ran s.world [] [] (record s.world { objects = o })) (sym (looks look)) events.at_first
 
 none_ran : (w : World) (seen : List Event) (outs : List (Job × Outcome)) (later : World) → seen ≡ [] → outs ≡ [] → Ran w [] [] later → Ran w seen outs later
@@ -190,7 +190,7 @@ part_so uses text first objects sound headline here nothing played =
 
 -- whether it was short or not
 pub finishes_text : (end : End) (old new : Option (List ℕ)) (first : Scene) (text : List ℕ) (short : Bool) (objects : Objects)
-    → Finishes end (λ _. Tells old new (λ written. PlaysShort first text written short objects)) → Finishes end (λ _. Tells old new (λ written. PlaysText first text written objects))
+    → Finishes end (λ _. TellsWhole old new (λ written. PlaysShort first text written short objects)) → Finishes end (λ _. TellsWhole old new (λ written. PlaysText first text written objects))
 finishes_text Done old new first text short objects told = (told.0, told.1, (short, told.2))
 finishes_text (BadLine number) old new first text short objects told = (told.0, told.1, (short, told.2))
 finishes_text NotRead old new first text short objects told = tt
@@ -198,7 +198,7 @@ finishes_text NotWritten old new first text short objects told = tt
 
 -- the same of what was written
 pub finishes_so : (end : End) (old new : Option (List ℕ)) (uses : Bool) (text : List ℕ) (first objects : Objects) → IsSoundLaw → IsHeadlineLaw → ArePutHere (lines_of text) → first ≡ []
-    → Finishes end (λ _. Tells old new (λ written. PlaysText (first_scene first uses) text written objects)) → Finishes end (λ _. Tells old new (λ written. PlaysSo (first_scene [] uses) text written objects))
+    → Finishes end (λ _. TellsWhole old new (λ written. PlaysText (first_scene first uses) text written objects)) → Finishes end (λ _. TellsWhole old new (λ written. PlaysSo (first_scene [] uses) text written objects))
 finishes_so Done old new uses text first objects sound headline here nothing told = (told.0, told.1, script_so uses text told.0 first objects sound headline here nothing told.2)
 finishes_so (BadLine number) old new uses text first objects sound headline here nothing told = (told.0, told.1, script_so uses text told.0 first objects sound headline here nothing told.2)
 finishes_so NotRead old new uses text first objects sound headline here nothing told = tt

@@ -9,7 +9,7 @@ use Rattle.stream_world.specs.Worlds.{World}
 use Rattle.stream_world.specs.Standing.{TellsAs, WorldStands}
 use Rattle.table_jobs.specs.declared.job_session.JobEnd as code_end
 use Rattle.stream_world.specs.declared.world.World as code_world
-use Rattle.world_script.specs.Acting.{CameBy, GoesOn, Leads, Meets, Steps, at_first, behind, by_it, ends, ends_before, goes, halts, hand_at, in_front, meets_now, meets_then, next_at, then_one, unhindered}
+use Rattle.world_script.specs.Acting.{CameBy, IsLedOn, Leads, ActorMeets, ActorSteps, at_first, behind, by_it, ends, ends_before, goes, halts, hand_at, in_front, meets_now, meets_then, next_at, then_one, unhindered}
 use Rattle.world_script.specs.Doing.{CameThrough}
 use Rattle.world_script.specs.declared.acting.Next.{Next}
 use Rattle.world_script.specs.declared.acting.Next.TheVariants as nexts
@@ -19,7 +19,7 @@ use Rattle.world_script.proofs.Stepping.{still_goes}
 pub record LedOn {S : Type 0} (stored : S → Objects) (n : ℕ) (halts_at_commit : Bool) (w : World) (world : code_world.World S) : Type 0 where
   pub events : List Event
   pub later : World
-  pub on : GoesOn n halts_at_commit w events later
+  pub on : IsLedOn n halts_at_commit w events later
   pub stands : WorldStands stored world later
   pub alive : next_at (hand_at later n) ≡ nexts.Nothing → ⊥
 
@@ -45,26 +45,26 @@ module _ {S : Type 0} (stored : S → Objects) (n : ℕ) (halts_at_commit : Bool
 
   module _ (world later : code_world.World S) (led : LedOn stored n halts_at_commit w world) (go_on : goes halts_at_commit (next_at (hand_at led.later n)) ≡ true) where
     -- a step that is not the last one
-    pub led_more : CameBy stored (Steps n Pass led.later) None later → LedOn stored n halts_at_commit w later
+    pub led_more : CameBy stored (ActorSteps n Pass led.later) None later → LedOn stored n halts_at_commit w later
     led_more came =
         let none = told_none came.told came.tells in
         record {
           events = led.events ++ came.events;
           later = came.later;
-          on = then_one led.events led.later came.events came.later led.on go_on (subst (λ (o : Option (Job × Outcome)). Steps n Pass led.later came.events o came.later) none came.done);
+          on = then_one led.events led.later came.events came.later led.on go_on (subst (λ (o : Option (Job × Outcome)). ActorSteps n Pass led.later came.events o came.later) none came.done);
           stands = came.stands;
           alive = still_goes n Pass led.later came.events came.told came.later none came.done;
         }
 
     -- the last one
-    pub led_end : (outcome : code_end.JobEnd) → CameBy stored (Steps n Pass led.later) (Some outcome) later → CameBy stored (Leads n halts_at_commit w) (Some outcome) later
+    pub led_end : (outcome : code_end.JobEnd) → CameBy stored (ActorSteps n Pass led.later) (Some outcome) later → CameBy stored (Leads n halts_at_commit w) (Some outcome) later
     led_end outcome came =
         let one = told_some outcome came.told came.tells in
         record {
           events = led.events ++ came.events;
           told = Some one.0;
           later = came.later;
-          done = ends led.events led.later came.events one.0 came.later led.on go_on (subst (λ (o : Option (Job × Outcome)). Steps n Pass led.later came.events o came.later) one.1 came.done);
+          done = ends led.events led.later came.events one.0 came.later led.on go_on (subst (λ (o : Option (Job × Outcome)). ActorSteps n Pass led.later came.events o came.later) one.1 came.done);
           tells = subst (λ (o : Option (Job × Outcome)). TellsAs (Some outcome) o) one.1 came.tells;
           stands = came.stands;
         }
@@ -85,36 +85,36 @@ call_next (nexts.Call c) alive isnt = (c, refl)
 
 module _ {S : Type 0} (stored : S → Objects) (n : ℕ) (kind : Kind) (w : World) where
   -- at once
-  pub met_now : (outcome : Option code_end.JobEnd) (world : code_world.World S) → (next_at (hand_at w n) ≡ nexts.Nothing → ⊥) → (next_at (hand_at w n) ≡ nexts.Step → ⊥) → CameBy stored (Steps n kind w) outcome world
-      → CameBy stored (Meets n kind w) outcome world
+  pub met_now : (outcome : Option code_end.JobEnd) (world : code_world.World S) → (next_at (hand_at w n) ≡ nexts.Nothing → ⊥) → (next_at (hand_at w n) ≡ nexts.Step → ⊥) → CameBy stored (ActorSteps n kind w) outcome world
+      → CameBy stored (ActorMeets n kind w) outcome world
   met_now outcome world alive isnt came =
       let call = call_next (next_at (hand_at w n)) alive isnt in
       record { events = came.events; told = came.told; later = came.later; done = meets_now call.0 came.events came.told came.later call.1 came.done; tells = came.tells; stands = came.stands }
 
   -- it ended by its first step
-  pub met_never : (outcome : code_end.JobEnd) (world : code_world.World S) → next_at (hand_at w n) ≡ nexts.Step → CameBy stored (Steps n kind w) (Some outcome) world → CameBy stored (Meets n kind w) (Some outcome) world
+  pub met_never : (outcome : code_end.JobEnd) (world : code_world.World S) → next_at (hand_at w n) ≡ nexts.Step → CameBy stored (ActorSteps n kind w) (Some outcome) world → CameBy stored (ActorMeets n kind w) (Some outcome) world
   met_never outcome world is came =
       let one = told_some outcome came.told came.tells in
       record {
         events = came.events;
         told = Some one.0;
         later = came.later;
-        done = ends_before came.events one.0 came.later is (subst (λ (o : Option (Job × Outcome)). Steps n kind w came.events o came.later) one.1 came.done);
+        done = ends_before came.events one.0 came.later is (subst (λ (o : Option (Job × Outcome)). ActorSteps n kind w came.events o came.later) one.1 came.done);
         tells = subst (λ (o : Option (Job × Outcome)). TellsAs (Some outcome) o) one.1 came.tells;
         stands = came.stands;
       }
 
   -- behind its first step
-  module _ (mid : code_world.World S) (first : CameBy stored (Steps n kind w) None mid) where
+  module _ (mid : code_world.World S) (first : CameBy stored (ActorSteps n kind w) None mid) where
     pub alive_then : next_at (hand_at first.later n) ≡ nexts.Nothing → ⊥
     alive_then = still_goes n kind w first.events first.told first.later (told_none first.told first.tells) first.done
 
-    pub met_then : (outcome : Option code_end.JobEnd) (world : code_world.World S) → next_at (hand_at w n) ≡ nexts.Step → CameBy stored (Steps n kind first.later) outcome world → CameBy stored (Meets n kind w) outcome world
+    pub met_then : (outcome : Option code_end.JobEnd) (world : code_world.World S) → next_at (hand_at w n) ≡ nexts.Step → CameBy stored (ActorSteps n kind first.later) outcome world → CameBy stored (ActorMeets n kind w) outcome world
     met_then outcome world is came = record {
       events = first.events ++ came.events;
       told = came.told;
       later = came.later;
-      done = meets_then first.events first.later came.events came.told came.later is (subst (λ (o : Option (Job × Outcome)). Steps n kind w first.events o first.later) (told_none first.told first.tells) first.done) came.done;
+      done = meets_then first.events first.later came.events came.told came.later is (subst (λ (o : Option (Job × Outcome)). ActorSteps n kind w first.events o first.later) (told_none first.told first.tells) first.done) came.done;
       tells = came.tells;
       stands = came.stands;
     }
@@ -164,27 +164,27 @@ module _ {S : Type 0} (stored : S → Objects) (w : World) where
     pub alive_there : next_at (hand_at came.later 0) ≡ nexts.Nothing → ⊥
     alive_there = halts_alive 0 w came.events came.told came.later none came.done
 
-    pub through_fault : (outcome : code_end.JobEnd) (later : code_world.World S) → CameBy stored (Steps 0 kind came.later) (Some outcome) later → CameThrough stored (Some kind) w (Some outcome) None later
+    pub through_fault : (outcome : code_end.JobEnd) (later : code_world.World S) → CameBy stored (ActorSteps 0 kind came.later) (Some outcome) later → CameThrough stored (Some kind) w (Some outcome) None later
     through_fault outcome later step =
         let one = told_some outcome step.told step.tells in
         record {
           events = came.events ++ step.events;
           told = one.0;
           later = step.later;
-          leads = by_it kind w came.events came.later step.events one.0 step.later halted (subst (λ (o : Option (Job × Outcome)). Steps 0 kind came.later step.events o step.later) one.1 step.done);
+          leads = by_it kind w came.events came.later step.events one.0 step.later halted (subst (λ (o : Option (Job × Outcome)). ActorSteps 0 kind came.later step.events o step.later) one.1 step.done);
           tells = subst (λ (o : Option (Job × Outcome)). TellsAs (Some outcome) o) one.1 step.tells;
           stands = step.stands;
         }
 
-    module _ (after : code_world.World S) (step : CameBy stored (Steps 0 kind came.later) None after) where
+    module _ (after : code_world.World S) (step : CameBy stored (ActorSteps 0 kind came.later) None after) where
       pub alive_behind : next_at (hand_at step.later 0) ≡ nexts.Nothing → ⊥
       alive_behind = still_goes 0 kind came.later step.events step.told step.later (told_none step.told step.tells) step.done
 
       pub through_behind : (outcome : Option code_end.JobEnd) (later : code_world.World S) → CameBy stored (Leads 0 false step.later) outcome later → CameThrough stored (Some kind) w outcome None later
       through_behind outcome later rest = by_told rest.told rest.done rest.tells
         where
-          stepped : Steps 0 kind came.later step.events None step.later
-          stepped = subst (λ (o : Option (Job × Outcome)). Steps 0 kind came.later step.events o step.later) (told_none step.told step.tells) step.done
+          stepped : ActorSteps 0 kind came.later step.events None step.later
+          stepped = subst (λ (o : Option (Job × Outcome)). ActorSteps 0 kind came.later step.events o step.later) (told_none step.told step.tells) step.done
 
           by_told : (told : Option (Job × Outcome)) → Leads 0 false step.later rest.events told rest.later → TellsAs outcome told → CameThrough stored (Some kind) w outcome None later
           by_told None does tells = let wrong = leads_some 0 false step.later rest.events None rest.later does refl in cc

@@ -16,7 +16,7 @@ use Rattle.store_core.specs.declared.store.Put.{Put}
 use Rattle.store_core.specs.declared.store.Put.TheVariants as puts
 use Rattle.store_core.specs.declared.fault.StoreFault.{StoreFault}
 use Rattle.store_core.specs.declared.fault.StoreFault.TheVariants as store_faults
-use Rattle.lake_script.specs.ReplyView.{is_short, reply_text}
+use Rattle.lake_script.specs.ReplyView.{is_short_reply, reply_text}
 use Rattle.lake_script.specs.declared.reply.LineReply.TheVariants as replies
 use Rattle.script_lines.specs.Lines as lines
 use Rattle.stream_world.specs.Worlds.{World}
@@ -27,12 +27,12 @@ use Rattle.stream_world.specs.declared.world.World as code_world
 use Rattle.script_lines.specs.declared.kind.Kind.{Kind}
 use Rattle.lake_script.specs.LineJobs.{job_of_task}
 use Rattle.world_script.specs.Acting.{CameBy, LeadsThrough, hand_at, next_at}
-use Rattle.world_script.specs.Doing.{CameThrough, ComesTo, ComesToAlone, ComesToNamed, ComesToStart, IsReplyAs, IsShortAs, RanJob, TellsIn}
+use Rattle.world_script.specs.Doing.{CameThrough, LineComesTo, ComesToAlone, ComesToNamed, ComesToStart, IsReplyAs, IsShortAs, RanJob, TellsIn}
 use Rattle.world_script.specs.FallingShort.{IsLookShort, IsToldShort, tells_want}
 use Rattle.lake_script.specs.Endings.{IsReplyOf, IsShortBy}
 use Rattle.world_script.specs.Lines as does
 use Rattle.world_script.specs.Lines.{IsReplyIn, deed_does, if_refused, no_actor, no_offset, no_room, ok}
-use Rattle.world_script.specs.Scenes.{HasPart, Scene, SceneStands, next_behind, part_for}
+use Rattle.world_script.specs.Scenes.{HasPart, Scene, SceneStands, next_behind_part, part_for}
 use Rattle.world_script.specs.declared.named.Deed.{Deed}
 use Rattle.world_script.specs.declared.named.Deed.TheVariants as deeds
 use Rattle.world_script.specs.declared.acting.Next.{Next}
@@ -155,21 +155,21 @@ module _ {S : Type 0} (stored : S → Objects) (old : code.Scene S) (s : Scene) 
   job_at job = ap (λ (u : Bool). job_of_task u s.tries job) (sym stands.use_so) ∙ ap (λ (n : ℕ). job_of_task old.use_checkpoints n job) (sym stands.tries_so)
 
   module _ (name : List ℕ) (new : code.Scene S) (part : Part) (next : ℕ) (refused : Bool)
-      (is_part : part ≡ part_for (get_by_text old.parts name) old.next) (is_next : next ≡ next_behind (get_by_text old.parts name) old.next)
+      (is_part : part ≡ part_for (get_by_text old.parts name) old.next) (is_next : next ≡ next_behind_part (get_by_text old.parts name) old.next)
       (now : get_by_text new.parts name ≡ Some (record part { is_refused = refused }))
       (others : (other : List ℕ) → (other ≡ name → ⊥) → get_by_text new.parts other ≡ get_by_text old.parts other)
       (next_is : new.next ≡ next) (tries : new.tries ≡ old.tries) (fault : new.fault ≡ old.fault) (uses : new.use_checkpoints ≡ old.use_checkpoints) where
     pub part_is : part ≡ part_for (s.part name) s.next
     part_is = is_part ∙ (ap (λ (p : Option Part). part_for p old.next) (stands.part_so name) ∙ ap (part_for (s.part name)) stands.next_so)
 
-    next_same : next ≡ next_behind (s.part name) s.next
-    next_same = is_next ∙ (ap (λ (p : Option Part). next_behind p old.next) (stands.part_so name) ∙ ap (next_behind (s.part name)) stands.next_so)
+    next_same : next ≡ next_behind_part (s.part name) s.next
+    next_same = is_next ∙ (ap (λ (p : Option Part). next_behind_part p old.next) (stands.part_so name) ∙ ap (next_behind_part (s.part name)) stands.next_so)
 
     -- the scene that the code stands for then, with this world
     abbrev scene_then : World → Scene
     scene_then w = record s { world = w; part = λ other. get_by_text new.parts other; next = next }
 
-    has_part : (w : World) → HasPart s (scene_then w) name (record (part_for (s.part name) s.next) { is_refused = refused }) (next_behind (s.part name) s.next) w
+    has_part : (w : World) → HasPart s (scene_then w) name (record (part_for (s.part name) s.next) { is_refused = refused }) (next_behind_part (s.part name) s.next) w
     has_part w = record {
       world_now = refl;
       part_now = subst (λ (p : Part). get_by_text new.parts name ≡ Some (record p { is_refused = refused })) part_is now;
@@ -208,7 +208,7 @@ module _ {S : Type 0} (stored : S → Objects) (old : code.Scene S) (s : Scene) 
       events = begin (part_for (s.part name) s.next).number one ∷ [];
       later = scene_then was.later;
       does = does.starts one was.later (scene_then was.later) is (begun_one one was.met was.told was.later was.is (none_told was.told was.tells) was.happens)
-          (subst (λ (r : Bool). HasPart s (scene_then was.later) name (record (part_for (s.part name) s.next) { is_refused = r }) (next_behind (s.part name) s.next) was.later) fine (has_part was.later));
+          (subst (λ (r : Bool). HasPart s (scene_then was.later) name (record (part_for (s.part name) s.next) { is_refused = r }) (next_behind_part (s.part name) s.next) was.later) fine (has_part was.later));
       falls = refl;
       stands = stands_then was.later was.stands;
     }
@@ -218,7 +218,7 @@ module _ {S : Type 0} (stored : S → Objects) (old : code.Scene S) (s : Scene) 
       events = die (part_for (s.part name) s.next).number ∷ [];
       later = scene_then was.later;
       does = does.refuses_it was.later (scene_then was.later) is (died_one was.met was.told was.later was.is (none_told was.told was.tells) was.happens)
-          (subst (λ (r : Bool). HasPart s (scene_then was.later) name (record (part_for (s.part name) s.next) { is_refused = r }) (next_behind (s.part name) s.next) was.later) so (has_part was.later));
+          (subst (λ (r : Bool). HasPart s (scene_then was.later) name (record (part_for (s.part name) s.next) { is_refused = r }) (next_behind_part (s.part name) s.next) was.later) so (has_part was.later));
       falls = refl;
       stands = stands_then was.later was.stands;
     }
@@ -228,7 +228,7 @@ module _ {S : Type 0} (stored : S → Objects) (old : code.Scene S) (s : Scene) 
       events = [];
       later = scene_then s.world;
       does = does.has_no_room_for_it (scene_then s.world)
-          (subst (λ (p : Part). HasPart s (scene_then s.world) name p (next_behind (s.part name) s.next) s.world) (sym is_same) (has_part s.world));
+          (subst (λ (p : Part). HasPart s (scene_then s.world) name p (next_behind_part (s.part name) s.next) s.world) (sym is_same) (has_part s.world));
       falls = refl;
       stands = stands_then s.world there;
     }
@@ -294,7 +294,7 @@ module _ {S : Type 0} (stored : S → Objects) (old : code.Scene S) (s : Scene) 
   none_landed (Some told) tells = absurd tells
 
   pub lands_so : (new : code.Scene S) (place : ℕ) (found : Option Put) (reply : List ℕ) (short : Bool) → LandsAs stored s.world place (Ok found) new.world → reply ≡ does.landing_reply found → short ≡ false
-      → new.parts ≡ old.parts → new.next ≡ old.next → new.tries ≡ old.tries → new.fault ≡ old.fault → new.use_checkpoints ≡ old.use_checkpoints → ComesTo stored s (lines.world (lines.land place)) reply short new
+      → new.parts ≡ old.parts → new.next ≡ old.next → new.tries ≡ old.tries → new.fault ≡ old.fault → new.use_checkpoints ≡ old.use_checkpoints → LineComesTo stored s (lines.world (lines.land place)) reply short new
   lands_so new place found reply short landed is fine parts next tries fault uses =
       let was = landed.1 in
       let happens : Happens s.world (land place) None was.later = subst (λ (o : Option (Job × Outcome)). Happens s.world (land place) o was.later) (none_landed was.told was.tells) (subst (λ (e : Event). Happens s.world e was.told was.later) was.is was.happens) in
@@ -309,7 +309,7 @@ module _ {S : Type 0} (stored : S → Objects) (old : code.Scene S) (s : Scene) 
       }
 
   pub no_landing : (new : code.Scene S) (place : ℕ) → WorldStands stored new.world s.world → new.parts ≡ old.parts → new.next ≡ old.next → new.tries ≡ old.tries → new.fault ≡ old.fault → new.use_checkpoints ≡ old.use_checkpoints
-      → ComesTo stored s (lines.world (lines.land place)) no_room true new
+      → LineComesTo stored s (lines.world (lines.land place)) no_room true new
   no_landing new place there parts next tries fault uses = record {
     events = [];
     outs = [];
@@ -320,7 +320,7 @@ module _ {S : Type 0} (stored : S → Objects) (old : code.Scene S) (s : Scene) 
   }
 
   pub lands_err : (new : code.Scene S) (place : ℕ) (fault : StoreFault) → LandsAs stored s.world place (Err fault) new.world → new.parts ≡ old.parts → new.next ≡ old.next → new.tries ≡ old.tries → new.fault ≡ old.fault
-      → new.use_checkpoints ≡ old.use_checkpoints → ComesTo stored s (lines.world (lines.land place)) (reply_text (replies.Unanswered fault)) (is_short (replies.Unanswered fault)) new
+      → new.use_checkpoints ≡ old.use_checkpoints → LineComesTo stored s (lines.world (lines.land place)) (reply_text (replies.Unanswered fault)) (is_short_reply (replies.Unanswered fault)) new
   lands_err new place store_faults.Memory there parts next tries fault uses = no_landing new place there parts next tries fault uses
   lands_err new place store_faults.Lost there parts next tries fault uses = absurd there
 

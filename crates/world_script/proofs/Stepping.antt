@@ -6,13 +6,13 @@ use Rattle.script_lines.specs.declared.kind.Kind.TheVariants as kinds
 use Rattle.store_core.specs.Objects.{Objects}
 use Rattle.session_core.specs.Talks.{Asked, Talk, Told, get_object, list_names, put_commit, put_file}
 use Rattle.table_jobs.specs.Jobs.{Job, Outcome, CanBegin}
-use Rattle.stream_world.specs.Events.{Event, Fits, HasActor, Happens, Takes, act, acts, answer, begin, begins, begins_now, dies, ends, goes_on, lands, lose_answer, loses, nothing_happens, takes}
-use Rattle.stream_world.specs.Worlds.{Actor, Hand, How, World, acted, asking, ended, fresh, late, lost, once, short, told_by, told_how, twice, waiting, with_actor}
+use Rattle.stream_world.specs.Events.{Event, FitsWorld, HasActor, Happens, ComesToTalk, act, acts, answer, begin, begins, begins_now, dies, ends, goes_on, lands, lose_answer, loses, nothing_happens, takes}
+use Rattle.stream_world.specs.Worlds.{Actor, Hand, How, World, acted, asking, ended, fresh, late, lost, once, short, told_by_call, told_how, twice, waiting, with_actor}
 use Rattle.stream_world.specs.EventViews.{IsMetAs, IsMetIn}
 use Rattle.stream_world.specs.Standing.{HasHappened, TellsAs, WorldStands, taking}
 use Rattle.table_jobs.specs.declared.job_session.JobEnd as code_end
 use Rattle.stream_world.specs.declared.world.World as code_world
-use Rattle.world_script.specs.Acting.{CameBy, Steps, calls, hand_at, how_of, is_commit_put, is_memory, loses_answer, next_at}
+use Rattle.world_script.specs.Acting.{CameBy, ActorSteps, calls, hand_at, how_of, is_commit_put, is_memory, loses_answer, next_at}
 use Rattle.world_script.specs.Acting as stepping
 use Rattle.world_script.specs.declared.acting.Next.TheVariants as nexts
 
@@ -26,31 +26,31 @@ hand_there : (w : World) (n : ℕ) (actor : Actor) → HasActor w n actor → ha
 hand_there w n actor there = ap (option_map (λ a. a.hand)) there
 
 -- where a step is next, its answer fits
-step_by_hand : (w : World) (n : ℕ) (actor : Actor) (hand : Hand) → HasActor w n actor → actor.hand ≡ hand → next_at (Some hand) ≡ nexts.Step → Fits w (answer n)
+step_by_hand : (w : World) (n : ℕ) (actor : Actor) (hand : Hand) → HasActor w n actor → actor.hand ≡ hand → next_at (Some hand) ≡ nexts.Step → FitsWorld w (answer n)
 step_by_hand w n actor fresh there is next = (actor, there, inl is)
 step_by_hand w n actor (waiting call told) there is next = (actor, there, inr (call, told, is))
 step_by_hand w n actor (asking call) there is next = cc
 step_by_hand w n actor (ended outcome) there is next = cc
 
-step_by : (w : World) (n : ℕ) (found : Option Actor) → w.actors n ≡ found → next_at (hand_at w n) ≡ nexts.Step → Fits w (answer n)
+step_by : (w : World) (n : ℕ) (found : Option Actor) → w.actors n ≡ found → next_at (hand_at w n) ≡ nexts.Step → FitsWorld w (answer n)
 step_by w n None none next = let wrong : nexts.Nothing ≡ nexts.Step = sym (nothing_there w n none) ∙ next in cc
 step_by w n (Some actor) there next = step_by_hand w n actor actor.hand there refl (ap next_at (sym (hand_there w n actor there)) ∙ next)
 
-pub step_fits : (w : World) (n : ℕ) → next_at (hand_at w n) ≡ nexts.Step → Fits w (answer n)
+pub step_fits : (w : World) (n : ℕ) → next_at (hand_at w n) ≡ nexts.Step → FitsWorld w (answer n)
 step_fits w n next = step_by w n (w.actors n) refl next
 
 -- where a call is next, an act fits
-call_by_hand : (w : World) (n : ℕ) (how : How) (c : Bool) (actor : Actor) (hand : Hand) → HasActor w n actor → actor.hand ≡ hand → next_at (Some hand) ≡ nexts.Call c → Fits w (act n how)
+call_by_hand : (w : World) (n : ℕ) (how : How) (c : Bool) (actor : Actor) (hand : Hand) → HasActor w n actor → actor.hand ≡ hand → next_at (Some hand) ≡ nexts.Call c → FitsWorld w (act n how)
 call_by_hand w n how c actor (asking call) there is next = (actor, call, there, is)
 call_by_hand w n how c actor fresh there is next = cc
 call_by_hand w n how c actor (waiting call told) there is next = cc
 call_by_hand w n how c actor (ended outcome) there is next = cc
 
-call_by : (w : World) (n : ℕ) (how : How) (c : Bool) (found : Option Actor) → w.actors n ≡ found → next_at (hand_at w n) ≡ nexts.Call c → Fits w (act n how)
+call_by : (w : World) (n : ℕ) (how : How) (c : Bool) (found : Option Actor) → w.actors n ≡ found → next_at (hand_at w n) ≡ nexts.Call c → FitsWorld w (act n how)
 call_by w n how c None none next = let wrong : nexts.Nothing ≡ nexts.Call c = sym (nothing_there w n none) ∙ next in cc
 call_by w n how c (Some actor) there next = call_by_hand w n how c actor actor.hand there refl (ap next_at (sym (hand_there w n actor there)) ∙ next)
 
-pub call_fits : (w : World) (n : ℕ) (how : How) (c : Bool) → next_at (hand_at w n) ≡ nexts.Call c → Fits w (act n how)
+pub call_fits : (w : World) (n : ℕ) (how : How) (c : Bool) → next_at (hand_at w n) ≡ nexts.Call c → FitsWorld w (act n how)
 call_fits w n how c next = call_by w n how c (w.actors n) refl next
 
 -- ---- events
@@ -59,7 +59,7 @@ actor_there : (w : World) (name : ℕ) (found : Option Actor) → (with_actor w 
 actor_there w name found = let same : (name == name) ≡ true = grind (arith, nat_tests) in rw same refl
 
 -- who takes an answer
-taker : (w : World) (event : Event) (name : ℕ) (actor : Actor) (now : Talk) → Takes w event name actor now → (event ≡ answer name) ⊎ (event ≡ lose_answer name)
+taker : (w : World) (event : Event) (name : ℕ) (actor : Actor) (now : Talk) → ComesToTalk w event name actor now → (event ≡ answer name) ⊎ (event ≡ lose_answer name)
 taker w _ _ _ _ (begins_now name actor there is) = inl refl
 taker w _ _ _ _ (takes name actor call told there is) = inl refl
 taker w _ _ _ _ (loses name actor call told there is) = inr refl
@@ -91,7 +91,7 @@ met_here w name how actor call = record {
   so = refl;
 }
 
-has_met : (w : World) (n : ℕ) (how : How) (event : Event) (out : Option (Job × Outcome)) (mid : World) → event ≡ act n how → Happens w event out mid → Fits w event → HasMet w n how mid
+has_met : (w : World) (n : ℕ) (how : How) (event : Event) (out : Option (Job × Outcome)) (mid : World) → event ≡ act n how → Happens w event out mid → FitsWorld w event → HasMet w n how mid
 has_met w n how _ _ _ is (acts name how2 actor call there asks) fits =
     let same : name ≡ n = cc in
     let same_how : how2 ≡ how = cc in
@@ -104,7 +104,7 @@ has_met w n how _ _ _ is (lands place put there) fits = cc
 has_met w n how _ _ _ is (nothing_happens event unfit) fits = absurd (unfit fits)
 
 -- so the session takes it, or the loss of it
-waits_then : (w : World) (n : ℕ) (how : How) (l : Bool) (mid : World) → HasMet w n how mid → Fits mid (taking n l)
+waits_then : (w : World) (n : ℕ) (how : How) (l : Bool) (mid : World) → HasMet w n how mid → FitsWorld mid (taking n l)
 waits_then w n how true mid met = (met.actor, met.call, met.told, met.there, met.waits)
 waits_then w n how false mid met = (met.actor, met.there, inr (met.call, met.told, met.waits))
 
@@ -127,7 +127,7 @@ same_name n m event (inl a) (inr b) = cc
 same_name n m event (inr a) (inl b) = cc
 same_name n m event (inr a) (inr b) = cc
 
-asks_then : (w : World) (n : ℕ) (event : Event) (out : Option (Job × Outcome)) (later : World) → is_taking n event → out ≡ None → Happens w event out later → Fits w event → asks_next later n
+asks_then : (w : World) (n : ℕ) (event : Event) (out : Option (Job × Outcome)) (later : World) → is_taking n event → out ≡ None → Happens w event out later → FitsWorld w event → asks_next later n
 asks_then w n _ _ _ is none (goes_on event name actor now call taken does of_bytes) fits = asks_at w n name _ call (same_name n name event is (taker w event name actor now taken)) refl
 asks_then w n _ _ _ is none (ends event name actor now outcome taken does) fits = cc
 asks_then w n _ _ _ (inl is) none (begins name job can) fits = cc
@@ -145,13 +145,13 @@ taking_is n true = inr refl
 taking_is n false = inl refl
 
 -- behind a step that is not the last one it asks for a call
-pub still_asks : (n : ℕ) (kind : Kind) (w : World) (events : List Event) (told : Option (Job × Outcome)) (later : World) → told ≡ None → Steps n kind w events told later → asks_next later n
+pub still_asks : (n : ℕ) (kind : Kind) (w : World) (events : List Event) (told : Option (Job × Outcome)) (later : World) → told ≡ None → ActorSteps n kind w events told later → asks_next later n
 still_asks n kind w _ _ _ none (stepping.begins told later next happens) = asks_then w n (answer n) told later (inl refl) none happens (step_fits w n next)
 still_asks n kind w _ _ _ none (calls c how mid told later next met acted happens) =
-    asks_then mid n (taking n (stepping.loses kind how)) told later (taking_is n (stepping.loses kind how)) none happens (waits_then w n how (stepping.loses kind how) mid (has_met w n how (act n how) None mid refl acted (call_fits w n how c next)))
+    asks_then mid n (taking n (stepping.loses_how kind how)) told later (taking_is n (stepping.loses_how kind how)) none happens (waits_then w n how (stepping.loses_how kind how) mid (has_met w n how (act n how) None mid refl acted (call_fits w n how c next)))
 
 -- so something comes next
-pub still_goes : (n : ℕ) (kind : Kind) (w : World) (events : List Event) (told : Option (Job × Outcome)) (later : World) → told ≡ None → Steps n kind w events told later → next_at (hand_at later n) ≡ nexts.Nothing → ⊥
+pub still_goes : (n : ℕ) (kind : Kind) (w : World) (events : List Event) (told : Option (Job × Outcome)) (later : World) → told ≡ None → ActorSteps n kind w events told later → next_at (hand_at later n) ≡ nexts.Nothing → ⊥
 still_goes n kind w events told later none steps nothing = let one = still_asks n kind w events told later none steps in let wrong : nexts.Call one.0 ≡ nexts.Nothing = sym one.1 ∙ nothing in cc
 
 -- an actor that has begun makes its first step next
@@ -164,7 +164,7 @@ begun_steps w n job _ _ _ is can (acts name how actor call there asks) = cc
 begun_steps w n job _ _ _ is can (goes_on event name actor now call taken does of_bytes) = absurd (never_taken n job event name is (taker w event name actor now taken))
 begun_steps w n job _ _ _ is can (ends event name actor now outcome taken does) = absurd (never_taken n job event name is (taker w event name actor now taken))
 begun_steps w n job _ _ _ is can (lands place put there) = cc
-begun_steps w n job _ _ _ is can (nothing_happens event unfit) = absurd (unfit (subst (λ (e : Event). Fits w e) (sym is) can))
+begun_steps w n job _ _ _ is can (nothing_happens event unfit) = absurd (unfit (subst (λ (e : Event). FitsWorld w e) (sym is) can))
 
 -- ---- in the code
 
@@ -173,17 +173,17 @@ told_none None tells = refl
 told_none (Some told) tells = absurd tells
 
 -- a call that takes effect isn't told that memory ran out
-by_call : (objects : Objects) (call : Asked) → is_memory (told_by objects call) ≡ false
+by_call : (objects : Objects) (call : Asked) → is_memory (told_by_call objects call) ≡ false
 by_call objects list_names = refl
 by_call objects (get_object name) = refl
 by_call objects (put_file name bytes) = refl
 by_call objects (put_commit version bytes) = refl
 
 -- so its answer is lost just where the kind says so and it took effect
-loses_so : (kind : Kind) (how : How) (objects : Objects) (call : Asked) (ran : Bool) → IsMetIn (how_of kind) how → ran ≡ is_memory (told_how how objects call) → (loses_answer kind && not ran) ≡ stepping.loses kind how
+loses_so : (kind : Kind) (how : How) (objects : Objects) (call : Asked) (ran : Bool) → IsMetIn (how_of kind) how → ran ≡ is_memory (told_how how objects call) → (loses_answer kind && not ran) ≡ stepping.loses_how kind how
 loses_so kinds.Pass how objects call ran met is = loses_pass how
   where
-    loses_pass : (how : How) → false ≡ stepping.loses kinds.Pass how
+    loses_pass : (how : How) → false ≡ stepping.loses_how kinds.Pass how
     loses_pass once = refl
     loses_pass twice = refl
     loses_pass late = refl
@@ -191,7 +191,7 @@ loses_so kinds.Pass how objects call ran met is = loses_pass how
     loses_pass short = refl
 loses_so kinds.Lost how objects call ran met is = loses_lost how
   where
-    loses_lost : (how : How) → false ≡ stepping.loses kinds.Lost how
+    loses_lost : (how : How) → false ≡ stepping.loses_how kinds.Lost how
     loses_lost once = refl
     loses_lost twice = refl
     loses_lost late = refl
@@ -199,7 +199,7 @@ loses_so kinds.Lost how objects call ran met is = loses_lost how
     loses_lost short = refl
 loses_so kinds.Late how objects call ran met is = loses_late how
   where
-    loses_late : (how : How) → false ≡ stepping.loses kinds.Late how
+    loses_late : (how : How) → false ≡ stepping.loses_how kinds.Late how
     loses_late once = refl
     loses_late twice = refl
     loses_late late = refl
@@ -207,7 +207,7 @@ loses_so kinds.Late how objects call ran met is = loses_late how
     loses_late short = refl
 loses_so kinds.Twice how objects call ran met is = loses_twice how
   where
-    loses_twice : (how : How) → false ≡ stepping.loses kinds.Twice how
+    loses_twice : (how : How) → false ≡ stepping.loses_how kinds.Twice how
     loses_twice once = refl
     loses_twice twice = refl
     loses_twice late = refl
@@ -224,7 +224,7 @@ loses_so kinds.Mute lost objects call ran (inr wrong) is = cc
 
 module _ {S : Type 0} (stored : S → Objects) (n : ℕ) (kind : Kind) (w : World) where
   -- a session makes its first step, or takes the answer that waits
-  pub stepped : (outcome : Option code_end.JobEnd) (world : code_world.World S) → next_at (hand_at w n) ≡ nexts.Step → HasHappened stored w (answer n) outcome world → CameBy stored (Steps n kind w) outcome world
+  pub stepped : (outcome : Option code_end.JobEnd) (world : code_world.World S) → next_at (hand_at w n) ≡ nexts.Step → HasHappened stored w (answer n) outcome world → CameBy stored (ActorSteps n kind w) outcome world
   stepped outcome world next was = record {
     events = answer n ∷ [];
     told = was.told;
@@ -237,16 +237,16 @@ module _ {S : Type 0} (stored : S → Objects) (n : ℕ) (kind : Kind) (w : Worl
   -- its call is answered, and it goes on
   pub called : (c l ran : Bool) (outcome : Option code_end.JobEnd) (mid world : code_world.World S) → next_at (hand_at w n) ≡ nexts.Call c → HasHappened stored w (act n (how_of kind)) None mid
       → ((v : World) → WorldStands stored mid v → (call : Asked) (told : Told) → hand_at v n ≡ Some (waiting call told) → ran ≡ is_memory told) → l ≡ (loses_answer kind && not ran)
-      → ((v : World) → WorldStands stored mid v → HasHappened stored v (taking n l) outcome world) → CameBy stored (Steps n kind w) outcome world
+      → ((v : World) → WorldStands stored mid v → HasHappened stored v (taking n l) outcome world) → CameBy stored (ActorSteps n kind w) outcome world
   called c l ran outcome mid world next acted shorts says goes =
       let one = acted.is in
       let was = goes acted.later acted.stands in
       let happened : Happens w (act n one.0) None acted.later = subst (λ (o : Option (Job × Outcome)). Happens w (act n one.0) o acted.later) (told_none acted.told acted.tells) (subst (λ (e : Event). Happens w e acted.told acted.later) one.2 acted.happens) in
       let met : HasMet w n one.0 acted.later = has_met w n one.0 (act n one.0) None acted.later refl happened (call_fits w n one.0 c next) in
       let is_short : ran ≡ is_memory met.told = shorts acted.later acted.stands met.call met.told (hand_there acted.later n met.actor met.there ∙ ap Some met.waits) in
-      let so : l ≡ stepping.loses kind one.0 = says ∙ loses_so kind one.0 w.objects met.call ran one.1 (is_short ∙ ap is_memory met.so) in
+      let so : l ≡ stepping.loses_how kind one.0 = says ∙ loses_so kind one.0 w.objects met.call ran one.1 (is_short ∙ ap is_memory met.so) in
       record {
-        events = act n one.0 ∷ taking n (stepping.loses kind one.0) ∷ [];
+        events = act n one.0 ∷ taking n (stepping.loses_how kind one.0) ∷ [];
         told = was.told;
         later = was.later;
         done = calls c one.0 acted.later was.told was.later next one.1 happened (subst (λ (b : Bool). Happens acted.later (taking n b) was.told was.later) so (taken l was.met was.is was.told was.later was.happens));

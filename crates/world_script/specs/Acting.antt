@@ -28,9 +28,9 @@ abbrev pub loses_answer : Kind → Bool
 loses_answer Mute = true
 loses_answer kind = false
 
-abbrev pub loses : Kind → How → Bool
-loses kind worlds.short = false
-loses kind how = loses_answer kind
+abbrev pub loses_how : Kind → How → Bool
+loses_how kind worlds.short = false
+loses_how kind how = loses_answer kind
 
 -- that memory ran out is told
 abbrev pub is_memory : Told → Bool
@@ -55,17 +55,17 @@ next_at (Some (ended outcome)) = nexts.Nothing
 
 -- A step of an actor: its session makes its first step, or takes the answer that waits; or its call meets a kind and it takes the
 -- answer, or is told that it was lost; or its call finds no memory, and it takes that. It may end by that and tell something.
-pub data Steps (n : ℕ) (kind : Kind) (w : World) : List Event → (told : Option (Job × Outcome)) → World → Type 0 where
-  begins : (told : Option (Job × Outcome)) (later : World) → next_at (hand_at w n) ≡ nexts.Step → Happens w (answer n) told later → Steps n kind w (answer n ∷ []) told later
+pub data ActorSteps (n : ℕ) (kind : Kind) (w : World) : List Event → (told : Option (Job × Outcome)) → World → Type 0 where
+  begins : (told : Option (Job × Outcome)) (later : World) → next_at (hand_at w n) ≡ nexts.Step → Happens w (answer n) told later → ActorSteps n kind w (answer n ∷ []) told later
   calls : (is_commit : Bool) (how : How) (mid : World) (told : Option (Job × Outcome)) (later : World) → next_at (hand_at w n) ≡ nexts.Call is_commit → IsMetIn (how_of kind) how → Happens w (act n how) None mid
-      → Happens mid (taking n (loses kind how)) told later → Steps n kind w (act n how ∷ taking n (loses kind how) ∷ []) told later
+      → Happens mid (taking n (loses_how kind how)) told later → ActorSteps n kind w (act n how ∷ taking n (loses_how kind how) ∷ []) told later
 
 -- An actor's next call meets a kind. One that has asked for nothing yet makes its first step before, and may end by that.
-pub data Meets (n : ℕ) (kind : Kind) (w : World) : List Event → (told : Option (Job × Outcome)) → World → Type 0 where
-  meets_now : (is_commit : Bool) (events : List Event) (told : Option (Job × Outcome)) (later : World) → next_at (hand_at w n) ≡ nexts.Call is_commit → Steps n kind w events told later → Meets n kind w events told later
-  ends_before : (events : List Event) (told : Job × Outcome) (later : World) → next_at (hand_at w n) ≡ nexts.Step → Steps n kind w events (Some told) later → Meets n kind w events (Some told) later
-  meets_then : (events : List Event) (mid : World) (more : List Event) (told : Option (Job × Outcome)) (later : World) → next_at (hand_at w n) ≡ nexts.Step → Steps n kind w events None mid → Steps n kind mid more told later
-      → Meets n kind w (events ++ more) told later
+pub data ActorMeets (n : ℕ) (kind : Kind) (w : World) : List Event → (told : Option (Job × Outcome)) → World → Type 0 where
+  meets_now : (is_commit : Bool) (events : List Event) (told : Option (Job × Outcome)) (later : World) → next_at (hand_at w n) ≡ nexts.Call is_commit → ActorSteps n kind w events told later → ActorMeets n kind w events told later
+  ends_before : (events : List Event) (told : Job × Outcome) (later : World) → next_at (hand_at w n) ≡ nexts.Step → ActorSteps n kind w events (Some told) later → ActorMeets n kind w events (Some told) later
+  meets_then : (events : List Event) (mid : World) (more : List Event) (told : Option (Job × Outcome)) (later : World) → next_at (hand_at w n) ≡ nexts.Step → ActorSteps n kind w events None mid → ActorSteps n kind mid more told later
+      → ActorMeets n kind w (events ++ more) told later
 
 -- whether an actor that is led on goes on: it has a session, and it doesn't halt in front of this call
 abbrev pub goes : (halts_at_commit : Bool) → Next → Bool
@@ -75,24 +75,24 @@ goes true (nexts.Call is_commit) = not is_commit
 goes false (nexts.Call is_commit) = true
 
 -- An actor was led on by steps that pass, and hasn't ended; in front of a commit put it goes on only where it is not to halt there.
-pub data GoesOn (n : ℕ) (halts_at_commit : Bool) (w : World) : List Event → World → Type 0 where
-  at_first : GoesOn n halts_at_commit w [] w
-  then_one : (events : List Event) (mid : World) (more : List Event) (later : World) → GoesOn n halts_at_commit w events mid → goes halts_at_commit (next_at (hand_at mid n)) ≡ true → Steps n Pass mid more None later → GoesOn n halts_at_commit w (events ++ more) later
+pub data IsLedOn (n : ℕ) (halts_at_commit : Bool) (w : World) : List Event → World → Type 0 where
+  at_first : IsLedOn n halts_at_commit w [] w
+  then_one : (events : List Event) (mid : World) (more : List Event) (later : World) → IsLedOn n halts_at_commit w events mid → goes halts_at_commit (next_at (hand_at mid n)) ≡ true → ActorSteps n Pass mid more None later → IsLedOn n halts_at_commit w (events ++ more) later
 
 -- It was led on until it halted, or until it ended and told something.
 pub data Leads (n : ℕ) (halts_at_commit : Bool) (w : World) : List Event → (told : Option (Job × Outcome)) → World → Type 0 where
-  halts : (events : List Event) (later : World) → halts_at_commit ≡ true → GoesOn n halts_at_commit w events later → next_at (hand_at later n) ≡ nexts.Call true → Leads n halts_at_commit w events None later
-  ends : (events : List Event) (mid : World) (more : List Event) (told : Job × Outcome) (later : World) → GoesOn n halts_at_commit w events mid → goes halts_at_commit (next_at (hand_at mid n)) ≡ true → Steps n Pass mid more (Some told) later
+  halts : (events : List Event) (later : World) → halts_at_commit ≡ true → IsLedOn n halts_at_commit w events later → next_at (hand_at later n) ≡ nexts.Call true → Leads n halts_at_commit w events None later
+  ends : (events : List Event) (mid : World) (more : List Event) (told : Job × Outcome) (later : World) → IsLedOn n halts_at_commit w events mid → goes halts_at_commit (next_at (hand_at mid n)) ≡ true → ActorSteps n Pass mid more (Some told) later
       → Leads n halts_at_commit w (events ++ more) (Some told) later
 
 -- Its next commit put meets a kind, if there is one, and it is led to its end else.
 pub data LeadsThrough (n : ℕ) : (fault : Option Kind) → World → List Event → Job × Outcome → (left : Option Kind) → World → Type 0 where
   unhindered : (w : World) (events : List Event) (told : Job × Outcome) (later : World) → Leads n false w events (Some told) later → LeadsThrough n None w events told None later
   in_front : (kind : Kind) (w : World) (events : List Event) (told : Job × Outcome) (later : World) → Leads n true w events (Some told) later → LeadsThrough n (Some kind) w events told (Some kind) later
-  by_it : (kind : Kind) (w : World) (events : List Event) (mid : World) (more : List Event) (told : Job × Outcome) (later : World) → Leads n true w events None mid → Steps n kind mid more (Some told) later
+  by_it : (kind : Kind) (w : World) (events : List Event) (mid : World) (more : List Event) (told : Job × Outcome) (later : World) → Leads n true w events None mid → ActorSteps n kind mid more (Some told) later
       → LeadsThrough n (Some kind) w (events ++ more) told None later
   behind : (kind : Kind) (w : World) (events : List Event) (mid : World) (more : List Event) (after : World) (rest : List Event) (told : Job × Outcome) (later : World) → Leads n true w events None mid
-      → Steps n kind mid more None after → Leads n false after rest (Some told) later → LeadsThrough n (Some kind) w (events ++ more ++ rest) told None later
+      → ActorSteps n kind mid more None after → Leads n false after rest (Some told) later → LeadsThrough n (Some kind) w (events ++ more ++ rest) told None later
 
 -- ---- in the code
 

@@ -1,10 +1,9 @@
 -- What the code does to a scene by a line, in the words of what a line does.
-use Rattle.std.specs.Prelude.{◌≡◌, ◌⊎◌, ◌||◌, ℕ, Bool, true, false, List, [], Option, None, Some, Result, Ok, Err}
+use Rattle.std.specs.Prelude.{◌≡◌, ℕ, Bool, true, false, List, Option, None, Some, Result, Ok, Err}
 use Rattle.std.specs.declared.alloc.AllocError.{AllocError}
-use Rattle.lake_script.specs.ReplyView.{is_short, reply_text}
-use Rattle.lake_script.specs.Replies.{bad_line}
+use Rattle.lake_script.specs.ReplyView.{is_short_reply, reply_text}
 use Rattle.lake_script.specs.declared.reply.LineReply.{LineReply}
-use Rattle.script_lines.specs.Lines.{Reading, Statement, Task, asks, bad, skipped}
+use Rattle.script_lines.specs.Lines.{Statement, Task}
 use Rattle.script_lines.specs.declared.kind.Kind.{Kind}
 use Rattle.table_jobs.specs.Jobs.{Job, Outcome}
 use Rattle.store_core.specs.Objects.{Objects}
@@ -18,19 +17,10 @@ use Rattle.world_script.specs.Acting.{LeadsThrough}
 use Rattle.lake_script.specs.LineJobs.{job_of_task}
 use Rattle.lake_script.specs.Endings.{IsReplyOf, IsShortBy}
 use Rattle.world_script.specs.FallingShort.{IsLineShort, IsLookShort, IsToldShort, tells_want}
-use Rattle.world_script.specs.Lines.{IsNamed, LineDoes, RunsAlone, Starts, TellsOf, no_room, ok}
+use Rattle.world_script.specs.Lines.{IsDoneToActor, LineDoes, RunsAlone, Starts, TellsOfObjects, no_room, ok}
 use Rattle.world_script.specs.Scenes.{Scene, SceneStands}
 use Rattle.world_script.specs.declared.named.Deed.{Deed}
 use Rattle.world_script.specs.declared.scene.Scene as code
-
--- what is replied, if something is
-abbrev pub replied : Option LineReply → List ℕ
-replied None = []
-replied (Some reply) = reply_text reply
-
-abbrev pub replied_short : Option LineReply → Bool
-replied_short None = false
-replied_short (Some reply) = is_short reply
 
 -- the reply to a line by which an actor went on, and ended if there is an outcome
 abbrev pub IsReplyAs : Option code_end.JobEnd → List ℕ → Type 0
@@ -42,8 +32,12 @@ abbrev pub IsShortAs : Option code_end.JobEnd → (reply : List ℕ) → (short 
 IsShortAs None reply short = short ≡ false
 IsShortAs (Some outcome) reply short = IsShortBy (end_view outcome) reply short
 
+-- what a line does to a scene by some events, what sessions tell by them, its reply, and whether that is short
+abbrev pub DoesInScene : Scene → Statement → (reply : List ℕ) → (short : Bool) → Scene → Type 0
+DoesInScene s statement reply short later = (events : List Event) × (outs : List (Job × Outcome)) × LineDoes statement s events outs reply later × IsLineShort statement s outs reply short later
+
 -- What a line did to a scene and replied, and whether it was short, for which the code stands now.
-pub record ComesTo {S : Type 0} (stored : S → Objects) (s : Scene) (statement : Statement) (reply : List ℕ) (short : Bool) (scene : code.Scene S) : Type 0 where
+pub record LineComesTo {S : Type 0} (stored : S → Objects) (s : Scene) (statement : Statement) (reply : List ℕ) (short : Bool) (scene : code.Scene S) : Type 0 where
   pub events : List Event
   pub outs : List (Job × Outcome)
   pub later : Scene
@@ -56,7 +50,7 @@ pub record ComesToNamed {S : Type 0} (stored : S → Objects) (s : Scene) (name 
   pub events : List Event
   pub outs : List (Job × Outcome)
   pub later : Scene
-  pub does : IsNamed s name deed events outs reply later
+  pub does : IsDoneToActor s name deed events outs reply later
   pub falls : IsToldShort outs reply short
   pub stands : SceneStands stored scene later
 
@@ -89,7 +83,7 @@ pub record ComesToAlone {S : Type 0} (stored : S → Objects) (s : Scene) (state
 
 pub record TellsIn {S : Type 0} (stored : S → Objects) (s : Scene) (statement : Statement) (reply : List ℕ) (short : Bool) (scene : code.Scene S) : Type 0 where
   pub later : Scene
-  pub tells : TellsOf s statement reply later
+  pub tells : TellsOfObjects s statement reply later
   pub falls : IsLookShort s statement reply short later
   pub stands : SceneStands stored scene later
 
@@ -116,16 +110,5 @@ pub record RanJob {S : Type 0} (stored : S → Objects) (s : Scene) (job : Job) 
   pub stands : SceneStands stored scene (record s { world = w; fault = left })
 
 abbrev pub RunsJob : {S : Type 0} → (stored : S → Objects) → Scene → Job → Result LineReply AllocError → code.Scene S → Type 0
-RunsJob stored s job (Ok reply) scene = RanJob stored s job (reply_text reply) (is_short reply) scene
+RunsJob stored s job (Ok reply) scene = RanJob stored s job (reply_text reply) (is_short_reply reply) scene
 RunsJob stored s job (Err fault) scene = SceneStands stored scene s
-
--- A line as it is read was answered so: nothing of one that is skipped, of a bad one that it is bad. A run was short before, and is so behind it where it
--- was or the line is.
-abbrev pub Answers : {S : Type 0} → (stored : S → Objects) → (number : ℕ) → Scene → Reading → (written : List ℕ) → (before after : Bool) → code.Scene S → Type 0
-Answers stored number s skipped written before after scene = (written ≡ []) × SceneStands stored scene s × (after ≡ before)
-Answers stored number s bad written before after scene = (written ≡ bad_line number) × SceneStands stored scene s × (after ≡ before)
-Answers stored number s (asks statement) written before after scene = (short : Bool) × ComesTo stored s statement written short scene × (after ≡ (before || short))
-
--- A line that wasn't answered to its end: it was played, or nothing was done.
-abbrev pub IsCutOff : {S : Type 0} → (stored : S → Objects) → (number : ℕ) → Scene → Reading → (before after : Bool) → code.Scene S → Type 0
-IsCutOff stored number s reading before after scene = SceneStands stored scene s ⊎ ((written : List ℕ) × Answers stored number s reading written before after scene)

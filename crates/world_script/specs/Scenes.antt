@@ -27,9 +27,9 @@ abbrev pub part_for : Option Part → (next : ℕ) → Part
 part_for None next = record { number = next; is_refused = false }
 part_for (Some part) next = part
 
-abbrev pub next_behind : Option Part → (next : ℕ) → ℕ
-next_behind None next = next + 1
-next_behind (Some part) next = next
+abbrev pub next_behind_part : Option Part → (next : ℕ) → ℕ
+next_behind_part None next = next + 1
+next_behind_part (Some part) next = next
 
 -- One actor has this part now, and the world is this one; nothing else has changed but which number comes next.
 pub record HasPart (old new : Scene) (name : List ℕ) (part : Part) (next : ℕ) (w : World) : Type 0 where

@@ -4,7 +4,7 @@ ghost use Rattle.stream_world.specs.Worlds as worlds;
 ghost use Rattle.stream_world.specs.EventViews.{how_view};
 ghost use Rattle.stream_world.specs.Left.{calls_left};
 ghost use Rattle.stream_world.specs.Standing.{WorldStands, slot_at};
-ghost use Rattle.world_script.specs.Acting.{CameBy, Leads, Meets, Steps, goes, hand_at, how_of, loses_answer, next_at};
+ghost use Rattle.world_script.specs.Acting.{CameBy, Leads, ActorMeets, ActorSteps, goes, hand_at, how_of, loses_answer, next_at};
 ghost use Rattle.world_script.specs.Slots.{next_in, short_in};
 
 use script_lines::Kind;
@@ -95,7 +95,7 @@ fn is_lost<S: Store>(world: &World<S>, actor: u64, kind: Kind) -> bool
 /// tells where it ends.
 pub(crate) fn step<S: Store>(world: &mut World<S>, actor: u64, kind: Kind) -> Option<JobEnd>
     ensures came { S.is_reliable world.old.store.store → (w : worlds.World) → WorldStands S.objects world.old w → next_at (hand_at w actor) ≢ Next.Nothing
-        → CameBy S.objects (Steps actor kind w) result world.new }
+        → CameBy S.objects (ActorSteps actor kind w) result world.new }
     ensures fewer { next_in (slot_at world.old actor) ≢ Next.Nothing → result ≡ None → calls_left (slot_at world.new actor) < calls_left (slot_at world.old actor) }
     ensures reliable { S.is_reliable world.old.store.store → S.is_reliable world.new.store.store }
 {
@@ -114,7 +114,7 @@ pub(crate) fn step<S: Store>(world: &mut World<S>, actor: u64, kind: Kind) -> Op
 /// Returns what it tells where it ends.
 pub(crate) fn meet<S: Store>(world: &mut World<S>, actor: u64, kind: Kind) -> Option<JobEnd>
     ensures came { S.is_reliable world.old.store.store → (w : worlds.World) → WorldStands S.objects world.old w → next_at (hand_at w actor) ≢ Next.Nothing
-        → CameBy S.objects (Meets actor kind w) result world.new }
+        → CameBy S.objects (ActorMeets actor kind w) result world.new }
     ensures reliable { S.is_reliable world.old.store.store → S.is_reliable world.new.store.store }
 {
     match next_of(world, actor) {

@@ -1,6 +1,6 @@
 //! The lines without an actor that are jobs: of an actor of their own, which runs to its end.
 ghost use Rattle.std.specs.Prelude.{◌≢◌, ◌<◌, ◌^◌, Some};
-ghost use Rattle.lake_script.specs.ReplyView.{is_short, reply_text};
+ghost use Rattle.lake_script.specs.ReplyView.{is_short_reply, reply_text};
 ghost use Rattle.script_lines.specs.Lines.{IsTimelyTask, create, task, task_view};
 ghost use Rattle.stream_world.specs.Worlds as worlds;
 ghost use Rattle.table_jobs.specs.Views.{job_view};
@@ -76,7 +76,7 @@ pub(crate) fn create_table<S: Store>(
 ) -> LineReply
     requires { at < 2 ^ 63 }
     ensures comes { S.is_reliable scene.old.world.store.store → (s : scenes.Scene) → SceneStands S.objects scene.old s
-        → ComesToAlone S.objects s (create id.now at schema.now) (Some (job_of_creation id.now at schema.now)) (reply_text result) (is_short result) scene.new }
+        → ComesToAlone S.objects s (create id.now at schema.now) (Some (job_of_creation id.now at schema.now)) (reply_text result) (is_short_reply result) scene.new }
     ensures reliable { S.is_reliable scene.old.world.store.store → S.is_reliable scene.new.world.store.store }
 {
     let Ok(job) = kept_creation(alloc, id, at, schema) else {
@@ -96,7 +96,7 @@ pub(crate) fn run_task<S: Store>(
 ) -> LineReply
     requires { IsTimelyTask (task_view job) }
     ensures comes { S.is_reliable scene.old.world.store.store → (s : scenes.Scene) → SceneStands S.objects scene.old s
-        → ComesToAlone S.objects s (task (task_view job.entry)) (job_of_task s.use_checkpoints s.tries (task_view job.entry)) (reply_text result) (is_short result) scene.new }
+        → ComesToAlone S.objects s (task (task_view job.entry)) (job_of_task s.use_checkpoints s.tries (task_view job.entry)) (reply_text result) (is_short_reply result) scene.new }
     ensures reliable { S.is_reliable scene.old.world.store.store → S.is_reliable scene.new.world.store.store }
 {
     let no_room = no_room_for(&job);

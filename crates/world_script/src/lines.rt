@@ -1,8 +1,8 @@
 //! What each line of a script does to a scene, and its reply.
 
-ghost use Rattle.lake_script.specs.ReplyView.{is_short, reply_text};
+ghost use Rattle.lake_script.specs.ReplyView.{is_short_reply, replied, replied_short, reply_text};
 ghost use Rattle.script_lines.specs.Lines.{IsTimely, IsTimelyIn, land, statement_view, world, world_view};
-ghost use Rattle.world_script.specs.Doing.{ComesTo, TellsIn, replied, replied_short};
+ghost use Rattle.world_script.specs.Doing.{LineComesTo, TellsIn};
 ghost use Rattle.world_script.specs.Scenes as scenes;
 ghost use Rattle.world_script.specs.Scenes.{SceneStands};
 
@@ -10,7 +10,7 @@ use crate::alone::{create_table, run_task};
 use crate::named::{Deed, do_named};
 use crate::scene::Scene;
 use crate::starting::start;
-use lake_script::{Fault, LineReply, execute};
+use lake_script::{Fault, Interpreter, LineReply, execute};
 use log_reading::LogCache;
 use script_lines::{Line, WorldLine};
 use std::alloc::Global;
@@ -18,7 +18,7 @@ use store_core::Store;
 
 /// A put in flight takes effect.
 fn land<S: Store>(scene: &mut Scene<S>, put: u64) -> LineReply
-    ensures comes { S.is_reliable scene.old.world.store.store → (s : scenes.Scene) → SceneStands S.objects scene.old s → ComesTo S.objects s (world (land put)) (reply_text result) (is_short result) scene.new }
+    ensures comes { S.is_reliable scene.old.world.store.store → (s : scenes.Scene) → SceneStands S.objects scene.old s → LineComesTo S.objects s (world (land put)) (reply_text result) (is_short_reply result) scene.new }
     ensures reliable { S.is_reliable scene.old.world.store.store → S.is_reliable scene.new.world.store.store }
 {
     match scene.world.land(put as usize) {
@@ -32,7 +32,7 @@ fn land<S: Store>(scene: &mut Scene<S>, put: u64) -> LineReply
 fn tell<S: Store>(alloc: Global, scene: &mut Scene<S>, line: Line<'_>) -> LineReply
     requires { IsTimely (statement_view line) }
     ensures tells { S.is_reliable scene.old.world.store.store → (s : scenes.Scene) → SceneStands S.objects scene.old s
-        → TellsIn S.objects s (statement_view line.entry) (reply_text result) (is_short result) scene.new }
+        → TellsIn S.objects s (statement_view line.entry) (reply_text result) (is_short_reply result) scene.new }
     ensures reliable { S.is_reliable scene.old.world.store.store → S.is_reliable scene.new.world.store.store }
 {
     let mut tries = scene.tries;
@@ -54,7 +54,7 @@ fn change_world<S: Store>(
     scene: &mut Scene<S>,
 ) -> Option<LineReply>
     requires { IsTimelyIn (world_view line) }
-    ensures comes { S.is_reliable scene.old.world.store.store → (s : scenes.Scene) → SceneStands S.objects scene.old s → ComesTo S.objects s (world (world_view line.entry)) (replied result) (replied_short result) scene.new }
+    ensures comes { S.is_reliable scene.old.world.store.store → (s : scenes.Scene) → SceneStands S.objects scene.old s → LineComesTo S.objects s (world (world_view line.entry)) (replied result) (replied_short result) scene.new }
     ensures reliable { S.is_reliable scene.old.world.store.store → S.is_reliable scene.new.world.store.store }
 {
     match line {
@@ -71,28 +71,42 @@ fn change_world<S: Store>(
     }
 }
 
-/// Does what a line asks for. `None` where nothing is replied.
-pub(crate) fn do_line<S: Store>(
-    alloc: Global,
-    line: Line<'_>,
-    scene: &mut Scene<S>,
-) -> Option<LineReply>
-    requires { IsTimely (statement_view line) }
-    ensures comes { S.is_reliable scene.old.world.store.store → (s : scenes.Scene) → SceneStands S.objects scene.old s → ComesTo S.objects s (statement_view line.entry) (replied result) (replied_short result) scene.new }
-    ensures reliable { S.is_reliable scene.old.world.store.store → S.is_reliable scene.new.world.store.store }
-{
-    match line {
-        Line::Create { id, at, schema } => Some(create_table(alloc, scene, id, at, schema)),
-        Line::Job(job) => Some(run_task(alloc, scene, job)),
-        Line::Tries { count } => {
-            // A line gives at least one.
-            scene.tries = count.max(1);
-            Some(LineReply::Noted)
+impl<S: Store> Interpreter for Scene<S> {
+    ghost use Rattle.world_script.specs.Doing.{DoesInScene};
+    ghost use Rattle.world_script.specs.Scenes as scenes;
+    ghost use Rattle.world_script.specs.Scenes.{SceneStands};
+
+    ghost State = { scenes.Scene };
+
+    ghost stands = { λ scene s. SceneStands S.objects scene s };
+
+    ghost does = { DoesInScene };
+
+    ghost is_reliable = { λ scene. S.is_reliable scene.world.store.store };
+
+    ghost is_ready = { λ scene. Unit {0} };
+
+    ghost Kept = { Unit {0} };
+
+    ghost kept = { λ scene. tt };
+
+    // A session goes on when the line that began it is gone.
+    const OUTLIVES_LINES: bool = true;
+
+    fn do_line(&mut self, alloc: Global, line: Line<'_>) -> Option<LineReply> {
+        match line {
+            Line::Create { id, at, schema } => Some(create_table(alloc, self, id, at, schema)),
+            Line::Job(job) => Some(run_task(alloc, self, job)),
+            Line::Tries { count } => {
+                // A line gives at least one.
+                self.tries = count.max(1);
+                Some(LineReply::Noted)
+            }
+            Line::Look(look) => Some(tell(alloc, self, Line::Look(look))),
+            Line::Foreign { version, action } => {
+                Some(tell(alloc, self, Line::Foreign { version, action }))
+            }
+            Line::World(line) => change_world(alloc, line, self),
         }
-        Line::Look(look) => Some(tell(alloc, scene, Line::Look(look))),
-        Line::Foreign { version, action } => {
-            Some(tell(alloc, scene, Line::Foreign { version, action }))
-        }
-        Line::World(line) => change_world(alloc, line, scene),
     }
 }

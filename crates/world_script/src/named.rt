@@ -1,6 +1,6 @@
 //! The lines that name an actor which was started.
 ghost use Rattle.std.specs.Prelude.{◌≡◌, ◌≢◌, Some, false};
-ghost use Rattle.lake_script.specs.ReplyView.{is_short, reply_text};
+ghost use Rattle.lake_script.specs.ReplyView.{is_short_reply, reply_text};
 ghost use Rattle.stream_world.specs.Worlds as worlds;
 ghost use Rattle.stream_world.specs.Standing.{WorldStands};
 ghost use Rattle.world_script.specs.Acting.{CameBy, hand_at, next_at};
@@ -55,7 +55,7 @@ fn do_deed<S: Store>(world: &mut World<S>, number: u64, deed: Deed) -> Option<Jo
 /// What is told of an actor whose read was refused when it was started.
 fn refusal_told(deed: Deed) -> LineReply
     ensures told { reply_text result ≡ if_refused deed }
-    ensures short { is_short result ≡ false }
+    ensures short { is_short_reply result ≡ false }
 {
     match deed {
         Deed::Die => LineReply::Noted,
@@ -72,7 +72,7 @@ pub(crate) fn do_named<S: Store>(
     name: &str,
     deed: Deed,
 ) -> LineReply
-    ensures comes { S.is_reliable scene.old.world.store.store → (s : scenes.Scene) → SceneStands S.objects scene.old s → ComesToNamed S.objects s name.now deed (reply_text result) (is_short result) scene.new }
+    ensures comes { S.is_reliable scene.old.world.store.store → (s : scenes.Scene) → SceneStands S.objects scene.old s → ComesToNamed S.objects s name.now deed (reply_text result) (is_short_reply result) scene.new }
     ensures reliable { S.is_reliable scene.old.world.store.store → S.is_reliable scene.new.world.store.store }
 {
     let Some(part) = part_of(&scene.parts, name) else {

@@ -1,11 +1,11 @@
 //! The line that starts an actor.
 ghost use Rattle.std.specs.Prelude.{◌≡◌, ℕ, List, OnOk, IfOk, IfErr, Some};
 ghost use Rattle.std.specs.BTreeMap.{get_by_text};
-ghost use Rattle.lake_script.specs.ReplyView.{is_short, reply_text};
+ghost use Rattle.lake_script.specs.ReplyView.{is_short_reply, reply_text};
 ghost use Rattle.script_lines.specs.Lines.{IsTimelyTask, task_view};
 ghost use Rattle.world_script.specs.Doing.{ComesToStart, StartsAs};
 ghost use Rattle.world_script.specs.Scenes as scenes;
-ghost use Rattle.world_script.specs.Scenes.{SceneStands, next_behind, part_for};
+ghost use Rattle.world_script.specs.Scenes.{SceneStands, next_behind_part, part_for};
 
 use crate::asked::kept_job;
 use crate::part::{Part, Parts, part_of, set_part, set_refused};
@@ -23,7 +23,7 @@ pub(crate) fn start<S: Store>(
     job: Job<'_>,
 ) -> LineReply
     requires { IsTimelyTask (task_view job) }
-    ensures comes { (s : scenes.Scene) → SceneStands S.objects scene.old s → ComesToStart S.objects s name.now (task_view job.entry) (reply_text result) (is_short result) scene.new }
+    ensures comes { (s : scenes.Scene) → SceneStands S.objects scene.old s → ComesToStart S.objects s name.now (task_view job.entry) (reply_text result) (is_short_reply result) scene.new }
     ensures store { scene.new.world.store ≡ scene.old.world.store }
 {
     match begin_named(alloc, scene, name, job) {
@@ -43,7 +43,7 @@ fn name_actor(
     ensures part { IfOk result (λ part. part ≡ part_for (get_by_text parts.old name.now) next.old) }
     ensures now { IfOk result (λ part. get_by_text parts.new name.now ≡ Some part) }
     ensures others { OnOk result ((other : List ℕ) → (other ≡ name.now → ⊥) → get_by_text parts.new other ≡ get_by_text parts.old other) }
-    ensures next { OnOk result (next.new ≡ next_behind (get_by_text parts.old name.now) next.old) }
+    ensures next { OnOk result (next.new ≡ next_behind_part (get_by_text parts.old name.now) next.old) }
     ensures same { IfErr result (λ _. (other : List ℕ) → get_by_text parts.new other ≡ get_by_text parts.old other) }
     ensures still { IfErr result (λ _. next.new ≡ next.old) }
 {

@@ -1,7 +1,7 @@
 use Rattle.std.proofs.Common.{◌≡◌, ◌++◌, List, ℕ, String, Global, filter, map, string_bytes, subst, sym, ap, ◌∙◌}
 use Rattle.std.specs.Prelude.{codes}
 use Rattle.table_folder.specs.Traces.{Traced}
-use Rattle.folder_check.specs.Beside.{is_data, is_stray, line_of, unnamed_names}
+use Rattle.folder_check.specs.Beside.{is_data_file, is_stray, line_of, unnamed_names}
 use Rattle.folder_check.specs.Calls.{folder_call}
 use Rattle.folder_check.proofs.CallParts.{around_alone, around_beside, traced_folder}
 use Rattle.folder_check.proofs.beside.lines_beside.Goals as goal
@@ -15,7 +15,7 @@ returns-clause-lies g c = λ steady.
     ap (λ (ns : List (String Global)). map string_bytes ns) c.deref-2.ensures.value ∙ (c.in-Ok.ensures.told here ∙ ap unnamed_names same) in (
       map string_bytes c.deref.result.now,
       c.in_ok-lines_of.ensures ∙ ap (λ (ns : List (List ℕ)). map (line_of (codes "leftover")) (map string_bytes c.deref.result.now)
-          ++ (map (line_of (codes "stray")) (filter is_stray ns) ++ map (line_of (codes "unnamed")) (filter is_data ns))) names,
+          ++ (map (line_of (codes "stray")) (filter is_stray ns) ++ map (line_of (codes "unnamed")) (filter is_data_file ns))) names,
     )
 
 -- ---- which calls were made

@@ -1,7 +1,7 @@
 use Rattle.std.proofs.Common.{◌++◌, ◌∷◌, [], List, ℕ, String, Global, filter, map, string_bytes, take, append_assoc, sym, ap, ◌∙◌}
 use Rattle.std.specs.Prelude.{codes}
 use Rattle.std.proofs.lemmas.List.{map_more, map_push, take_all}
-use Rattle.folder_check.specs.Beside.{is_data, is_stray, line_of}
+use Rattle.folder_check.specs.Beside.{is_data_file, is_stray, line_of}
 use Rattle.folder_check.proofs.beside.lines_of.Goals as goal
 
 pub loop-name-preserved : goal.loop-name-preserved
@@ -21,7 +21,7 @@ returns c =
     let names = map string_bytes c.args.names.now in
     let line = line_of (codes "leftover") in
     let strays = map (line_of (codes "stray")) (filter is_stray names) in
-    let known = map (line_of (codes "unnamed")) (filter is_data names) in
+    let known = map (line_of (codes "unnamed")) (filter is_data_file names) in
     c.in_ok-push_data.ensures
     ∙ (ap (λ (front : List (List ℕ)). front ++ known) c.in_ok-push_strays.ensures
     ∙ (ap (λ (front : List (List ℕ)). (front ++ strays) ++ known) (c.loop-name.invariant ∙ ap (λ (names : List (String Global)). map line (map string_bytes names)) (take_all c.loop-name.name-index left c.loop-name-test.false))

@@ -9,7 +9,7 @@ use Rattle.session_core.specs.Talks.{Asked, Talk, Told, asked_view, told_view, h
 use Rattle.session_core.proofs.Callers.{asked_more, bears_grows, exact_never_lost, talk_alone, talk_borne, talk_grows}
 use Rattle.table_folder.specs.Traces.{lists}
 use Rattle.table_folder.proofs.Callers.{none_made_on, traced_on}
-use Rattle.folder_session.specs.Beside.{AreApart, Hears, put_so, with_beside}
+use Rattle.folder_session.specs.Beside.{AreApart, HearsCall, put_so, with_beside}
 use Rattle.folder_session.proofs.BesideLemmas.{answered_more, for_fault, heard_more, hears_makes_none, looked_once, put_more, traced_once, unlost_more}
 use Rattle.folder_session.proofs.beside.drive_beside.Goals as goal
 
@@ -136,7 +136,7 @@ calls-preserved g c =
             few = let longer = length-append d.talk ((asked, told) ∷ []) in omega (arith, d.few, steps.1, longer);
             put = answered.put ∙ (ap (λ (o : Objects). put_so o asked told) d.put ∙ sym (put_more [] d.talk asked told));
             calls = d.calls ++ answered.heard.0;
-            heard_by = heard_more (listed c.in-Some.names) [] d.talk asked told d.calls answered.heard.0 d.heard_by (subst (λ (o : Objects). Hears (listed c.in-Some.names) o asked told answered.heard.0) d.put answered.heard.2);
+            heard_by = heard_more (listed c.in-Some.names) [] d.talk asked told d.calls answered.heard.0 d.heard_by (subst (λ (o : Objects). HearsCall (listed c.in-Some.names) o asked told answered.heard.0) d.put answered.heard.2);
             made = traced_on g.F.Folder.makes c.args.folder.now c.calls.folder c.ask_beside.new.folder (lists (Some (listed c.in-Some.names)) ∷ d.calls) answered.heard.0 d.made answered.heard.1;
           };
       looked = (

@@ -4,7 +4,7 @@ use Rattle.session_core.specs.Talks.{Talk, IsReplyTo, told_view}
 use Rattle.store_core.specs.Objects.{Objects}
 use Rattle.front_reads.specs.Fronts.{visible}
 use Rattle.table_folder.specs.Traces.{Traced}
-use Rattle.folder_session.specs.Driving.{AreNames, IsReading}
+use Rattle.folder_session.specs.Driving.{AreNames, IsFolderDriven}
 use Rattle.folder_session.specs.Visible.{IsHearing, given_names}
 use Rattle.folder_session.proofs.driving.drive_visible.Given as goal
 
@@ -22,7 +22,7 @@ invariant-calls g l = record {
   talks : (before : Talk) → g.N.Session.fits before l.fn.session [] None
       → IsHearing (g.N.Session.fits before) g.N.Session.left (g.N.Session.asks (g.N.Session.job l.fn.session) before) (λ calls. Traced g.F.Folder.makes l.fn.folder calls l.folder) l.fn.front (given_names l.fn.names) (given_names l.names) l.fn.session l.session (option_map told_view l.reply);
   driven : g.F.Folder.is_steady l.fn.folder → AreNames l.fn.names (g.F.Folder.objects l.fn.folder) → (before : Talk) → g.N.Session.fits before l.fn.session [] None
-      → IsReading (g.N.Session.fits before) g.N.Session.left (g.N.Session.asks (g.N.Session.job l.fn.session) before) l.fn.session l.session (option_map told_view l.reply) (visible l.fn.front (g.F.Folder.objects l.fn.folder));
+      → IsFolderDriven (g.N.Session.fits before) g.N.Session.left (g.N.Session.asks (g.N.Session.job l.fn.session) before) l.fn.session l.session (option_map told_view l.reply) (visible l.fn.front (g.F.Folder.objects l.fn.folder));
 }
 
 abbrev pub decreases-calls : goal.decreases-calls

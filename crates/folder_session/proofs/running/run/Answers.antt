@@ -6,8 +6,8 @@ use Rattle.session_core.proofs.Callers.{all_got}
 use Rattle.table_folder.specs.Traces.{FolderCall, Traced, lists}
 use Rattle.table_folder.specs.declared.fault.LoadFault.{LoadFault}
 use Rattle.table_jobs.specs.Done.{IsJobDone}
-use Rattle.table_jobs.specs.Jobs.{Asks, Ends, Job, is_lost}
-use Rattle.table_jobs.specs.Sessions.{end_view, left}
+use Rattle.table_jobs.specs.Jobs.{Asks, Ends, Job, is_lost_outcome}
+use Rattle.table_jobs.specs.Sessions.{end_view, session_calls_left}
 use Rattle.table_jobs.specs.Views.{job_view}
 use Rattle.table_jobs.specs.declared.job.Job as code
 use Rattle.table_jobs.specs.declared.job_session.JobEnd.{JobEnd}
@@ -20,7 +20,7 @@ use Rattle.folder_session.proofs.running.run.Goals as goal
 -- the session of a job was driven over these objects, and what it put stands beside them
 abbrev DrivesJob : Job → (most : ℕ) (before : Talk) → JobEnd → (objects added : Objects) → Type 0
 DrivesJob job most before end objects added =
-    DrivesBeside Asks (λ job before talk outcome. Ends job before talk (end_view outcome)) (λ outcome. is_lost (end_view outcome)) job most before end objects added
+    DrivesBeside Asks (λ job before talk outcome. Ends job before talk (end_view outcome)) (λ outcome. is_lost_outcome (end_view outcome)) job most before end objects added
 
 done : (job : code.Job) (own : Job) (most : ℕ) (objects : Objects) (result : Result (Beside JobEnd) LoadFault) → own ≡ job_view job
     → IfOk result (λ ended. DrivesJob own most (all_got objects objects) ended.outcome objects (stored_objects ended.added))
@@ -49,17 +49,17 @@ ran makes first now job own most (Err fault) same talks = tt
 
 pub returns-clause-ran : goal.returns-clause-ran
 returns-clause-ran g c =
-    ran g.F.Folder.makes c.args.folder.now c.drive_beside.new.folder c.args.job _ (left c.new-session.result) c.drive_beside.result c.new-session.ensures.job (c.drive_beside.ensures.talks [] (c.new-session.ensures.fits []))
+    ran g.F.Folder.makes c.args.folder.now c.drive_beside.new.folder c.args.job _ (session_calls_left c.new-session.result) c.drive_beside.result c.new-session.ensures.job (c.drive_beside.ensures.talks [] (c.new-session.ensures.fits []))
 
 pub returns-clause-done : goal.returns-clause-done
 returns-clause-done g c = λ steady.
     let objects : Objects = g.F.Folder.objects c.args.folder.now in
     let session = c.new-session.result in
     let before = all_got objects objects in
-    done c.args.job _ (left session) objects c.drive_beside.result c.new-session.ensures.job (c.drive_beside.ensures.driven steady before (c.new-session.ensures.fits before))
+    done c.args.job _ (session_calls_left session) objects c.drive_beside.result c.new-session.ensures.job (c.drive_beside.ensures.driven steady before (c.new-session.ensures.fits before))
 
 pub returns-clause-apart : goal.returns-clause-apart
 returns-clause-apart g c = λ steady.
     let objects : Objects = g.F.Folder.objects c.args.folder.now in
     let session = c.new-session.result in
-    apart _ (left session) objects c.drive_beside.result (c.drive_beside.ensures.driven steady [] (c.new-session.ensures.fits []))
+    apart _ (session_calls_left session) objects c.drive_beside.result (c.drive_beside.ensures.driven steady [] (c.new-session.ensures.fits []))

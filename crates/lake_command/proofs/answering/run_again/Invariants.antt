@@ -4,14 +4,14 @@ use Rattle.table_folder.specs.Traces.{FolderCall, Traced}
 use Rattle.script_lines.specs.Lines.{Statement}
 use Rattle.lake_words.specs.Asked.{work_view}
 use Rattle.lake_command.specs.Again.{IsRunOf}
-use Rattle.lake_command.specs.Failures.{IsTaken}
+use Rattle.lake_command.specs.Failures.{IsCommitTaken}
 use Rattle.lake_command.specs.Folders.{IsAskedBy, IsPutter}
 use Rattle.lake_command.proofs.AgainLemmas.{HasRun}
 use Rattle.lake_command.proofs.answering.run_again.Given as goal
 
 abbrev pub invariant-loop-left : goal.invariant-loop-left
 invariant-loop-left g l = record {
-  taken : IsTaken l.refused;
+  taken : IsCommitTaken l.refused;
   some : 1 ≤ l.left;
   puts : (statement : Statement) × IsAskedBy (work_view l.command.job) (Some l.text) statement × IsPutter statement;
   runs : (statement : Statement) (calls : List FolderCall) → IsAskedBy (work_view l.command.job) (Some l.text) statement → IsRunOf l.command.use_checkpoints l.fn.tries statement l.fn.refused calls

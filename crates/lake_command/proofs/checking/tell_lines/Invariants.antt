@@ -1,10 +1,10 @@
 use Rattle.std.proofs.Common.{take}
 use Rattle.std.specs.Prelude.{map, string_bytes}
-use Rattle.lake_hints.specs.ErrorOutputs.{Tells}
+use Rattle.lake_hints.specs.ErrorOutputs.{TellsText}
 use Rattle.lake_command.specs.ErrorTexts.{lines_text}
 use Rattle.lake_command.proofs.checking.tell_lines.Given as goal
 
 abbrev pub invariant-loop-line : goal.invariant-loop-line
 invariant-loop-line g l = record {
-  told : Tells g.E.Write.contents l.fn.err l.err (lines_text (map string_bytes (take l.line-index l.lines)));
+  told : TellsText g.E.Write.contents l.fn.err l.err (lines_text (map string_bytes (take l.line-index l.lines)));
 }

@@ -5,14 +5,14 @@ use Rattle.lake_command.proofs.FolderLemmas.{history_told, log_well}
 use Rattle.lake_command.proofs.saving.history_in.Goals as goal
 
 pub execute-requires-clause-cache : goal.execute-requires-clause-cache
-execute-requires-clause-cache g c = c.new.ensures (stored_objects c.in_ok-store.store)
+execute-requires-clause-cache g c = c.new.ensures.cache (stored_objects c.in_ok-store.store)
 
 pub returns-clause-told : goal.returns-clause-told
 returns-clause-told g c = λ steady restores.
     let old : Objects = g.F.Folder.objects c.args.folder.now in
     let start = stored_objects c.in_ok-store.store in
     let is = c.in_ok-store.ensures.loaded steady in
-    let executed = c.execute.ensures.told tt (log_well c.args.use_checkpoints old start is restores) in
+    let executed = c.execute.ensures.carried.told tt (log_well c.args.use_checkpoints old start is restores) in
     history_told old start _ (reply_text c.execute.result) (g.met.F.Folder.in_order c.args.folder.now) is executed
 
 pub returns-clause-looked : goal.returns-clause-looked

@@ -1,5 +1,6 @@
-use Rattle.std.proofs.Common.{subst}
+use Rattle.std.proofs.Common.{◌∙◌, ap, subst}
 use Rattle.session_laws.specs.Jobs.{Job}
+use Rattle.stream_model.specs.Worlds.{ended}
 use Rattle.stream_model.proofs.Laws.{AreLaws}
 use Rattle.stream_model.proofs.Readers.{was_listed}
 use Rattle.stream_model.proofs.Seen.{SeesWell}
@@ -31,7 +32,14 @@ pub returns-clause-bytes : goal.returns-clause-bytes
 returns-clause-bytes c = λ events outs w ran. (world_ran (laws_of c) events outs w ran).store.bytes
 
 pub returns-clause-borne : goal.returns-clause-borne
-returns-clause-borne c = λ events outs w ran name actor is. let good = (world_ran (laws_of c) events outs w ran).actors name actor is in (good.borne, good.asked, good.begun.0)
+returns-clause-borne c = λ events outs w ran name actor is.
+    let good = (world_ran (laws_of c) events outs w ran).actors name actor is in
+    record {
+      borne = good.borne;
+      asked = good.asked;
+      begun = good.begun.0;
+      shown = λ job of_job names lists. was_listed events w.objects job actor.talk names lists (subst (λ (j : Job). SeesWell events w.objects j actor.talk) of_job good.seen);
+    }
 
 pub returns-clause-flight : goal.returns-clause-flight
 returns-clause-flight c = λ events outs w ran put has. ((world_ran (laws_of c) events outs w ran).flight put has).0
@@ -42,18 +50,13 @@ returns-clause-files c = λ events outs w ran. (world_ran (laws_of c) events out
 pub returns-clause-headline : goal.returns-clause-headline
 returns-clause-headline c = λ events outs w ran. headline_of (laws_of c) events outs w (world_ran (laws_of c) events outs w ran)
 
-pub returns-clause-listed : goal.returns-clause-listed
-returns-clause-listed c = λ events outs w ran name actor outcome is hand. no_bad_log (laws_of c) events outs w (world_ran (laws_of c) events outs w ran) name actor outcome is hand
-
-pub returns-clause-schema : goal.returns-clause-schema
-returns-clause-schema c = λ events outs w ran name actor outcome is hand. schema_stays (laws_of c) events outs w (world_ran (laws_of c) events outs w ran) name actor outcome is hand
-
-pub returns-clause-supported : goal.returns-clause-supported
-returns-clause-supported c = λ events outs w ran name actor outcome is hand schema entries holds. schema_invariants (laws_of c) events outs w (world_ran (laws_of c) events outs w ran) name actor outcome is hand schema entries holds
-
-pub returns-clause-reads : goal.returns-clause-reads
-returns-clause-reads c = λ events outs w ran name actor job end is of_job hand names lists schema entries holds. read_told_so (laws_of c) events outs w (world_ran (laws_of c) events outs w ran) name actor job end is of_job hand names lists schema entries holds
-
-pub returns-clause-shown : goal.returns-clause-shown
-returns-clause-shown c = λ events outs w ran name actor job is of_job names lists.
-    was_listed events w.objects job actor.talk names lists (subst (λ (j : Job). SeesWell events w.objects j actor.talk) of_job ((world_ran (laws_of c) events outs w ran).actors name actor is).seen)
+pub returns-clause-ends : goal.returns-clause-ends
+returns-clause-ends c = λ events outs w ran name actor outcome is hand.
+    let laws = laws_of c in
+    let good = world_ran laws events outs w ran in
+    record {
+      listed = no_bad_log laws events outs w good name actor outcome is hand;
+      schema = schema_stays laws events outs w good name actor outcome is hand;
+      supported = λ tree entries holds. schema_invariants laws events outs w good name actor outcome is hand tree entries holds;
+      reads = λ job end of_job told. read_told_so laws events outs w good name actor job end is of_job (hand ∙ ap ended told);
+    }

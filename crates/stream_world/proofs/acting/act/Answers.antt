@@ -7,7 +7,7 @@ use Rattle.stream_model.specs.Events.{act}
 use Rattle.stream_world.specs.Hands.{is_at_hand}
 use Rattle.stream_world.specs.EventViews.{how_view}
 use Rattle.table_jobs.specs.Sessions.{awaited}
-use Rattle.stream_world.specs.Standing.{Meets, SlotStands}
+use Rattle.stream_world.specs.Standing.{CallMeets, SlotStands}
 use Rattle.stream_world.specs.declared.actor.Actor as code
 use Rattle.stream_world.specs.declared.actor.Hand.{Hand}
 use Rattle.stream_world.proofs.Acted.{AsksNothing, acted_on, nobody_acted, not_acted}
@@ -32,8 +32,8 @@ returns-in-Asks-clause-becomes g c = λ reliable w name objects flight stands.
     let s = g.S.Store in
     let was : c.args.slot.now ≡ Some c.in-Some.actor = sym c.take.ensures.value ∙ c.in-Some.is in
     let at_store_meets = c.answer-reply.ensures.meets reliable in
-    let at_objects = subst (λ (o : Objects). Meets (how_view c.args.how) (asked_view c.in-Asks.request) (told_view c.answer-reply.result) o (puts_sent c.args.store.now) (s.objects c.answer-reply.new.store.store) (puts_sent c.answer-reply.new.store)) (sym objects) at_store_meets in
-    let meets = subst (λ (f : Flight). Meets (how_view c.args.how) (asked_view c.in-Asks.request) (told_view c.answer-reply.result) w.objects f (s.objects c.answer-reply.new.store.store) (puts_sent c.answer-reply.new.store)) (sym flight) at_objects in
+    let at_objects = subst (λ (o : Objects). CallMeets (how_view c.args.how) (asked_view c.in-Asks.request) (told_view c.answer-reply.result) o (puts_sent c.args.store.now) (s.objects c.answer-reply.new.store.store) (puts_sent c.answer-reply.new.store)) (sym objects) at_store_meets in
+    let meets = subst (λ (f : Flight). CallMeets (how_view c.args.how) (asked_view c.in-Asks.request) (told_view c.answer-reply.result) w.objects f (s.objects c.answer-reply.new.store.store) (puts_sent c.answer-reply.new.store)) (sym flight) at_objects in
     acted_on w name (how_view c.args.how) c.in-Some.actor _ c.in-Asks.request c.answer-reply.result _ _ (subst (λ (o : Option code.Actor). SlotStands o (w.actors name)) was stands) c.in-Asks.is meets refl refl
 
 pub returns-in-Fresh-clause-becomes : goal.returns-in-Fresh-clause-becomes

@@ -3,7 +3,7 @@ use Rattle.std.specs.List.{AllByRecursion}
 use Rattle.store_core.specs.Names.{greatest_version}
 use Rattle.store_core.specs.Objects.{object_at}
 use Rattle.table_log.specs.Restoring.{IsSoundCheckpoint}
-use Rattle.table_audit.specs.Calls.{ReaderCall, Traced}
+use Rattle.table_audit.specs.Calls.{ReaderCall, ReaderTraced}
 use Rattle.table_audit.specs.Listed.{listed_view}
 use Rattle.table_audit.specs.Walks.{IsWalk, IsWalkOver}
 use Rattle.table_audit.proofs.CallParts.{GoesOnTo}
@@ -21,7 +21,7 @@ invariant-loop-checkpoint g l = record {
   seen : g.R.ObjectReader.is_steady l.fn.reader → IsWalkOver (g.R.ObjectReader.objects l.fn.reader) (map string_bytes l.names) l.fn.walk
       → AllByRecursion (λ p. (bytes : List ℕ) → object_at (g.R.ObjectReader.objects l.fn.reader) p.1 ≡ Some bytes → IsSoundCheckpoint (g.R.ObjectReader.objects l.fn.reader) p.0 bytes)
       (map listed_view (take l.checkpoint-index l.checkpoint-items));
-  called : (calls : List ReaderCall) × Traced g.R.ObjectReader.makes l.fn.reader calls l.reader
+  called : (calls : List ReaderCall) × ReaderTraced g.R.ObjectReader.makes l.fn.reader calls l.reader
       × GoesOnTo (map listed_view (drop l.checkpoint-index l.checkpoint-items)) l.walk.next (map listed_view l.checkpoint-items) l.fn.walk.next calls;
   ahead : AllByRecursion (λ p. l.walk.next ≤ suc p.0) (map listed_view (drop l.checkpoint-index l.checkpoint-items));
 }

@@ -4,7 +4,7 @@ use Rattle.store_core.specs.Objects.{Objects}
 use Rattle.table_audit.specs.Beside.{name_adds}
 use Rattle.table_audit.proofs.BesideParts.{any_more}
 use Rattle.std.proofs.lemmas.List.{take-map, take_all}
-use Rattle.table_audit.specs.Audits.{ReadInTurn, is_commit}
+use Rattle.table_audit.specs.Audits.{ReadInTurn, is_commit_name}
 use Rattle.table_audit.proofs.CallParts.{commits_more}
 use Rattle.table_audit.proofs.beside.files_added.Goals as goal
 
@@ -39,14 +39,14 @@ returns-in_err-add_files_under-clause-called g c =
     let names = c.args.names.now in
     let i = c.loop-name.name-index in
     let read = commits_more g.R.ObjectReader.makes _ _ _ names i c.name-item.result _ c.loop-name-test.true c.name-item.is c.as_str.ensures.value c.loop-name.invariant.called c.in_err-add_files_under.ensures.called in
-    (read.0, read.1, (i + 1, subst (λ (ns : List (List ℕ)). ReadInTurn (filter is_commit ns) read.0) (sym (take-map string_bytes (i + 1) names)) read.2))
+    (read.0, read.1, (i + 1, subst (λ (ns : List (List ℕ)). ReadInTurn (filter is_commit_name ns) read.0) (sym (take-map string_bytes (i + 1) names)) read.2))
 
 pub returns-clause-called : goal.returns-clause-called
 returns-clause-called g c =
     let read = c.loop-name.invariant.called in
-    (read.0, read.1, (c.loop-name.name-index, subst (λ (ns : List (List ℕ)). ReadInTurn (filter is_commit ns) read.0) (sym (take-map string_bytes c.loop-name.name-index c.args.names.now)) read.2))
+    (read.0, read.1, (c.loop-name.name-index, subst (λ (ns : List (List ℕ)). ReadInTurn (filter is_commit_name ns) read.0) (sym (take-map string_bytes c.loop-name.name-index c.args.names.now)) read.2))
 
 pub returns-clause-whole : goal.returns-clause-whole
 returns-clause-whole g c =
     let read = c.loop-name.invariant.called in
-    (read.0, read.1, subst (λ (ns : _). ReadInTurn (filter is_commit (map string_bytes ns)) read.0) (take_all c.loop-name.name-index c.args.names.now c.loop-name-test.false) read.2)
+    (read.0, read.1, subst (λ (ns : _). ReadInTurn (filter is_commit_name (map string_bytes ns)) read.0) (take_all c.loop-name.name-index c.args.names.now c.loop-name-test.false) read.2)

@@ -5,7 +5,7 @@ use Rattle.store_core.specs.Objects.{Objects, names_of}
 use Rattle.table_audit.specs.Beside.{is_unnamed, name_adds}
 use Rattle.table_check.specs.Named.{version_named}
 use Rattle.table_audit.proofs.BesideParts.{same_kept}
-use Rattle.table_audit.specs.Audits.{ReadInTurn, is_commit}
+use Rattle.table_audit.specs.Audits.{ReadInTurn, is_commit_name}
 use Rattle.table_audit.specs.Calls.{lists}
 use Rattle.table_audit.proofs.CallParts.{traced_once}
 use Rattle.table_audit.proofs.TraceParts.{looks_beside}
@@ -45,4 +45,4 @@ returns-clause-whole g c =
     let names = map string_bytes c.in_ok-names.names.items in
     let same : map string_bytes c.deref.result.now ≡ names = ap (λ (ns : List (String Global)). map string_bytes ns) c.deref.ensures.value in
     let read = c.in_ok-files.ensures.whole in
-    (lists (Some names) ∷ read.0, (c.names.new.self, c.in_ok-names.ensures.called, read.1), (names, read.0, refl, subst (λ (ns : List (List ℕ)). ReadInTurn (filter is_commit ns) read.0) same read.2))
+    (lists (Some names) ∷ read.0, (c.names.new.self, c.in_ok-names.ensures.called, read.1), (names, read.0, refl, subst (λ (ns : List (List ℕ)). ReadInTurn (filter is_commit_name ns) read.0) same read.2))

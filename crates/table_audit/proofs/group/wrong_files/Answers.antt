@@ -10,15 +10,15 @@ use Rattle.table_store.proofs.GroupLemmas.{all_push, files_count, files_push, ma
 use Rattle.table_audit.specs.Entries.{HasFile}
 use Rattle.table_audit.proofs.GroupParts.{all_at, file_at, file_of, number_of}
 use Rattle.table_audit.proofs.ReasonParts.{one_no_file}
-use Rattle.table_audit.specs.Audits.{names_in}
+use Rattle.table_audit.specs.Audits.{names_of_files}
 use Rattle.table_audit.proofs.CallParts.{front_none}
 use Rattle.table_audit.proofs.TraceParts.{front_more, turn_more}
 use Rattle.table_audit.proofs.group.wrong_files.Goals as goal
 
-low_name : (adds : List (Bor Add)) (i : ℕ) → i < length adds → i < length (names_in (map file_of adds))
+low_name : (adds : List (Bor Add)) (i : ℕ) → i < length adds → i < length (names_of_files (map file_of adds))
 low_name adds i more = omega (arith, more, length-map adds file_of, length-map (map file_of adds) (λ (file : AddAction). file.path.key))
 
-key_at : (adds : List (Bor Add)) (i : ℕ) (y : Bor Add) → i < length adds → y ≡ get_or adds i y → (file_of y).path.key ≡ get_or (names_in (map file_of adds)) i (file_of y).path.key
+key_at : (adds : List (Bor Add)) (i : ℕ) (y : Bor Add) → i < length adds → y ≡ get_or adds i y → (file_of y).path.key ≡ get_or (names_of_files (map file_of adds)) i (file_of y).path.key
 key_at adds i y more at =
     ap (λ (a : Bor Add). (file_of a).path.key) at
     ∙ (sym (ap (λ (file : AddAction). file.path.key) (get_or-map file_of adds i y (file_of y) more))
@@ -69,7 +69,7 @@ loop-i-preserved g c =
       untouched = λ steady. c.wrong_batch.ensures.untouched (c.loop-i.invariant.steady steady) ∙ c.loop-i.invariant.untouched steady;
       steady = λ steady. c.wrong_batch.ensures.steady (c.loop-i.invariant.steady steady);
       reliable = λ reliable. c.wrong_batch.ensures.reliable (c.loop-i.invariant.reliable reliable);
-      called = turn_more g.R.ObjectReader.makes _ _ _ (names_in (map file_of adds)) i (file_of y).path.key (low_name adds i more_f) (key_at adds i y more_f c.index-adds-i.is) c.loop-i.invariant.called (rw c.in_default.is at c.in_ok-reason.ensures.read);
+      called = turn_more g.R.ObjectReader.makes _ _ _ (names_of_files (map file_of adds)) i (file_of y).path.key (low_name adds i more_f) (key_at adds i y more_f c.index-adds-i.is) c.loop-i.invariant.called (rw c.in_default.is at c.in_ok-reason.ensures.read);
       named = subst (λ (ms : List (List ℕ × ℕ)). AreFilesOf ms (map file_of (take (i + 1) adds))) (sym seen_n)
           (subst (λ (fs : List AddAction). AreFilesOf (map number_of (take i txns) ++ n ∷ []) fs) (sym seen_f) (files_push (map number_of (take i txns)) (map file_of (take i adds)) n file c.loop-i.invariant.named named new_rows));
       stand = λ steady.
@@ -135,7 +135,7 @@ returns-in_err-reason-clause-called g c =
     let y = c.index-adds-i.result in
     let count : length c.args.txns.now ≡ length adds = omega (arith, c.if-txns-adds.false) in
     let more : i < length adds = omega (arith, c.loop-i-test.true, count) in
-    front_more g.R.ObjectReader.makes _ _ _ (names_in (map file_of adds)) i (file_of y).path.key (low_name adds i more) (key_at adds i y more c.index-adds-i.is) c.loop-i.invariant.called c.in_err-reason.ensures.called
+    front_more g.R.ObjectReader.makes _ _ _ (names_of_files (map file_of adds)) i (file_of y).path.key (low_name adds i more) (key_at adds i y more c.index-adds-i.is) c.loop-i.invariant.called c.in_err-reason.ensures.called
 
 pub returns-in-Some-clause-called : goal.returns-in-Some-clause-called
 returns-in-Some-clause-called g c =
@@ -144,7 +144,7 @@ returns-in-Some-clause-called g c =
     let y = c.index-adds-i.result in
     let count : length c.args.txns.now ≡ length adds = omega (arith, c.if-txns-adds.false) in
     let more : i < length adds = omega (arith, c.loop-i-test.true, count) in
-    front_more g.R.ObjectReader.makes _ _ _ (names_in (map file_of adds)) i (file_of y).path.key (low_name adds i more) (key_at adds i y more c.index-adds-i.is) c.loop-i.invariant.called c.in_ok-reason.ensures.called
+    front_more g.R.ObjectReader.makes _ _ _ (names_of_files (map file_of adds)) i (file_of y).path.key (low_name adds i more) (key_at adds i y more c.index-adds-i.is) c.loop-i.invariant.called c.in_ok-reason.ensures.called
 
 pub returns-clause-called : goal.returns-clause-called
 returns-clause-called g c = let called = c.loop-i.invariant.called in (called.0, called.1, (c.loop-i.i, called.2))

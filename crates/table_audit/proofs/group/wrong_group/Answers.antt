@@ -12,8 +12,8 @@ use Rattle.table_audit.specs.Reasons.{AreNoFiles, IsNoNext}
 use Rattle.table_audit.specs.declared.reason.Reason.{Reason}
 use Rattle.table_audit.proofs.GroupParts.{file_of, follows_picked, no_files_picked, none_new_picked, none_weaker, number_of, seen_numbers, some_each, some_weaker}
 use Rattle.table_audit.proofs.ReasonParts.{next_by_files, next_by_numbers, no_files_seen, old_picked}
-use Rattle.table_audit.specs.Audits.{ReadFront, names_in}
-use Rattle.table_audit.specs.Calls.{ReaderCall, Traced}
+use Rattle.table_audit.specs.Audits.{ReadFront, names_of_files}
+use Rattle.table_audit.specs.Calls.{ReaderCall, ReaderTraced}
 use Rattle.table_audit.proofs.CallParts.{front_none}
 use Rattle.table_audit.proofs.group.wrong_group.Given as given
 use Rattle.table_audit.proofs.group.wrong_group.Goals as goal
@@ -105,4 +105,4 @@ returns-in-Some-clause-called g c = ([], refl, front_none _)
 
 pub returns-clause-called : goal.returns-clause-called
 returns-clause-called g c =
-    subst (λ (files : List AddAction). (calls : List ReaderCall) × Traced g.R.ObjectReader.makes c.args.reader.now calls c.wrong_files.new.reader × ReadFront (names_in files) calls) (sym (picked_files g c)) c.wrong_files.ensures.called
+    subst (λ (files : List AddAction). (calls : List ReaderCall) × ReaderTraced g.R.ObjectReader.makes c.args.reader.now calls c.wrong_files.new.reader × ReadFront (names_of_files files) calls) (sym (picked_files g c)) c.wrong_files.ensures.called
