@@ -234,9 +234,9 @@ def how_much(crate, function, clause):
     world, table, bridge = (counts.get(it, 0) for it in ("stream_model", "table_model", "table_store"))
     return (
         f"{len(order):,} definitions, as the script finds them by their names (a few may be too many): {own:,} lines "
-        f"of this product's own, and {formats:,} of formats. Of the former {world} are the world and the headline, "
+        f"of this product's own, and {formats:,} of formats. Of the former {world} are events and the headline, "
         f"{table} the table and what stands before an offset, {bridge} the bridge from a store to it, and "
-        f"{own - world - table - bridge:,} what sessions do and how they read a log."
+        f"{own - world - table - bridge:,} jobs, outcomes and how they are paired."
     )
 
 

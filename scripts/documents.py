@@ -223,7 +223,7 @@ def print_counts(crates, seconds=None):
 def print_believed(_):
     from believed import how_much  # which imports this file
 
-    return filled(how_much("stream_model", "every_world", "headline").split(), "", "")
+    return filled(how_much("stream_world", "run", "headline").split(), "", "")
 
 
 # The tables of refusals in code.

@@ -15,6 +15,7 @@ from typing import Any
 import re
 import sys
 
+from event_cases import event_answer, event_cases
 from pages import page_lines
 from parquet_reader import ReadFault, read_file
 from parquet_writer import write_file
@@ -80,12 +81,17 @@ class Tally:
                 print("  model ", *map(shortened, mine))
 
 
+def places_of_kind(kind: str, lines: list[str]) -> range:
+    """Where the lines of a kind stand in the stored input or output of `crates/lake_cases`."""
+    start = lines.index(f">>>> {kind}") + 1
+    behind = [place for place, line in enumerate(lines) if line.startswith(">>>> ") and place >= start]
+    return range(start, min(behind, default=len(lines)))
+
+
 def lines_of_kind(kind: str, name: str) -> list[str]:
     """The lines of `crates/lake_cases`' stored input or output that are of a kind."""
     lines = lines_of("lake_cases", name)
-    start = lines.index(f">>>> {kind}") + 1
-    behind = [place for place, line in enumerate(lines) if line.startswith(">>>> ") and place >= start]
-    return lines[start : min(behind, default=len(lines))]
+    return [lines[place] for place in places_of_kind(kind, lines)]
 
 
 def stored_scripts(lines: list[str]) -> dict[str, list[str]]:
@@ -144,6 +150,18 @@ def check_sessions() -> Tally:
         tally.compare(name, partial(session_answer, case), stored.pop(case.name, []))
     if stored:
         raise SystemExit("calls: a stored answer is left over")
+    return tally
+
+
+def check_events() -> Tally:
+    """Compares the lists of events of `crates/lake_cases`."""
+    tally = Tally()
+    stored = stored_scripts(lines_of_kind("events", "stdout"))
+    for case in event_cases(lines_of_kind("events", "stdin")):
+        name = f"events: {case.name}"
+        tally.compare(name, partial(event_answer, case), stored.pop(case.name, []))
+    if stored:
+        raise SystemExit("events: a stored answer is left over")
     return tally
 
 
@@ -414,11 +432,13 @@ NO_MEMORY = re.compile(
 
 
 def refusals_of_memory() -> list[str]:
-    """The stored answers that say that memory was refused: none may, but of a heap of a fixed size.
+    """The stored answers that say that memory was refused: none may, but where a case wants it.
 
-    Those are the answers to the lines of `crates/lake_inspect` whose first word begins with `heap`.
+    Those are the answers to the lines of `crates/lake_inspect` whose first word begins with `heap`, and to lists of
+    events, which say in which call memory runs out.
     """
     found: list[str] = []
+    wanted = places_of_kind("events", lines_of("lake_cases", "stdout"))
     for stored in sorted(CRATES.glob("*/stdout")):
         crate = stored.parent.name
         asked = lines_of(crate, "stdin") if crate == "lake_inspect" else []
@@ -427,6 +447,8 @@ def refusals_of_memory() -> list[str]:
             answers = list(stored_answers(lines_of(crate, "stdout")))
         for number, answer in enumerate(answers):
             line = asked[number] if asked else ""
+            if crate == "lake_cases" and number in wanted:
+                continue
             if not line.startswith(("#", "heap")) and any(map(NO_MEMORY.search, answer)):
                 found.append(f"{crate}: answer {number + 1}, {shortened(answer[0])}")
     return found
@@ -443,6 +465,7 @@ def main() -> int:
         "random scripts, by themselves": check_random_scripts,
         "replies that break laws": check_replies,
         "calls": check_sessions,
+        "events": check_events,
         "lake_inspect": check_lines,
     }
     for name, check in checks.items():

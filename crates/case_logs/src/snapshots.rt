@@ -21,7 +21,7 @@ pub fn tell_protocol(snapshot: &Snapshot, told: &mut Transcript) {
 
 /// Adds all applications with their numbers.
 pub fn tell_numbers(snapshot: &Snapshot, told: &mut Transcript) {
-    match snapshot.numbers(told.alloc) {
+    match snapshot.apps(told.alloc) {
         Ok(numbers) => {
             for number in &numbers {
                 told.tell_pair("number", &number.app_id, &number.version);
@@ -65,7 +65,7 @@ pub fn tell_files(snapshot: &Snapshot, told: &mut Transcript) {
 
 /// Adds how many applications, domains, files, and files that left the table there are.
 pub fn tell_sizes(snapshot: &Snapshot, told: &mut Transcript) {
-    tell_size("numbers", snapshot.numbers(told.alloc), told);
+    tell_size("numbers", snapshot.apps(told.alloc), told);
     tell_size(" domains", snapshot.domains(told.alloc), told);
     tell_size(" files", snapshot.files(told.alloc), told);
     tell_size(" tombstones", snapshot.tombstones(told.alloc), told);

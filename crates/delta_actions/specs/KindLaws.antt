@@ -7,27 +7,27 @@ use Rattle.serde_json.specs.Data.{Data, null, boolean, number, string, array, ob
 use Rattle.serde_json.specs.Find.{as_str}
 use Rattle.json_fields.specs.Kinds.{of_kind, field, is_text_map, text_map, no_texts}
 use Rattle.json_fields.specs.KindLaws.{StandsFor, map_stands, is_map}
-use Rattle.delta_actions.specs.Kinds.{Path, Format, path_of, file_path, format}
+use Rattle.delta_actions.specs.Kinds.{PathAndKey, Format, path_and_key, file_path, format}
 use Rattle.delta_actions.specs.Printing.{IsPath, path_data, format_data}
 
 -- ---- paths
 
-pub path_stands : (p : Path) → IsPath p → StandsFor file_path (path_data p) p
+pub path_stands : (p : PathAndKey) → IsPath p → StandsFor file_path (path_data p) p
 path_stands p h = record { is_there = refl; is = h }
 
-path_at : (text : List ℕ) (b : Bool) (p : Path) → is_utf8 (percent_decode text) ≡ b → path_of text ≡ Some p → path_of p.text ≡ Some p
+path_at : (text : List ℕ) (b : Bool) (p : PathAndKey) → is_utf8 (percent_decode text) ≡ b → path_and_key text ≡ Some p → path_and_key p.text ≡ Some p
 path_at text true p is e =
-    let made : Path = record { text = text; key = percent_decode text } in
+    let made : PathAndKey = record { text = text; key = percent_decode text } in
     let same : Some made ≡ Some p = sym (rw is refl) ∙ e in
     let s : made ≡ p = cc in
-    subst (λ (q : Path). path_of q.text ≡ Some q) s (rw is refl)
+    subst (λ (q : PathAndKey). path_and_key q.text ≡ Some q) s (rw is refl)
 path_at text false p is e = let f = rw is at e in absurd cc
 
-path_holds : (o : Option (List ℕ)) (p : Path) → option_and_then path_of o ≡ Some p → IsPath p
+path_holds : (o : Option (List ℕ)) (p : PathAndKey) → option_and_then path_and_key o ≡ Some p → IsPath p
 path_holds None p e = absurd cc
 path_holds (Some t) p e = path_at t (is_utf8 (percent_decode t)) p refl e
 
-pub is_path : (d : Data) (p : Path) → file_path d ≡ Some p → IsPath p
+pub is_path : (d : Data) (p : PathAndKey) → file_path d ≡ Some p → IsPath p
 is_path d p e = path_holds (as_str d) p e
 
 -- ---- formats

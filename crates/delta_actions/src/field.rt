@@ -2,7 +2,7 @@
 
 ghost use Rattle.std.specs.Prelude.{◌≡◌, true};
 ghost use Rattle.json_fields.specs.Kinds.{is_text_map};
-ghost use Rattle.delta_actions.specs.Kinds.{Path, Format, file_path, format};
+ghost use Rattle.delta_actions.specs.Kinds.{PathAndKey, Format, file_path, format};
 ghost use Rattle.delta_actions.specs.Printing.{IsPath, path_data, format_data};
 ghost use Rattle.delta_actions.specs.Action.{path_view, format_view};
 ghost use Rattle.delta_actions.specs.KindLaws.{path_stands, is_path, format_stands, is_format};
@@ -15,7 +15,7 @@ use serde_json::Value;
 use std::alloc::{AllocError, Global};
 
 impl FieldKind for FilePath {
-    ghost Plain = { Path };
+    ghost Plain = { PathAndKey };
 
     ghost plain = { path_view };
 

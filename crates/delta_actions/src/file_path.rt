@@ -25,11 +25,11 @@ impl Drop for FilePath {
 
 impl FilePath {
     ghost use Rattle.delta_actions.specs.Action.{path_view};
-    ghost use Rattle.delta_actions.specs.Kinds.{path_of};
+    ghost use Rattle.delta_actions.specs.Kinds.{path_and_key};
 
     /// The path of that text; `None` where it doesn't decode to UTF-8.
     pub fn new(alloc: Global, text: &str) -> Result<Option<FilePath>, AllocError>
-        ensures { IfOk result (λ path. option_map path_view path ≡ path_of text.now) }
+        ensures { IfOk result (λ path. option_map path_view path ≡ path_and_key text.now) }
     {
         match percent_decode(text.as_bytes()).decode_utf8(alloc) {
             Ok(_) => {}

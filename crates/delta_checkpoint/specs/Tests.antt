@@ -15,17 +15,17 @@ use Rattle.delta_checkpoint.specs.declared.fault.CheckpointFault.{CheckpointFaul
 use Rattle.delta_checkpoint.specs.declared.fault.CheckpointFault.TheVariants as faults
 
 -- Why actions aren't those of a version's checkpoint.
-pub data Wrong : Type 0 where
-  no_metadata : Wrong
-  mismatch : (found : ℕ) → Wrong
-  has_sidecar : Wrong
+pub data WrongCheckpoint : Type 0 where
+  no_metadata : WrongCheckpoint
+  mismatch : (found : ℕ) → WrongCheckpoint
+  has_sidecar : WrongCheckpoint
 
 -- the versions that the actions tell of the checkpoint
 abbrev pub versions_in : List Action → List ℕ
 versions_in actions = filter_map (λ action. option_map (λ m. m.version) (checkpoint_metadata_in action)) actions
 
 -- no other version is told
-abbrev pub unless_other : ℕ → List ℕ → Result (Unit {0}) Wrong
+abbrev pub unless_other : ℕ → List ℕ → Result (Unit {0}) WrongCheckpoint
 unless_other version [] = Ok tt
 unless_other version (found ∷ more) = if found == version then unless_other version more else Err (mismatch found)
 
@@ -35,20 +35,20 @@ is_sidecar action = is_some (sidecar_in action)
 
 -- What is wrong with actions as those of a version's checkpoint: no line tells the version, one tells another, of which
 -- the first counts, or one refers to a sidecar; tested in this order.
-abbrev pub tested : ℕ → List Action → Result (Unit {0}) Wrong
+abbrev pub tested : ℕ → List Action → Result (Unit {0}) WrongCheckpoint
 tested version actions = do
   told ← refused_if (not (list_any is_metadata actions)) no_metadata
   same ← unless_other version (versions_in actions)
   refused_if (list_any is_sidecar actions) has_sidecar
 
 -- what a fault says of actions that the lines stand for: a line that can't be read doesn't come then
-abbrev pub fault_says : CheckpointFault → Said Wrong
+abbrev pub fault_says : CheckpointFault → Said WrongCheckpoint
 fault_says faults.NoCheckpointMetadata = refuses no_metadata
 fault_says (faults.VersionMismatch found) = refuses (mismatch found)
 fault_says faults.HasSidecar = refuses has_sidecar
 fault_says (faults.BadLine fault) = never_comes
 
-abbrev pub says : CheckpointError → Said Wrong
+abbrev pub says : CheckpointError → Said WrongCheckpoint
 says errors.Memory = says_nothing
 says (errors.Fault fault) = fault_says fault
 

@@ -66,15 +66,21 @@ readable_by protocol metadata = do
   schema_told m
 
 -- the newest protocol and the newest metadata of a log
-abbrev pub protocol_of : List (List Action) → Option ProtocolAction
-protocol_of log = option_and_then protocol_in (at the_protocol log)
+abbrev pub protocol_of_log : List (List Action) → Option ProtocolAction
+protocol_of_log log = option_and_then protocol_in (at the_protocol log)
 
-abbrev pub meta_data_of : List (List Action) → Option MetaDataAction
-meta_data_of log = option_and_then meta_data_in (at the_meta_data log)
+abbrev pub meta_data_of_log : List (List Action) → Option MetaDataAction
+meta_data_of_log log = option_and_then meta_data_in (at the_meta_data log)
+
+-- the schema that a log's newest metadata tells, whatever the protocol asks of a reader
+abbrev pub schema_of_log : List (List Action) → Result Tree Unsupported
+schema_of_log log = do
+  m ← or_refusal (meta_data_of_log log) no_meta_data
+  schema_told m
 
 -- the schema of a table that is read
 abbrev pub readable : List (List Action) → Result Tree Unsupported
-readable log = readable_by (protocol_of log) (meta_data_of log)
+readable log = readable_by (protocol_of_log log) (meta_data_of_log log)
 
 -- ---- tables that are written
 
@@ -109,7 +115,7 @@ abbrev mutual
 abbrev pub writable : List (List Action) → Result Tree Unsupported
 writable log = do
   schema ← readable log
-  p ← or_refusal (protocol_of log) no_protocol
+  p ← or_refusal (protocol_of_log log) no_protocol
   known ← writable_protocol p
   plain ← refused_if (has_key_inside (codes "delta.invariants") schema) (feature (codes "invariants"))
   Ok schema
@@ -119,7 +125,7 @@ writable log = do
 abbrev pub checkpointable : List (List Action) → Result (Unit {0}) Unsupported
 checkpointable log = do
   schema ← writable log
-  p ← or_refusal (protocol_of log) no_protocol
+  p ← or_refusal (protocol_of_log log) no_protocol
   refused_if (not (has_feature (codes "v2Checkpoint") p.reader_features) || not (has_feature (codes "v2Checkpoint") p.writer_features)) (feature (codes "v2Checkpoint"))
 
 -- ---- what the code's faults say

@@ -5,7 +5,7 @@ ghost use Rattle.outcomes.specs.Outcome.{Gives, IsSaid};
 ghost use Rattle.schema_tree.specs.Schema.{tree_of};
 ghost use Rattle.delta_actions.specs.Action.{Action, meta_data_view, protocol_view};
 ghost use Rattle.delta_replay.specs.Snapshots.{IsSnapshotOf, TellsSchema};
-ghost use Rattle.delta_replay.specs.Support.{first_unknown, is_known_to_readers, readable, readable_by, readable_protocol, says, schema_told, unless_unknown};
+ghost use Rattle.delta_replay.specs.Support.{first_unknown, is_known_to_readers, readable, readable_by, readable_protocol, says, schema_of_log, schema_told, unless_unknown};
 
 use crate::features::{is_known_to_readers, unknown_feature};
 use crate::kept::Snapshot;
@@ -21,6 +21,17 @@ impl Snapshot {
         ensures told { IfOk result (λ schema. TellsSchema self.now (tree_of schema)) }
     {
         supports_read(alloc, self.protocol(), self.meta_data.as_ref())
+    }
+
+    /// The table's schema by its newest metadata, whatever the protocol asks of a reader: C2 without a metadata, C6
+    /// where its text is no schema, and `Memory` where memory runs out. The time is linear in the schema's text.
+    pub fn schema(&self, alloc: Global) -> Result<Schema<Global>, SupportError>
+        ensures { (log : List (List Action)) → IsSnapshotOf log self.now → Gives says tree_of result (schema_of_log log) }
+    {
+        let Some(meta_data) = self.meta_data() else {
+            return Err(SupportFault::NoMetadata.into());
+        };
+        schema_in(alloc, meta_data)
     }
 }
 

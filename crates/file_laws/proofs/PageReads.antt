@@ -25,7 +25,7 @@ use Rattle.parquet_file.specs.Reading.{rows_at}
 use Rattle.file_laws.proofs.PageSizes.{PageSteps, page_steps}
 use Rattle.file_laws.proofs.Chunks.{first_is}
 use Rattle.file_laws.proofs.ReadSteps.{chunk_read}
-use Rattle.file_laws.specs.Places.{HasBody, HasCells, HasHeader, IsReached, MeetsPage, PagePlace, at_first, behind_page}
+use Rattle.file_laws.specs.Places.{HasBody, HasHeader, HasPageCells, IsReached, MeetsPage, PagePlace, at_first, behind_page}
 use Rattle.file_laws.proofs.Steps.{let_through, told_ok}
 
 -- ---- pages
@@ -170,7 +170,7 @@ cells_read bytes t p count body rows h e =
     let a = bind_ok (refused_as in_page read) (λ cells. tested l p.left cells.0 cells.1) r.column here in
     (a.0, told_ok in_page read a.0 a.1, tests_passed p a.0.0 r.column a.0.1 a.2)
 
-pub tests_read : (bytes : List ℕ) (t : Tree) (p : PagePlace) (c : Column) (rest : List ℕ) (rows : List Row) → rows_at bytes t ≡ Ok rows → HasCells bytes t p c rest → AreTested p c rest
+pub tests_read : (bytes : List ℕ) (t : Tree) (p : PagePlace) (c : Column) (rest : List ℕ) (rows : List Row) → rows_at bytes t ≡ Ok rows → HasPageCells bytes t p c rest → AreTested p c rest
 tests_read bytes t p c rest rows e h =
     let r = cells_read bytes t p h.count h.body rows h.has e in
     let same : r.0 ≡ (c, rest) = ok_is r.0 (c, rest) (sym r.1 ∙ h.cells) in

@@ -24,7 +24,7 @@ use Rattle.page_cells.specs.Types.{primitive_of}
 use Rattle.parquet_pages.proofs.HeaderFound.{body_found, header_told}
 use Rattle.parquet_file.specs.File.{leaf_of}
 use Rattle.file_laws.specs.Faults.{FaultStands, HasPageKind, bytes_are_left, cells_are_bad, ends_late, begins_late, header_is_no_struct, header_lacks_field, levels_encoded, null_is_out_of_place, sizes_differ, value_is_out_of_range, value_too_long, values_are_many, values_encoded}
-use Rattle.file_laws.specs.Places.{HasBody, HasCells, HasHeader, MeetsPage, PagePlace}
+use Rattle.file_laws.specs.Places.{HasBody, HasHeader, HasPageCells, MeetsPage, PagePlace}
 use Rattle.file_laws.proofs.PageTypes.{IsData, type_tells}
 use Rattle.file_laws.proofs.Members.{failing, passing}
 use Rattle.file_laws.proofs.Steps.{above_zero, by_step, by_test, by_told, err_is, never, told_ok}
@@ -133,11 +133,11 @@ has_body bytes t p header behind count body has e =
     record { header = header; behind = behind; has = has; plain = found.is; after = found.rest; parts = found.split }
 
 -- a text that isn't proper is no UTF-8
-bad_text : (bytes : List ℕ) (t : Tree) (p : PagePlace) (c : Column) (rest : List ℕ) → HasCells bytes t p c rest → (v : Value) → Contains c.values v → is_proper v ≡ false → FaultStands bytes t NotUtf8
+bad_text : (bytes : List ℕ) (t : Tree) (p : PagePlace) (c : Column) (rest : List ℕ) → HasPageCells bytes t p c rest → (v : Value) → Contains c.values v → is_proper v ≡ false → FaultStands bytes t NotUtf8
 bad_text bytes t p c rest cells (text s) inside bad = record { page = p; column = c; rest = rest; has = cells; content = s; inside = inside; bad = bad }
 bad_text bytes t p c rest cells v inside bad = absurd cc
 
-tested_fault : (bytes : List ℕ) (t : Tree) (p : PagePlace) (c : Column) (rest : List ℕ) (fault : FileFault) → HasCells bytes t p c rest
+tested_fault : (bytes : List ℕ) (t : Tree) (p : PagePlace) (c : Column) (rest : List ℕ) (fault : FileFault) → HasPageCells bytes t p c rest
     → tested (leaf_of p.leaf) p.left c rest ≡ Err fault → FaultStands bytes t fault
 unfolding tested
 tested_fault bytes t p c rest fault cells e =

@@ -26,7 +26,7 @@ use Rattle.parquet_schema.specs.Fitting.{fitted_list}
 use Rattle.parquet_schema.specs.Leaves.{LeafIn, leaves_in}
 use Rattle.parquet_file.specs.File.{leaf_of}
 use Rattle.parquet_file.specs.Reading.{claimed_rows}
-use Rattle.file_laws.specs.Places.{HasNoStruct, HoldsSuiting, BeginsWithStruct, Opens, HasGroup, HasLeaf, HasChunk, PagePlace, MeetsPage, HasHeader, HasBody, HasCells}
+use Rattle.file_laws.specs.Places.{HasNoStruct, HoldsSuiting, BeginsWithStruct, Opens, HasGroup, HasLeaf, HasChunk, PagePlace, MeetsPage, HasHeader, HasBody, HasPageCells}
 
 -- ---- the frame and the footer
 
@@ -61,7 +61,7 @@ pub data HasTooMuch (bytes : List ℕ) (t : Tree) : Type 0 where
   group_claims_rows : (given : List ℕ) (metadata : FileMetaData) (group : RowGroup) → Opens bytes given metadata
       → Contains metadata.row_groups group → 4194304 < group.num_rows → HasTooMuch bytes t
   -- a page has a text or bytes of over 1 MiB
-  value_too_long : (p : PagePlace) (c : Column) (rest : List ℕ) (v : Value) → HasCells bytes t p c rest → Contains c.values v
+  value_too_long : (p : PagePlace) (c : Column) (rest : List ℕ) (v : Value) → HasPageCells bytes t p c rest → Contains c.values v
       → is_too_long v ≡ true → HasTooMuch bytes t
 
 -- ---- chunks and pages
@@ -123,9 +123,9 @@ pub data HasCountMismatch (bytes : List ℕ) (t : Tree) : Type 0 where
   sizes_differ : (p : PagePlace) (header : Header) (behind : List ℕ) → HasHeader bytes t p header behind
       → (header.uncompressed_page_size ≡ header.compressed_page_size → ⊥) → HasCountMismatch bytes t
   -- a page has bytes behind its values
-  bytes_are_left : (p : PagePlace) (c : Column) (rest : List ℕ) → HasCells bytes t p c rest → 0 < length rest → HasCountMismatch bytes t
+  bytes_are_left : (p : PagePlace) (c : Column) (rest : List ℕ) → HasPageCells bytes t p c rest → 0 < length rest → HasCountMismatch bytes t
   -- a page has more values than are left of its chunk's
-  values_are_many : (p : PagePlace) (c : Column) (rest : List ℕ) → HasCells bytes t p c rest → p.left < length c.levels → HasCountMismatch bytes t
+  values_are_many : (p : PagePlace) (c : Column) (rest : List ℕ) → HasPageCells bytes t p c rest → p.left < length c.levels → HasCountMismatch bytes t
   -- the chunk of a leaf hasn't as many values as its row group has rows
   chunk_differs : (given : List ℕ) (group : RowGroup) (leaf : LeafIn) (chunk : ColumnChunk) → HasChunk bytes t given group leaf chunk
       → (chunk.num_values ≡ group.num_rows → ⊥) → HasCountMismatch bytes t
@@ -138,7 +138,7 @@ pub record HasBadText (bytes : List ℕ) (t : Tree) : Type 0 where
   pub page : PagePlace
   pub column : Column
   pub rest : List ℕ
-  pub has : HasCells bytes t page column rest
+  pub has : HasPageCells bytes t page column rest
   pub content : List ℕ
   pub inside : Contains column.values (text content)
   pub bad : is_utf8 content ≡ false
@@ -151,10 +151,10 @@ pub data HasSchemaMismatch (bytes : List ℕ) (t : Tree) : Type 0 where
   chunk_is_missing : (given : List ℕ) (group : RowGroup) (leaf : LeafIn) → HasLeaf bytes t given group leaf
       → ((chunk : ColumnChunk) → Contains group.columns chunk → chunk.path_in_schema ≡ leaf.names → ⊥) → HasSchemaMismatch bytes t
   -- a page has a null where the table has none
-  null_is_out_of_place : (p : PagePlace) (c : Column) (rest : List ℕ) (level : ℕ) → HasCells bytes t p c rest → Contains c.levels level
+  null_is_out_of_place : (p : PagePlace) (c : Column) (rest : List ℕ) (level : ℕ) → HasPageCells bytes t p c rest → Contains c.levels level
       → may_stand p.leaf.nullable level ≡ false → HasSchemaMismatch bytes t
   -- a page has a value out of its type's range
-  value_is_out_of_range : (p : PagePlace) (c : Column) (rest : List ℕ) (v : Value) → HasCells bytes t p c rest → Contains c.values v
+  value_is_out_of_range : (p : PagePlace) (c : Column) (rest : List ℕ) (v : Value) → HasPageCells bytes t p c rest → Contains c.values v
       → is_leaf_value (primitive_of p.leaf.leaf_type) v ≡ false → HasSchemaMismatch bytes t
   -- the leaves of a row group differ on whether a struct above them is null: no rows have these columns
   structs_differ : (given : List ℕ) (shape : Shape) (group : RowGroup) (columns : List Column) → HasGroup bytes t given shape group

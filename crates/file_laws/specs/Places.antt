@@ -110,7 +110,7 @@ pub record HasBody (bytes : List ℕ) (t : Tree) (p : PagePlace) (count : ℕ) (
   pub parts : behind ≡ body ++ after
 
 -- The body of the page has these levels and values, and these bytes behind them.
-pub record HasCells (bytes : List ℕ) (t : Tree) (p : PagePlace) (c : Column) (rest : List ℕ) : Type 0 where
+pub record HasPageCells (bytes : List ℕ) (t : Tree) (p : PagePlace) (c : Column) (rest : List ℕ) : Type 0 where
   pub count : ℕ
   pub body : List ℕ
   pub has : HasBody bytes t p count body

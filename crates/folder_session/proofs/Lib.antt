@@ -1,5 +1,6 @@
 mod BesideLemmas
 mod Listing
+mod LookLemmas
 mod SnapshotLemmas
 mod Showing
 mod TailLemmas

@@ -1,5 +1,6 @@
 pub mod Beside
 pub mod Driving
+pub mod Looking
 pub mod Runs
 pub mod Snapshots
 pub mod Tails

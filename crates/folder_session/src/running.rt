@@ -1,12 +1,12 @@
 //! A job over a folder, as its session: what it puts is to be saved behind it.
-ghost use Rattle.std.specs.Prelude.{◌≡◌, List, IfErr, IfOk};
+ghost use Rattle.std.specs.Prelude.{List, IfOk, MatchResult};
 ghost use Rattle.store_core.specs.Memory.{stored_objects};
-ghost use Rattle.table_folder.specs.Faults.{CountsLoad, IsNotLoaded};
 ghost use Rattle.table_folder.specs.Traces.{FolderCall, MakeNone, Traced};
 ghost use Rattle.table_jobs.specs.Done.{IsJobDone};
 ghost use Rattle.table_jobs.specs.Sessions.{end_view};
 ghost use Rattle.table_jobs.specs.Views.{job_view};
 ghost use Rattle.folder_session.specs.Beside.{AreApart, with_beside};
+ghost use Rattle.folder_session.specs.Looking.{OnlyLooks};
 ghost use Rattle.folder_session.specs.Runs.{RanBeside};
 
 use crate::beside::{Beside, drive_beside};
@@ -26,17 +26,15 @@ pub fn run<F: Folder>(
 ) -> Result<Beside<JobEnd>, LoadFault>
     ensures done { F.is_steady folder.old → IfOk result (λ ended. IsJobDone (job_view job.entry)
         (F.objects folder.old) (with_beside (F.objects folder.old) (stored_objects ended.added)) (end_view ended.outcome)) }
+    ensures apart { F.is_steady folder.old → IfOk result (λ ended. AreApart (F.objects folder.old) (stored_objects ended.added)) }
     // Over any folder, whoever else writes into it, its session told this behind a talk in which it asked for just what
     // this job asks for and was told what the folder's calls told, and what it put is what it was told to have created.
-    ensures ran { IfOk result (λ ended. (calls : List FolderCall) × Traced F.makes folder.old calls folder.new
-        × RanBeside (job_view job.entry) (end_view ended.outcome) (stored_objects ended.added) calls) }
-    ensures looked { IfErr result (λ _. (calls : List FolderCall) × Traced F.makes folder.old calls folder.new × MakeNone calls) }
-    ensures apart { F.is_steady folder.old → IfOk result (λ ended. AreApart (F.objects folder.old) (stored_objects ended.added)) }
-    ensures untouched { F.is_steady folder.old → F.objects folder.new ≡ F.objects folder.old }
-    ensures steady { F.is_steady folder.old → F.is_steady folder.new }
-    ensures faults { CountsLoad result (F.fault_count folder.old) (F.fault_count folder.new) }
-    ensures never_fails { F.is_reliable folder.old → IsNotLoaded result → ⊥ }
-    ensures stays_reliable { F.is_reliable folder.old → F.is_reliable folder.new }
+    // Where it fails, the folder's calls made no file.
+    ensures driven { MatchResult result
+        (λ ended. (calls : List FolderCall) × Traced F.makes folder.old calls folder.new
+        × RanBeside (job_view job.entry) (end_view ended.outcome) (stored_objects ended.added) calls)
+        (λ _. (calls : List FolderCall) × Traced F.makes folder.old calls folder.new × MakeNone calls) }
+    ensures over { OnlyLooks F.objects F.is_steady F.is_reliable F.fault_count folder.old folder.new result }
 {
     let mut session = JobSession::new(alloc, job);
     drive_beside(alloc, folder, &mut session)

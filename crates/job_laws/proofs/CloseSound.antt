@@ -15,7 +15,7 @@ use Rattle.table_log.specs.Restoring.{replayed}
 use Rattle.table_log.specs.Versions.{log_of}
 use Rattle.table_model.specs.Appends.{with_close}
 use Rattle.table_model.specs.Lawful.{IsLawful}
-use Rattle.table_model.specs.Table.{Entry, close, creation, is_closed}
+use Rattle.table_model.specs.Table.{Entry, close, creation, is_stream_closed}
 use Rattle.table_model.proofs.Kept.{close_keeps}
 use Rattle.table_store.specs.Commits.{IsCommitOf}
 use Rattle.table_store.specs.Schema.{Schema}
@@ -64,7 +64,7 @@ close_made schema application at text well = record { actions = close_actions ap
 
 module _ (objects : Objects) (sound : IsSound objects) (application : List ℕ) (at : ℕ) (text : IsUtf8 application) where
   -- the table with one close more is lawful
-  closed_lawful : (entries rest : List Entry) → entries ≡ creation ∷ rest → IsLawful entries → is_closed application entries ≡ false → IsLawful (entries ++ close application ∷ [])
+  closed_lawful : (entries rest : List Entry) → entries ≡ creation ∷ rest → IsLawful entries → is_stream_closed application entries ≡ false → IsLawful (entries ++ close application ∷ [])
   closed_lawful entries rest begins lawful still =
       let kept : IsLawful (with_close application entries) = subst (λ (es : List Entry). IsLawful (with_close application es)) (sym begins) (close_keeps application creation rest (subst IsLawful begins lawful)) in
       rw still at kept
@@ -73,7 +73,7 @@ module _ (objects : Objects) (sound : IsSound objects) (application : List ℕ) 
   admissible : (version : ℕ) → version ≤ greatest_version → PutsClose objects application version → IsCommit (close_text application at) (close_actions application at) → IsAdmissible objects version (close_text application at)
   admissible version fits puts well =
       let log : IsLogOfEntries objects sound.schema sound.entries puts.commits = sound_log objects sound puts.commits puts.log in
-      let still : is_closed application sound.entries ≡ false = log_open objects sound.schema application sound.entries puts.commits log.made puts.open_stream in
+      let still : is_stream_closed application sound.entries ≡ false = log_open objects sound.schema application sound.entries puts.commits log.made puts.open_stream in
       record {
         schema = sound.schema;
         entries = sound.entries;

@@ -8,7 +8,7 @@ use Rattle.delta_actions.specs.Action.{MetaDataAction}
 use Rattle.store_core.specs.Names.{commit_name, twenty_digits}
 use Rattle.delta_actions.specs.Names.{data_file_name}
 use Rattle.delta_checkpoint.specs.Names.{checkpoint_id, name_with}
-use Rattle.delta_replay.specs.Support.{meta_data_of}
+use Rattle.delta_replay.specs.Support.{meta_data_of_log}
 use Rattle.table_folder.specs.Loads.{is_loaded, loaded}
 use Rattle.commit_core.specs.Creating as creations
 use Rattle.commit_core.specs.Creating.{creation_from, with_creation}
@@ -99,7 +99,7 @@ of_version files version (Some m) = named_loaded files version (hyphenated_text 
 
 puts_loaded : (files : List (List ℕ)) (objects : Objects) (bytes : List ℕ) → PutsLoaded files (checkpoint_by_bytes objects bytes)
 puts_loaded files objects bytes =
-    loaded_behind files (refused_as by_log (checked_for_checkpoint false objects)) _ (λ commits. loaded_behind files (refused_if (nat_lt most_checkpoint_bytes (length bytes)) too_large) _ (λ fits. of_version files (newest_version objects) (meta_data_of commits)))
+    loaded_behind files (refused_as by_log (checked_for_checkpoint false objects)) _ (λ commits. loaded_behind files (refused_if (nat_lt most_checkpoint_bytes (length bytes)) too_large) _ (λ fits. of_version files (newest_version objects) (meta_data_of_log commits)))
 
 checkpoint_alike : (files : List (List ℕ)) (objects : Objects) (bytes : List ℕ) (made : Result Checkpoint NotPut) → IsInOrder objects → PutsLoaded files made → IsAlike files objects (with_checkpoint (loaded files objects) bytes made) (with_checkpoint objects bytes made)
 checkpoint_alike files objects bytes (Ok c) order is = alike_put files objects (loaded files objects) objects c.name bytes is (alike_before files objects order)

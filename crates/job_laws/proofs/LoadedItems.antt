@@ -8,7 +8,7 @@ use Rattle.schema_tree.specs.Tree.{Tree}
 use Rattle.row_core.specs.Rows.{Row}
 use Rattle.parquet_file.specs.Reading.{rows_at}
 use Rattle.store_core.specs.Objects.{Objects}
-use Rattle.delta_actions.specs.Kinds.{Path}
+use Rattle.delta_actions.specs.Kinds.{PathAndKey}
 use Rattle.log_reading.specs.FromCheckpoints.{looked_at, no_start}
 use Rattle.log_reading.specs.InForce.{SchemaText}
 use Rattle.log_reading.specs.Reads.{first_standing}
@@ -78,14 +78,14 @@ loaded_from_place place files (version_fault version refusal ∷ items) are = by
 -- ---- the files that a log's versions add
 
 -- those of one version, counted from one on
-numbered_loaded : (place : Offset) (files : List (List ℕ)) (version file : ℕ) (paths : List Path) → ((name : List ℕ) → Contains (map (λ path. path.key) paths) name → place.version ≤ version → is_loaded files name ≡ true)
+numbered_loaded : (place : Offset) (files : List (List ℕ)) (version file : ℕ) (paths : List PathAndKey) → ((name : List ℕ) → Contains (map (λ path. path.key) paths) name → place.version ≤ version → is_loaded files name ≡ true)
     → AreLoadedFrom place files (map data_file (numbered_files version file paths))
 numbered_loaded place files version file [] all = tt
 numbered_loaded place files version file (path ∷ paths) all =
     (all path.key (first_in path.key (map (λ p. p.key) paths)), numbered_loaded place files version (suc file) paths (λ name has. all name (behind_first path.key (map (λ p. p.key) paths) name has)))
 
 -- a version's fault, or its files
-version_loaded : (place : Offset) (files : List (List ℕ)) (version : ℕ) (fault : Option ReadRefusal) (paths : List Path) → ((name : List ℕ) → Contains (map (λ path. path.key) paths) name → place.version ≤ version → is_loaded files name ≡ true)
+version_loaded : (place : Offset) (files : List (List ℕ)) (version : ℕ) (fault : Option ReadRefusal) (paths : List PathAndKey) → ((name : List ℕ) → Contains (map (λ path. path.key) paths) name → place.version ≤ version → is_loaded files name ≡ true)
     → AreLoadedFrom place files (items_in version fault paths)
 version_loaded place files version (Some refusal) paths all = tt
 version_loaded place files version None paths all = numbered_loaded place files version 0 paths all

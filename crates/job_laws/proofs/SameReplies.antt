@@ -4,7 +4,7 @@ use Rattle.std.specs.Prelude.{nat_lt}
 use Rattle.outcomes.specs.Results.{◌>>=◌, refused_as, refused_if}
 use Rattle.store_core.specs.Objects.{Objects, object_at}
 use Rattle.delta_actions.specs.Action.{Action}
-use Rattle.delta_replay.specs.Support.{meta_data_of}
+use Rattle.delta_replay.specs.Support.{meta_data_of_log}
 use Rattle.store_core.specs.Names.{commit_name}
 use Rattle.table_folder.specs.Loads.{loaded}
 use Rattle.snapshot_core.specs.Faults as faults
@@ -34,7 +34,7 @@ same_newest files objects = ap (λ count. count - 1) (same_count files objects)
 -- the checkpoint of the newest version
 pub same_checkpoint : (files : List (List ℕ)) (objects : Objects) (bytes : List ℕ) → checkpoint_by_bytes (loaded files objects) bytes ≡ checkpoint_by_bytes objects bytes
 same_checkpoint files objects bytes =
-    λ i. refused_as by_log (same_checked files objects i) >>= λ commits. refused_if (nat_lt most_checkpoint_bytes (length bytes)) too_large >>= λ fits. checkpoint_for (same_newest files objects i) (meta_data_of commits)
+    λ i. refused_as by_log (same_checked files objects i) >>= λ commits. refused_if (nat_lt most_checkpoint_bytes (length bytes)) too_large >>= λ fits. checkpoint_for (same_newest files objects i) (meta_data_of_log commits)
 
 pub same_reply : (objects : Objects) (statement : Statement) (files : List (List ℕ)) (printed : List ℕ) → LooksWithin objects statement files → reply_to_statement (loaded files objects) statement printed ≡ reply_to_statement objects statement printed
 same_reply objects (create id at schema) files printed within = ap created_reply (same_created files objects id at schema printed)

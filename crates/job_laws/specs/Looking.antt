@@ -1,7 +1,7 @@
 -- Which data files a line looks at. Of the log's folder it may look at every file.
 use Rattle.std.specs.Prelude.{◌≡◌, ◌≤◌, ◌<◌, ℕ, List, Contains, Some, map, true}
 use Rattle.store_core.specs.Objects.{Objects}
-use Rattle.delta_actions.specs.Kinds.{Path}
+use Rattle.delta_actions.specs.Kinds.{PathAndKey}
 use Rattle.delta_actions.specs.Names.{data_file_name}
 use Rattle.table_log.specs.Counts.{commit_count}
 use Rattle.table_log.specs.Versions.{Version, version_at}
@@ -12,7 +12,7 @@ use Rattle.lake_script.specs.Tailing.{paths_in}
 use Rattle.script_lines.specs.Lines.{Statement, append, checkpoint, close, create, foreign, hex, history, show, snapshot, tail, task, tries, look, world}
 
 -- the keys of paths
-abbrev pub keys_of_paths : List Path → List (List ℕ)
+abbrev pub keys_of_paths : List PathAndKey → List (List ℕ)
 keys_of_paths paths = map (λ path. path.key) paths
 
 -- the data files that a version's commit adds new rows with, by the keys of their paths

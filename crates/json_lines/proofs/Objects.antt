@@ -9,7 +9,7 @@ use Rattle.serde_json.specs.Data.{Data, null, boolean, number, string, array, ob
 use Rattle.serde_json.specs.Find.{as_object}
 use Rattle.serde_json.specs.Read.{read}
 use Rattle.json_text.specs.Rows.{text_data}
-use Rattle.json_lines.specs.Rows.{without_last_newline, input_lines, object_of, only_object, IsFirstBadLine}
+use Rattle.json_lines.specs.Rows.{without_last_newline, input_lines, json_object_in_line, only_object, IsFirstBadLine}
 
 -- ---- a line
 
@@ -22,22 +22,22 @@ none_there None e = refl
 none_there (Some d) e = absurd cc
 
 -- where the text of a line is an object, it is the line's
-pub object_is : (line : List ℕ) → IsUtf8 line → is_some (only_object (read line)) ≡ true → Some (text_data line) ≡ object_of line
-unfolding object_of
+pub object_is : (line : List ℕ) → IsUtf8 line → is_some (only_object (read line)) ≡ true → Some (text_data line) ≡ json_object_in_line line
+unfolding json_object_in_line
 object_is line utf8 is = rw (is_utf8-from_IsUtf8 line utf8) (at_read (read line) is)
 
 -- no other text is one
-pub no_object : (line : List ℕ) → IsUtf8 line → is_some (only_object (read line)) ≡ false → None ≡ object_of line
-unfolding object_of
+pub no_object : (line : List ℕ) → IsUtf8 line → is_some (only_object (read line)) ≡ false → None ≡ json_object_in_line line
+unfolding json_object_in_line
 no_object line utf8 other = rw (is_utf8-from_IsUtf8 line utf8) (none_there (only_object (read line)) other)
 
-no_text_at : (line : List ℕ) (b : Bool) → is_utf8 line ≡ b → ¬ (IsUtf8 line) → None ≡ object_of line
-unfolding object_of
+no_text_at : (line : List ℕ) (b : Bool) → is_utf8 line ≡ b → ¬ (IsUtf8 line) → None ≡ json_object_in_line line
+unfolding json_object_in_line
 no_text_at line true is none = absurd (none (IsUtf8-from_is_utf8 line is))
 no_text_at line false is none = rw is refl
 
 -- what is no text is no object
-pub no_text : (line : List ℕ) → ¬ (IsUtf8 line) → None ≡ object_of line
+pub no_text : (line : List ℕ) → ¬ (IsUtf8 line) → None ≡ json_object_in_line line
 no_text line none = no_text_at line (is_utf8 line) refl none
 
 -- the value of a text that is an object
@@ -62,7 +62,7 @@ lines_are_parts (byte ∷ bytes) some = refl
 
 -- the lines are, one after the other, the objects
 abbrev pub Read : List (List ℕ) → List (Bor (List ℕ)) → Type 0
-Read lines objects = map object_of lines ≡ map (λ object. Some (text_data object.now)) objects
+Read lines objects = map json_object_in_line lines ≡ map (λ object. Some (text_data object.now)) objects
 
 -- one more line is a text
 pub text_more : (lines : List (List ℕ)) (objects : List (Bor (List ℕ))) (i : ℕ) (line : List ℕ) (text : Bor (List ℕ)) → i < length lines → line ≡ get_or lines i line → text.now ≡ line
@@ -72,11 +72,11 @@ text_more lines objects i line text within here is so_far =
     rw (more, map_push (λ (o : Bor (List ℕ)). o.now) objects text, so_far, is) refl
 
 -- one more line
-pub reads_on : (lines : List (List ℕ)) (objects : List (Bor (List ℕ))) (i : ℕ) (line : List ℕ) (text : Bor (List ℕ)) → i < length lines → line ≡ get_or lines i line → Some (text_data text.now) ≡ object_of line
+pub reads_on : (lines : List (List ℕ)) (objects : List (Bor (List ℕ))) (i : ℕ) (line : List ℕ) (text : Bor (List ℕ)) → i < length lines → line ≡ get_or lines i line → Some (text_data text.now) ≡ json_object_in_line line
     → Read (take i lines) objects → Read (take (i + 1) lines) (objects ++ text ∷ [])
 reads_on lines objects i line text within here is so_far =
     let more : take (i + 1) lines ≡ take i lines ++ line ∷ [] = take_more lines i line within ∙ ap (λ (x : List ℕ). take i lines ++ x ∷ []) (sym here) in
-    rw (more, map_push object_of (take i lines) line, map_push (λ (o : Bor (List ℕ)). Some (text_data o.now)) objects text, so_far, ← is) refl
+    rw (more, map_push json_object_in_line (take i lines) line, map_push (λ (o : Bor (List ℕ)). Some (text_data o.now)) objects text, so_far, ← is) refl
 
 -- no line is left
 pub all_texts : (lines : List (List ℕ)) (objects : List (Bor (List ℕ))) (i : ℕ) → i ≡ length lines → map (λ (o : Bor (List ℕ)). o.now) objects ≡ take i lines → map (λ (o : Bor (List ℕ)). o.now) objects ≡ lines
@@ -86,16 +86,16 @@ pub all_read : (lines : List (List ℕ)) (objects : List (Bor (List ℕ))) (i : 
 all_read lines objects i whole so_far = let every = take_all i lines (omega (arith, whole)) in rw every at so_far
 
 -- lines that are objects are fine
-all_fine : (lines : List (List ℕ)) (objects : List (Bor (List ℕ))) → Read lines objects → AllByRecursion (λ line. IsSome (object_of line)) lines
+all_fine : (lines : List (List ℕ)) (objects : List (Bor (List ℕ))) → Read lines objects → AllByRecursion (λ line. IsSome (json_object_in_line line)) lines
 all_fine [] objects so_far = tt
 all_fine (line ∷ lines) [] so_far = absurd cc
 all_fine (line ∷ lines) (o ∷ objects) so_far =
-    let first : object_of line ≡ Some (text_data o.now) = cc in
+    let first : json_object_in_line line ≡ Some (text_data o.now) = cc in
     let rest : Read lines objects = cc in
     (ap is_some first, all_fine lines objects rest)
 
 -- the first bad line
-pub first_bad : (text : List ℕ) (objects : List (Bor (List ℕ))) (i : ℕ) (line : List ℕ) (at_number : ℕ) → (length text == 0) ≡ false → i < length (parts_of text) → line ≡ get_or (parts_of text) i line → None ≡ object_of line
+pub first_bad : (text : List ℕ) (objects : List (Bor (List ℕ))) (i : ℕ) (line : List ℕ) (at_number : ℕ) → (length text == 0) ≡ false → i < length (parts_of text) → line ≡ get_or (parts_of text) i line → None ≡ json_object_in_line line
     → Read (take i (parts_of text)) objects → at_number ≡ i + 1 → IsFirstBadLine text at_number
 first_bad text objects i line at_number some within here is so_far at = record {
   before = take i (parts_of text);

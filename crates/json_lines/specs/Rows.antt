@@ -22,8 +22,8 @@ only_object (Some (object members)) = Some (object members)
 only_object _ = None
 
 -- the JSON object that a line is
-unfoldable pub object_of : List ℕ → Option Data
-object_of line = if is_utf8 line then only_object (read line) else None
+unfoldable pub json_object_in_line : List ℕ → Option Data
+json_object_in_line line = if is_utf8 line then only_object (read line) else None
 
 -- the line of this number is the first that is no object; lines count from 1
 pub record IsFirstBadLine (text : List ℕ) (number : ℕ) : Type 0 where
@@ -32,10 +32,10 @@ pub record IsFirstBadLine (text : List ℕ) (number : ℕ) : Type 0 where
   pub after : List (List ℕ)
   pub parts : input_lines text ≡ before ++ bad ∷ after
   pub place : number ≡ length before + 1
-  pub fine : AllByRecursion (λ line. IsSome (object_of line)) before
-  pub fault : object_of bad ≡ None
+  pub fine : AllByRecursion (λ line. IsSome (json_object_in_line line)) before
+  pub fault : json_object_in_line bad ≡ None
 
 -- a fault names the first line that is no object
-abbrev pub IsFirstBad : List ℕ → LineFault → Type 0
-IsFirstBad text (Bad number flaw) = IsFirstBadLine text number
-IsFirstBad text Memory = Unit {0}
+abbrev pub NamesFirstBadLine : List ℕ → LineFault → Type 0
+NamesFirstBadLine text (Bad number flaw) = IsFirstBadLine text number
+NamesFirstBadLine text Memory = Unit {0}

@@ -4,7 +4,7 @@
 ghost use Rattle.std.specs.Prelude.{◌≡◌, IfOk, IfErr, IfSome, map, Some, is_some, option_map};
 ghost use Rattle.serde_json.specs.Read.{read};
 ghost use Rattle.json_text.specs.Rows.{text_data};
-ghost use Rattle.json_lines.specs.Rows.{without_last_newline, input_lines, object_of, only_object, IsFirstBad};
+ghost use Rattle.json_lines.specs.Rows.{without_last_newline, input_lines, json_object_in_line, only_object, NamesFirstBadLine};
 
 mod flaw;
 
@@ -52,8 +52,8 @@ impl<T: Drop> From<AllocFailed<T>> for LineFault {
 pub fn objects_in<'a>(alloc: Global, text: &'a [u8]) -> Result<Vec<&'a str>, LineFault>
     // They are the text's lines, and each is that of an object.
     ensures texts { IfOk result (λ objects. map (λ object. object.now) objects.items ≡ input_lines text.now) }
-    ensures objects { IfOk result (λ objects. map object_of (input_lines text.now) ≡ map (λ object. Some (text_data object.now)) objects.items) }
-    ensures fault { IfErr result (IsFirstBad text.now) }
+    ensures objects { IfOk result (λ objects. map json_object_in_line (input_lines text.now) ≡ map (λ object. Some (text_data object.now)) objects.items) }
+    ensures fault { IfErr result (NamesFirstBadLine text.now) }
 {
     let mut objects = Vec::new(alloc);
     if text.is_empty() {
@@ -79,14 +79,14 @@ fn without_last_newline(text: &[u8]) -> &[u8]
 }
 
 /// The text of the object that a line is.
-#[tactic(auto, unfolding(crate::specs::Rows::object_of))]
+#[tactic(auto, unfolding(crate::specs::Rows::json_object_in_line))]
 fn object_in<'a>(
     alloc: Global,
     line: &'a [u8],
     scratch: &mut Scratch,
 ) -> Result<Option<&'a str>, AllocError>
     ensures line { IfOk result (λ found. IfSome found (λ text. text.now ≡ line.now)) }
-    ensures object { IfOk result (λ found. option_map (λ text. text_data text.now) found ≡ object_of line.now) }
+    ensures object { IfOk result (λ found. option_map (λ text. text_data text.now) found ≡ json_object_in_line line.now) }
 {
     let Ok(text) = str::from_utf8(line) else {
         return Ok(None);

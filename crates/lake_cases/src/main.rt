@@ -7,6 +7,7 @@
 //!   table they leave (`scripts.rt`);
 //! - `calls`: calls of a store that loses them, which commits conflict with a candidate, how the puts of a commit end,
 //!   and what sessions ask for and tell (`calls.rt`);
+//! - `events`: lists of events over a new store, what is told by each, and which table is left (`events.rt`);
 //! - `logs`: logs that grow commit by commit, and what the snapshot of each answers (`tell_logs` of the library
 //!   `case_logs`).
 #![tactic(auto)]
@@ -14,6 +15,7 @@
 mod calls;
 mod commands;
 mod contests;
+mod events;
 mod plain;
 mod reads;
 mod scripts;
@@ -52,6 +54,7 @@ fn tell_section(rt: &HostRuntime, section: &str, told: &mut Transcript) {
     match kind {
         "scripts" => scripts::tell_scripts(rt, text, told),
         "calls" => calls::tell_calls(text, told),
+        "events" => events::tell_events(text, told),
         "logs" => tell_logs(text, told),
         _ => told.say("no such cases"),
     }

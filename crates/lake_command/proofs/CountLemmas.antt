@@ -3,7 +3,7 @@ use Rattle.std.proofs.Common.{◌≡◌, ◌⊎◌, inl, inr, ℕ, Bool, true, L
 use Rattle.std.specs.Prelude.{IsErrAnd}
 use Rattle.std.proofs.lemmas.List.{length-map}
 use Rattle.serde_json.specs.Data.{Data}
-use Rattle.json_lines.specs.Rows.{input_lines, object_of}
+use Rattle.json_lines.specs.Rows.{input_lines, json_object_in_line}
 use Rattle.script_lines.specs.Lines.{Statement}
 use Rattle.lake_script.specs.Streams.{write_failed}
 use Rattle.lake_script.specs.declared.outputs.Output.{Output}
@@ -20,7 +20,7 @@ use Rattle.lake_command.specs.declared.failure.Failure.TheVariants.{BadLine, Loa
 
 -- there are as many rows as lines
 row_count : (text : List ℕ) (rows : List Data) → AreLineRows text rows → length (input_lines text) ≡ length rows
-row_count text rows are = sym (length-map (input_lines text) object_of) ∙ ap length are ∙ length-map rows (λ row. Some row)
+row_count text rows are = sym (length-map (input_lines text) json_object_in_line) ∙ ap length are ∙ length-map rows (λ row. Some row)
 
 -- what a job asks for has as many rows as its words say
 pub asked_count : (work : Work) (text : Option (List ℕ)) (statement : Statement) → IsAskedBy work text statement → IsMiscounted work text → ⊥

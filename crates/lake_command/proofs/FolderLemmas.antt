@@ -6,11 +6,13 @@ use Rattle.store_core.specs.Objects.{AreBytes, IsInOrder, Objects}
 use Rattle.table_log.specs.Restoring.{RestoresWell}
 use Rattle.table_log.proofs.Callers.{well_sound}
 use Rattle.lake_script.specs.SoundStores.{IsSoundStore}
-use Rattle.table_folder.specs.Faults.{CountsSave}
+use Rattle.table_folder.specs.Faults.{CountsLoad, CountsSave}
 use Rattle.table_folder.specs.Loads.{loaded}
+use Rattle.table_folder.specs.declared.fault.LoadFault.{LoadFault}
+use Rattle.table_folder.specs.declared.fault.LoadFault.TheVariants as loads
 use Rattle.table_folder.specs.declared.fault.SaveFault.{SaveFault}
 use Rattle.table_folder.specs.declared.fault.SaveFault.TheVariants as saves
-use Rattle.json_lines.specs.Rows.{input_lines, object_of}
+use Rattle.json_lines.specs.Rows.{input_lines, json_object_in_line}
 use Rattle.script_lines.specs.Lines.{Statement, asks, history, look}
 use Rattle.lake_script.specs.ReplyView.{reply_text}
 use Rattle.lake_script.specs.Runs.{Executes}
@@ -19,7 +21,7 @@ use Rattle.lake_script.specs.declared.reply.LineReply.{LineReply}
 use Rattle.job_laws.proofs.Callers.{executed as line_executed, line_keeps_sound_bytes, restores}
 use Rattle.lake_words.specs.Asked.{Work}
 use Rattle.lake_words.specs.Asked as words
-use Rattle.lake_command.specs.Failures.{FailureComesOfACall, IsOfFolder, Leaves, NamesPut}
+use Rattle.lake_command.specs.Failures.{CountsFolderFault, FailureComesOfACall, IsOfFolder, Leaves, NamesPut}
 use Rattle.lake_command.specs.Folders.{AreLineRows, IsJobAnswer, IsAskedBy, JobMayLeave, LineMayLeave, line_view}
 use Rattle.lake_command.specs.declared.job_line.JobLine.{JobLine}
 use Rattle.lake_command.specs.declared.failure.Failure.{Failure}
@@ -63,6 +65,27 @@ saved_alone {X} result fault steady held old statement before mid after is same 
     subst (λ (r : Result X Failure). FailureComesOfACall r before after) (sym is)
     (alone_of_fault X fault steady old statement before after on (subst (λ (r : Result X Failure). IfErr r (λ failure. NamesPut failure statement old)) is names)
     (subst (λ n. CountsSave {X = Unit {0}} steady old (Err fault) n after) level (subst (λ o. CountsSave {X = Unit {0}} steady o (Err fault) mid after) same counts)))
+
+-- how often a call of the folder failed, where it can't be read
+pub loaded_counts : {X : Type 0} (Y : Type 0) (result : Result X Failure) (fault : LoadFault) (before after : ℕ) → result ≡ Err (Loading fault) → CountsLoad {X = Y} (Err fault) before after → CountsFolderFault result before after
+loaded_counts {X} Y result fault before after is counts = subst (λ (r : Result X Failure). CountsFolderFault r before after) (sym is) (by_fault fault counts)
+  where
+    by_fault : (f : LoadFault) → CountsLoad {X = Y} (Err f) before after → CountsFolderFault {X = X} (Err (Loading f)) before after
+    by_fault (loads.NotLoaded name reason) risen = risen
+    by_fault loads.Memory same = same
+
+-- how often a call of the folder failed, where what was put isn't saved
+pub saved_counts : {X : Type 0} (result : Result X Failure) (fault : SaveFault) (is_steady : Type 0) (held : Objects) (before mid after : ℕ) → result ≡ Err (Saving fault) → mid ≡ before → CountsSave {X = Unit {0}} is_steady held (Err fault) mid after
+    → CountsFolderFault result before after
+saved_counts {X} result fault is_steady held before mid after is level counts =
+    subst (λ (r : Result X Failure). CountsFolderFault r before after) (sym is)
+    (subst (λ (n : ℕ). CountsFolderFault {X = X} (Err (Saving fault)) n after) level (by_fault fault counts))
+  where
+    by_fault : (f : SaveFault) → CountsSave {X = Unit {0}} is_steady held (Err f) mid after → CountsFolderFault {X = X} (Err (Saving f)) mid after
+    by_fault (saves.NotSaved name reason) (inl risen) = inl risen
+    by_fault (saves.NotSaved name reason) (inr taken) = inr (taken.0, taken.1)
+    by_fault saves.Lost same = same
+    by_fault saves.Memory same = same
 
 -- ---- what a job leaves
 
@@ -117,7 +140,7 @@ pub found_asked : (found : Option JobLine) (line : JobLine) (work : Work) (text 
 found_asked found line work text is asked = subst (λ f. IfSome f (λ l. IsAskedBy work text (line_view l))) is asked
 
 -- the rows that were read are those of the input
-pub rows_are : (text : List ℕ) (objects : List (Bor (List ℕ))) → map object_of (input_lines text) ≡ map (λ object. Some (text_data object.now)) objects → AreLineRows text (map (λ object. text_data object.now) objects)
+pub rows_are : (text : List ℕ) (objects : List (Bor (List ℕ))) → map json_object_in_line (input_lines text) ≡ map (λ object. Some (text_data object.now)) objects → AreLineRows text (map (λ object. text_data object.now) objects)
 rows_are text objects read = read ∙ some_views objects
   where
     some_views : (values : List (Bor (List ℕ))) → map (λ value. Some (text_data value.now)) values ≡ map (λ row. Some row) (map (λ object. text_data object.now) values)

@@ -1,4 +1,5 @@
 pub mod AgainLemmas
+pub mod AnswerLemmas
 pub mod BesideLemmas
 pub mod CheckLemmas
 pub mod CountLemmas

@@ -1,5 +1,6 @@
--- A run of a line: its job can begin, what it may put where nothing was run, and what came of it where it wasn't saved or the folder couldn't be read.
-use Rattle.std.proofs.Common.{◌≡◌, ◌≤◌, ◌++◌, ◌∙◌, ℕ, Bool, List, [], Option, Some, IfSome, Result, Ok, Err, inl, refl, sym, subst}
+-- A run of a line: its job can begin, and what came of it where memory ran out, where it wasn't saved or the folder
+-- couldn't be read.
+use Rattle.std.proofs.Common.{◌≡◌, ◌≤◌, ◌++◌, ◌∙◌, ℕ, Bool, List, [], Option, Some, IfSome, Result, Ok, Err, refl, sym, subst}
 use Rattle.std.specs.Prelude.{IsErrAnd, bytes_eq, string_bytes}
 use Rattle.std.proofs.lemmas.Cmp.{nat_list_eq_equiv}
 use Rattle.std.proofs.lemmas.Map.Views.{Contains-from_any, list_any-from_Contains}
@@ -13,12 +14,13 @@ use Rattle.table_folder.specs.declared.fault.SaveFault.{SaveFault}
 use Rattle.table_folder.specs.declared.fault.SaveFault.TheVariants as saves
 use Rattle.table_folder.proofs.Callers.{list_any-to_save, traced_on}
 use Rattle.table_jobs.specs.Jobs.{IsValidJob, Job}
-use Rattle.script_lines.specs.Lines.{Statement, append, checkpoint, close, create, foreign, task}
+use Rattle.script_lines.specs.Lines.{Statement, task}
 use Rattle.lake_script.specs.LineJobs.{job_of_line}
-use Rattle.lake_script.specs.Growth.{MayPut}
+use Rattle.lake_script.specs.ReplyView.{reply_text}
+use Rattle.lake_script.specs.Runs.{IsWantOfMemory}
 use Rattle.lake_script.specs.declared.reply.LineReply.{LineReply}
 use Rattle.lake_script.proofs.Callers.{valid_task}
-use Rattle.lake_command.specs.Again.{IsRunOf, IsUnsaved, RanLine, told, unread, unsaved}
+use Rattle.lake_command.specs.Again.{IsRunOf, IsUnsaved, RanLine, short, told, unread, unsaved}
 use Rattle.lake_command.specs.Folders.{IsTextLine}
 use Rattle.lake_command.specs.declared.failure.Failure.{Failure}
 use Rattle.lake_command.specs.declared.failure.Failure.TheVariants.{Loading, Saving}
@@ -36,14 +38,9 @@ valid_line use_checkpoints tries statement job some text is = subst (λ (found :
 
 -- ---- where nothing was run
 
--- a line may put nothing
-pub unrun_grows : (objects : Objects) (statement : Statement) → IsTextLine statement → MayPut objects statement objects
-unrun_grows objects (create id at schema) text = inl refl
-unrun_grows objects (task (append application number at rows)) text = (text, inl refl)
-unrun_grows objects (task (close application at)) text = (text, inl refl)
-unrun_grows objects (task checkpoint) text = inl refl
-unrun_grows objects (foreign version action) text = inl refl
-unrun_grows objects _ text = refl
+-- its reply tells so, and there is nothing to save
+pub short_run : (use_checkpoints : Bool) (tries : ℕ) (statement : Statement) (reply : LineReply) → IsWantOfMemory statement (reply_text reply) → IsRunOf use_checkpoints tries statement (Ok reply) []
+short_run use_checkpoints tries statement reply want = told reply [] [] [] (short want refl) refl
 
 -- ---- where it wasn't saved, or not run
 

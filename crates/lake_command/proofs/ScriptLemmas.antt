@@ -1,19 +1,23 @@
 -- What a command writes, from what its script's run tells.
-use Rattle.std.proofs.Common.{◌≡◌, ◌≢◌, ◌<◌, ◌≤◌, ◌+◌, ◌∙◌, ℕ, suc, Bool, true, false, length, inl, inr, arith, List, [], Option, Some, None, IfSome, refl, sym, subst, ap}
-use Rattle.std.specs.Io.KnownBytes.{Appends}
+use Rattle.std.proofs.Common.{◌≡◌, ◌≢◌, ◌<◌, ◌≤◌, ◌+◌, ◌∙◌, ◌⊎◌, ℕ, suc, Bool, true, false, length, inl, inr, arith, List, [], Option, Some, None, IfSome, refl, sym, subst, ap}
 use Rattle.std.proofs.lemmas.Bool.{cases_lt}
 use Rattle.delta_actions.specs.Commit.{lines_of}
 use Rattle.store_core.specs.Names.{greatest_version}
 use Rattle.store_core.specs.Objects.{Objects}
-use Rattle.lake_script.specs.declared.inputs.TheConstants.{MOST_BYTES}
+use Rattle.clap.specs.Words.{IsAmong}
+use Rattle.clap.specs.declared.error.kind.ErrorKind.{ErrorKind}
+use Rattle.clap.specs.declared.error.kind.ErrorKind.TheVariants.{OutOfMemory}
+use Rattle.lake_script.specs.declared.inputs.TheConstants.{MOST_BYTES, MOST_READS}
 use Rattle.lake_script.specs.declared.engine.End.{End}
 use Rattle.lake_script.specs.declared.engine.End.TheVariants.{Done, BadLine, NotRead, NotWritten}
-use Rattle.lake_script.proofs.Callers.{few_lines}
-use Rattle.lake_script.specs.Runs.{FallsShort, MayBeTold, Runs, TellsWhole}
+use Rattle.lake_script.specs.declared.engine.Outcome.{Outcome}
+use Rattle.lake_script.proofs.Callers.{few_lines, well_of_empty}
+use Rattle.lake_script.specs.Runs.{MayBeTold, Runs, TellsWhole}
 use Rattle.lake_script.specs.Sound.{IsScriptRun}
-use Rattle.lake_script.specs.Scripts.{IsScript, IsExpectedOver}
-use Rattle.lake_script.specs.Tables.{nothing, entries_of_state, AreOfTable, table_expected_output as expected_by_table}
-use Rattle.lake_script.specs.Told.{ArePrintedLines, ArePutHere, IsScriptTold, expected_output, first_bad, Finishes}
+use Rattle.lake_script.specs.Scripts.{IsScript}
+use Rattle.lake_script.specs.Tables.{nothing, entries_of_state}
+use Rattle.lake_script.specs.TextRuns.{IsTextRun}
+use Rattle.lake_script.specs.Told.{IsScriptTold, expected_output, fell_short, first_bad, Finishes}
 use Rattle.lake_words.specs.Asked.{Spells, replaying, restoring}
 use Rattle.lake_words.specs.declared.command.Command.{Command}
 use Rattle.lake_words.specs.declared.command.Command.TheVariants.{Script, Table}
@@ -23,24 +27,14 @@ use Rattle.world_script.specs.Words.{needs_world}
 use Rattle.lake_hints.specs.ErrorOutputs.{TellsSome}
 use Rattle.lake_hints.specs.declared.error_output.ErrorOutput.{ErrorOutput}
 use Rattle.lake_command.specs.ErrorTexts.{IsBadLineTold, IsEndTold}
-use Rattle.lake_command.specs.Status.{status_at, status_of}
-use Rattle.world_script.specs.Playing.{PlaysSo, PlaysText}
+use Rattle.lake_command.specs.Status.{IsStatusOf, status_at, status_of, status_of_kind}
+use Rattle.world_script.specs.Playing.{PlaysShort, PlaysSo}
 use Rattle.world_script.specs.Scenes.{first_scene}
+use Rattle.world_script.specs.WorldRuns.{IsWorldRun}
 
 -- what is written over nothing is what the script is told
-tells_of_run : (old new : Option (List ℕ)) (text : List ℕ) (before after : Objects) → before ≡ [] → IsScriptRun before text old new after → TellsWhole old new (IsScriptTold [] text)
-tells_of_run old new text before after empty run =
-    (expected_output [] text run.texts, subst (λ u. Appends old new u) (ap (λ objects. expected_output objects text run.texts) empty) run.told, (run.texts, subst (λ objects. ArePrintedLines objects (lines_of text) run.texts) empty run.printed, refl))
-
--- the same of a run that isn't refused, where its text is known
-pub output_of_run : (end : End) (input old new : Option (List ℕ)) (before after : Objects) → status_of end ≢ 1 → Finishes end (λ _. IfSome input (λ text. IsScriptRun before text old new after)) → before ≡ []
-    → IfSome input (λ text. TellsWhole old new (IsScriptTold [] text))
-output_of_run Done None old new before after fine run empty = tt
-output_of_run Done (Some text) old new before after fine run empty = tells_of_run old new text before after empty run
-output_of_run (BadLine number) None old new before after fine run empty = tt
-output_of_run (BadLine number) (Some text) old new before after fine run empty = tells_of_run old new text before after empty run
-output_of_run NotRead input old new before after fine run empty = absurd (fine refl)
-output_of_run NotWritten input old new before after fine run empty = absurd (fine refl)
+tells_of_run : (old new : Option (List ℕ)) (text : List ℕ) (after : Objects) → IsScriptRun [] text old new after → TellsWhole old new (IsScriptTold [] text)
+tells_of_run old new text after run = (expected_output [] text run.texts, run.told, (run.texts, run.printed, refl))
 
 -- a text that was read has no more lines than there can be versions
 few_by : (end : End) (text : List ℕ) → status_of end ≢ 1 → (MOST_BYTES < length text → end ≡ NotRead) → length (entries_of_state nothing) + length (lines_of text) ≤ suc greatest_version
@@ -50,45 +44,9 @@ few_by end text fine limit =
       | inr short ↦ omega (arith, few_lines text, short)
     ]
 
--- a run that isn't refused is told by the plain table, where its text is known
-pub script_of_run : (end : End) (input old new : Option (List ℕ)) (before after : Objects) → status_of end ≢ 1 → Finishes end (λ _. IfSome input (λ text. length (entries_of_state nothing) + length (lines_of text) ≤ suc greatest_version → IsScript nothing old new text before after))
-    → IfSome input (λ text. MOST_BYTES < length text → end ≡ NotRead) → IfSome input (λ text. IsScript nothing old new text before after)
-script_of_run Done None old new before after fine run limit = tt
-script_of_run Done (Some text) old new before after fine run limit = run (few_by Done text fine limit)
-script_of_run (BadLine number) None old new before after fine run limit = tt
-script_of_run (BadLine number) (Some text) old new before after fine run limit = run (few_by (BadLine number) text fine limit)
-script_of_run NotRead input old new before after fine run limit = absurd (fine refl)
-script_of_run NotWritten input old new before after fine run limit = absurd (fine refl)
-
--- by what asks the table alone
-pub by_table_of : (input old new : Option (List ℕ)) (before after : Objects) → IfSome input (λ text. IsScript nothing old new text before after)
-    → IfSome input (λ text. AreOfTable (lines_of text) → Appends old new (expected_by_table nothing text))
-by_table_of None old new before after run = tt
-by_table_of (Some text) old new before after run = run.by_table
-
--- and with the objects that are shown
-pub over_of : (input old new : Option (List ℕ)) (before after : Objects) → before ≡ [] → IfSome input (λ text. IsScript nothing old new text before after)
-    → IfSome input (λ text. ArePutHere (lines_of text) → IsExpectedOver old new nothing [] (lines_of text))
-over_of None old new before after empty run = tt
-over_of (Some text) old new before after empty run = λ here. subst (λ objects. IsExpectedOver old new nothing objects (lines_of text)) empty (run.over here)
-
--- a run that isn't refused is short where a reply tells so, where its text is known
-pub short_of_run : (end : End) (input old new : Option (List ℕ)) (before : Objects) → status_of end ≢ 1 → Finishes end (λ _. IfSome input (λ text. TellsWhole old new (FallsShort 1 before (lines_of text)))) → before ≡ []
-    → IfSome input (λ text. TellsWhole old new (FallsShort 1 [] (lines_of text)))
-short_of_run Done input old new before fine run empty = subst (λ objects. IfSome input (λ text. TellsWhole old new (FallsShort 1 objects (lines_of text)))) empty run
-short_of_run (BadLine number) input old new before fine run empty = subst (λ objects. IfSome input (λ text. TellsWhole old new (FallsShort 1 objects (lines_of text)))) empty run
-short_of_run NotRead input old new before fine run empty = absurd (fine refl)
-short_of_run NotWritten input old new before fine run empty = absurd (fine refl)
-
--- what is so of a text that is like this, from what a run that isn't refused tells of one
-pub of_such : (end : End) (input : Option (List ℕ)) (Is P Q : List ℕ → Type 0) → status_of end ≢ 1 → ((text : List ℕ) → input ≡ Some text → Finishes end (λ _. IfSome (Some text) P) → Q text)
-    → Finishes end (λ _. IfSome input (λ text. Is text → P text)) → IfSome input (λ text. Is text → Q text)
-of_such Done None Is P Q fine so run = tt
-of_such Done (Some text) Is P Q fine so run = λ is. so text refl (run is)
-of_such (BadLine number) None Is P Q fine so run = tt
-of_such (BadLine number) (Some text) Is P Q fine so run = λ is. so text refl (run is)
-of_such NotRead input Is P Q fine so run = absurd (fine refl)
-of_such NotWritten input Is P Q fine so run = absurd (fine refl)
+-- the input of one that isn't refused was read
+pub read_by : (end : End) → status_of end ≢ 1 → end ≢ NotRead
+read_by end fine unread = fine (ap status_of unread)
 
 -- what a run that isn't refused has told
 has_told : (end : End) (P : Type 0) → status_of end ≢ 1 → Finishes end (λ _. P) → P
@@ -97,25 +55,63 @@ has_told (BadLine number) P fine run = run
 has_told NotRead P fine run = absurd (fine refl)
 has_told NotWritten P fine run = absurd (fine refl)
 
--- what is written of a text without actors over nothing, also where memory was refused
-pub may_of_run : (end : End) (old new : Option (List ℕ)) (text : List ℕ) (before after : Objects) → status_of end ≢ 1 → before ≡ []
-    → Finishes end (λ _. TellsWhole old new (λ written. Runs 1 before (lines_of text) written after)) → TellsWhole old new (MayBeTold [] text)
-may_of_run end old new text before after fine empty run =
-    let told = has_told end _ fine run in
-    (told.0, told.1, (after, subst (λ (o : Objects). Runs 1 o (lines_of text) told.0 after) empty told.2))
+-- why one is refused
+pub refused_because : (end : End) (status : ℕ) (is_short fell is_broken is_unwritten : Bool) (input : Option (List ℕ)) → status ≡ status_of end → status ≡ 1 → is_short ≡ fell
+    → (end ≡ NotRead → (is_broken ≡ true) ⊎ ((fell ≡ true) ⊎ IfSome input (λ text. MOST_READS ≤ length text))) → (end ≡ NotWritten → (is_unwritten ≡ true) ⊎ (fell ≡ true))
+    → (is_short ≡ true) ⊎ ((is_broken ≡ true) ⊎ ((is_unwritten ≡ true) ⊎ IfSome input (λ text. MOST_READS ≤ length text)))
+refused_because Done status is_short fell is_broken is_unwritten input same is short unread unwritten = let no = sym same ∙ is in cc
+refused_because (BadLine number) status is_short fell is_broken is_unwritten input same is short unread unwritten = let no = sym same ∙ is in cc
+refused_because NotRead status is_short fell is_broken is_unwritten input same is short unread unwritten = by_input (unread refl)
+  where
+    by_input : (is_broken ≡ true) ⊎ ((fell ≡ true) ⊎ IfSome input (λ text. MOST_READS ≤ length text)) → (is_short ≡ true) ⊎ ((is_broken ≡ true) ⊎ ((is_unwritten ≡ true) ⊎ IfSome input (λ text. MOST_READS ≤ length text)))
+    by_input (inl broken) = inr (inl broken)
+    by_input (inr (inl fallen)) = inl (short ∙ fallen)
+    by_input (inr (inr long)) = inr (inr (inr long))
+refused_because NotWritten status is_short fell is_broken is_unwritten input same is short unread unwritten = by_output (unwritten refl)
+  where
+    by_output : (is_unwritten ≡ true) ⊎ (fell ≡ true) → (is_short ≡ true) ⊎ ((is_broken ≡ true) ⊎ ((is_unwritten ≡ true) ⊎ IfSome input (λ text. MOST_READS ≤ length text)))
+    by_output (inl failed) = inr (inr (inl failed))
+    by_output (inr fallen) = inl (short ∙ fallen)
 
--- what is written of a text with actors over nothing
-pub played_of_run : (end : End) (old new : Option (List ℕ)) (text : List ℕ) (before after : Objects) (uses : Bool) → status_of end ≢ 1 → before ≡ []
-    → Finishes end (λ _. TellsWhole old new (λ written. PlaysText (first_scene before uses) text written after)) → TellsWhole old new (IsPlayedOver uses text)
-played_of_run end old new text before after uses fine empty run =
-    let told = has_told end _ fine run in
-    (told.0, told.1, (after, subst (λ (o : Objects). PlaysText (first_scene o uses) text told.0 after) empty told.2))
+-- the status of words that can't be read
+pub status_of_words : (kinds : List ErrorKind) (kind : ErrorKind) (status : ℕ) (is_short : Bool) → status ≡ status_of_kind kind → (kind ≡ OutOfMemory → is_short ≡ true) → (kind ≡ OutOfMemory) ⊎ IsAmong kind kinds
+    → IsStatusOf kinds status is_short
+status_of_words kinds kind status is_short same short (inl memory) = inl (same ∙ ap status_of_kind memory, short memory)
+status_of_words kinds kind status is_short same short (inr among) = inr (kind, among, same)
 
-pub so_of_run : (end : End) (old new : Option (List ℕ)) (text : List ℕ) (after : Objects) (uses : Bool) → status_of end ≢ 1
-    → Finishes end (λ _. ArePutHere (lines_of text) → TellsWhole old new (λ written. PlaysSo (first_scene [] uses) text written after)) → ArePutHere (lines_of text) → TellsWhole old new (IsPlayedSo uses text)
-so_of_run end old new text after uses fine run here =
-    let told = has_told end _ fine run here in
-    (told.0, told.1, (after, told.2))
+-- What is written of a script over nothing that isn't refused: of a text that is known, by what its run came to.
+module _ (uses : Bool) (outcome : Outcome) (old new : Option (List ℕ)) (after : Objects) (fine : status_of outcome.end ≢ 1) where
+  module _ (text : List ℕ) (limit : MOST_BYTES < length text → outcome.end ≡ NotRead) where
+    by_table_of : (needs_world text ≡ false → IsTextRun uses text outcome old new [] after) → needs_world text ≡ false → fell_short outcome ≡ false → IsScript nothing old new text [] after
+    by_table_of plain none whole = has_told outcome.end _ fine ((plain none).script nothing (well_of_empty uses [] refl) refl whole) (few_by outcome.end text fine limit)
+
+    writes : (needs_world text ≡ false → IsTextRun uses text outcome old new [] after) → (needs_world text ≡ true → IsWorldRun uses text outcome old new [] after) → WritesScript uses text (fell_short outcome) old new
+    writes plain played = record {
+      told = λ none whole. tells_of_run old new text after (has_told outcome.end _ fine ((plain none).told (well_of_empty uses [] refl) whole));
+      tables = λ none whole. (by_table_of plain none whole).by_table;
+      shown = λ none whole. (by_table_of plain none whole).over;
+      short = λ none so. has_told outcome.end _ fine ((plain none).short (well_of_empty uses [] refl) so);
+      tells = λ none. may_be_told (has_told outcome.end _ fine ((plain none).tells (well_of_empty uses [] refl)));
+      plays = λ has. is_played (has_told outcome.end _ fine (played has).tells_short);
+      headline = λ has here. is_played_so (has_told outcome.end _ fine ((played has).worlds refl here));
+    }
+      where
+        may_be_told : TellsWhole old new (λ written. Runs 1 [] (lines_of text) written after) → TellsWhole old new (MayBeTold [] text)
+        may_be_told told = (told.0, told.1, (after, told.2))
+
+        is_played : TellsWhole old new (λ written. PlaysShort (first_scene [] uses) text written (fell_short outcome) after) → TellsWhole old new (IsPlayedOver uses text (fell_short outcome))
+        is_played told = (told.0, told.1, (after, told.2))
+
+        is_played_so : TellsWhole old new (λ written. PlaysSo (first_scene [] uses) text written after) → TellsWhole old new (IsPlayedSo uses text)
+        is_played_so told = (told.0, told.1, (after, told.2))
+
+  -- the same where the text may not be known, over a store that loses no call
+  pub written_of : (is_reliable : Type 0) (input : Option (List ℕ)) (before : Objects) → IfSome input (λ text. MOST_BYTES < length text → outcome.end ≡ NotRead)
+      → IfSome input (λ text. needs_world text ≡ false → is_reliable → IsTextRun uses text outcome old new before after) → IfSome input (λ text. needs_world text ≡ true → is_reliable → IsWorldRun uses text outcome old new before after)
+      → is_reliable → before ≡ [] → IfSome input (λ text. WritesScript uses text (fell_short outcome) old new)
+  written_of is_reliable None before limit plain played reliable empty = tt
+  written_of is_reliable (Some text) before limit plain played reliable empty =
+      writes text limit (λ none. subst (λ (o : Objects). IsTextRun uses text outcome old new o after) empty (plain none reliable)) (λ has. subst (λ (o : Objects). IsWorldRun uses text outcome old new o after) empty (played has reliable))
 
 -- why the first bad line of one that isn't refused is bad is told on standard error
 pub bad_line_told : {E : Type 0} (contents : E → Option (List ℕ)) (end : End) (input : Option (List ℕ)) (status : ℕ) (old new : ErrorOutput E) → status_of end ≢ 1 → status ≡ status_of end
@@ -141,24 +137,3 @@ is_script _ = false
 pub no_other : (words : List (List ℕ)) (c other : Command) → Spells words c → other ≡ c → is_script other ≡ false → ⊥
 no_other words c other restoring e not_one = let both = sym (ap is_script e) ∙ not_one in cc
 no_other words c other replaying e not_one = let both = sym (ap is_script e) ∙ not_one in cc
-
--- what is written, put together
-pub written_of : (uses : Bool) (input : Option (List ℕ)) (is_short : Bool) (before after : Option (List ℕ))
-    → (is_short ≡ false → IfSome input (λ text. needs_world text ≡ false → TellsWhole before after (IsScriptTold [] text)))
-    → (is_short ≡ false → IfSome input (λ text. needs_world text ≡ false → AreOfTable (lines_of text) → Appends before after (expected_by_table nothing text)))
-    → (is_short ≡ false → IfSome input (λ text. needs_world text ≡ false → ArePutHere (lines_of text) → IsExpectedOver before after nothing [] (lines_of text)))
-    → (is_short ≡ true → IfSome input (λ text. needs_world text ≡ false → TellsWhole before after (FallsShort 1 [] (lines_of text))))
-    → IfSome input (λ text. needs_world text ≡ false → TellsWhole before after (MayBeTold [] text))
-    → IfSome input (λ text. needs_world text ≡ true → TellsWhole before after (IsPlayedOver uses text))
-    → IfSome input (λ text. needs_world text ≡ true → ArePutHere (lines_of text) → TellsWhole before after (IsPlayedSo uses text))
-    → IfSome input (λ text. WritesScript uses text is_short before after)
-written_of uses None is_short before after told tables shown short tells plays headline = tt
-written_of uses (Some text) is_short before after told tables shown short tells plays headline = record {
-  told = λ none whole. told whole none;
-  tables = λ none whole. tables whole none;
-  shown = λ none whole. shown whole none;
-  short = λ none is. short is none;
-  tells = tells;
-  plays = plays;
-  headline = headline;
-}

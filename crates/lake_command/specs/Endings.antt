@@ -1,6 +1,7 @@
 -- How a job on the table in a folder ends: what comes of it, what is told and where, and the exit status.
-use Rattle.std.specs.Prelude.{◌≡◌, ◌⊎◌, ◌≤◌, ◌||◌, ℕ, Bool, true, false, List, Option, Some, None, Result, Ok, Err, IfErr, IfSome, if◌then◌else◌, length}
+use Rattle.std.specs.Prelude.{◌≡◌, ◌⊎◌, ◌≤◌, ◌||◌, ℕ, Bool, true, false, List, Option, Some, None, Result, Ok, Err, IfErr, IfOk, IfSome, if◌then◌else◌, length}
 use Rattle.std.specs.Io.KnownBytes.{Appends}
+use Rattle.clap.specs.declared.error.kind.ErrorKind.{ErrorKind}
 use Rattle.store_core.specs.Objects.{Objects}
 use Rattle.table_folder.specs.Traces.{FolderCall, Traced}
 use Rattle.lake_script.specs.ReplyView as replies
@@ -16,20 +17,16 @@ use Rattle.lake_hints.specs.ErrorOutputs.{TellsText, TellsSome}
 use Rattle.lake_hints.specs.Rowless.{creates_rowless}
 use Rattle.lake_hints.specs.declared.error_output.ErrorOutput.{ErrorOutput}
 use Rattle.lake_command.specs.Again.{RanAsAsked}
+use Rattle.lake_command.specs.Answering.{IsAnswerOver}
+use Rattle.lake_command.specs.Counts.{IsRowCount}
 use Rattle.lake_command.specs.ErrorTexts.{IsErrText, IsUnwrittenTold, failure_line}
-use Rattle.lake_command.specs.Failures.{HasCause, Leaves, failure_text}
-use Rattle.lake_command.specs.Folders.{IsJobAnswer}
-use Rattle.lake_command.specs.Status.{is_want_of_memory, refuses, status_of_failure}
+use Rattle.lake_command.specs.Failures.{HasCause, IsCaused, failure_text}
+use Rattle.lake_command.specs.Folders.{IsMiscounted, reads_input}
+use Rattle.lake_command.specs.Status.{IsStatusOf, is_want_of_memory, refuses, status_of_failure}
 use Rattle.lake_command.specs.declared.exit.Exit.{Exit}
 use Rattle.lake_command.specs.declared.failure.Failure.{Failure}
 use Rattle.lake_command.specs.declared.failure.Failure.TheVariants.{BadLine, Memory}
 use Rattle.outcomes.specs.Lines.{with_newline}
-
--- What comes of a job: its reply, with what the same line of a script leaves, or why it has none, with what the folder
--- holds then.
-abbrev pub IsOutcome : Result LineReply Failure → Work → (text : Option (List ℕ)) → (old new : Objects) → Type 0
-IsOutcome (Ok reply) work text old new = IsJobAnswer work text old (reply_text reply) new
-IsOutcome (Err failure) work text old new = Leaves failure work text old new
 
 -- what is told where replies go: a reply, a bad line, or that no room was left for the input or its rows; all else goes
 -- to standard error
@@ -100,6 +97,21 @@ abbrev pub is_growth_refused : OutputError → Bool
 is_growth_refused outputs.Memory = true
 is_growth_refused outputs.Broken = false
 
+-- However a job on the table in a folder ends, there is a reply, or a failure that has its cause. It is told where it
+-- belongs, and on standard error what it means and what to do, with its status, or a write failed or a growth was
+-- refused, which is told there, and the status is 1.
+pub record EndsTableJob {W E : Type 0} (contents : W → Option (List ℕ)) (contents_err : E → Option (List ℕ)) (is_well : Type 0) (made : List FolderCall → Type 0) (use_checkpoints : Bool) (work : Work) (text : Option (List ℕ)) (is_broken : Bool) (objects_old objects_new : Objects) (faults_old faults_new : ℕ) (old new : Output W) (err_old err_new : ErrorOutput E) (exit : Exit) : Type 0 where
+  pub outcome : Result LineReply Failure
+  pub rows : ℕ
+  pub rows_counted : IfOk outcome (λ _. IsRowCount work text rows)
+  -- Over a steady folder whose checkpoints are sound, or with all commits read, it is the answer, or leaves what it
+  -- may.
+  pub over : is_well → IsAnswerOver outcome work text objects_old objects_new faults_old faults_new
+  pub caused : IsCaused outcome work text is_broken faults_old faults_new
+  -- Over any folder it is what runs of what the words ask for tell.
+  pub ran : RanAsAsked made work text is_broken use_checkpoints faults_old faults_new outcome
+  pub told : EndsWith contents contents_err work rows outcome old new err_old err_new exit
+
 -- The status is that of words or of an input that can't be read, unless a read or a write failed, the input may have taken
 -- too many reads, or memory ran out.
 abbrev pub IsMisused : (text : Option (List ℕ)) → (is_broken is_unwritten : Bool) → Exit → Type 0
@@ -116,6 +128,7 @@ AreCallsAt {F} path_of count_of makes path faults calls = (old new : F) × (path
 pub record IsJobTold {W E : Type 0} (contents : W → Option (List ℕ)) (contents_err : E → Option (List ℕ)) (made : (faults : ℕ) → List FolderCall → Type 0) (use_checkpoints : Bool) (work : Work) (text : Option (List ℕ)) (is_broken : Bool) (old new : Output W) (err_old err_new : ErrorOutput E) (exit : Exit) : Type 0 where
   pub outcome : Result LineReply Failure
   pub rows : ℕ
+  pub rows_counted : IfOk outcome (λ _. IsRowCount work text rows)
   pub cause : IfErr outcome (λ failure. HasCause failure work text is_broken)
   pub faults : ℕ
   pub ran : RanAsAsked (made faults) work text is_broken use_checkpoints 0 faults outcome
@@ -125,3 +138,17 @@ pub record IsJobTold {W E : Type 0} (contents : W → Option (List ℕ)) (conten
 abbrev pub TellsJob : {W E : Type 0} → (W → Option (List ℕ)) → (E → Option (List ℕ)) → (made : (faults : ℕ) → List FolderCall → Type 0) → (use_checkpoints : Bool) → Work → (text : Option (List ℕ)) → (is_broken : Bool) → (old new : Output W) → (err_old err_new : ErrorOutput E) → Exit → Type 0
 TellsJob contents contents_err made use_checkpoints work text is_broken old new err_old err_new exit =
     ((exit.status ≡ 1) × (exit.is_short ≡ true)) ⊎ IsJobTold contents contents_err made use_checkpoints work text is_broken old new err_old err_new exit
+
+-- How a job ends on the table in a folder of the disk. What it leaves there isn't claimed.
+pub record EndsDiskJob {W E I : Type 0} (contents : W → Option (List ℕ)) (contents_err : E → Option (List ℕ)) (made : (faults : ℕ) → List FolderCall → Type 0) (use_checkpoints : Bool) (work : Work) (text : Option (List ℕ)) (is_broken : Bool) (input_old input_new : I) (old new : Output W) (err_old err_new : ErrorOutput E) (exit : Exit) : Type 0 where
+  -- What comes of it is told where it belongs, with its status, and a failure of the words or the input has its cause
+  -- there, unless memory runs out; all else is what runs of what the words ask for tell, over the folder that they name.
+  pub job : TellsJob contents contents_err made use_checkpoints work text is_broken old new err_old err_new exit
+  -- An append whose input has another count of lines than its words say has the status 2, by the same rule.
+  pub counted : IsMiscounted work text → IsMisused text is_broken (write_failed new) exit
+  pub input_untouched : reads_input work ≡ false → input_new ≡ input_old
+
+-- Words that can't be read have the status of what is wrong with them, and run nothing.
+pub record AreMisread {W I : Type 0} (kinds : List ErrorKind) (input_old input_new : I) (old new : Output W) (exit : Exit) : Type 0 where
+  pub misused : IsStatusOf kinds exit.status exit.is_short
+  pub unread : (input_new ≡ input_old) × (new ≡ old)

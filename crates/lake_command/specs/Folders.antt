@@ -4,7 +4,7 @@ use Rattle.std.specs.Io.KnownBytes.{Appends}
 use Rattle.serde_json.specs.Data.{Data}
 use Rattle.serde_json.specs.View.{items_of}
 use Rattle.store_core.specs.Objects.{Objects}
-use Rattle.json_lines.specs.Rows.{input_lines, object_of}
+use Rattle.json_lines.specs.Rows.{input_lines, json_object_in_line}
 use Rattle.lake_words.specs.Asked.{Work}
 use Rattle.lake_words.specs.Asked as words
 use Rattle.lake_script.specs.LineJobs.{IsOfText}
@@ -20,7 +20,7 @@ use Rattle.lake_command.specs.Status.{refuses}
 
 -- these are the rows of an input: the JSON objects of its lines
 abbrev pub AreLineRows : List ℕ → List Data → Type 0
-AreLineRows text rows = map object_of (input_lines text) ≡ map (λ row. Some row) rows
+AreLineRows text rows = map json_object_in_line (input_lines text) ≡ map (λ row. Some row) rows
 
 -- an append alone reads the input
 abbrev pub reads_input : Work → Bool

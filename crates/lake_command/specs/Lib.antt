@@ -1,4 +1,5 @@
 pub mod Again
+pub mod Answering
 pub mod Failures
 pub mod Folders
 pub mod Status

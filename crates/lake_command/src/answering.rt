@@ -1,20 +1,18 @@
 //! The reply to a job on the table in a folder.
-ghost use Rattle.std.specs.Prelude.{◌≡◌, ◌≢◌, ◌⊎◌, ◌++◌, ◌↔◌, ◌<◌, ◌≤◌, ◌^◌, ℕ, Bool, List, Option, true, false, Some, None, IfOk, IfErr, IfSome, IsErrAnd, IsSomeAnd, IsOk, IsOkAnd, IsTrue, Ok, length};
+ghost use Rattle.std.specs.Prelude.{◌≡◌, ◌≢◌, ◌++◌, ◌↔◌, ◌<◌, ◌≤◌, ◌^◌, ℕ, Bool, List, Option, true, false, Some, None, IfOk, IfErr, IfSome, IsErrAnd, IsSomeAnd, IsOk, IsTrue, Ok, length};
 ghost use Rattle.store_core.specs.Calls.{HasRisen};
-ghost use Rattle.store_core.specs.Objects.{AreBytes, object_at};
+ghost use Rattle.store_core.specs.Objects.{object_at};
 ghost use Rattle.table_folder.specs.Traces.{FolderCall, Traced};
-ghost use Rattle.lake_script.specs.SoundStores.{IsSoundStore};
 ghost use Rattle.table_log.specs.Restoring.{RestoresWell};
 ghost use Rattle.lake_words.specs.Asked.{work_view};
 ghost use Rattle.script_lines.specs.Lines.{IsTimely, Statement};
-ghost use Rattle.lake_script.specs.ReplyView.{reply_text};
 ghost use Rattle.lake_script.specs.Streams.{read_failed, unread};
 ghost use Rattle.lake_command.specs.Again.{ComesOfRuns, IsRunOf, RanAsAsked, tries_in};
-ghost use Rattle.lake_command.specs.Counts.{rows_at_hand};
-ghost use Rattle.lake_command.specs.Failures.{FailureComesOfACall, CountsFolderFault, IsByFolder, IsCaused, IsLoading, IsNotRead, IsOfInput, IsCommitTaken, Leaves};
-ghost use Rattle.lake_script.specs.Told.{not_yet};
+ghost use Rattle.lake_command.specs.Answering.{GoesByInput, IsAnswerOver, KeepsFolder};
+ghost use Rattle.lake_command.specs.Counts.{IsRowCount, rows_at_hand};
+ghost use Rattle.lake_command.specs.Failures.{CountsFolderFault, IsByFolder, IsCaused, IsLoading, IsNotRead, IsOfInput, IsCommitTaken};
 ghost use Rattle.lake_script.specs.declared.inputs.TheConstants.{MOST_BYTES};
-ghost use Rattle.lake_command.specs.Folders.{IsJobAnswer, IsAskedBy, IsMiscounted, IsNotYet, IsPutter, IsInputOf, JobMayLeave, line_view, reads_input};
+ghost use Rattle.lake_command.specs.Folders.{IsAskedBy, IsNotYet, IsPutter, IsInputOf, line_view, reads_input};
 
 use crate::Failure;
 use crate::job_line::JobLine;
@@ -44,51 +42,15 @@ pub fn answer<F: Folder, R: Read>(
     input: &mut Input<R>,
     rows: &mut u64,
 ) -> Result<LineReply, Failure>
-    // Over a steady folder whose checkpoints are sound, or with all commits read, the reply and what the folder then
-    // holds are those of the same line of a script over the folder's objects.
-    ensures told { F.is_steady folder.old → RestoresWell command.entry.use_checkpoints (F.objects folder.old)
-        → IfOk result (λ reply. IsJobAnswer (work_view command.entry.job) (unread R.remaining input.old)
-        (F.objects folder.old) (reply_text reply) (F.objects folder.new)) }
-    // A fault of the words or of the input leaves the folder as it was. Where the table isn't saved whole, it holds
-    // what the job put, or its data file alone, or nothing of it; an object that isn't saved is one that the job puts
-    // where nothing stood, and a call of the folder failed then.
-    ensures failed { F.is_steady folder.old → RestoresWell command.entry.use_checkpoints (F.objects folder.old)
-        → IfErr result (λ failure. Leaves failure (work_view command.entry.job) (unread R.remaining input.old)
-        (F.objects folder.old) (F.objects folder.new)) }
-    ensures alone { F.is_steady folder.old → RestoresWell command.entry.use_checkpoints (F.objects folder.old)
-        → FailureComesOfACall result (F.fault_count folder.old) (F.fault_count folder.new) }
-    // However it ends, such a folder holds what it had, or what the job may put, well made: all of it, or its data file
-    // alone.
-    ensures puts { F.is_steady folder.old → RestoresWell command.entry.use_checkpoints (F.objects folder.old)
-        → JobMayLeave (work_view command.entry.job) (unread R.remaining input.old) (F.objects folder.old) (F.objects folder.new) }
-    // What comes of it has its cause in the words, the input or the folder's calls, the input before the folder. The
-    // folder isn't touched where the words or the input are refused.
-    ensures caused { IsCaused result (work_view command.entry.job) (unread R.remaining input.old) (read_failed input.new)
-        (F.fault_count folder.old) (F.fault_count folder.new) }
-    ensures first { IfErr result (λ failure. IsByFolder failure ⊎ (folder.new ≡ folder.old)) }
-    // An append whose input has another count of lines than its words say is refused for its words or its input.
-    ensures counted { IsMiscounted (work_view command.entry.job) (unread R.remaining input.old)
-        → IsErrAnd result (λ failure. IsOfInput failure (work_view command.entry.job) (unread R.remaining input.old) (read_failed input.new)) }
-    // A job but `append` leaves the input alone.
-    ensures input_untouched { reads_input (work_view command.entry.job) ≡ false → input.new ≡ input.old }
-    // Over any folder, whoever else writes into it: of a job that puts something, runs of the line that it asks for were
-    // made, each but the last told that a commit's name is taken, and what came of the last is told; that is taken only
-    // where no try was left or a call failed, or memory ran out and is told. What is told as done was saved, by calls that
-    // say that they made it. Or the words or the input are refused, or the job isn't there yet. A line that puts nothing
-    // fails only where the folder can't be read.
-    ensures runs { RanAsAsked (λ calls. Traced F.makes folder.old calls folder.new) (work_view command.entry.job) (unread R.remaining input.old) (read_failed input.new) command.entry.use_checkpoints
-        (F.fault_count folder.old) (F.fault_count folder.new) result }
-    // What isn't there yet is told as such, without a look at the folder.
-    ensures later { IsNotYet (work_view command.entry.job)
-        → IsOkAnd result (λ reply. reply_text reply ≡ not_yet) × (folder.new ≡ folder.old) }
-    // However it ends, a sound table stays sound: it has all that the job put, or its data file alone, or nothing of
-    // it.
-    ensures sound { F.is_steady folder.old → AreBytes (F.objects folder.old) → IsSoundStore (F.objects folder.old)
-        → IsSoundStore (F.objects folder.new) }
-    // Whatever happens, what stood stands.
-    ensures kept { F.is_steady folder.old → (name bytes : List ℕ) → object_at (F.objects folder.old) name ≡ Some bytes
-        → object_at (F.objects folder.new) name ≡ Some bytes }
-    ensures steady { F.is_steady folder.old → F.is_steady folder.new }
+    // Over a steady folder whose checkpoints are sound, or with all commits read: what is told and left.
+    ensures over { F.is_steady folder.old → RestoresWell command.entry.use_checkpoints (F.objects folder.old) → IsAnswerOver result (work_view command.entry.job) (unread R.remaining input.old) (F.objects folder.old) (F.objects folder.new) (F.fault_count folder.old) (F.fault_count folder.new) }
+    // However it ends, a steady folder stays steady, what stood stands, and a sound table stays sound.
+    ensures keeps { F.is_steady folder.old → KeepsFolder (F.is_steady folder.new) (F.objects folder.old) (F.objects folder.new) }
+    // What comes of it has its cause in the words, the input or the folder's calls, the input before the folder.
+    ensures caused { IsCaused result (work_view command.entry.job) (unread R.remaining input.old) (read_failed input.new) (F.fault_count folder.old) (F.fault_count folder.new) }
+    ensures by_input { GoesByInput result (work_view command.entry.job) (unread R.remaining input.old) (read_failed input.new) folder.old folder.new input.old input.new rows.new }
+    // Over any folder, whoever else writes into it, runs of what the words ask for tell it, by all calls that are made.
+    ensures runs { RanAsAsked (λ calls. Traced F.makes folder.old calls folder.new) (work_view command.entry.job) (unread R.remaining input.old) (read_failed input.new) command.entry.use_checkpoints (F.fault_count folder.old) (F.fault_count folder.new) result }
 {
     let text = text_for(alloc, &command.job, input)?;
     let Some(line) = line_for(alloc, command.job, &text)? else {
@@ -261,6 +223,8 @@ fn line_for<'a>(alloc: Global, job: Job<'a>, text: &'a [u8]) -> Result<Option<Jo
     ensures asked { (known : Option (List ℕ)) → IsInputOf (work_view job.entry) known text.now
         → IfOk result (λ found. IfSome found (λ line. IsAskedBy (work_view job.entry) known (line_view line))) }
     ensures timely { IfOk result (λ found. IfSome found (λ line. IsTimely (line_view line))) }
+    ensures rows { (known : Option (List ℕ)) → IsInputOf (work_view job.entry) known text.now
+        → IfOk result (λ found. IfSome found (λ line. IsRowCount (work_view job.entry) known (rows_at_hand line))) }
     ensures not_yet { IsNotYet (work_view job.entry) → result ≡ Ok None }
     ensures later { result ≡ Ok None → IsNotYet (work_view job.entry) }
     ensures failed { (known : Option (List ℕ)) (is_broken : Bool) → IsInputOf (work_view job.entry) known text.now

@@ -1,19 +1,16 @@
 //! One command, from its words to its exit status.
-ghost use Rattle.std.specs.Prelude.{◌≡◌, ◌≢◌, ◌≤◌, ◌⊎◌, ℕ, Bool, List, [], true, false, length, map, IfOk, IfSome};
+ghost use Rattle.std.specs.Prelude.{◌≡◌, ◌≢◌, ℕ, Bool, List, [], map, IfOk, true};
 ghost use Rattle.clap.specs.Words.{fault_of, kind_of};
 ghost use Rattle.lake_words.specs.declared.command.Command.{Command};
-ghost use Rattle.lake_command.specs.Status.{status_of, status_at, status_of_kind, IsStatusOf};
-ghost use Rattle.lake_script.specs.declared.inputs.TheConstants.{MOST_READS};
-ghost use Rattle.lake_script.specs.Streams.{held, unread, read_failed, write_failed};
-ghost use Rattle.lake_script.specs.Told.{first_bad};
-ghost use Rattle.lake_words.specs.Asked.{Spells, Work, check, explain, table, work_view};
+ghost use Rattle.lake_command.specs.Status.{status_of, status_of_kind};
+ghost use Rattle.lake_script.specs.Streams.{unread, read_failed};
+ghost use Rattle.lake_words.specs.Asked.{Spells, Work, check, explain, table};
 ghost use Rattle.lake_words.specs.Spelling.{SpellsJob};
 ghost use Rattle.lake_command.specs.Checks.{ChecksDisk};
-ghost use Rattle.lake_command.specs.Endings.{AreCallsAt, IsMisused, TellsJob};
-ghost use Rattle.lake_command.specs.ErrorTexts.{IsBadLineTold, IsEndTold};
+ghost use Rattle.lake_command.specs.Endings.{AreCallsAt, AreMisread, EndsDiskJob};
+ghost use Rattle.lake_command.specs.ErrorTexts.{IsEndTold};
 ghost use Rattle.lake_command.specs.Explaining.{Explains};
-ghost use Rattle.lake_command.specs.Folders.{IsMiscounted, reads_input};
-ghost use Rattle.lake_command.specs.Scripts.{WritesScript, script_uses_checkpoints};
+ghost use Rattle.lake_command.specs.Scripts.{EndsScript, script_uses_checkpoints};
 ghost use Rattle.lake_words.specs.Words.{commands};
 ghost use Rattle.lake_hints.specs.ErrorOutputs.{TellsSome};
 
@@ -27,7 +24,7 @@ use clap::error::ErrorKind;
 use folder_check::{FolderReader, Progress};
 use lake_hints::{ErrorOutput, tell_bad_line};
 use lake_script::{End, Fault, Input, Output};
-use lake_words::{Command, TableCommand, read_words};
+use lake_words::{Command, read_words};
 use std::alloc::{AllocError, Global};
 use std::convert::AsStr;
 use std::io::{Read, Write};
@@ -45,6 +42,17 @@ fn misused(error: &Error) -> u8
         ErrorKind::OutOfMemory => REFUSED,
         _ => MISUSED,
     }
+}
+
+/// Tells what `clap` says of words that it can't read, or the help that they ask for.
+fn tell_misread<E: Write>(error: Error, err: &mut ErrorOutput<E>) -> Exit
+    ensures status { result.status ≡ status_of_kind (kind_of error) }
+    ensures short { kind_of error ≡ ErrorKind.OutOfMemory → result.is_short ≡ true }
+{
+    let status = misused(&error);
+    let is_short = error.kind() == ErrorKind::OutOfMemory;
+    err.show(error);
+    Exit { status, is_short }
 }
 
 /// The status of a script that ended so. Why a line is bad, by what was kept of it, and a fault of the program itself
@@ -81,27 +89,21 @@ fn open<H: Files + AllocGlobal + Clone + Drop>(
     DirFolder::new(rt.clone()?, path)
 }
 
-/// Does a job on the table in a folder on the disk.
-fn command_on_disk<H: Files + AllocGlobal + Clone + Drop, R: Read, W: Write, E: Write>(
-    rt: &H,
-    command: TableCommand<'_>,
+/// Runs a script over a store in which nothing stands yet, and tells on `err` why its bad line is one.
+fn script_command<R: Read, W: Write, E: Write>(
+    alloc: Global,
+    use_checkpoints: bool,
     input: &mut Input<R>,
     output: &mut Output<W>,
     err: &mut ErrorOutput<E>,
 ) -> Exit
-    ensures told { TellsJob W.contents E.contents (AreCallsAt ⟦<DirFolder<H> as Folder>⟧.path ⟦<DirFolder<H> as Folder>⟧.fault_count ⟦<DirFolder<H> as Folder>⟧.makes command.entry.folder.now)
-        command.entry.use_checkpoints (work_view command.entry.job) (unread R.remaining input.old) (read_failed input.new)
-        output.old output.new err.old err.new result }
-    ensures counted { IsMiscounted (work_view command.entry.job) (unread R.remaining input.old)
-        → IsMisused (unread R.remaining input.old) (read_failed input.new) (write_failed output.new) result }
-    ensures input_untouched { reads_input (work_view command.entry.job) ≡ false → input.new ≡ input.old }
+    ensures { EndsScript W.contents E.contents use_checkpoints (unread R.remaining input.old) (read_failed input.new) output.old output.new err.old err.new result }
 {
-    match open(rt, command.folder) {
-        Ok(folder) => {
-            let mut folder = folder;
-            table_command(rt.alloc(), &mut folder, command, input, output, err)
-        }
-        Err(_error) => tell_failure(&Failure::Loading(LoadFault::Memory), output, err),
+    let store = MemoryStore::new(alloc);
+    let ran = run(alloc, input, output, store, use_checkpoints);
+    Exit {
+        status: ended(alloc, ran.outcome.end, ran.bad.as_deref(), err),
+        is_short: ran.outcome.is_short(),
     }
 }
 
@@ -145,63 +147,37 @@ pub fn command<
     err: &mut ErrorOutput<E>,
     progress: P,
 ) -> Exit
-    // A script that isn't refused writes what it is told.
-    ensures script { (c : Command) → Spells (map S.text words.now) c → result.status ≢ REFUSED
-        → IfSome (unread R.remaining input.old) (λ text. WritesScript (script_uses_checkpoints c) text result.is_short
-        (held W.contents output.old) (W.contents output.new.writer)) }
-    ensures status { (c : Command) → Spells (map S.text words.now) c → result.status ≢ REFUSED
-        → IfSome (unread R.remaining input.old) (λ text. (result.status ≡ status_at (first_bad text)) × TellsSome E.contents (IsBadLineTold (first_bad text)) err.old err.new) }
-
-    // A script is refused where its input or its output fails, or a growth was refused, and nowhere
-    // else; an input that passes its limits is one that fails.
-    ensures refused { (c : Command) → Spells (map S.text words.now) c → result.status ≡ REFUSED
-        → (result.is_short ≡ true) ⊎ ((read_failed input.new ≡ true) ⊎ ((write_failed output.new ≡ true)
-        ⊎ IfSome (unread R.remaining input.old) (λ text. MOST_READS ≤ length text))) }
-
-    // What comes of a job is told where it belongs, with its status, and a failure of the words or the input has its
-    // cause there, unless memory runs out; all else is what runs of what the words ask for tell, over the folder that
-    // they name. What it leaves in a folder on the disk isn't claimed.
+    // A script that isn't refused writes what it is told; it is refused for its input, its output or a growth alone.
+    ensures script { (c : Command) → Spells (map S.text words.now) c
+        → EndsScript W.contents E.contents (script_uses_checkpoints c) (unread R.remaining input.old) (read_failed input.new) output.old output.new err.old err.new result }
+    // What comes of a job is told where it belongs, with its status. What it leaves in the folder isn't claimed.
     ensures job { (folder : List ℕ) (use_checkpoints : Bool) (work : Work) → SpellsJob (map S.text words.now) (table folder use_checkpoints work)
-        → TellsJob W.contents E.contents (AreCallsAt ⟦<DirFolder<H> as Folder>⟧.path ⟦<DirFolder<H> as Folder>⟧.fault_count ⟦<DirFolder<H> as Folder>⟧.makes folder)
-        use_checkpoints work (unread R.remaining input.old) (read_failed input.new) output.old output.new err.old err.new result }
-    // An append whose input has another count of lines than its words say has the status 2, by the same rule.
-    ensures counted { (folder : List ℕ) (use_checkpoints : Bool) (work : Work) → SpellsJob (map S.text words.now) (table folder use_checkpoints work)
-        → IsMiscounted work (unread R.remaining input.old)
-        → IsMisused (unread R.remaining input.old) (read_failed input.new) (write_failed output.new) result }
-    ensures input_untouched { (folder : List ℕ) (use_checkpoints : Bool) (work : Work) → SpellsJob (map S.text words.now) (table folder use_checkpoints work)
-        → reads_input work ≡ false → input.new ≡ input.old }
-
-    // A check leaves the input alone, and tells a verdict with its status, or a reason why it tells none. That the
-    // verdict is right of a folder on the disk isn't claimed.
+        → EndsDiskJob W.contents E.contents (AreCallsAt ⟦<DirFolder<H> as Folder>⟧.path ⟦<DirFolder<H> as Folder>⟧.fault_count ⟦<DirFolder<H> as Folder>⟧.makes folder)
+        use_checkpoints work (unread R.remaining input.old) (read_failed input.new) input.old input.new output.old output.new err.old err.new result }
+    // A check leaves the input alone, and tells a verdict with its status, or why it tells none. That it is right of the
+    // folder isn't claimed.
     ensures checks { (folder : List ℕ) → SpellsJob (map S.text words.now) (check folder) → (input.new ≡ input.old)
         × ChecksDisk W.contents E.contents ⟦<DirFolder<H> as Folder>⟧.path ⟦<DirFolder<H> as Folder>⟧.fault_count folder output.old output.new err.old err.new result }
-
     // What a code means is told, or that no refusal has it.
     ensures explains { (code : List ℕ) → SpellsJob (map S.text words.now) (explain code) → (input.new ≡ input.old)
         × Explains W.contents E.contents code output.old output.new err.old err.new result }
-
     // Words that can't be read have the status of what is wrong with them, and run nothing.
-    ensures misused { fault_of commands (map S.text words.now) ≢ [] → IsStatusOf (fault_of commands (map S.text words.now)) result.status result.is_short }
-    ensures unread { fault_of commands (map S.text words.now) ≢ [] → (input.new ≡ input.old) × (output.new ≡ output.old) }
+    ensures misread { fault_of commands (map S.text words.now) ≢ [] → AreMisread (fault_of commands (map S.text words.now)) input.old input.new output.old output.new result }
 {
     let alloc = rt.alloc();
     match read_words(alloc, words) {
-        Ok(Command::Table(command)) => command_on_disk(rt, command, input, output, err),
+        Ok(Command::Table(command)) => {
+            let Ok(folder) = open(rt, command.folder) else {
+                return tell_failure(&Failure::Loading(LoadFault::Memory), output, err);
+            };
+            let mut folder = folder;
+            table_command(alloc, &mut folder, command, input, output, err)
+        }
         Ok(Command::Check { folder }) => check_on_disk(rt, folder, progress, output, err),
         Ok(Command::Explain { code }) => explain_command(code, output, err),
         Ok(Command::Script { use_checkpoints }) => {
-            let store = MemoryStore::new(alloc);
-            let ran = run(alloc, input, output, store, use_checkpoints);
-            Exit {
-                status: ended(alloc, ran.outcome.end, ran.bad.as_deref(), err),
-                is_short: ran.outcome.is_short(),
-            }
+            script_command(alloc, use_checkpoints, input, output, err)
         }
-        Err(error) => {
-            let status = misused(&error);
-            let is_short = error.kind() == ErrorKind::OutOfMemory;
-            err.show(error);
-            Exit { status, is_short }
-        }
+        Err(error) => tell_misread(error, err),
     }
 }

@@ -13,9 +13,9 @@ ghost use Rattle.lake_command.specs.Looks.{Looks, LooksForHistory, LooksForRows,
 
 use crate::Failure;
 use crate::job_line::JobLine;
-use crate::putting::reply_beside;
+use crate::putting::{job_of_line, no_room_for};
 use folder_session::Beside;
-use lake_script::{Job, Line, LineReply, Look, execute, reply_of_read};
+use lake_script::{Job, Line, LineReply, Look, execute, reply_of, reply_of_read};
 use log_reading::LogCache;
 use std::alloc::Global;
 use table_folder::{Folder, load_log, save};
@@ -135,7 +135,8 @@ fn history_in<F: Folder>(
     ))
 }
 
-/// Does what a line that puts something asks for, as a session of the folder, and saves what it put.
+/// Does what a line that puts something asks for, as a session of the folder, and saves what it put. The reply is told
+/// behind that alone.
 fn execute_beside<F: Folder>(
     alloc: Global,
     folder: &mut F,
@@ -165,7 +166,14 @@ fn execute_beside<F: Folder>(
         → object_at (F.objects folder.new) name ≡ Some bytes }
     ensures steady { F.is_steady folder.old → F.is_steady folder.new }
 {
-    let Beside { outcome, mut added } = reply_beside(alloc, folder, line, tries, use_checkpoints)?;
+    let no_room = no_room_for(&line);
+    let found = job_of_line(alloc, line, tries, use_checkpoints);
+    let Ok(Some(job)) = found else {
+        // A line that puts something is a job, so memory ran out.
+        return Ok(no_room);
+    };
+    let Beside { outcome, mut added } = folder_session::run(alloc, folder, job)?;
+    let reply = reply_of(alloc, outcome);
     save(alloc, folder, &mut added, &[])?;
-    Ok(outcome)
+    Ok(reply)
 }

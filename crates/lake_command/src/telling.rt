@@ -1,20 +1,17 @@
 //! The reply to a job on the table in a folder, told, and the exit status.
 ghost use Rattle.outcomes.specs.Lines.{with_newline};
-ghost use Rattle.std.specs.Prelude.{◌≡◌, ◌≢◌, ◌⊎◌, ◌||◌, ◌<◌, ℕ, List, true, false, Some, Result, Ok, Err, IfSome, OnOk, OnErr, option_map};
+ghost use Rattle.std.specs.Prelude.{◌≡◌, ◌≢◌, ◌||◌, ℕ, true, false, Ok, Err, IfSome, OnOk, OnErr, option_map};
 ghost use Rattle.std.specs.Io.KnownBytes.{Appends};
-ghost use Rattle.store_core.specs.Objects.{AreBytes, object_at};
-ghost use Rattle.lake_script.specs.SoundStores.{IsSoundStore};
 ghost use Rattle.table_folder.specs.Traces.{Traced};
 ghost use Rattle.table_log.specs.Restoring.{RestoresWell};
 ghost use Rattle.lake_words.specs.Asked.{Work, work_view};
 ghost use Rattle.lake_script.specs.ReplyView.{reply_text};
 ghost use Rattle.lake_script.specs.Streams.{held, read_failed, unread, write_failed, WritesFront};
 ghost use Rattle.lake_hints.specs.ErrorOutputs.{AreInTurn, TellsText, TellsSome};
-ghost use Rattle.lake_command.specs.Again.{RanAsAsked};
+ghost use Rattle.lake_command.specs.Answering.{KeepsFolder};
 ghost use Rattle.lake_command.specs.Codes.{code_in};
-ghost use Rattle.lake_command.specs.Endings.{EndsWith, IsLineTold, IsLineUntold, IsMisused, IsOutcome, is_growth_refused};
+ghost use Rattle.lake_command.specs.Endings.{EndsTableJob, EndsWith, IsLineTold, IsLineUntold, IsMisused, is_growth_refused};
 ghost use Rattle.lake_command.specs.ErrorTexts.{IsFaultTold, IsMeaningIn, IsUnwrittenTold, failure_hint, is_told_as_reply};
-ghost use Rattle.lake_command.specs.Failures.{FailureComesOfACall, IsCaused};
 ghost use Rattle.lake_command.specs.Status.{ends_early, has_refusal, is_refusal, is_want_of_memory, refuses, status_of_failure};
 ghost use Rattle.lake_command.specs.Folders.{IsAnsweredJob, IsMiscounted, reads_input};
 
@@ -43,35 +40,18 @@ pub fn table_command<F: Folder, R: Read, W: Write, E: Write>(
     // Over a steady folder whose checkpoints are sound, or with all commits read, a job that is done writes the reply
     // of the same line of a script over the folder's objects, and the folder then holds what that line leaves.
     ensures done { F.is_steady folder.old → RestoresWell command.entry.use_checkpoints (F.objects folder.old) → result.status ≡ DONE
-        → IsAnsweredJob (work_view command.entry.job) (unread R.remaining input.old) (F.objects folder.old)
-        (held W.contents output.old) (W.contents output.new.writer) (F.objects folder.new) }
-    // However it ends, there is a reply, or a failure that has its cause; over such a folder it is the answer, or
-    // leaves what it may, and over any folder it is what runs of what the words ask for tell. It is told where it belongs,
-    // and on standard error what it means and what to do, with its status, or a write failed or a growth was refused,
-    // which is told there, and the status is 1.
-    ensures ended { (outcome : Result LineReply Failure) × (rows : ℕ)
-        × (F.is_steady folder.old → RestoresWell command.entry.use_checkpoints (F.objects folder.old)
-        → IsOutcome outcome (work_view command.entry.job) (unread R.remaining input.old) (F.objects folder.old) (F.objects folder.new)
-        × FailureComesOfACall outcome (F.fault_count folder.old) (F.fault_count folder.new))
-        × IsCaused outcome (work_view command.entry.job) (unread R.remaining input.old) (read_failed input.new)
-        (F.fault_count folder.old) (F.fault_count folder.new)
-        × RanAsAsked (λ calls. Traced F.makes folder.old calls folder.new) (work_view command.entry.job) (unread R.remaining input.old) (read_failed input.new) command.entry.use_checkpoints
-        (F.fault_count folder.old) (F.fault_count folder.new) outcome
-        × EndsWith W.contents E.contents (work_view command.entry.job) rows outcome output.old output.new err.old err.new result }
+        → IsAnsweredJob (work_view command.entry.job) (unread R.remaining input.old) (F.objects folder.old) (held W.contents output.old) (W.contents output.new.writer) (F.objects folder.new) }
+    // However it ends, there is a reply or a failure, which has its cause; it is told where it belongs, with its status.
+    ensures ended { EndsTableJob W.contents E.contents (F.is_steady folder.old × RestoresWell command.entry.use_checkpoints (F.objects folder.old)) (λ calls. Traced F.makes folder.old calls folder.new)
+        command.entry.use_checkpoints (work_view command.entry.job) (unread R.remaining input.old) (read_failed input.new) (F.objects folder.old) (F.objects folder.new) (F.fault_count folder.old) (F.fault_count folder.new) output.old output.new err.old err.new result }
     // An append whose input has another count of lines than its words say isn't run: the folder isn't touched, and the
     // status is 2, unless the input can't be read, its bad line can't be written or memory runs out.
     ensures counted { IsMiscounted (work_view command.entry.job) (unread R.remaining input.old) → (folder.new ≡ folder.old)
         × IsMisused (unread R.remaining input.old) (read_failed input.new) (write_failed output.new) result }
     // A job but `append` leaves the input alone.
     ensures input_untouched { reads_input (work_view command.entry.job) ≡ false → input.new ≡ input.old }
-    // However it ends, a sound table stays sound: it has all that the job put, or its data file alone, or nothing of
-    // it.
-    ensures sound { F.is_steady folder.old → AreBytes (F.objects folder.old) → IsSoundStore (F.objects folder.old)
-        → IsSoundStore (F.objects folder.new) }
-    // Whatever happens, what stood stands.
-    ensures kept { F.is_steady folder.old → (name bytes : List ℕ) → object_at (F.objects folder.old) name ≡ Some bytes
-        → object_at (F.objects folder.new) name ≡ Some bytes }
-    ensures steady { F.is_steady folder.old → F.is_steady folder.new }
+    // However it ends, a steady folder stays steady, what stood stands, and a sound table stays sound.
+    ensures keeps { F.is_steady folder.old → KeepsFolder (F.is_steady folder.new) (F.objects folder.old) (F.objects folder.new) }
 {
     let mut rows = 0;
     match answer(alloc, folder, command, input, &mut rows) {

@@ -15,7 +15,8 @@ use Rattle.snapshot_core.specs.declared.fault.SnapshotFault.{SnapshotFault}
 use Rattle.snapshot_core.specs.declared.fault.SnapshotFault.TheVariants as snapshots
 use Rattle.source_core.specs.SourceSessions.{loses}
 use Rattle.table_log.specs.declared.loading.Loaded.{Loaded}
-use Rattle.lake_script.specs.Endings.{checkpoint_wants, creation_wants, read_wants, stream_loses, stream_wants}
+use Rattle.lake_script.specs.Endings.{stream_loses}
+use Rattle.table_jobs.specs.Wants.{checkpoint_wants, creation_wants, read_wants, stream_wants}
 use Rattle.lake_script.specs.ReplyView.{is_short_reply, says_lost}
 use Rattle.lake_script.specs.declared.reply.LineReply.TheVariants.{NoSnapshot, NotCreated, NotTailed, SinkRefused}
 

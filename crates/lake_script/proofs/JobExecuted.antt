@@ -43,7 +43,8 @@ use Rattle.table_jobs.specs.Views.{known_load, with_known}
 use Rattle.script_lines.specs.Lines as lines
 use Rattle.script_lines.specs.Lines.{Statement}
 use Rattle.lake_script.specs.LineJobs.{job_of_creation, job_of_line, job_of_task}
-use Rattle.lake_script.specs.Endings.{IsReadReply, IsReadShort, IsReplyOf, IsShortBy, checkpoint_end_reply, checkpoint_wants, creation_wants, read_wants, stream_reply, stream_wants}
+use Rattle.lake_script.specs.Endings.{IsReadReply, IsReadShort, IsReplyOf, IsShortBy, checkpoint_end_reply, stream_reply}
+use Rattle.table_jobs.specs.Wants.{checkpoint_wants, creation_wants, read_wants, stream_wants}
 use Rattle.lake_script.specs.ReplyView.{reply_text}
 use Rattle.lake_script.specs.Sound.{IsExecuted}
 use Rattle.lake_script.specs.Told.{created_reply, tailed_reply}

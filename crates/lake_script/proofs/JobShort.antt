@@ -39,7 +39,8 @@ use Rattle.table_jobs.specs.declared.job_session.JobEnd.TheVariants as ends
 use Rattle.script_lines.specs.Lines as lines
 use Rattle.script_lines.specs.Lines.{Statement}
 use Rattle.lake_script.specs.AnyStore.{IsToldLost, lost_to_append, lost_to_create, lost_to_read, lost_to_tell}
-use Rattle.lake_script.specs.Endings.{IsReadReply, IsReadShort, IsReplyOf, IsShortBy, checkpoint_end_reply, checkpoint_wants, creation_wants, reply_loses, stream_loses, stream_reply, stream_wants}
+use Rattle.lake_script.specs.Endings.{IsReadReply, IsReadShort, IsReplyOf, IsShortBy, checkpoint_end_reply, reply_loses, stream_loses, stream_reply}
+use Rattle.table_jobs.specs.Wants.{checkpoint_wants, creation_wants, stream_wants}
 use Rattle.lake_script.specs.JobRuns.{RanOverStore}
 use Rattle.lake_script.specs.LineJobs.{job_of_line}
 use Rattle.lake_script.specs.ReplyView.{is_short_reply, reply_text}

@@ -18,7 +18,7 @@ use Rattle.delta_actions.specs.Names.{data_file_name as plain_file_name}
 use Rattle.row_core.specs.Rows.{Row, same_rows}
 use Rattle.delta_replay.specs.Support.{has_key_inside}
 use Rattle.table_model.specs.Table as model
-use Rattle.table_model.specs.Table.{Entry, creation, group, last_batch, is_closed}
+use Rattle.table_model.specs.Table.{Entry, creation, group, last_batch, is_stream_closed}
 use Rattle.commit_core.specs.TableCommits.{IsCommitOf}
 use Rattle.table_model.proofs.Callers.{append_keeps}
 use Rattle.batch_core.specs.Committing.{batch_actions, batch_file_name, greatest_number}
@@ -154,7 +154,7 @@ module _ (objects : Objects) (schema : Tree) (entries : List Entry) (kept : Keep
 
   -- what is done behind the application's last number
   abbrev behind_last : Option ℕ → Result AppendPlan SinkRefusal
-  behind_last last = (is_repeat number last >>= λ repeats. goes_on (is_closed application entries) repeats >>= λ open_. Ok (asked (length entries) schema rows repeats)) >>= plan_of objects application number at
+  behind_last last = (is_repeat number last >>= λ repeats. goes_on (is_stream_closed application entries) repeats >>= λ open_. Ok (asked (length entries) schema rows repeats)) >>= plan_of objects application number at
 
   -- what is done for a new number, where the stream may be closed
   open_agrees : (closed : Bool) → appended (handed_in application number rows) entries ≡ cond closed StreamClosed (Committed (length entries)) → object_at objects (plain_file_name application number) ≡ None
@@ -175,33 +175,33 @@ module _ (objects : Objects) (schema : Tree) (entries : List Entry) (kept : Keep
   -- what is done behind the last batch, if there is one
   behind_agrees : (last : Option model.Batch) → last_batch application entries ≡ last → IsSoundPlan application number at (behind_last (option_map (λ (b : model.Batch). b.number) last))
       → Agrees objects schema entries number (behind_last (option_map (λ (b : model.Batch). b.number) last)) (Ok (handed_in application number rows))
-  behind_agrees None is sound = open_agrees (is_closed application entries) (rw is refl) (no_file objects schema entries application number kept own utf8 fits (rw is tt)) sound
+  behind_agrees None is sound = open_agrees (is_stream_closed application entries) (rw is refl) (no_file objects schema entries application number kept own utf8 fits (rw is tt)) sound
   behind_agrees (Some before) is sound = by_tests (ltb number before.number) (eqb number before.number) refl refl sound
     where
       by_tests : (below equal : Bool) → ltb number before.number ≡ below → eqb number before.number ≡ equal
-          → IsSoundPlan application number at ((cond below (Err (stale before.number)) (Ok equal) >>= λ repeats. goes_on (is_closed application entries) repeats >>= λ open_. Ok (asked (length entries) schema rows repeats)) >>= plan_of objects application number at)
-          → Agrees objects schema entries number ((cond below (Err (stale before.number)) (Ok equal) >>= λ repeats. goes_on (is_closed application entries) repeats >>= λ open_. Ok (asked (length entries) schema rows repeats)) >>= plan_of objects application number at) (Ok (handed_in application number rows))
+          → IsSoundPlan application number at ((cond below (Err (stale before.number)) (Ok equal) >>= λ repeats. goes_on (is_stream_closed application entries) repeats >>= λ open_. Ok (asked (length entries) schema rows repeats)) >>= plan_of objects application number at)
+          → Agrees objects schema entries number ((cond below (Err (stale before.number)) (Ok equal) >>= λ repeats. goes_on (is_stream_closed application entries) repeats >>= λ open_. Ok (asked (length entries) schema rows repeats)) >>= plan_of objects application number at) (Ok (handed_in application number rows))
       by_tests true equal under same sound = rw (is, under) (refl, (kept, own))
       by_tests false true over same sound = last_agrees before is over same
       by_tests false false over other sound =
           let least : before.number ≤ number = ltb-false number before.number over in
           let apart : number ≡ before.number → ⊥ = eqb-false number before.number other in
           let above : before.number < number = omega arith in
-          open_agrees (is_closed application entries) (rw (is, over, other) refl) (no_file objects schema entries application number kept own utf8 fits (rw is above)) sound
+          open_agrees (is_stream_closed application entries) (rw (is, over, other) refl) (no_file objects schema entries application number kept own utf8 fits (rw is above)) sound
 
 -- ---- a line that appends
 
 -- what is done with rows that were read
 abbrev pub step_with : (objects : Objects) (entries : List Entry) (application : List ℕ) (number at : ℕ) (schema : Tree) → Result (List Row) SinkRefusal → Result AppendPlan SinkRefusal
 step_with objects entries application number at schema read =
-    (read >>= λ rows. is_repeat number (option_map (λ (b : model.Batch). b.number) (last_batch application entries)) >>= λ repeats. goes_on (is_closed application entries) repeats >>= λ open_. Ok (asked (length entries) schema rows repeats))
+    (read >>= λ rows. is_repeat number (option_map (λ (b : model.Batch). b.number) (last_batch application entries)) >>= λ repeats. goes_on (is_stream_closed application entries) repeats >>= λ open_. Ok (asked (length entries) schema rows repeats))
     >>= plan_of objects application number at
 
 -- what a line asks of a kept table
 abbrev pub step_behind : (objects : Objects) (schema : Tree) (entries : List Entry) (application : List ℕ) (number at : ℕ) (items : Items) → Result (Unit {0}) SinkRefusal → (barred : Bool) → Result (Unit {0}) SinkRefusal → Result AppendPlan SinkRefusal
 step_behind objects schema entries application number at items fine barred takes =
     (fine >>= λ passed. unless_invariant barred >>= λ plain. takes >>= λ supported. rows_from 0 schema items >>= λ rows. is_repeat number (option_map (λ (b : model.Batch). b.number) (last_batch application entries)) >>= λ repeats.
-    goes_on (is_closed application entries) repeats >>= λ open_. Ok (asked (length entries) schema rows repeats)) >>= plan_of objects application number at
+    goes_on (is_stream_closed application entries) repeats >>= λ open_. Ok (asked (length entries) schema rows repeats)) >>= plan_of objects application number at
 
 -- that is what an append does over the objects
 pub step_is : (objects : Objects) (schema : Tree) (entries : List Entry) (application : List ℕ) (number at : ℕ) (items : Items) → IsUtf8 application → KeepsTable objects schema entries

@@ -5,7 +5,7 @@ use Rattle.schema_tree.specs.Tree.{Tree}
 use Rattle.store_core.specs.Objects.{Objects, with_object}
 use Rattle.delta_actions.specs.Action as actions
 use Rattle.delta_checkpoint.specs.Names.{IsCheckpointName, checkpoint_name}
-use Rattle.delta_replay.specs.Support.{feature, has_key_inside, meta_data_of}
+use Rattle.delta_replay.specs.Support.{feature, has_key_inside, meta_data_of_log}
 use Rattle.outcomes.specs.Results.{◌>>=◌, refused_as, refused_if}
 use Rattle.table_model.specs.Table.{Entry, creation}
 use Rattle.commit_core.specs.Texts.{refused}
@@ -45,7 +45,7 @@ module _ (objects : Objects) (schema : Tree) (entries : List Entry) (keeps : Kee
   abbrev put_by : (barred over : Bool) → Result Checkpoint NotPut
   put_by barred over =
       refused_as by_log (refused_as unsupported (refused_if barred (feature (codes "invariants"))) >>= λ fine. Ok commits) >>= λ (found : List (List actions.Action)).
-      refused_if over too_large >>= λ fits. checkpoint_for (length entries - 1) (meta_data_of found)
+      refused_if over too_large >>= λ fits. checkpoint_for (length entries - 1) (meta_data_of_log found)
 
   put_is : checkpoint_by_bytes objects bytes ≡ put_by (has_key_inside (codes "delta.invariants") schema) (nat_lt most_checkpoint_bytes (length bytes))
   put_is = rw (log_kept objects schema entries keeps.0, log_checkpointable objects schema keeps.0.rest commits made, count_kept objects schema entries keeps.0) refl
@@ -69,7 +69,7 @@ module _ (objects : Objects) (schema : Tree) (entries : List Entry) (keeps : Kee
   by_tests false true well = absurd well
   by_tests false false well =
       let metadata = log_meta_data objects schema keeps.0.rest commits made in
-      by_metadata metadata.0 (meta_data_of commits) metadata.1 well
+      by_metadata metadata.0 (meta_data_of_log commits) metadata.1 well
 
   -- a checkpoint over a table
   over_table : IsWellPut (checkpoint_by_bytes objects bytes) → IsAsTold (has_key_inside (codes "delta.invariants") schema) (checkpoint_by_bytes objects bytes)

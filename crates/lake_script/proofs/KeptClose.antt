@@ -7,7 +7,7 @@ use Rattle.schema_tree.specs.Tree.{Tree}
 use Rattle.store_core.specs.Objects.{Objects, with_object}
 use Rattle.store_core.specs.Names.{commit_name, greatest_version}
 use Rattle.delta_replay.specs.Support.{has_key_inside}
-use Rattle.table_model.specs.Table.{Entry, close, is_closed}
+use Rattle.table_model.specs.Table.{Entry, close, is_stream_closed}
 use Rattle.table_model.specs.declared.table.Closing.TheVariants.{Closed, AlreadyClosed}
 use Rattle.commit_core.specs.TableCommits.{IsCommitOf}
 use Rattle.batch_core.specs.Requests.{SinkRequest, named}
@@ -35,7 +35,7 @@ use Rattle.lake_script.proofs.KeptRequest.{asked, close_request_is, unless_invar
 -- what a close does over a kept table, behind its tests
 abbrev pub close_step : (schema : Tree) (entries : List Entry) (application : List ℕ) → Result (Unit {0}) SinkRefusal → (barred : Bool) → Result (Option ℕ) SinkRefusal
 close_step schema entries application fine barred =
-    (fine >>= λ passed. unless_invariant barred >>= λ plain. Ok (asked (length entries) schema [] (is_closed application entries))) >>= λ request. Ok (closing_version request)
+    (fine >>= λ passed. unless_invariant barred >>= λ plain. Ok (asked (length entries) schema [] (is_stream_closed application entries))) >>= λ request. Ok (closing_version request)
 
 -- that is what it does over the objects
 pub close_is : (objects : Objects) (schema : Tree) (entries : List Entry) (application : List ℕ) → IsUtf8 application → KeepsTable objects schema entries
@@ -66,9 +66,9 @@ table_agrees : (objects : Objects) (schema : Tree) (entries : List Entry) (appli
     → Agrees objects schema entries application at (close_step schema entries application fine barred) (fine >>= λ passed. unless_invariant barred)
 table_agrees objects schema entries application at (Err why) barred kept few utf8 well = (refl, kept)
 table_agrees objects schema entries application at (Ok passed) true kept few utf8 well = (refl, kept)
-table_agrees objects schema entries application at (Ok passed) false kept few utf8 well = by_close (is_closed application entries) refl well
+table_agrees objects schema entries application at (Ok passed) false kept few utf8 well = by_close (is_stream_closed application entries) refl well
   where
-    by_close : (closed : Bool) → is_closed application entries ≡ closed → ClosesWell application at (Ok (cond closed None (Some (length entries))))
+    by_close : (closed : Bool) → is_stream_closed application entries ≡ closed → ClosesWell application at (Ok (cond closed None (Some (length entries))))
         → (sink_reply (close_answer (cond closed None (Some (length entries)))) ≡ with_newline (tables.closing_text (cond closed AlreadyClosed (Closed (length entries)))))
         × Keeps (with_close_commit objects application at (Ok (cond closed None (Some (length entries))))) (table schema (cond closed entries (entries ++ close application ∷ [])))
     by_close true is well = (refl, kept)
@@ -113,7 +113,7 @@ close_goes_on objects schema entries kept files most up application at utf8 well
     unchanged : Stays (suc most) objects
     unchanged = keeps schema entries kept files (omega (arith, up))
 
-    by_close : (closed : Bool) → is_closed application entries ≡ closed → ClosesWell application at (Ok (cond closed None (Some (length entries))))
+    by_close : (closed : Bool) → is_stream_closed application entries ≡ closed → ClosesWell application at (Ok (cond closed None (Some (length entries))))
         → Stays (suc most) (with_close_commit objects application at (Ok (cond closed None (Some (length entries)))))
     by_close true is well = unchanged
     by_close false is well =
@@ -130,4 +130,4 @@ close_goes_on objects schema entries kept files most up application at utf8 well
     by_tests : (fine : Result (Unit {0}) SinkRefusal) (barred : Bool) → ClosesWell application at (close_step schema entries application fine barred) → Stays (suc most) (with_close_commit objects application at (close_step schema entries application fine barred))
     by_tests (Err why) barred well = unchanged
     by_tests (Ok passed) true well = unchanged
-    by_tests (Ok passed) false well = by_close (is_closed application entries) refl well
+    by_tests (Ok passed) false well = by_close (is_stream_closed application entries) refl well

@@ -8,7 +8,7 @@ use Rattle.schema_tree.specs.Tree.{Tree}
 use Rattle.store_core.specs.Objects.{Objects, object_at}
 use Rattle.delta_actions.specs.Names.{data_file_name as plain_file_name}
 use Rattle.table_model.specs.Lawful.{Rises}
-use Rattle.table_model.specs.Table.{Batch, Entry, batches_of, batches, numbers_by, last, last_batch}
+use Rattle.table_model.specs.Table.{Batch, Entry, batches_of, batches, numbers_by, last_item, last_batch}
 use Rattle.table_model.proofs.Callers.{IsAbove, last_none, last_number, numbers_in}
 use Rattle.batch_core.specs.Committing.{batch_file_name, greatest_number}
 use Rattle.read_laws.specs.Kept.{KeepsTable, KeptFrom, FileKept}
@@ -89,7 +89,7 @@ number_among (c ∷ bs) b has =
     passed false there = there
 
 -- the last of rising numbers is the greatest
-up_to_last : (ns : List ℕ) (n m : ℕ) → Rises ns → Contains ns n → last ns ≡ Some m → n ≤ m
+up_to_last : (ns : List ℕ) (n m : ℕ) → Rises ns → Contains ns n → last_item ns ≡ Some m → n ≤ m
 up_to_last [] n m rises has is = absurd (none_in_nothing n has)
 up_to_last (k ∷ []) n m rises has is =
     let end : k ≡ m = cc in
@@ -104,7 +104,7 @@ up_to_last (k ∷ j ∷ ns) n m rises has is =
     ]
 
 -- so none of them is above the last
-none_above : (ns : List ℕ) (n : ℕ) (found : Option ℕ) → last ns ≡ found → Rises ns → Contains ns n → IsAbove n found → ⊥
+none_above : (ns : List ℕ) (n : ℕ) (found : Option ℕ) → last_item ns ≡ found → Rises ns → Contains ns n → IsAbove n found → ⊥
 none_above ns n None is rises has above = none_in_nothing n (subst (λ (ms : List ℕ). Contains ms n) (last_none ns is) has)
 none_above ns n (Some m) is rises has above = omega (arith, up_to_last ns n m rises has is)
 

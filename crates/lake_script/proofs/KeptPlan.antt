@@ -21,7 +21,7 @@ use Rattle.delta_replay.specs.Support.{has_key_inside}
 use Rattle.row_core.specs.Rows.{Row}
 use Rattle.row_core.proofs.Callers.{same_rows-is}
 use Rattle.table_model.specs.Table as model
-use Rattle.table_model.specs.Table.{Entry, group, is_closed, last_batch}
+use Rattle.table_model.specs.Table.{Entry, group, is_stream_closed, last_batch}
 use Rattle.commit_core.proofs.Callers.{commit_name-data_file_name}
 use Rattle.batch_core.specs.Committing.{batch_file_name, greatest_number}
 use Rattle.batch_core.specs.Requests.{checked, is_repeat, is_same, unless_other_rows, where_same, file_or_refusal}
@@ -119,7 +119,7 @@ module _ (objects : Objects) (schema : Tree) (entries : List Entry) (kept : Keep
 
   -- what is done where the number is the application's last one again, or not
   abbrev behind : Result Bool SinkRefusal → Result AppendPlan SinkRefusal
-  behind repeats = (repeats >>= λ repeats. goes_on (is_closed application entries) repeats >>= λ open_. Ok (asked (length entries) schema rows repeats)) >>= plan_of objects application number at
+  behind repeats = (repeats >>= λ repeats. goes_on (is_stream_closed application entries) repeats >>= λ open_. Ok (asked (length entries) schema rows repeats)) >>= plan_of objects application number at
 
   -- where nothing is put, the table is kept
   unchanged : Stays (suc most) objects
@@ -203,7 +203,7 @@ module _ (objects : Objects) (schema : Tree) (entries : List Entry) (kept : Keep
   behind_goes_on : (last : Option model.Batch) → last_batch application entries ≡ last
       → PutsWell application number at (behind (is_repeat number (option_map (λ (b : model.Batch). b.number) last)))
       → GoesOn (suc most) objects (behind (is_repeat number (option_map (λ (b : model.Batch). b.number) last)))
-  behind_goes_on None is well = open_goes_on (is_closed application entries) (rw is refl) well
+  behind_goes_on None is well = open_goes_on (is_stream_closed application entries) (rw is refl) well
   behind_goes_on (Some before) is well = by_tests (ltb number before.number) (eqb number before.number) refl refl well
     where
       by_tests : (below equal : Bool) → ltb number before.number ≡ below → eqb number before.number ≡ equal
@@ -211,7 +211,7 @@ module _ (objects : Objects) (schema : Tree) (entries : List Entry) (kept : Keep
           → GoesOn (suc most) objects (behind (cond below (Err (stale before.number)) (Ok equal)))
       by_tests true equal under same well = (unchanged, unchanged)
       by_tests false true over same well = again_goes_on (where_same schema rows (batch_file_name application number) (object_at objects (batch_file_name application number)))
-      by_tests false false over other well = open_goes_on (is_closed application entries) (rw (is, over, other) refl) well
+      by_tests false false over other well = open_goes_on (is_stream_closed application entries) (rw (is, over, other) refl) well
 
 -- An append over a table that is kept leaves one that is kept, however far it comes.
 pub append_goes_on : (objects : Objects) (schema : Tree) (entries : List Entry) → KeepsTable objects schema entries → AreFiles objects schema → (most : ℕ) → length entries ≤ most

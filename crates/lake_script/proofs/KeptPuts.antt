@@ -15,7 +15,7 @@ use Rattle.commit_core.specs.TableCommits.{IsCommitOf}
 use Rattle.commit_core.specs.Holds.{Stands}
 use Rattle.table_model.specs.Lawful.{IsLawful}
 use Rattle.table_model.specs.Appends.{with_close}
-use Rattle.table_model.specs.Table.{Batch, Entry, creation, group, close, batches_of, batches, is_closed}
+use Rattle.table_model.specs.Table.{Batch, Entry, creation, group, close, batches_of, batches, is_stream_closed}
 use Rattle.table_model.proofs.Callers.{batches-append}
 use Rattle.table_model.proofs.Kept.{close_keeps}
 use Rattle.commit_core.proofs.Callers.{commit_name-data_file_name, commit_name-once, data_file_name-once}
@@ -142,7 +142,7 @@ kept_entry objects schema entries entry commit kept few lawful files free is_com
     }
 
 -- The commit of a close is one entry more.
-pub kept_close : (objects : Objects) (schema : Tree) (entries : List Entry) (application commit : List ℕ) → KeepsTable objects schema entries → length entries ≤ greatest_version → is_closed application entries ≡ false
+pub kept_close : (objects : Objects) (schema : Tree) (entries : List Entry) (application commit : List ℕ) → KeepsTable objects schema entries → length entries ≤ greatest_version → is_stream_closed application entries ≡ false
     → object_at objects (commit_name (length entries)) ≡ None → IsCommitOf schema (close application) commit
     → KeepsTable (with_object objects (commit_name (length entries)) commit) schema (entries ++ close application ∷ [])
 kept_close objects schema entries application commit kept few open_still free is_commit =

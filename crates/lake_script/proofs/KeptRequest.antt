@@ -8,7 +8,7 @@ use Rattle.store_core.specs.Objects.{Objects}
 use Rattle.delta_actions.specs.Action as actions
 use Rattle.delta_replay.specs.Support.{feature, has_key_inside}
 use Rattle.row_core.specs.Rows.{Row}
-use Rattle.table_model.specs.Table.{Batch, Entry, creation, is_closed, last_batch}
+use Rattle.table_model.specs.Table.{Batch, Entry, creation, is_stream_closed, last_batch}
 use Rattle.batch_core.specs.Requests.{SinkRequest, close_behind, is_repeat, request_behind}
 use Rattle.batch_core.specs.Refusals.{SinkRefusal, read_only, stream_closed}
 use Rattle.batch_core.specs.RowsIn.{rows_from, takes_rows}
@@ -33,7 +33,7 @@ pub request_is : (objects : Objects) (next : ℕ) (schema : Tree) (entries rest 
     → entries ≡ creation ∷ rest → AreMadeFor objects schema entries commits
     → request_behind next commits application number items
     ≡ (unless_invariant (has_key_inside (codes "delta.invariants") schema) >>= λ plain. takes_rows schema >>= λ supported. rows_from 0 schema items >>= λ rows. is_repeat number (option_map (λ (b : Batch). b.number) (last_batch application entries)) >>= λ repeats.
-    goes_on (is_closed application entries) repeats >>= λ open_. Ok (asked next schema rows repeats))
+    goes_on (is_stream_closed application entries) repeats >>= λ open_. Ok (asked next schema rows repeats))
 unfolding request_behind
 request_is objects next schema entries rest commits application number items utf8 begins made =
     rw (log_writable objects schema rest commits (subst (λ (es : List Entry). AreMadeFor objects schema es commits) begins made), log_last objects schema application entries commits made, log_closed objects schema application entries commits made utf8)
@@ -44,23 +44,23 @@ request_is objects next schema entries rest commits application number items utf
 
     by_fields : (barred : Bool)
         → (refused_as read_only (refused_if barred (feature (codes "invariants")) >>= λ plain. Ok schema) >>= λ (schema : Tree). takes_rows schema >>= λ supported. rows_from 0 schema items >>= λ rows.
-        is_repeat number last >>= λ repeats. goes_on (is_closed application entries) repeats >>= λ open_. Ok (asked next schema rows repeats))
+        is_repeat number last >>= λ repeats. goes_on (is_stream_closed application entries) repeats >>= λ open_. Ok (asked next schema rows repeats))
         ≡ (unless_invariant barred >>= λ plain. takes_rows schema >>= λ supported. rows_from 0 schema items >>= λ rows. is_repeat number last >>= λ repeats.
-        goes_on (is_closed application entries) repeats >>= λ open_. Ok (asked next schema rows repeats))
+        goes_on (is_stream_closed application entries) repeats >>= λ open_. Ok (asked next schema rows repeats))
     by_fields true = refl
     by_fields false = refl
 
 -- the request of a close behind them
 pub close_request_is : (objects : Objects) (next : ℕ) (schema : Tree) (entries rest : List Entry) (commits : List (List actions.Action)) (application : List ℕ) → IsUtf8 application
     → entries ≡ creation ∷ rest → AreMadeFor objects schema entries commits
-    → close_behind next commits application ≡ (unless_invariant (has_key_inside (codes "delta.invariants") schema) >>= λ plain. Ok (asked next schema [] (is_closed application entries)))
+    → close_behind next commits application ≡ (unless_invariant (has_key_inside (codes "delta.invariants") schema) >>= λ plain. Ok (asked next schema [] (is_stream_closed application entries)))
 unfolding close_behind
 close_request_is objects next schema entries rest commits application utf8 begins made =
     rw (log_writable objects schema rest commits (subst (λ (es : List Entry). AreMadeFor objects schema es commits) begins made), log_closed objects schema application entries commits made utf8)
     (by_fields (has_key_inside (codes "delta.invariants") schema))
   where
     by_fields : (barred : Bool)
-        → (refused_as read_only (refused_if barred (feature (codes "invariants")) >>= λ plain. Ok schema) >>= λ (schema : Tree). Ok (asked next schema [] (is_closed application entries)))
-        ≡ (unless_invariant barred >>= λ plain. Ok (asked next schema [] (is_closed application entries)))
+        → (refused_as read_only (refused_if barred (feature (codes "invariants")) >>= λ plain. Ok schema) >>= λ (schema : Tree). Ok (asked next schema [] (is_stream_closed application entries)))
+        ≡ (unless_invariant barred >>= λ plain. Ok (asked next schema [] (is_stream_closed application entries)))
     by_fields true = refl
     by_fields false = refl

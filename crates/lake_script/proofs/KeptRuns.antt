@@ -6,7 +6,7 @@ use Rattle.serde_json.specs.Data.{Items}
 use Rattle.schema_tree.specs.Tree.{Tree}
 use Rattle.store_core.specs.Objects.{Objects}
 use Rattle.store_core.specs.Names.{greatest_version}
-use Rattle.table_model.specs.Table.{Batch, Entry, group, close as closes, is_closed}
+use Rattle.table_model.specs.Table.{Batch, Entry, group, close as closes, is_stream_closed}
 use Rattle.table_model.specs.Appends.{appended, with_batch}
 use Rattle.table_model.specs.declared.table.AppendAnswer.{AppendAnswer}
 use Rattle.table_model.specs.declared.table.AppendAnswer.TheVariants.{Committed, Already, Stale, Differs, StreamClosed}
@@ -76,7 +76,7 @@ close_one false entries entry = let joined = length-append entries (entry ∷ []
 
 closed_one : (state : TableState) (application : List ℕ) (answer : Result (Unit {0}) SinkRefusal) → length (entries_of_state (tables.with_closed state application answer)) ≤ suc (length (entries_of_state state))
 closed_one nothing application answer = omega arith
-closed_one (table schema entries) application (Ok fine) = close_one (is_closed application entries) entries (closes application)
+closed_one (table schema entries) application (Ok fine) = close_one (is_stream_closed application entries) entries (closes application)
 closed_one (table schema entries) application (Err refusal) = omega arith
 
 -- what a line asks for adds one entry at most

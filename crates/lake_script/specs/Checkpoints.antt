@@ -7,7 +7,7 @@ use Rattle.outcomes.specs.Results.{◌>>=◌, refused_as, refused_if}
 use Rattle.store_core.specs.Objects.{Objects, with_object}
 use Rattle.delta_actions.specs.Action.{Action, MetaDataAction}
 use Rattle.delta_checkpoint.specs.Names.{IsCheckpointName, checkpoint_name}
-use Rattle.delta_replay.specs.Support.{meta_data_of, no_meta_data}
+use Rattle.delta_replay.specs.Support.{meta_data_of_log, no_meta_data}
 use Rattle.table_log.specs.Counts.{commit_count}
 use Rattle.commit_core.specs.Texts.{refused}
 use Rattle.snapshot_core.specs.Faults.{Reason, bad_log, unsupported, checked_for_checkpoint, readable_log}
@@ -42,7 +42,7 @@ abbrev pub checkpoint_by_bytes : Objects → (bytes : List ℕ) → Result Check
 checkpoint_by_bytes objects bytes = do
   commits ← refused_as by_log (checked_for_checkpoint false objects)
   fits ← refused_if (nat_lt most_checkpoint_bytes (length bytes)) too_large
-  checkpoint_for (newest_version objects) (meta_data_of commits)
+  checkpoint_for (newest_version objects) (meta_data_of_log commits)
 
 -- the bytes are those of the checkpoint of the newest version, where there may be one
 abbrev pub IsItsCheckpoint : Objects → (bytes : List ℕ) → Type 0

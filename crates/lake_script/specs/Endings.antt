@@ -9,6 +9,7 @@ use Rattle.lake_script.specs.Runs.{no_room_to_read}
 use Rattle.lake_script.specs.Told.{not_yet}
 use Rattle.schema_tree.specs.Schema.{tree_of}
 use Rattle.table_jobs.specs.Jobs.{Outcome, checkpoint, creation, is_lost_outcome, load, read, stream}
+use Rattle.table_jobs.specs.Wants.{checkpoint_wants, creation_wants, read_wants, stream_wants}
 use Rattle.snapshot_core.specs.FaultTexts as snapshots
 use Rattle.source_core.specs.TailFaults as tails
 use Rattle.source_core.specs.TailViews.{handed_view}
@@ -20,11 +21,7 @@ use Rattle.log_rows.specs.declared.tail_fault.TailFault.{TailFault}
 use Rattle.sink_core.specs.declared.sink_state.SinkOutcome.{SinkOutcome}
 use Rattle.batch_core.specs.declared.fault.SinkFault.{SinkFault}
 use Rattle.batch_core.specs.declared.fault.SinkFault.TheVariants as sink
-use Rattle.commit_core.specs.declared.fault.CreateFault.{CreateFault}
-use Rattle.commit_core.specs.declared.fault.CreateFault.TheVariants as creating
-use Rattle.log_rows.specs.declared.tail_fault.TailFault.TheVariants as tailing
 use Rattle.snapshot_core.specs.declared.fault.SnapshotFault.{SnapshotFault}
-use Rattle.snapshot_core.specs.declared.fault.SnapshotFault.TheVariants as snapshot_faults
 
 -- the outcome of an append or a close, or why there is none
 abbrev pub stream_reply : Result SinkOutcome SinkFault → List ℕ
@@ -51,26 +48,6 @@ IsReplyOf (read end) reply = IsReadReply end.answer reply
 IsReplyOf (load result) reply = reply ≡ not_yet
 
 -- ---- which replies are short, and which say that a call was lost
-
--- a creation, a checkpoint, an append or a close, and a read tell that a growth was refused, or that an object would pass 64 MiB
-abbrev pub creation_wants : Result (Unit {0}) CreateFault → Bool
-creation_wants (Err creating.Memory) = true
-creation_wants (Err creating.TooLarge) = true
-creation_wants answer = false
-
-abbrev pub checkpoint_wants : Result ℕ SnapshotFault → Bool
-checkpoint_wants (Err snapshot_faults.Memory) = true
-checkpoint_wants (Err snapshot_faults.TooLarge) = true
-checkpoint_wants answer = false
-
-abbrev pub stream_wants : Result SinkOutcome SinkFault → Bool
-stream_wants (Err sink.Memory) = true
-stream_wants (Err sink.FileTooLarge) = true
-stream_wants answer = false
-
-abbrev pub read_wants : Result ReadRows TailFault → Bool
-read_wants (Err tailing.Memory) = true
-read_wants answer = false
 
 -- The reply to a read is short just where the read tells so, or where there was no room for the text of its rows.
 abbrev pub IsReadShort : Result ReadRows TailFault → (reply : List ℕ) → (short : Bool) → Type 0

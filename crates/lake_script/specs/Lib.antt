@@ -16,6 +16,7 @@ pub mod Scripts
 pub mod Sound
 pub mod Streams
 pub mod Tables
+pub mod TextRuns
 pub mod Told
 pub mod Tries
 pub use Rattle.read_laws.specs.Kept

@@ -2,7 +2,8 @@
 ghost use Rattle.lake_script.specs.ReplyView.{is_short_reply, reply_text, says_lost};
 ghost use Rattle.table_jobs.specs.Jobs.{creation};
 ghost use Rattle.table_jobs.specs.Sessions.{end_view};
-ghost use Rattle.lake_script.specs.Endings.{IsReadReply, IsReadShort, IsReplyOf, IsShortBy, checkpoint_end_reply, checkpoint_wants, creation_wants, kept_schema, learnt, reply_loses, stream_loses, stream_reply, stream_wants};
+ghost use Rattle.lake_script.specs.Endings.{IsReadReply, IsReadShort, IsReplyOf, IsShortBy, checkpoint_end_reply, kept_schema, learnt, reply_loses, stream_loses, stream_reply};
+ghost use Rattle.table_jobs.specs.Wants.{checkpoint_wants, creation_wants, stream_wants};
 ghost use Rattle.commit_core.specs.CreateSessions.{creation_tells_lost};
 ghost use Rattle.snapshot_core.specs.CheckpointSessions.{is_lost_answer};
 ghost use Rattle.source_core.specs.SourceSessions.{loses};

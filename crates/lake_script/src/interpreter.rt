@@ -1,11 +1,10 @@
 //! The lines of a text, answered one after the other by whoever does what they ask for.
-ghost use Rattle.std.specs.Prelude.{◌≡◌, ◌≤◌, ◌^◌, ℕ, List, Bool, [], false, true, length, ⊤, OnOk, OnErr, IfOk};
+ghost use Rattle.std.specs.Prelude.{◌≡◌, ◌≤◌, ◌^◌, ℕ, List, Bool, false, length};
 ghost use Rattle.script_lines.specs.Lines.{IsTimely, Statement, statement_view};
-ghost use Rattle.lake_script.specs.Answered.{AnsweredInPart, AnsweredText, LeadsTo};
+ghost use Rattle.lake_script.specs.Answered.{AnswersLines, LeadsTo};
+ghost use Rattle.lake_script.specs.Ended.{LeavesOutput};
 ghost use Rattle.lake_script.specs.ReplyView.{replied, replied_short};
-ghost use Rattle.lake_script.specs.Runs.{TellsWhole, TellsFront};
-ghost use Rattle.lake_script.specs.Streams.{held, waiting, write_failed};
-ghost use Rattle.lake_script.specs.Told.{first_bad};
+ghost use Rattle.lake_script.specs.Streams.{held};
 
 use crate::outputs::{Output, OutputError};
 use crate::reply::LineReply;
@@ -69,22 +68,14 @@ pub fn answer_lines<I: Interpreter, W: Write>(
     requires fits { length text.now ≤ 2 ^ 30 }
     requires ready { I.is_ready interpreter.old }
     requires unshort { is_short.old ≡ false }
-    // Each line in turn does what it asks for, and is told that.
-    ensures answered { I.is_reliable interpreter.old → (s : I.State) → I.stands interpreter.old s
-        → OnOk result (TellsWhole (held W.contents output.old) (W.contents output.new.writer)
-        (λ written. LeadsTo (AnsweredText I.does s text.now written is_short.new) (I.stands interpreter.new))) }
-    // Where a reply can't be given, some first lines did, and what is written is a front of their replies.
-    ensures front { I.is_reliable interpreter.old → (s : I.State) → I.stands interpreter.old s
-        → OnErr result (TellsFront (held W.contents output.old) (W.contents output.new.writer)
-        (λ written. LeadsTo (AnsweredInPart I.does s text.now written is_short.new) (I.stands interpreter.new))) }
+    // Each line in turn does what it asks for, and is told that; some first lines do, where a reply can't be given.
+    ensures answers { I.is_reliable interpreter.old → (s : I.State) → I.stands interpreter.old s
+        → AnswersLines I.does s (I.stands interpreter.new) text.now is_short.new result (held W.contents output.old) (W.contents output.new.writer) }
     ensures reliable { I.is_reliable interpreter.old → I.is_reliable interpreter.new }
     ensures kept { I.kept interpreter.new ≡ I.kept interpreter.old }
-    ensures bad { IfOk result (λ bad. bad ≡ first_bad text.now) }
-    ensures through { OnOk result (waiting output.new ≡ []) }
-    // Whatever lines do, what is written stands behind what was held.
-    ensures behind { OnOk result (TellsWhole (held W.contents output.old) (W.contents output.new.writer) (λ written. ⊤)) }
-    ensures unbroken { OnOk result (write_failed output.new ≡ write_failed output.old) }
-    ensures broken { result ≡ Err OutputError.Broken → write_failed output.new ≡ true }
+    // Whatever lines do, a result is the first bad line, what is written stands behind what was held, and a write fails
+    // where it is told so.
+    ensures leaves { LeavesOutput W.contents text.now result output.old output.new }
 {
     let mut number = 1u64;
     let mut rest = Some(text);

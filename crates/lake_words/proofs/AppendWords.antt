@@ -5,7 +5,7 @@ use Rattle.clap.specs.Walk.{Text}
 use Rattle.clap.proofs.OnLiterals.{clap_on_literals}
 use Rattle.lake_words.specs.Asked.{table}
 use Rattle.lake_words.specs.Asked as asked
-use Rattle.lake_words.specs.Spelling.{IsNumber, IsPlain, SpellsMoment, SpellsRestore, SpellsRows, SpellsTries, any, beginning, moment, replaying, restoring, rows, sixteen, tries}
+use Rattle.lake_words.specs.Spelling.{IsArgumentValue, IsNumber, SpellsMoment, SpellsRestore, SpellsRows, SpellsTries, any, beginning, moment, replaying, restoring, rows, sixteen, tries}
 use Rattle.lake_words.specs.Words as words
 use Rattle.lake_words.proofs.JobWords.{AreRead, IsJob, given_restore, job_read, leaf}
 use Rattle.lake_words.proofs.NumberWords.{any_accepted, at_end, before_flag, before_option, moment_accepted, number_plain, sixteen_is, tries_accepted, zero_is}
@@ -30,7 +30,7 @@ append_asked dir application use_checkpoints p q r s = rw (p, q, r, s) refl
 
 -- append DIR APP NUMBER [--rows N] [--at MS] [--tries N] [--no-checkpoint]
 pub append_read : (program dir application number : Text) (n at tries : ℕ) (count : Option ℕ) (use_checkpoints : Bool) (rows_words moment_words tries_words restore_words : List Text)
-    → IsPlain dir → IsPlain application → IsNumber number n → SpellsRows rows_words count → SpellsMoment moment_words at → SpellsTries tries_words tries → SpellsRestore restore_words use_checkpoints
+    → IsArgumentValue dir → IsArgumentValue application → IsNumber number n → SpellsRows rows_words count → SpellsMoment moment_words at → SpellsTries tries_words tries → SpellsRestore restore_words use_checkpoints
     → AreRead (program ∷ codes "append" ∷ dir ∷ application ∷ number ∷ rows_words ++ (moment_words ++ (tries_words ++ restore_words))) (table dir use_checkpoints (asked.append application n at tries count))
 unfolding clap_on_literals
 append_read program dir application number n at tried count use_checkpoints rows_words moment_words tries_words restore_words d a e any beginning sixteen restoring =

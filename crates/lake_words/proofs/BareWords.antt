@@ -4,7 +4,7 @@ use Rattle.clap.specs.Walk.{Text}
 use Rattle.clap.proofs.OnLiterals.{clap_on_literals}
 use Rattle.lake_words.specs.Asked.{table}
 use Rattle.lake_words.specs.Asked as asked
-use Rattle.lake_words.specs.Spelling.{IsPlain, SpellsRestore, replaying, restoring}
+use Rattle.lake_words.specs.Spelling.{IsArgumentValue, SpellsRestore, replaying, restoring}
 use Rattle.lake_words.specs.Words as words
 use Rattle.lake_words.proofs.JobWords.{AreRead, IsJob, given_restore, job_read, leaf, no_restore}
 use Rattle.lake_words.proofs.WordItems.{all_taken, flag, next, no_more, plain}
@@ -15,7 +15,7 @@ unfolding clap_on_literals
 snapshot_is_job = record { walked = refl; passes = refl; found = refl }
 
 -- snapshot DIR [--no-checkpoint]
-pub snapshot_read : (program dir : Text) (use_checkpoints : Bool) (restore_words : List Text) → IsPlain dir → SpellsRestore restore_words use_checkpoints
+pub snapshot_read : (program dir : Text) (use_checkpoints : Bool) (restore_words : List Text) → IsArgumentValue dir → SpellsRestore restore_words use_checkpoints
     → AreRead (program ∷ codes "snapshot" ∷ dir ∷ restore_words) (table dir use_checkpoints asked.snapshot)
 unfolding clap_on_literals
 snapshot_read program dir use_checkpoints restore_words d restoring =
@@ -31,7 +31,7 @@ unfolding clap_on_literals
 checkpoint_is_job = record { walked = refl; passes = refl; found = refl }
 
 -- checkpoint DIR [--no-checkpoint]
-pub checkpoint_read : (program dir : Text) (use_checkpoints : Bool) (restore_words : List Text) → IsPlain dir → SpellsRestore restore_words use_checkpoints
+pub checkpoint_read : (program dir : Text) (use_checkpoints : Bool) (restore_words : List Text) → IsArgumentValue dir → SpellsRestore restore_words use_checkpoints
     → AreRead (program ∷ codes "checkpoint" ∷ dir ∷ restore_words) (table dir use_checkpoints asked.checkpoint)
 unfolding clap_on_literals
 checkpoint_read program dir use_checkpoints restore_words d restoring =
@@ -47,7 +47,7 @@ unfolding clap_on_literals
 history_is_job = record { walked = refl; passes = refl; found = refl }
 
 -- history DIR [--no-checkpoint]
-pub history_read : (program dir : Text) (use_checkpoints : Bool) (restore_words : List Text) → IsPlain dir → SpellsRestore restore_words use_checkpoints
+pub history_read : (program dir : Text) (use_checkpoints : Bool) (restore_words : List Text) → IsArgumentValue dir → SpellsRestore restore_words use_checkpoints
     → AreRead (program ∷ codes "history" ∷ dir ∷ restore_words) (table dir use_checkpoints asked.history)
 unfolding clap_on_literals
 history_read program dir use_checkpoints restore_words d restoring =
@@ -63,7 +63,7 @@ unfolding clap_on_literals
 check_is_job = record { walked = refl; passes = refl; found = refl }
 
 -- check DIR
-pub check_read : (program dir : Text) → IsPlain dir → AreRead (program ∷ codes "check" ∷ dir ∷ []) (asked.check dir)
+pub check_read : (program dir : Text) → IsArgumentValue dir → AreRead (program ∷ codes "check" ∷ dir ∷ []) (asked.check dir)
 unfolding clap_on_literals
 check_read program dir d =
     job_read program (codes "check") (plain dir ∷ []) (leaf words.check) true _ check_is_job (d, tt)
@@ -75,7 +75,7 @@ unfolding clap_on_literals
 explain_is_job = record { walked = refl; passes = refl; found = refl }
 
 -- explain CODE
-pub explain_read : (program code : Text) → IsPlain code → AreRead (program ∷ codes "explain" ∷ code ∷ []) (asked.explain code)
+pub explain_read : (program code : Text) → IsArgumentValue code → AreRead (program ∷ codes "explain" ∷ code ∷ []) (asked.explain code)
 unfolding clap_on_literals
 explain_read program code d =
     job_read program (codes "explain") (plain code ∷ []) (leaf words.explain) true _ explain_is_job (d, tt)

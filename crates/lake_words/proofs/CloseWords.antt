@@ -5,7 +5,7 @@ use Rattle.clap.specs.Walk.{Text}
 use Rattle.clap.proofs.OnLiterals.{clap_on_literals}
 use Rattle.lake_words.specs.Asked.{table}
 use Rattle.lake_words.specs.Asked as asked
-use Rattle.lake_words.specs.Spelling.{IsPlain, SpellsMoment, SpellsRestore, SpellsTries, beginning, moment, replaying, restoring, sixteen, tries}
+use Rattle.lake_words.specs.Spelling.{IsArgumentValue, SpellsMoment, SpellsRestore, SpellsTries, beginning, moment, replaying, restoring, sixteen, tries}
 use Rattle.lake_words.specs.Words as words
 use Rattle.lake_words.proofs.JobWords.{AreRead, IsJob, given_restore, job_read, leaf}
 use Rattle.lake_words.proofs.NumberWords.{at_end, before_flag, before_option, moment_accepted, number_plain, sixteen_is, tries_accepted, zero_is}
@@ -23,7 +23,7 @@ close_asked dir application use_checkpoints q r = rw (q, r) refl
 
 -- close DIR APP [--at MS] [--tries N] [--no-checkpoint]
 pub close_read : (program dir application : Text) (at tries : ℕ) (use_checkpoints : Bool) (moment_words tries_words restore_words : List Text)
-    → IsPlain dir → IsPlain application → SpellsMoment moment_words at → SpellsTries tries_words tries → SpellsRestore restore_words use_checkpoints
+    → IsArgumentValue dir → IsArgumentValue application → SpellsMoment moment_words at → SpellsTries tries_words tries → SpellsRestore restore_words use_checkpoints
     → AreRead (program ∷ codes "close" ∷ dir ∷ application ∷ moment_words ++ (tries_words ++ restore_words)) (table dir use_checkpoints (asked.close application at tries))
 unfolding clap_on_literals
 close_read program dir application at tried use_checkpoints moment_words tries_words restore_words d a beginning sixteen restoring =

@@ -5,7 +5,7 @@ use Rattle.clap.specs.Walk.{Text}
 use Rattle.clap.proofs.OnLiterals.{clap_on_literals}
 use Rattle.lake_words.specs.Asked.{table}
 use Rattle.lake_words.specs.Asked as asked
-use Rattle.lake_words.specs.Spelling.{IsPlain, SpellsMoment, beginning, moment}
+use Rattle.lake_words.specs.Spelling.{IsArgumentValue, SpellsMoment, beginning, moment}
 use Rattle.lake_words.specs.Words as words
 use Rattle.lake_words.proofs.JobWords.{AreRead, IsJob, no_restore, job_read, leaf}
 use Rattle.lake_words.proofs.NumberWords.{at_end, moment_accepted, number_plain, zero_is}
@@ -23,7 +23,7 @@ create_asked dir id schema p = rw p refl
 
 -- create DIR --id ID --schema TEXT [--at MS]
 pub create_read : (program dir id schema : Text) (at : ℕ) (moment_words : List Text)
-    → IsPlain dir → IsPlain id → IsPlain schema → SpellsMoment moment_words at
+    → IsArgumentValue dir → IsArgumentValue id → IsArgumentValue schema → SpellsMoment moment_words at
     → AreRead (program ∷ codes "create" ∷ dir ∷ codes "--id" ∷ id ∷ codes "--schema" ∷ schema ∷ moment_words) (table dir true (asked.create id schema at))
 unfolding clap_on_literals
 create_read program dir id schema at moment_words d i s beginning =

@@ -1,7 +1,7 @@
 -- The words that ask for a job, for a check or for what a refusal means are read as that.
 use Rattle.std.proofs.Common.{List}
 use Rattle.clap.specs.Walk.{Text}
-use Rattle.lake_words.specs.Asked.{Asked}
+use Rattle.lake_words.specs.Asked.{ProgramCommand}
 use Rattle.lake_words.specs.Spelling.{SpellsJob, append, check, checkpoint, close, create, explain, history, load, snapshot, tail}
 use Rattle.lake_words.proofs.AppendWords.{append_read}
 use Rattle.lake_words.proofs.BareWords.{check_read, checkpoint_read, explain_read, history_read, snapshot_read}
@@ -11,7 +11,7 @@ use Rattle.lake_words.proofs.JobWords.{AreRead}
 use Rattle.lake_words.proofs.LoadWords.{load_read}
 use Rattle.lake_words.proofs.TailWords.{tail_read}
 
-pub job_words_read : (words : List Text) (asked : Asked) → SpellsJob words asked → AreRead words asked
+pub job_words_read : (words : List Text) (asked : ProgramCommand) → SpellsJob words asked → AreRead words asked
 job_words_read words asked (create d i s m) = create_read _ _ _ _ _ _ d i s m
 job_words_read words asked (append d a e w m t r) = append_read _ _ _ _ _ _ _ _ _ _ _ _ _ d a e w m t r
 job_words_read words asked (close d a m t r) = close_read _ _ _ _ _ _ _ _ _ d a m t r

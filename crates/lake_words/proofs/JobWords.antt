@@ -9,7 +9,7 @@ use Rattle.clap.specs.Walk.{Names, Row, Rule, Text, Walk, answers_to, finished, 
 use Rattle.clap.specs.Simple.{App, Shape, built, built_leaf, entered, inherited, label_of, names_of, rows_at, subcommand_of}
 use Rattle.clap.specs.Takes.{default_passes, entered_passes, is_valid, level_passes, settle_passes, takes, turn_passes, walk_passes}
 use Rattle.clap.proofs.OnLiterals.{clap_on_literals}
-use Rattle.lake_words.specs.Asked.{Asked, AsksFor, IsFlag, asked_by, command_view}
+use Rattle.lake_words.specs.Asked.{AsksFor, IsFlag, ProgramCommand, asked_by, command_view}
 use Rattle.lake_words.specs.Words.{commands, top}
 use Rattle.lake_words.specs.declared.command.Command.{Command}
 use Rattle.lake_words.proofs.WordItems.{ArePlain, Item, item_rows, items_are_taken, items_taken, rows_of_items, word_of}
@@ -93,7 +93,7 @@ job_taken program job rest s is passes =
 -- ---- what the words ask for
 
 -- the words are taken, and ask for this
-pub record AreRead (words : List Text) (asked : Asked) : Type 0 where
+pub record AreRead (words : List Text) (asked : ProgramCommand) : Type 0 where
   pub taken : takes commands words ≡ true
   pub read : (c : Command) → AsksFor (subcommand_of commands words) c → command_view c ≡ asked
 
@@ -108,7 +108,7 @@ given_restore false text e = λ r flag. not-true r (flag.1 e)
 pub no_restore : (text : Option Text) → text ≡ None → TellsRestore text true
 no_restore text e = λ r flag. not-false r (flag.0 e)
 
-asks : (sub : Option (Text × List Row)) (name : Text) (rows : List Row) (c : Command) (use_checkpoints : Bool) (asked : Asked)
+asks : (sub : Option (Text × List Row)) (name : Text) (rows : List Row) (c : Command) (use_checkpoints : Bool) (asked : ProgramCommand)
     → sub ≡ Some (name, rows) → TellsRestore (one_of (codes "no-checkpoint") rows) use_checkpoints → asked_by name rows use_checkpoints ≡ asked
     → AsksFor sub c → command_view c ≡ asked
 asks sub name rows c use_checkpoints asked found tells is h =
@@ -116,7 +116,7 @@ asks sub name rows c use_checkpoints asked found tells is h =
     seen.2 ∙ ap (asked_by name rows) (tells seen.0 seen.1) ∙ is
 
 -- the words of a job are read by its rules
-pub job_read : (program job : Text) (items : List Item) (s : Shape) (use_checkpoints : Bool) (asked : Asked) → IsJob job s → ArePlain items
+pub job_read : (program job : Text) (items : List Item) (s : Shape) (use_checkpoints : Bool) (asked : ProgramCommand) → IsJob job s → ArePlain items
     → items_taken s items ≡ true → TellsRestore (one_of (codes "no-checkpoint") (item_rows s.rules items)) use_checkpoints
     → asked_by s.name (item_rows s.rules items) use_checkpoints ≡ asked → AreRead (program ∷ job ∷ map word_of items) asked
 job_read program job items s use_checkpoints asked is plain taken tells reads = record {

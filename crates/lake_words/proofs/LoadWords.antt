@@ -5,7 +5,7 @@ use Rattle.clap.specs.Walk.{Text}
 use Rattle.clap.proofs.OnLiterals.{clap_on_literals}
 use Rattle.lake_words.specs.Asked.{table}
 use Rattle.lake_words.specs.Asked as asked
-use Rattle.lake_words.specs.Spelling.{IsNumber, IsPlain, SpellsMoment, SpellsRestore, SpellsTries, beginning, moment, replaying, restoring, sixteen, tries}
+use Rattle.lake_words.specs.Spelling.{IsArgumentValue, IsNumber, SpellsMoment, SpellsRestore, SpellsTries, beginning, moment, replaying, restoring, sixteen, tries}
 use Rattle.lake_words.specs.Words as words
 use Rattle.lake_words.proofs.JobWords.{AreRead, IsJob, given_restore, job_read, leaf}
 use Rattle.lake_words.proofs.NumberWords.{any_accepted, at_end, before_flag, before_option, moment_accepted, number_plain, sixteen_is, tries_accepted, zero_is}
@@ -23,7 +23,7 @@ load_asked dir use_checkpoints p q r = rw (p, q, r) refl
 
 -- load DIR --workers N [--at MS] [--tries N] [--no-checkpoint]
 pub load_read : (program dir number : Text) (n at tries : ℕ) (use_checkpoints : Bool) (moment_words tries_words restore_words : List Text)
-    → IsPlain dir → IsNumber number n → SpellsMoment moment_words at → SpellsTries tries_words tries → SpellsRestore restore_words use_checkpoints
+    → IsArgumentValue dir → IsNumber number n → SpellsMoment moment_words at → SpellsTries tries_words tries → SpellsRestore restore_words use_checkpoints
     → AreRead (program ∷ codes "load" ∷ dir ∷ codes "--workers" ∷ number ∷ moment_words ++ (tries_words ++ restore_words)) (table dir use_checkpoints (asked.load n at tries))
 unfolding clap_on_literals
 load_read program dir number n at tried use_checkpoints moment_words tries_words restore_words d e beginning sixteen restoring =

@@ -5,7 +5,7 @@ use Rattle.std.specs.Prelude.{bytes_eq, unwrap_or, option_and_then}
 use Rattle.std.specs.Option.{option_map_or}
 use Rattle.std.specs.Str.Parse.{ExplainsUnsignedError, HasUnsignedDigitsIfOk, ParsesUnsigned}
 use Rattle.clap.specs.Words.{Row, Text, ReadsOne, one_of}
-use Rattle.lake_words.specs.Asked.{AsksFor, IsFlag, asked_by, check, explain, number_of, command_view, script, table, text_in, work_of}
+use Rattle.lake_words.specs.Asked.{AsksFor, IsFlag, asked_by, check, explain, argument_number, command_view, script, table, text_in, work_of}
 use Rattle.lake_words.specs.declared.command.Command.{Command}
 use Rattle.lake_words.proofs.Numbers.{number_of_parsed}
 
@@ -16,12 +16,12 @@ unwrapped_text (Some text) default e = refl
 
 -- the number that a text was read as
 read_number : {E : Type 0} (gives : List ℕ → Result ℕ E → Type 0) → ((bs : List ℕ) (r : Result ℕ E) → gives bs r → ParsesUnsigned 64 10 bs r)
-    → (text : Text) (read : Option ℕ) → ReadsOne gives text read → read ≡ number_of text
+    → (text : Text) (read : Option ℕ) → ReadsOne gives text read → read ≡ argument_number text
 read_number {E = E} gives parses text (Some n) h =
-    let is : number_of text ≡ Some n = number_of_parsed {E = E} text (Ok n) (parses text (Ok n) h) in
+    let is : argument_number text ≡ Some n = number_of_parsed {E = E} text (Ok n) (parses text (Ok n) h) in
     sym is
 read_number {E = E} gives parses text None h =
-    let is : number_of text ≡ None = number_of_parsed {E = E} text (Err h.0) (parses text (Err h.0) h.1) in
+    let is : argument_number text ≡ None = number_of_parsed {E = E} text (Err h.0) (parses text (Err h.0) h.1) in
     sym is
 
 -- a text was read as a u64, or it is none
@@ -30,7 +30,7 @@ ReadsNumber = ReadsOne (λ bs r. ParsesUnsigned 64 10 bs r × ExplainsUnsignedEr
 
 -- and where there is a text or none
 pub number_given : (given : Option Text) (read : Option ℕ) → (given ≡ None → read ≡ None)
-    → ((text : Text) → given ≡ Some text → ReadsNumber text read) → read ≡ option_and_then number_of given
+    → ((text : Text) → given ≡ Some text → ReadsNumber text read) → read ≡ option_and_then argument_number given
 number_given None read none value = none refl
 number_given (Some text) read none value = read_number (λ bs r. ParsesUnsigned 64 10 bs r × ExplainsUnsignedError {T = ℕ} 10 bs r × HasUnsignedDigitsIfOk bs r) (λ bs r h. h.0) text read (value text refl)
 

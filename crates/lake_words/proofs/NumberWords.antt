@@ -7,8 +7,8 @@ use Rattle.std.specs.Str.Parse.{IsNumeral, digits_value, without_leading_plus}
 use Rattle.clap.specs.ValueTests.{accepts}
 use Rattle.clap.proofs.ValueTestLemmas.{Accepts-accepts}
 use Rattle.clap.specs.declared.builder.value_parser.ValueParser.TheVariants.{Unsigned}
-use Rattle.lake_words.specs.Asked.{is_number, number_of}
-use Rattle.lake_words.specs.Spelling.{IsNumber, IsPlain}
+use Rattle.lake_words.specs.Asked.{argument_number, is_argument_number}
+use Rattle.lake_words.specs.Spelling.{IsArgumentValue, IsNumber}
 use Rattle.lake_words.proofs.Numbers.{is_number_means}
 
 -- a choice that is something was made for it
@@ -22,9 +22,9 @@ chosen false v n e = absurd (elim_none n e)
 -- a number's text is digits behind at most one plus
 pub number_means : (text : List ℕ) (n : ℕ) → IsNumber text n
     → IsNumeral 10 (without_leading_plus text) × (n < 2 ^ 64) × (digits_value 10 (without_leading_plus text) ≡ n)
-unfolding number_of
+unfolding argument_number
 number_means text n h =
-    let is = chosen (is_number (without_leading_plus text)) (digits_value 10 (without_leading_plus text)) n h in
+    let is = chosen (is_argument_number (without_leading_plus text)) (digits_value 10 (without_leading_plus text)) n h in
     let means = is_number_means _ is.0 in
     (means.0, subst (λ v. v < 2 ^ 64) is.1 means.1, is.1)
 
@@ -32,14 +32,14 @@ number_means text n h =
 no_hyphen : (xs : List ℕ) → IsNumeral 10 (without_leading_plus (45 ∷ xs)) → ⊥
 no_hyphen xs h = omega (arith, h.1.0)
 
-pub number_plain : (text : List ℕ) (n : ℕ) → IsNumber text n → IsPlain text
+pub number_plain : (text : List ℕ) (n : ℕ) → IsNumber text n → IsArgumentValue text
 number_plain text n h = unhyphened text (number_means text n h).0
   where
     begins : (b : Bool) (x : ℕ) (xs : List ℕ) → (x == 45) ≡ b → IsNumeral 10 (without_leading_plus (x ∷ xs)) → b ≡ false
     begins true x xs e h = absurd (no_hyphen xs (subst (λ c. IsNumeral 10 (without_leading_plus (c ∷ xs))) (eqb-true _ _ e) h))
     begins false x xs e h = refl
 
-    unhyphened : (text : List ℕ) → IsNumeral 10 (without_leading_plus text) → IsPlain text
+    unhyphened : (text : List ℕ) → IsNumeral 10 (without_leading_plus text) → IsArgumentValue text
     unhyphened [] h = refl
     unhyphened (x ∷ xs) h = begins _ x xs refl h
 
@@ -65,12 +65,12 @@ pub max_accepted : (text : List ℕ) (n : ℕ) → IsNumber text n → n ≤ 65_
 max_accepted text n h below = number_accepted 0 65_536 text n h (omega arith) below
 
 -- the defaults
-pub zero_is : number_of (codes "0") ≡ Some 0
-unfolding number_of
+pub zero_is : argument_number (codes "0") ≡ Some 0
+unfolding argument_number
 zero_is = refl
 
-pub sixteen_is : number_of (codes "16") ≡ Some 16
-unfolding number_of
+pub sixteen_is : argument_number (codes "16") ≡ Some 16
+unfolding argument_number
 sixteen_is = refl
 
 -- what is accepted passes as one value, as the one before an option, and as the one before a flag

@@ -5,7 +5,7 @@ use Rattle.clap.specs.Walk.{Text}
 use Rattle.clap.proofs.OnLiterals.{clap_on_literals}
 use Rattle.lake_words.specs.Asked.{table}
 use Rattle.lake_words.specs.Asked as asked
-use Rattle.lake_words.specs.Spelling.{IsNumber, IsPlain, SpellsRestore, replaying, restoring}
+use Rattle.lake_words.specs.Spelling.{IsArgumentValue, IsNumber, SpellsRestore, replaying, restoring}
 use Rattle.lake_words.specs.Words as words
 use Rattle.lake_words.proofs.JobWords.{AreRead, IsJob, given_restore, job_read, leaf}
 use Rattle.lake_words.proofs.NumberWords.{at_end, before_flag, max_accepted, number_plain}
@@ -23,7 +23,7 @@ tail_asked dir offset use_checkpoints p = rw p refl
 
 -- tail DIR --from OFFSET --max N [--no-checkpoint]
 pub tail_read : (program dir offset number : Text) (max : ℕ) (use_checkpoints : Bool) (restore_words : List Text)
-    → IsPlain dir → IsPlain offset → IsNumber number max → max ≤ 65_536 → SpellsRestore restore_words use_checkpoints
+    → IsArgumentValue dir → IsArgumentValue offset → IsNumber number max → max ≤ 65_536 → SpellsRestore restore_words use_checkpoints
     → AreRead (program ∷ codes "tail" ∷ dir ∷ codes "--from" ∷ offset ∷ codes "--max" ∷ number ∷ restore_words) (table dir use_checkpoints (asked.tail max offset))
 unfolding clap_on_literals
 tail_read program dir offset number max use_checkpoints restore_words d o e below restoring =

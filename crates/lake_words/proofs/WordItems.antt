@@ -6,7 +6,7 @@ use Rattle.std.specs.List.{list_all, fold}
 use Rattle.clap.specs.Walk.{Held, Row, Rule, Step, Text, Waiting, Walk, after_step, finished, idle, nothing_held, option, plain_word, positional, rows_after, subcommand_met, value, walk_from, walked, walked_from, word_met}
 use Rattle.clap.specs.Simple.{Shape}
 use Rattle.clap.specs.Takes.{default_passes, is_valid, level_passes, settle_passes, step_passes, turn_passes, walk_passes, word_passes}
-use Rattle.lake_words.specs.Spelling.{IsPlain}
+use Rattle.lake_words.specs.Spelling.{IsArgumentValue}
 
 -- a word of a command line
 pub data Item : Type 0 where
@@ -21,7 +21,7 @@ word_of (plain word) = word
 abbrev pub ArePlain : List Item → Type 0
 ArePlain [] = Unit {0}
 ArePlain (flag word ∷ items) = ArePlain items
-ArePlain (plain word ∷ items) = IsPlain word × ArePlain items
+ArePlain (plain word ∷ items) = IsArgumentValue word × ArePlain items
 
 -- ---- one plain word
 
@@ -37,7 +37,7 @@ no_subcommand (option id) word = refl
 no_subcommand positional word = refl
 
 pub plain_is_met : (c : List Rule) (trailing : Bool) (waiting : Waiting) (position : ℕ) (word : Text) (h : Held)
-    → IsPlain word → word_met c [] trailing waiting position word h ≡ plain_met c trailing waiting word h
+    → IsArgumentValue word → word_met c [] trailing waiting position word h ≡ plain_met c trailing waiting word h
 plain_is_met c true waiting position word h e = refl
 plain_is_met c false waiting position [] h e = rw (no_subcommand waiting []) refl
 plain_is_met c false waiting position (x ∷ xs) h e = rw (no_subcommand waiting (x ∷ xs), e, e) refl
@@ -50,14 +50,14 @@ plain_walked c None w word =
     after_step c word w met.0 met.1
 
 plain_is_walked : (c : List Rule) (stopped : Option (Text × List Text)) (w : Walk) (word : Text)
-    → IsPlain word → walked_from c [] stopped w word ≡ plain_walked c stopped w word
+    → IsArgumentValue word → walked_from c [] stopped w word ≡ plain_walked c stopped w word
 plain_is_walked c (Some p) w word e = refl
 plain_is_walked c None w word e =
     ap (λ (met : Held × Step). after_step c word w met.0 met.1) (plain_is_met c w.is_trailing w.waiting w.position word w.held e)
 
 -- a plain word is no call for help, and no unknown option
 plain_word_passes : (s : Shape) (trailing : Bool) (waiting : Waiting) (word : Text) (h : Held)
-    → IsPlain word → word_passes s [] trailing waiting word h ≡ true
+    → IsArgumentValue word → word_passes s [] trailing waiting word h ≡ true
 plain_word_passes s true waiting word h e = refl
 plain_word_passes s false waiting [] h e = rw (no_subcommand waiting []) refl
 plain_word_passes s false waiting (x ∷ xs) h e = rw (no_subcommand waiting (x ∷ xs), e, e) refl
@@ -67,7 +67,7 @@ plain_passes s w word =
     let met = plain_met s.rules w.is_trailing w.waiting word w.held in
     is_some w.stopped || step_passes s w.position met.0 met.1
 
-plain_is_passed : (s : Shape) (w : Walk) (word : Text) → IsPlain word → turn_passes s [] w word ≡ plain_passes s w word
+plain_is_passed : (s : Shape) (w : Walk) (word : Text) → IsArgumentValue word → turn_passes s [] w word ≡ plain_passes s w word
 plain_is_passed s w word e =
     ap₂ (λ (passes : Bool) (met : Held × Step). is_some w.stopped || (passes && step_passes s w.position met.0 met.1))
     (plain_word_passes s w.is_trailing w.waiting word w.held e)

@@ -21,11 +21,11 @@ pub data Work : Type 0 where
   history : Work
 
 -- what the program is asked for
-pub data Asked : Type 0 where
-  script : (use_checkpoints : Bool) → Asked
-  table : (folder : Text) (use_checkpoints : Bool) → Work → Asked
-  check : (folder : Text) → Asked
-  explain : (code : Text) → Asked
+pub data ProgramCommand : Type 0 where
+  script : (use_checkpoints : Bool) → ProgramCommand
+  table : (folder : Text) (use_checkpoints : Bool) → Work → ProgramCommand
+  check : (folder : Text) → ProgramCommand
+  explain : (code : Text) → ProgramCommand
 
 -- the same of the code
 abbrev pub work_view : Job → Work
@@ -38,7 +38,7 @@ work_view jobs.Snapshot = snapshot
 work_view jobs.Checkpoint = checkpoint
 work_view jobs.History = history
 
-abbrev pub command_view : Command → Asked
+abbrev pub command_view : Command → ProgramCommand
 command_view (commands.Script use_checkpoints) = script use_checkpoints
 command_view (commands.Table command) = table command.folder.now command.use_checkpoints (work_view command.job)
 command_view (commands.Check folder) = check folder.now
@@ -49,20 +49,20 @@ abbrev pub text_in : Text → List Row → Text
 text_in id rows = unwrap_or (first_of id rows) []
 
 -- decimal digits of a number below 2^64
-abbrev pub is_number : List ℕ → Bool
-is_number digits = nat_lt 0 (length digits) && (all_ascii_digits digits && nat_lt (digits_value 10 digits) (2 ^ 64))
+abbrev pub is_argument_number : List ℕ → Bool
+is_argument_number digits = nat_lt 0 (length digits) && (all_ascii_digits digits && nat_lt (digits_value 10 digits) (2 ^ 64))
 
 -- the number that a text reads as: digits, with at most one plus before them
-unfoldable pub number_of : Text → Option ℕ
-number_of text = if is_number (without_leading_plus text) then Some (digits_value 10 (without_leading_plus text)) else None
+unfoldable pub argument_number : Text → Option ℕ
+argument_number text = if is_argument_number (without_leading_plus text) then Some (digits_value 10 (without_leading_plus text)) else None
 
 -- the number that was given for one, if one was; `clap` takes no text there that is none
 abbrev pub optional_number_in : Text → List Row → Option ℕ
-optional_number_in id rows = option_and_then number_of (one_of id rows)
+optional_number_in id rows = option_and_then argument_number (one_of id rows)
 
 -- the number that was given for one
-abbrev pub number_in : Text → List Row → ℕ
-number_in id rows = unwrap_or (optional_number_in id rows) 0
+abbrev pub given_number : Text → List Row → ℕ
+given_number id rows = unwrap_or (optional_number_in id rows) 0
 
 -- what a flag is, by the text that `clap` has for it
 abbrev pub IsFlag : Option Text → Bool → Type 0
@@ -71,18 +71,18 @@ IsFlag text flag = (text ≡ None → flag ≡ false) × (text ≡ Some (codes "
 -- the job of a subcommand of that name with these rows, where it has one
 abbrev pub work_of : Text → List Row → Option Work
 work_of name rows =
-    if bytes_eq name (codes "create") then Some (create (text_in (codes "id") rows) (text_in (codes "schema") rows) (number_in (codes "at") rows))
-    else if bytes_eq name (codes "append") then Some (append (text_in (codes "APP") rows) (number_in (codes "NUMBER") rows) (number_in (codes "at") rows) (number_in (codes "tries") rows) (optional_number_in (codes "rows") rows))
-    else if bytes_eq name (codes "close") then Some (close (text_in (codes "APP") rows) (number_in (codes "at") rows) (number_in (codes "tries") rows))
-    else if bytes_eq name (codes "load") then Some (load (number_in (codes "workers") rows) (number_in (codes "at") rows) (number_in (codes "tries") rows))
-    else if bytes_eq name (codes "tail") then Some (tail (number_in (codes "max") rows) (text_in (codes "from") rows))
+    if bytes_eq name (codes "create") then Some (create (text_in (codes "id") rows) (text_in (codes "schema") rows) (given_number (codes "at") rows))
+    else if bytes_eq name (codes "append") then Some (append (text_in (codes "APP") rows) (given_number (codes "NUMBER") rows) (given_number (codes "at") rows) (given_number (codes "tries") rows) (optional_number_in (codes "rows") rows))
+    else if bytes_eq name (codes "close") then Some (close (text_in (codes "APP") rows) (given_number (codes "at") rows) (given_number (codes "tries") rows))
+    else if bytes_eq name (codes "load") then Some (load (given_number (codes "workers") rows) (given_number (codes "at") rows) (given_number (codes "tries") rows))
+    else if bytes_eq name (codes "tail") then Some (tail (given_number (codes "max") rows) (text_in (codes "from") rows))
     else if bytes_eq name (codes "snapshot") then Some snapshot
     else if bytes_eq name (codes "checkpoint") then Some checkpoint
     else if bytes_eq name (codes "history") then Some history
     else None
 
 -- what a subcommand asks for; `check` and `explain` have no `--no-checkpoint`
-abbrev pub asked_by : Text → List Row → (use_checkpoints : Bool) → Asked
+abbrev pub asked_by : Text → List Row → (use_checkpoints : Bool) → ProgramCommand
 asked_by name rows use_checkpoints =
     if bytes_eq name (codes "check") then check (text_in (codes "DIR") rows)
     else if bytes_eq name (codes "explain") then explain (text_in (codes "CODE") rows)

@@ -26,8 +26,8 @@ abbrev pub flag : Text → Rule
 flag name = record (new_rule name) { long = Some name; action = Some SetTrue }
 
 -- `--at MS`: a moment in milliseconds, 0 unless it is given
-abbrev pub at : Rule
-at = number_option (codes "at") 0 999_999_999_999_999 (codes "0")
+abbrev pub at_option : Rule
+at_option = number_option (codes "at") 0 999_999_999_999_999 (codes "0")
 
 -- `--tries N`: how often a commit is tried, 16 times unless it is given
 abbrev pub tries : Rule
@@ -38,8 +38,8 @@ abbrev pub max : Rule
 max = record (option (codes "max")) { parser = Some (Unsigned 0 65_536) }
 
 -- `--rows N`: how many rows the input has, where it is given
-abbrev pub rows : Rule
-rows = record (new_rule (codes "rows")) { long = Some (codes "rows"); action = Some Set; value_names = 1; parser = Some (Unsigned 0 18_446_744_073_709_551_615) }
+abbrev pub rows_option : Rule
+rows_option = record (new_rule (codes "rows")) { long = Some (codes "rows"); action = Some Set; value_names = 1; parser = Some (Unsigned 0 18_446_744_073_709_551_615) }
 
 -- `--workers N`
 abbrev pub workers : Rule
@@ -55,20 +55,20 @@ on_folder name = with_rule (new_app name) (place (codes "DIR"))
 
 -- create DIR --id UUID --schema TEXT [--at MS]
 abbrev pub create : App
-create = with_rule (with_rule (with_rule (on_folder (codes "create")) (option (codes "id"))) (option (codes "schema"))) at
+create = with_rule (with_rule (with_rule (on_folder (codes "create")) (option (codes "id"))) (option (codes "schema"))) at_option
 
 -- append DIR APP NUMBER [--rows N] [--at MS] [--tries N] [--no-checkpoint]
 abbrev pub append : App
 append =
-    with_rule (with_rule (with_rule (with_rule (with_rule (with_rule (on_folder (codes "append")) (place (codes "APP"))) (number_place (codes "NUMBER"))) rows) at) tries) no_checkpoint
+    with_rule (with_rule (with_rule (with_rule (with_rule (with_rule (on_folder (codes "append")) (place (codes "APP"))) (number_place (codes "NUMBER"))) rows_option) at_option) tries) no_checkpoint
 
 -- close DIR APP [--at MS] [--tries N] [--no-checkpoint]
 abbrev pub close : App
-close = with_rule (with_rule (with_rule (with_rule (on_folder (codes "close")) (place (codes "APP"))) at) tries) no_checkpoint
+close = with_rule (with_rule (with_rule (with_rule (on_folder (codes "close")) (place (codes "APP"))) at_option) tries) no_checkpoint
 
 -- load DIR --workers N [--at MS] [--tries N] [--no-checkpoint]
 abbrev pub load : App
-load = with_rule (with_rule (with_rule (with_rule (on_folder (codes "load")) workers) at) tries) no_checkpoint
+load = with_rule (with_rule (with_rule (with_rule (on_folder (codes "load")) workers) at_option) tries) no_checkpoint
 
 -- tail DIR --from OFFSET --max N [--no-checkpoint]
 abbrev pub tail : App

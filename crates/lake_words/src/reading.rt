@@ -2,7 +2,7 @@
 ghost use Rattle.std.specs.Prelude.{◌≡◌, IfOk, MatchResult, map, option_map};
 ghost use Rattle.clap.specs.Words.{fault_of, found_of, kind_of, rows_of, subcommand_of, subcommand_rows_of, FailsBy};
 ghost use Rattle.lake_words.specs.Words.{commands};
-ghost use Rattle.lake_words.specs.Asked.{command_view, number_in, optional_number_in, text_in, work_of, work_view, Asked, AsksFor, Spells};
+ghost use Rattle.lake_words.specs.Asked.{command_view, given_number, optional_number_in, text_in, work_of, work_view, ProgramCommand, AsksFor, Spells};
 ghost use Rattle.lake_words.specs.Spelling.{SpellsJob};
 ghost use Rattle.lake_words.specs.declared.command.Command.{Command};
 
@@ -29,7 +29,7 @@ fn optional_number_in(matches: &ArgMatches<'_>, id: &str) -> Option<u64>
 
 /// The number that was given.
 fn number_in(matches: &ArgMatches<'_>, id: &str) -> u64
-    ensures { result ≡ number_in id.now (rows_of (found_of matches.now)) }
+    ensures { result ≡ given_number id.now (rows_of (found_of matches.now)) }
 {
     optional_number_in(matches, id).unwrap_or(0)
 }
@@ -113,7 +113,7 @@ pub fn read_words<'a, S: AsStr>(alloc: Global, words: &'a [S]) -> Result<Command
         → MatchResult result (λ read. read ≡ command) (λ e. kind_of e ≡ ErrorKind.OutOfMemory) }
 
     // And words that ask for a job on a table, for its check or for what a refusal means are read as that.
-    ensures job_spelled { (asked : Asked) → SpellsJob (map S.text words.now) asked
+    ensures job_spelled { (asked : ProgramCommand) → SpellsJob (map S.text words.now) asked
         → MatchResult result (λ read. command_view read ≡ asked) (λ e. kind_of e ≡ ErrorKind.OutOfMemory) }
 {
     let matches = parser(alloc)?.try_get_matches_from(words)?;

@@ -5,7 +5,7 @@ use Rattle.store_core.specs.Names.{greatest_version}
 use Rattle.table_model.specs.Appends.{appended, with_batch, with_close}
 use Rattle.table_model.specs.declared.table.AppendAnswer.TheVariants.{Committed}
 use Rattle.table_model.specs.Lawful.{IsLawful}
-use Rattle.table_model.specs.Table.{Batch, Entry, creation, group, close, is_closed}
+use Rattle.table_model.specs.Table.{Batch, Entry, creation, group, close, is_stream_closed}
 use Rattle.table_model.proofs.Kept.{append_keeps, close_keeps, new_is_lawful}
 use Rattle.table_store.specs.Commits.{IsCommitOf}
 use Rattle.table_store.specs.Holds.{FileStands, HoldsFirst}
@@ -34,7 +34,7 @@ module _ (objects : Objects) (schema : Schema) (first : Entry) (entries : List E
       after = let kept : IsLawful (with_batch (appended b (first ∷ entries)) b (first ∷ entries)) = append_keeps b first entries lawful in rw new at kept
 
   -- So is the close of a stream that isn't closed.
-  pub close_admissible : (application bytes : List ℕ) → is_closed application (first ∷ entries) ≡ false → IsCommitOf schema (close application) bytes → IsAdmissible objects (length (first ∷ entries)) bytes
+  pub close_admissible : (application bytes : List ℕ) → is_stream_closed application (first ∷ entries) ≡ false → IsCommitOf schema (close application) bytes → IsAdmissible objects (length (first ∷ entries)) bytes
   close_admissible application bytes open_still commit =
       record { schema = schema; entries = first ∷ entries; entry = close application; stand = stand; at = refl; fits = fits; commit = commit; files = tt; lawful = after }
     where

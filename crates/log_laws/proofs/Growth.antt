@@ -7,7 +7,7 @@ use Rattle.std.proofs.lemmas.List.Folds.{list_any-append}
 use Rattle.store_core.specs.Objects.{Objects, HasObjectsOf}
 use Rattle.store_core.specs.Names.{commit_name}
 use Rattle.table_model.specs.Lawful.{IsLawful, Rises}
-use Rattle.table_model.specs.Table.{Batch, Entry, closes_of, is_closed, last_batch, numbers_by}
+use Rattle.table_model.specs.Table.{Batch, Entry, closes_of, is_stream_closed, last_batch, numbers_by}
 use Rattle.table_model.proofs.Callers.{Rises-back, below_later, last_batch-append, last_number, last_some, numbers_by-append}
 use Rattle.table_store.specs.Holds.{Holds, HoldsFirst}
 use Rattle.table_store.specs.Schema.{Schema}
@@ -69,11 +69,11 @@ first_true true other is = refl
 first_true false other is = absurd cc
 
 -- a stream that is closed stays closed
-pub closed_kept : (application : List ℕ) (entries later : List Entry) → is_closed application entries ≡ true → is_closed application (entries ++ later) ≡ true
+pub closed_kept : (application : List ℕ) (entries later : List Entry) → is_stream_closed application entries ≡ true → is_stream_closed application (entries ++ later) ≡ true
 closed_kept application entries later closed =
     ap (list_any (λ (c : List ℕ). bytes_eq c application)) (flat_map-append closes_of entries later)
     ∙ list_any-append (λ (c : List ℕ). bytes_eq c application) (flat_map closes_of entries) (flat_map closes_of later)
-    ∙ first_true (is_closed application entries) (is_closed application later) closed
+    ∙ first_true (is_stream_closed application entries) (is_stream_closed application later) closed
 
 -- an application's last number doesn't fall
 abbrev pub NotBelow : List ℕ → Batch → List Entry → Type 0

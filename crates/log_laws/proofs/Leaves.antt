@@ -12,7 +12,7 @@ use Rattle.table_log.specs.Restoring.{AreAlike, RestoresWell, replayed}
 use Rattle.table_log.specs.Versions.{commit, commits_of, log_of, versions_from, versions_of}
 use Rattle.table_log.proofs.Callers.{of_commit, same_values, replayed_alike, well_sound}
 use Rattle.table_model.specs.Lawful.{BeginsWithCreation}
-use Rattle.table_model.specs.Table.{Entry, creation, group, close, is_closed, last_batch}
+use Rattle.table_model.specs.Table.{Entry, creation, group, close, is_stream_closed, last_batch}
 use Rattle.table_store.specs.Holds.{Holds, HoldsFrom}
 use Rattle.table_store.specs.Logs.{IsLog, LogFrom}
 use Rattle.table_store.specs.Schema.{Schema}
@@ -98,10 +98,10 @@ module _ (objects : Objects) (schema : Schema) (entries : List Entry) (holds : H
   number_left commits application log = log_last objects schema application entries commits (made_by_log commits log)
 
   -- Its stream is closed where the table has it closed.
-  pub closed_left : (commits : List (List actions.Action)) (application : List ℕ) → IsUtf8 application → IsLog objects commits → logs.is_closed application commits ≡ is_closed application entries
+  pub closed_left : (commits : List (List actions.Action)) (application : List ℕ) → IsUtf8 application → IsLog objects commits → logs.is_closed application commits ≡ is_stream_closed application entries
   closed_left commits application text log = log_closed objects schema application entries commits (made_by_log commits log) text
 
-  pub open_left : (commits : List (List actions.Action)) (application : List ℕ) → IsLog objects commits → logs.is_closed application commits ≡ false → is_closed application entries ≡ false
+  pub open_left : (commits : List (List actions.Action)) (application : List ℕ) → IsLog objects commits → logs.is_closed application commits ≡ false → is_stream_closed application entries ≡ false
   open_left commits application log opened = log_open objects schema application entries commits (made_by_log commits log) opened
 
 -- by entries that begin with their creation
@@ -171,7 +171,7 @@ module _ (use_checkpoints : Bool) (objects : Objects) (sound : IsSoundStore obje
     pub seen_number : (application : List ℕ) → last_number application commits ≡ option_map (λ b. b.number) (last_batch application entries)
     seen_number application = (same_values commits whole.0 whole.2).numbers application ∙ number_left objects schema entries holds whole.0 application whole.1
 
-    pub seen_closed : (application : List ℕ) → IsUtf8 application → logs.is_closed application commits ≡ is_closed application entries
+    pub seen_closed : (application : List ℕ) → IsUtf8 application → logs.is_closed application commits ≡ is_stream_closed application entries
     seen_closed application text = (same_values commits whole.0 whole.2).closed application ∙ closed_left objects schema entries holds whole.0 application text whole.1
 
     pub seen_read : readable commits ≡ Ok schema

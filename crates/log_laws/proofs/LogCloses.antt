@@ -18,7 +18,7 @@ use Rattle.delta_replay.specs.Closes.{is_closing}
 use Rattle.delta_replay.specs.Closes as replay
 use Rattle.delta_replay.specs.Keys as keys
 use Rattle.delta_replay.specs.Keys.{Key, domain_of, kept, newest}
-use Rattle.table_model.specs.Table.{Entry, creation, group, close, closes_of, is_closed}
+use Rattle.table_model.specs.Table.{Entry, creation, group, close, closes_of, is_stream_closed}
 use Rattle.table_store.specs.Commits.{StandFor, without_commit_info, closed_domain}
 use Rattle.table_store.specs.Schema.{Schema}
 use Rattle.table_store.proofs.LawfulLogLemmas.{AreMadeFor}
@@ -97,14 +97,14 @@ module _ (schema : Schema) (application : List ℕ) where
   commit_agrees (close closed) beside stand = rw stand.actions (close_agrees closed stand.text)
 
   -- several commits agree with their entries
-  commits_agree : (objects : Objects) (entries : List Entry) (commits : List (List actions.Action)) → AreMadeFor objects schema entries commits → Agrees application (newest key commits) (is_closed application entries)
+  commits_agree : (objects : Objects) (entries : List Entry) (commits : List (List actions.Action)) → AreMadeFor objects schema entries commits → Agrees application (newest key commits) (is_stream_closed application entries)
   commits_agree objects [] [] made = refl
   commits_agree objects [] (commit ∷ commits) made = absurd made
   commits_agree objects (entry ∷ entries) [] made = absurd made
   commits_agree objects (entry ∷ entries) (commit ∷ commits) made =
       let first : Agrees application (of_commit key commit) (any_own (closes_of entry)) = rw (newest_beside key (λ told. refl) commit) (commit_agrees entry (without_commit_info commit) made.0) in
       rw (newest-cons key commit commits, list_any-append (λ c. bytes_eq c application) (closes_of entry) (flat_map closes_of entries))
-      (agrees_later application (newest key commits) (of_commit key commit) (is_closed application entries) (any_own (closes_of entry)) (commits_agree objects entries commits made.2) first)
+      (agrees_later application (newest key commits) (of_commit key commit) (is_stream_closed application entries) (any_own (closes_of entry)) (commits_agree objects entries commits made.2) first)
 
 -- where the stream isn't closed by what was found, no close was seen
 open_by : (application : List ℕ) (found : Option actions.Action) (closed : Bool) → Agrees application found closed → is_closing (kept found) ≡ false → closed ≡ false
@@ -122,9 +122,9 @@ module _ (objects : Objects) (schema : Schema) (application : List ℕ) (entries
   found = newest (domain_of (stream_domain application)) commits
 
   -- A stream that isn't closed by the commits of a table's entries isn't closed in the table.
-  pub log_open : replay.is_closed application commits ≡ false → is_closed application entries ≡ false
-  log_open = open_by application found (is_closed application entries) (commits_agree schema application objects entries commits made)
+  pub log_open : replay.is_closed application commits ≡ false → is_stream_closed application entries ≡ false
+  log_open = open_by application found (is_stream_closed application entries) (commits_agree schema application objects entries commits made)
 
   -- A stream is closed by the commits of a table's entries exactly where it is closed in the table, where the application's id is text.
-  pub log_closed : IsUtf8 application → replay.is_closed application commits ≡ is_closed application entries
-  log_closed own = closed_by application found (is_closed application entries) own (commits_agree schema application objects entries commits made)
+  pub log_closed : IsUtf8 application → replay.is_closed application commits ≡ is_stream_closed application entries
+  log_closed own = closed_by application found (is_stream_closed application entries) own (commits_agree schema application objects entries commits made)

@@ -8,7 +8,7 @@ use Rattle.store_core.specs.Objects.{Objects}
 use Rattle.delta_actions.specs.Action as actions
 use Rattle.delta_actions.specs.Action.{add, meta_data, protocol, txn, MetaDataAction}
 use Rattle.delta_replay.specs.Keys.{the_protocol, the_meta_data, newest}
-use Rattle.delta_replay.specs.Support.{checkpointable, feature, has_key_inside, meta_data_of, readable, writable}
+use Rattle.delta_replay.specs.Support.{checkpointable, feature, has_key_inside, meta_data_of_log, readable, writable}
 use Rattle.outcomes.specs.Results.{◌>>=◌, refused_if}
 use Rattle.table_model.specs.Table.{Entry, creation, group, close}
 use Rattle.table_store.specs.Commits.{StandFor, without_commit_info, table_protocol}
@@ -96,7 +96,7 @@ module _ (objects : Objects) (schema : Schema) (rest : List Entry) where
       by_fields false = refl
 
   -- It has a metadata.
-  pub log_meta_data : (commits : List (List actions.Action)) → AreMadeFor objects schema (creation ∷ rest) commits → (metadata : MetaDataAction) × (meta_data_of commits ≡ Some metadata)
+  pub log_meta_data : (commits : List (List actions.Action)) → AreMadeFor objects schema (creation ∷ rest) commits → (metadata : MetaDataAction) × (meta_data_of_log commits ≡ Some metadata)
   log_meta_data commits made =
       let told = log_told commits made in
       (told.0, rw told.1 refl)

@@ -7,7 +7,7 @@ ghost use Rattle.delta_actions.specs.Commit.{IsCommit};
 ghost use Rattle.store_core.specs.Names.{commit_name, greatest_version};
 ghost use Rattle.table_model.specs.Appends.{appended};
 ghost use Rattle.table_model.specs.Lawful.{IsLawful};
-ghost use Rattle.table_model.specs.Table.{Batch, Entry, creation, group, close, is_closed};
+ghost use Rattle.table_model.specs.Table.{Batch, Entry, creation, group, close, is_stream_closed};
 ghost use Rattle.table_model.specs.declared.table.AppendAnswer.TheVariants.{Committed};
 ghost use Rattle.table_store.specs.Commits.{IsCommitOf};
 ghost use Rattle.table_store.specs.Conflicts.{Candidate, Conflicts, ReadsItsOwn};
@@ -34,7 +34,7 @@ pub fn the_next_entry_is_admissible()
         → length (first ∷ entries) ≤ greatest_version → appended b (first ∷ entries) ≡ Committed (length (first ∷ entries)) → IsCommitOf schema (group (b ∷ [])) bytes → FileStands objects schema b
         → IsAdmissible objects (length (first ∷ entries)) bytes }
     ensures closed { (objects : Objects) (schema : Schema) (first : Entry) (entries : List Entry) (application bytes : List ℕ) → HoldsFirst objects schema 0 (first ∷ entries) → IsLawful (first ∷ entries)
-        → length (first ∷ entries) ≤ greatest_version → is_closed application (first ∷ entries) ≡ false → IsCommitOf schema (close application) bytes
+        → length (first ∷ entries) ≤ greatest_version → is_stream_closed application (first ∷ entries) ≡ false → IsCommitOf schema (close application) bytes
         → IsAdmissible objects (length (first ∷ entries)) bytes }
 {}
 

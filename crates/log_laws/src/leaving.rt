@@ -12,7 +12,7 @@ ghost use Rattle.table_log.specs.Counts.{commit_count};
 ghost use Rattle.table_log.specs.Restoring.{IsSoundCheckpoint, replayed};
 ghost use Rattle.table_log.specs.Versions.{commits_in, log_of, versions_from};
 ghost use Rattle.table_model.specs.Lawful.{IsLawful};
-ghost use Rattle.table_model.specs.Table.{Entry, is_closed, last_batch};
+ghost use Rattle.table_model.specs.Table.{Entry, is_stream_closed, last_batch};
 ghost use Rattle.table_store.specs.Holds.{Holds, HoldsFirst};
 ghost use Rattle.table_store.specs.Logs.{IsLog};
 ghost use Rattle.table_store.specs.Schema.{Schema};
@@ -36,9 +36,9 @@ pub fn a_sound_log_leaves_its_table()
     ensures number { (objects : Objects) (schema : Schema) (entries : List Entry) (commits : List (List Action)) (application : List ℕ) → Holds objects schema entries → IsLog objects commits
         → last_number application commits ≡ option_map (λ b. b.number) (last_batch application entries) }
     ensures closed { (objects : Objects) (schema : Schema) (entries : List Entry) (commits : List (List Action)) (application : List ℕ) → IsUtf8 application → Holds objects schema entries → IsLog objects commits
-        → logs.is_closed application commits ≡ is_closed application entries }
+        → logs.is_closed application commits ≡ is_stream_closed application entries }
     ensures still_open { (objects : Objects) (schema : Schema) (entries : List Entry) (commits : List (List Action)) (application : List ℕ) → Holds objects schema entries → IsLog objects commits
-        → logs.is_closed application commits ≡ false → is_closed application entries ≡ false }
+        → logs.is_closed application commits ≡ false → is_stream_closed application entries ≡ false }
     ensures read { (objects : Objects) (schema : Schema) (entries : List Entry) (first : List Action) (commits : List (List Action)) → IsSoundStore objects → Holds objects schema entries → IsLog objects (first ∷ commits)
         → readable (first ∷ commits) ≡ Ok schema }
     ensures written { (objects : Objects) (schema found : Schema) (entries : List Entry) (commits : List (List Action)) → IsSoundStore objects → Holds objects schema entries → IsLog objects commits
@@ -53,9 +53,9 @@ pub fn the_first_commits_leave_the_first_entries()
     ensures number { (objects : Objects) (schema : Schema) (entries : List Entry) (commits : List (List Action)) (application : List ℕ) → HoldsFirst objects schema 0 entries
         → commits_in 0 (versions_from (length entries) 0 objects) ≡ Ok commits → last_number application commits ≡ option_map (λ b. b.number) (last_batch application entries) }
     ensures closed { (objects : Objects) (schema : Schema) (entries : List Entry) (commits : List (List Action)) (application : List ℕ) → IsUtf8 application → HoldsFirst objects schema 0 entries
-        → commits_in 0 (versions_from (length entries) 0 objects) ≡ Ok commits → logs.is_closed application commits ≡ is_closed application entries }
+        → commits_in 0 (versions_from (length entries) 0 objects) ≡ Ok commits → logs.is_closed application commits ≡ is_stream_closed application entries }
     ensures still_open { (objects : Objects) (schema : Schema) (entries : List Entry) (commits : List (List Action)) (application : List ℕ) → HoldsFirst objects schema 0 entries
-        → commits_in 0 (versions_from (length entries) 0 objects) ≡ Ok commits → logs.is_closed application commits ≡ false → is_closed application entries ≡ false }
+        → commits_in 0 (versions_from (length entries) 0 objects) ≡ Ok commits → logs.is_closed application commits ≡ false → is_stream_closed application entries ≡ false }
     ensures read { (objects : Objects) (schema : Schema) (entries : List Entry) (first : List Action) (commits : List (List Action)) → IsLawful entries → HoldsFirst objects schema 0 entries
         → commits_in 0 (versions_from (length entries) 0 objects) ≡ Ok (first ∷ commits) → readable (first ∷ commits) ≡ Ok schema }
     ensures written { (objects : Objects) (schema found : Schema) (entries : List Entry) (commits : List (List Action)) → IsLawful entries → HoldsFirst objects schema 0 entries
@@ -71,7 +71,7 @@ pub fn a_checkpoint_leaves_what_its_log_leaves()
     ensures number { (use_checkpoints : Bool) (objects : Objects) (schema : Schema) (entries : List Entry) (commits : List (List Action)) (application : List ℕ) → IsSoundStore objects
         → Holds objects schema entries → replayed use_checkpoints objects ≡ Ok commits → last_number application commits ≡ option_map (λ b. b.number) (last_batch application entries) }
     ensures closed { (use_checkpoints : Bool) (objects : Objects) (schema : Schema) (entries : List Entry) (commits : List (List Action)) (application : List ℕ) → IsUtf8 application → IsSoundStore objects
-        → Holds objects schema entries → replayed use_checkpoints objects ≡ Ok commits → logs.is_closed application commits ≡ is_closed application entries }
+        → Holds objects schema entries → replayed use_checkpoints objects ≡ Ok commits → logs.is_closed application commits ≡ is_stream_closed application entries }
     ensures read { (use_checkpoints : Bool) (objects : Objects) (schema : Schema) (entries : List Entry) (commits : List (List Action)) → IsSoundStore objects
         → Holds objects schema entries → replayed use_checkpoints objects ≡ Ok commits → readable commits ≡ Ok schema }
     ensures written { (use_checkpoints : Bool) (objects : Objects) (schema found : Schema) (entries : List Entry) (commits : List (List Action)) → IsSoundStore objects

@@ -4,7 +4,7 @@ ghost use Rattle.std.specs.Prelude.{◌≡◌, ◌≤◌, ℕ, List, [], ◌∷�
 ghost use Rattle.store_core.specs.Objects.{Objects, HasObjectsOf};
 ghost use Rattle.table_model.specs.Appends.{TellsAppend, TellsClose};
 ghost use Rattle.table_model.specs.Reads.{is_offset, position};
-ghost use Rattle.table_model.specs.Table.{Batch, Entry, batches, is_closed, last_batch};
+ghost use Rattle.table_model.specs.Table.{Batch, Entry, batches, is_stream_closed, last_batch};
 ghost use Rattle.table_model.specs.declared.reading.Offset.{Offset};
 ghost use Rattle.table_model.specs.declared.table.AppendAnswer.{AppendAnswer};
 ghost use Rattle.table_model.specs.declared.table.Closing.{Closing};
@@ -35,7 +35,7 @@ pub fn what_a_sound_table_has_stays()
     ensures batch { (objects more : Objects) (schema other : Schema) (entries others : List Entry) (b : Batch) → IsSoundStore objects → HasObjectsOf objects more → Holds objects schema entries
         → Holds more other others → Contains (batches entries) b → Contains (batches others) b }
     ensures closed { (objects more : Objects) (schema other : Schema) (entries others : List Entry) (application : List ℕ) → IsSoundStore objects → HasObjectsOf objects more → Holds objects schema entries
-        → Holds more other others → is_closed application entries ≡ true → is_closed application others ≡ true }
+        → Holds more other others → is_stream_closed application entries ≡ true → is_stream_closed application others ≡ true }
     ensures append { (objects more : Objects) (schema other : Schema) (entries others : List Entry) (answer : AppendAnswer) (b : Batch) → IsSoundStore objects → HasObjectsOf objects more → Holds objects schema entries
         → Holds more other others → TellsAppend answer b entries → TellsAppend answer b others }
     ensures close { (objects more : Objects) (schema other : Schema) (entries others : List Entry) (answer : Closing) (application : List ℕ) → IsSoundStore objects → HasObjectsOf objects more → Holds objects schema entries

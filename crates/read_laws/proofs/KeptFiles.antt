@@ -3,7 +3,7 @@ use Rattle.std.proofs.Common.{◌≡◌, ◌<◌, ◌∙◌, ℕ, zero, suc, Lis
 use Rattle.std.specs.Prelude.{slice_get}
 use Rattle.store_core.specs.Objects.{Objects, object_at}
 use Rattle.delta_actions.specs.Action.{Action}
-use Rattle.delta_actions.specs.Kinds.{Path}
+use Rattle.delta_actions.specs.Kinds.{PathAndKey}
 use Rattle.outcomes.specs.Results.{◌>>=◌, or_refusal}
 use Rattle.row_core.specs.Rows.{Row}
 use Rattle.schema_tree.specs.Tree.{Tree}
@@ -21,25 +21,25 @@ use Rattle.read_laws.proofs.KeptVersions.{versions_kept}
 
 module _ (objects : Objects) (schema : Tree) where
   -- a file whose rows are read stands
-  read_stands : (path : Path) (rows : List Row) (found : Option (List ℕ)) → object_at objects path.key ≡ found
+  read_stands : (path : PathAndKey) (rows : List Row) (found : Option (List ℕ)) → object_at objects path.key ≡ found
       → (or_refusal found (missing_file path.text) >>= λ bytes. or_bad_file (record { version = 0; file = 0; path = path }) (rows_at bytes schema)) ≡ Ok rows → IsSome (object_at objects path.key)
   read_stands path rows None is reads = absurd cc
   read_stands path rows (Some bytes) is reads = rw is refl
 
-  rows_stand : (path : Path) (rows : List Row) → file_rows objects schema (record { version = 0; file = 0; path = path }) ≡ Ok rows → IsSome (object_at objects path.key)
+  rows_stand : (path : PathAndKey) (rows : List Row) → file_rows objects schema (record { version = 0; file = 0; path = path }) ≡ Ok rows → IsSome (object_at objects path.key)
   unfolding file_rows
   rows_stand path rows reads = read_stands path rows (object_at objects path.key) refl reads
 
   -- so does each of a commit
-  file_stands : (paths : List Path) (rows : List (List Row)) → AreFilesFound objects schema paths rows → (path : Path) (k : ℕ) → k < length paths → slice_index_or paths k path ≡ path → IsSome (object_at objects path.key)
+  file_stands : (paths : List PathAndKey) (rows : List (List Row)) → AreFilesFound objects schema paths rows → (path : PathAndKey) (k : ℕ) → k < length paths → slice_index_or paths k path ≡ path → IsSome (object_at objects path.key)
   file_stands [] rows found path k low is = absurd (omega (arith, low))
   file_stands (first ∷ paths) [] found path k low is = absurd found
-  file_stands (first ∷ paths) (r ∷ rows) found path zero low is = subst (λ (p : Path). IsSome (object_at objects p.key)) is (rows_stand first r (found.0 0 0))
+  file_stands (first ∷ paths) (r ∷ rows) found path zero low is = subst (λ (p : PathAndKey). IsSome (object_at objects p.key)) is (rows_stand first r (found.0 0 0))
   file_stands (first ∷ paths) (r ∷ rows) found path (suc k) low is = file_stands paths rows found.1 path k (omega (arith, low)) is
 
   -- and each of a log
   log_stands : (entries : List Entry) (commits : List (List Action)) → AreEntriesFound objects schema entries commits → (version : ℕ) (actions : List Action) → slice_get (map commit commits) version ≡ Some (commit actions)
-      → (path : Path) → Contains (new_files actions) path → IsSome (object_at objects path.key)
+      → (path : PathAndKey) → Contains (new_files actions) path → IsSome (object_at objects path.key)
   log_stands [] [] found version actions is path among = absurd cc
   log_stands [] (first ∷ commits) found version actions is path among = absurd found
   log_stands (entry ∷ entries) [] found version actions is path among = absurd cc

@@ -11,8 +11,8 @@ use Rattle.delta_actions.specs.Action as actions
 use Rattle.row_core.specs.Rows.{Row}
 use Rattle.source_core.specs.ParquetReading.{rows_at}
 use Rattle.source_core.proofs.Callers.{rows_only}
-use Rattle.table_model.specs.Table.{Batch, Entry, creation, group, close, files_of, last}
-use Rattle.table_model.specs.Reads.{Answer, handed, beyond, bad_place, is_beyond, is_offset, offset_behind, part, next_offset, end, read}
+use Rattle.table_model.specs.Table.{Batch, Entry, creation, group, close, files_of, last_item}
+use Rattle.table_model.specs.Reads.{Answer, handed, beyond, bad_place, is_beyond, is_offset, offset_behind, rows_from_offset, next_offset, end, read}
 use Rattle.table_model.specs.declared.reading.Offset.{Offset}
 use Rattle.outcomes.specs.Results.{◌>>=◌}
 use Rattle.source_core.specs.Tailing as tails
@@ -34,7 +34,7 @@ use Rattle.table_log.specs.Versions.{commit}
 use Rattle.table_model.specs.Lawful.{BeginsWithCreation, NoCreation}
 use Rattle.delta_actions.specs.Action.{AddAction, MetaDataAction, RemoveAction, add, txn}
 use Rattle.delta_actions.specs.In.{add_in, meta_data_in, remove_in, txn_in}
-use Rattle.delta_actions.specs.Kinds.{Path}
+use Rattle.delta_actions.specs.Kinds.{PathAndKey}
 use Rattle.delta_replay.specs.Keys.{last as last_of}
 use Rattle.read_laws.specs.Kept.{FileKept, FilesKept, KeptFrom, KeepsTable, IsReadableFile}
 use Rattle.read_laws.proofs.KeptLog.{made_of, are_made}
@@ -59,14 +59,14 @@ files_found objects schema (b ∷ bs) (file ∷ files) are kept =
 -- the commit of an entry brings its files, which stand and read as its batches' rows
 entry_found : (objects : Objects) (schema : Tree) (entry : Entry) (made : List actions.Action) → StandFor schema entry (without_commit_info made) → FilesKept objects schema entry → IsEntryFound objects schema entry made
 entry_found objects schema entry made stand kept =
-    subst (λ (paths : List Path). AreFilesFound objects schema paths (files_of entry)) (new_files-without_commit_info made) (beside_found entry (without_commit_info made) stand kept)
+    subst (λ (paths : List PathAndKey). AreFilesFound objects schema paths (files_of entry)) (new_files-without_commit_info made) (beside_found entry (without_commit_info made) stand kept)
   where
     beside_found : (e : Entry) (beside : List actions.Action) → StandFor schema e beside → FilesKept objects schema e → AreFilesFound objects schema (new_files beside) (files_of e)
     beside_found creation beside stand kept = rw stand.actions tt
     beside_found (group bs) beside stand kept =
         let new : new_files beside ≡ paths_of (added beside) = new_files-added beside (AreFilesOf-new (numbers beside) (added beside) stand.files) in
         let are : AreFilesOf (map named bs) (added beside) = subst (λ (ns : List (List ℕ × ℕ)). AreFilesOf ns (added beside)) stand.numbered stand.files in
-        subst (λ (paths : List Path). AreFilesFound objects schema paths (map (λ b. b.rows) bs)) (sym new) (files_found objects schema bs (added beside) are kept)
+        subst (λ (paths : List PathAndKey). AreFilesFound objects schema paths (map (λ b. b.rows) bs)) (sym new) (files_found objects schema bs (added beside) are kept)
     beside_found (close application) beside stand kept = rw stand.actions tt
 
 -- so does each commit of a table
@@ -208,12 +208,12 @@ module _ (objects : Objects) (schema : Tree) (entries : List Entry) (commits : L
   rows_told near is file ahead =
       let goes = walked objects schema behind_log ahead.founds max place.row [] place ahead.found ahead.within in
       let rows_out = take max (drop place.row (rows_in ahead.founds)) in
-      let same : rows_out ≡ part max place entries = ap (λ (ps : List (Offset × Row)). take max ps) (sym ahead.rows) in
+      let same : rows_out ≡ rows_from_offset max place entries = ap (λ (ps : List (Offset × Row)). take max ps) (sym ahead.rows) in
       let last_end : behind_log ≡ end entries = ap (λ (n : ℕ). record { version = n; file = 0; row = 0 }) many in
-      let rows_are : goes.handed.rows ≡ map (λ p. p.1) (part max place entries) = goes.rows_are ∙ ap (λ (ps : List (Offset × Row)). map (λ p. p.1) ps) same in
-      let onward : (if length rows_out == max then behind_all place rows_out else behind_log) ≡ (if length rows_out == max then offset_behind place (last rows_out) else end entries) = rw (last_end, behind_last place rows_out) refl in
-      let next_is : goes.handed.next ≡ next_offset max place entries = goes.onward ∙ onward ∙ ap (λ (ps : List (Offset × Row)). if length ps == max then offset_behind place (last ps) else end entries) same in
-      let said : out ≡ Ok (record { rows = map (λ p. p.1) (part max place entries); next = next_offset max place entries }) =
+      let rows_are : goes.handed.rows ≡ map (λ p. p.1) (rows_from_offset max place entries) = goes.rows_are ∙ ap (λ (ps : List (Offset × Row)). map (λ p. p.1) ps) same in
+      let onward : (if length rows_out == max then behind_all place rows_out else behind_log) ≡ (if length rows_out == max then offset_behind place (last_item rows_out) else end entries) = rw (last_end, behind_last place rows_out) refl in
+      let next_is : goes.handed.next ≡ next_offset max place entries = goes.onward ∙ onward ∙ ap (λ (ps : List (Offset × Row)). if length ps == max then offset_behind place (last_item ps) else end entries) same in
+      let said : out ≡ Ok (record { rows = map (λ p. p.1) (rows_from_offset max place entries); next = next_offset max place entries }) =
       handed_of near file (map file_of ahead.founds) ahead.files ∙ goes.said_is ∙ ap (λ (next : Offset). Ok (record { rows = goes.handed.rows; next = next })) next_is
       ∙ ap (λ (rows : List Row). Ok (record { rows = rows; next = next_offset max place entries })) rows_are in
       rw (near, is) said

@@ -7,7 +7,7 @@ use Rattle.outcomes.specs.Results.{◌>>=◌}
 use Rattle.row_core.specs.Rows.{Row}
 use Rattle.schema_tree.specs.Tree.{Tree}
 use Rattle.table_model.specs.Reads as answers
-use Rattle.table_model.specs.Reads.{Answer, beyond, bad_place, is_beyond, is_offset, next_offset, part, read, IsPart}
+use Rattle.table_model.specs.Reads.{Answer, beyond, bad_place, is_beyond, is_offset, next_offset, rows_from_offset, read, IsPart}
 use Rattle.table_model.specs.Resumed.{HandOut}
 use Rattle.table_model.specs.Table.{Entry}
 use Rattle.table_model.specs.declared.reading.Offset.{Offset}
@@ -96,7 +96,7 @@ pair_refused (Ok told) rest refusal said = by_rows (rest told) refl said
 module _ (max : ℕ) (offset : Offset) (entries : List Entry) where
   -- a refusal by what the table answers
   answer_refused : (answer : Answer) (said : Result ReadRows ReadRefusal) (refusal : ReadRefusal) (beyond_it there : Bool) → is_beyond offset entries ≡ beyond_it → is_offset offset entries ≡ there
-      → answer ≡ (if beyond_it then beyond (length entries) else (if not there then bad_place offset.version else answers.handed (map (λ p. p.1) (part max offset entries)) (next_offset max offset entries)))
+      → answer ≡ (if beyond_it then beyond (length entries) else (if not there then bad_place offset.version else answers.handed (map (λ p. p.1) (rows_from_offset max offset entries)) (next_offset max offset entries)))
       → IsRead said answer → said ≡ Err refusal → MayRefuse offset entries refusal
   answer_refused answer said refusal true there far at is told wrong =
       let known : said ≡ Err (tails.beyond_log (length entries)) = subst (IsRead said) is told in
@@ -107,7 +107,7 @@ module _ (max : ℕ) (offset : Offset) (entries : List Entry) where
       let one : tails.bad_place offset.version ≡ refusal = cc in
       subst (MayRefuse offset entries) one (near, at, refl)
   answer_refused answer said refusal false true near at is told wrong =
-      let known : said ≡ Ok (record { rows = map (λ p. p.1) (part max offset entries); next = next_offset max offset entries }) = subst (IsRead said) is told in
+      let known : said ≡ Ok (record { rows = map (λ p. p.1) (rows_from_offset max offset entries); next = next_offset max offset entries }) = subst (IsRead said) is told in
       absurd cc
 
   -- a refusal of the code, which may say nothing

@@ -24,9 +24,9 @@ fault_codes =
     ++ (numbered (codes "P") 11 ++ (numbered (codes "H") 2 ++ (numbered (codes "TH") 4 ++ numbered (codes "B") 4))))))
 
 -- the code is one of these
-abbrev pub is_of : List (List ℕ) → List ℕ → Bool
-is_of listed code = list_any (λ one. bytes_eq one code) listed
+abbrev pub is_listed_code : List (List ℕ) → List ℕ → Bool
+is_listed_code listed code = list_any (λ one. bytes_eq one code) listed
 
 -- the code has an entry
 abbrev pub has_entry : List ℕ → Bool
-has_entry code = is_of refusal_codes code || is_of fault_codes code
+has_entry code = is_listed_code refusal_codes code || is_listed_code fault_codes code

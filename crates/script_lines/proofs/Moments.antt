@@ -5,7 +5,7 @@ use Rattle.script_lines.specs.declared.verb.Verb.{Verb}
 use Rattle.script_lines.specs.declared.verb.Verb.TheVariants as verb
 use Rattle.outcomes.specs.Options.{◌>>=◌}
 use Rattle.script_lines.specs.Names.{verb_of}
-use Rattle.script_lines.specs.Fields.{word_and_rest, number_of, number_between, moment_of, max_of, array_of}
+use Rattle.script_lines.specs.Fields.{word_and_rest, script_number, number_between, moment_of, max_of, json_array_in}
 use Rattle.delta_actions.specs.Commit.{is_blank}
 use Rattle.script_lines.specs.Lines.{Statement, append_head, append_from, close_from, tail_from, Task, IsTimelyTask, IsTimely, append, close, checkpoint, tail, bare_task, task_from, task_of, task_split, create, task, look, show, tries, fault, start, step, land, world, foreign, asks, asked, bare_statement, statement_from, statement_split, statement_of, create_from, start_from, step_from, foreign_from, text_of, is_comment, reading_of}
 
@@ -23,7 +23,7 @@ kept_high low high (Some m) n h =
 -- a moment is below the bound of a count
 moment_small : (text : List ℕ) (n : ℕ) → moment_of text ≡ Some n → n < 2 ^ 63
 unfolding number_between
-moment_small text n h = let high = kept_high 0 999_999_999_999_999 (number_of text) n h in omega arith
+moment_small text n h = let high = kept_high 0 999_999_999_999_999 (script_number text) n h in omega arith
 
 some_timely : (v w : Statement) → IsTimely v → Some v ≡ Some w → IsTimely w
 some_timely v w t h = let is : v ≡ w = cc in subst IsTimely is t
@@ -53,7 +53,7 @@ unfolding append_head
 head_timely text head h =
     bind_all (λ head. head.2 < 2 ^ 63) (word_and_rest text) _
     (λ application u _ h1. bind_all (λ head. head.2 < 2 ^ 63) (word_and_rest application.1) _
-    (λ digits v _ h2. bind_all (λ head. head.2 < 2 ^ 63) (number_of digits.0) _
+    (λ digits v _ h2. bind_all (λ head. head.2 < 2 ^ 63) (script_number digits.0) _
     (λ number x _ h3. bind_all (λ head. head.2 < 2 ^ 63) (word_and_rest digits.1) _
     (λ moment y _ h4. bind_all (λ head. head.2 < 2 ^ 63) (moment_of moment.0) _
     (λ at z is h5. some_all (λ head. head.2 < 2 ^ 63) (application.0, number, at, moment.1) z (moment_small moment.0 at is) h5) y h4) x h3) v h2) u h1) head h
@@ -62,7 +62,7 @@ append_timely : (text : List ℕ) (t : Task) → append_from text ≡ Some t →
 unfolding append_from
 append_timely text t h =
     bind_all IsTimelyTask (append_head text) _
-    (λ head u is h1. bind_all IsTimelyTask (array_of head.3) _
+    (λ head u is h1. bind_all IsTimelyTask (json_array_in head.3) _
     (λ rows v _ h2. some_all IsTimelyTask (append head.0 head.1 head.2 rows) v (head_timely text head is) h2) u h1) t h
 
 close_timely : (text : List ℕ) (t : Task) → close_from text ≡ Some t → IsTimelyTask t

@@ -11,40 +11,40 @@ use Rattle.script_lines.specs.declared.fields.FieldError.{FieldError}
 use Rattle.script_lines.specs.declared.fields.FieldError.TheVariants.{Malformed, Memory}
 
 -- What was read, seen by view, is what the text says, and nothing was read where it says nothing, unless memory ran out.
-abbrev pub Fails : {Y : Type 0} → FieldError → Option Y → Type 0
-Fails Malformed said = said ≡ None
-Fails Memory said = Unit {0}
+abbrev pub LineFails : {Y : Type 0} → FieldError → Option Y → Type 0
+LineFails Malformed said = said ≡ None
+LineFails Memory said = Unit {0}
 
 abbrev pub LineGives : {X Y : Type 0} → (X → Y) → Result X FieldError → Option Y → Type 0
 LineGives view (Ok x) said = said ≡ Some (view x)
-LineGives view (Err e) said = Fails e said
+LineGives view (Err e) said = LineFails e said
 
 -- a space
-abbrev pub is_space : ℕ → Bool
-is_space byte = byte == 32
+abbrev pub is_space_byte : ℕ → Bool
+is_space_byte byte = byte == 32
 
 -- what stands before the first space, and what stands behind it
 abbrev pub word_and_rest : List ℕ → Option (List ℕ × List ℕ)
 word_and_rest text =
-    if position_or_len is_space text == length text
+    if position_or_len is_space_byte text == length text
     then None
-    else Some (before_first is_space text, after_first is_space text)
+    else Some (before_first is_space_byte text, after_first is_space_byte text)
 
 -- decimal digits of a number below 2^64
-abbrev pub is_number : List ℕ → Bool
-is_number digits = nat_lt 0 (length digits) && (all_ascii_digits digits && nat_lt (digits_value 10 digits) (2 ^ 64))
+abbrev pub is_script_number : List ℕ → Bool
+is_script_number digits = nat_lt 0 (length digits) && (all_ascii_digits digits && nat_lt (digits_value 10 digits) (2 ^ 64))
 
 -- the number that a text reads as: digits, with at most one plus before them
-unfoldable pub number_of : List ℕ → Option ℕ
-number_of text =
-    if is_number (without_leading_plus text)
+unfoldable pub script_number : List ℕ → Option ℕ
+script_number text =
+    if is_script_number (without_leading_plus text)
     then Some (digits_value 10 (without_leading_plus text))
     else None
 
 -- a number that is neither below the one bound nor above the other
 unfoldable pub number_between : ℕ → ℕ → List ℕ → Option ℕ
 number_between low high text = do
-  n ← number_of text
+  n ← script_number text
   if nat_le low n && nat_le n high then Some n else None
 
 -- milliseconds
@@ -60,5 +60,5 @@ abbrev pub tries_of : List ℕ → Option ℕ
 tries_of text = number_between 1 64 text
 
 -- the members of a JSON array
-unfoldable pub array_of : List ℕ → Option Items
-array_of text = read text >>= as_array
+unfoldable pub json_array_in : List ℕ → Option Items
+json_array_in text = read text >>= as_array

@@ -18,9 +18,9 @@ use Rattle.script_lines.specs.declared.line.WorldLine.TheVariants as worlds
 use Rattle.script_lines.specs.declared.line.Line.{Line}
 use Rattle.script_lines.specs.declared.reading.Reading as readings
 use Rattle.script_lines.specs.declared.reading.Reading.TheVariants as view
-use Rattle.script_lines.specs.Names.{verb_of, kind_of}
+use Rattle.script_lines.specs.Names.{verb_of, kind_named}
 use Rattle.outcomes.specs.Options.{◌>>=◌}
-use Rattle.script_lines.specs.Fields.{word_and_rest, number_of, moment_of, max_of, tries_of, array_of}
+use Rattle.script_lines.specs.Fields.{word_and_rest, script_number, moment_of, max_of, tries_of, json_array_in}
 
 -- what is done to a table: by a line at once, or by an actor that is started with it
 pub data Task : Type 0 where
@@ -61,7 +61,7 @@ unfoldable pub append_head : List ℕ → Option (List ℕ × ℕ × ℕ × List
 append_head text = do
   application ← word_and_rest text
   digits ← word_and_rest application.1
-  number ← number_of digits.0
+  number ← script_number digits.0
   moment ← word_and_rest digits.1
   at ← moment_of moment.0
   Some (application.0, number, at, moment.1)
@@ -70,7 +70,7 @@ append_head text = do
 unfoldable pub append_from : List ℕ → Option Task
 append_from text = do
   head ← append_head text
-  rows ← array_of head.3
+  rows ← json_array_in head.3
   Some (append head.0 head.1 head.2 rows)
 
 -- close APP AT
@@ -127,14 +127,14 @@ start_from text = do
 unfoldable pub step_from : List ℕ → Option Statement
 step_from text = do
   actor ← word_and_rest text
-  kind ← kind_of actor.1
+  kind ← kind_named actor.1
   Some (world (step actor.0 kind))
 
 -- foreign V LINE
 unfoldable pub foreign_from : List ℕ → Option Statement
 foreign_from text = do
   digits ← word_and_rest text
-  version ← number_of digits.0
+  version ← script_number digits.0
   Some (foreign version digits.1)
 
 -- a line that is one word
@@ -146,10 +146,10 @@ bare_statement _ = None
 
 -- a line of that verb with a number or a kind behind it
 abbrev pub counted_from : Verb → List ℕ → Option Statement
-counted_from verb.Show text = option_map (λ version. look (show version)) (number_of text)
+counted_from verb.Show text = option_map (λ version. look (show version)) (script_number text)
 counted_from verb.Tries text = option_map tries (tries_of text)
-counted_from verb.Fault text = option_map (λ kind. world (fault kind)) (kind_of text)
-counted_from verb.Land text = option_map (λ put. world (land put)) (number_of text)
+counted_from verb.Fault text = option_map (λ kind. world (fault kind)) (kind_named text)
+counted_from verb.Land text = option_map (λ put. world (land put)) (script_number text)
 counted_from _ text = None
 
 -- a line of that verb with this text behind it, where it has no task

@@ -48,5 +48,5 @@ abbrev pub kinds : List Kind
 kinds = Pass ∷ Lost ∷ Mute ∷ Late ∷ Twice ∷ []
 
 -- the kind with that name, if there is one
-abbrev pub kind_of : List ℕ → Option Kind
-kind_of word = find (λ k. bytes_eq (kind_name k) word) kinds
+abbrev pub kind_named : List ℕ → Option Kind
+kind_named word = find (λ k. bytes_eq (kind_name k) word) kinds

@@ -2,7 +2,7 @@
 ghost use Rattle.std.specs.Prelude.{◌≡◌, option_map};
 ghost use Rattle.json_text.specs.Rows.{array_data, rows_data};
 ghost use Rattle.json_text.specs.View.{items_view};
-ghost use Rattle.script_lines.specs.Fields.{LineGives, word_and_rest, number_of, number_between, moment_of, max_of, tries_of, array_of};
+ghost use Rattle.script_lines.specs.Fields.{LineGives, word_and_rest, script_number, number_between, moment_of, max_of, tries_of, json_array_in};
 
 use json::Scratch;
 use json_text::{ArrayText, JsonRows, TextError, Value, value_in};
@@ -27,7 +27,7 @@ pub fn word_and_rest(text: &str) -> Option<(&str, &str)>
 /// A number below 2^64, as `u64::from_str` reads it.
 #[tactic(auto, using(crate::proofs::Numbers::number_of_parsed))]
 pub fn number_of(text: &str) -> Option<u64>
-    ensures { result ≡ number_of text.now }
+    ensures { result ≡ script_number text.now }
 {
     text.parse::<u64>().ok()
 }
@@ -67,13 +67,13 @@ pub fn tries_of(text: &str) -> Option<u64>
 }
 
 /// The members of a JSON array.
-#[tactic(auto, unfolding(crate::specs::Fields::array_of))]
+#[tactic(auto, unfolding(crate::specs::Fields::json_array_in))]
 pub fn array_of<'a>(
     alloc: Global,
     text: &'a str,
     scratch: &'a mut Scratch,
 ) -> Result<Vec<Value<'a>>, FieldError>
-    ensures { LineGives (λ v. items_view v.items) result (array_of text.now) }
+    ensures { LineGives (λ v. items_view v.items) result (json_array_in text.now) }
 {
     match value_in(alloc, text, scratch) {
         Ok(Value::Array(items)) => Ok(items),
@@ -83,9 +83,9 @@ pub fn array_of<'a>(
 }
 
 /// The members of a JSON array, which owns its text.
-#[tactic(auto, unfolding(crate::specs::Fields::array_of))]
+#[tactic(auto, unfolding(crate::specs::Fields::json_array_in))]
 fn owned_array(alloc: Global, text: &str) -> Result<ArrayText, FieldError>
-    ensures { LineGives array_data result (array_of text.now) }
+    ensures { LineGives array_data result (json_array_in text.now) }
 {
     match ArrayText::from_text(alloc, text) {
         Ok(array) => Ok(array),
@@ -101,7 +101,7 @@ pub fn array_rows<'a>(
     scratch: &'a mut Scratch,
     is_owned: bool,
 ) -> Result<JsonRows<'a>, FieldError>
-    ensures { LineGives rows_data result (array_of text.now) }
+    ensures { LineGives rows_data result (json_array_in text.now) }
 {
     if is_owned {
         Ok(JsonRows::Array(owned_array(alloc, text)?))

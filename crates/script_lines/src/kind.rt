@@ -1,6 +1,6 @@
 //! How a store answers a call that a script has chosen.
 ghost use Rattle.std.specs.Prelude.{◌≡◌};
-ghost use Rattle.script_lines.specs.Names.{kind_name, kind_of};
+ghost use Rattle.script_lines.specs.Names.{kind_name, kind_named};
 
 /// What becomes of a store call that a script has chosen.
 #[derive(Clone, Copy, Debug, PartialEq, Eq)]
@@ -35,7 +35,7 @@ impl Kind {
 
     /// The kind of that name, or `None` where the word is no kind.
     pub fn from_word(word: &str) -> Option<Kind>
-        ensures { result ≡ kind_of word.now }
+        ensures { result ≡ kind_named word.now }
     {
         KINDS.iter().copied().find(|kind| kind.name() == word)
     }

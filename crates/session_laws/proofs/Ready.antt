@@ -11,7 +11,7 @@ use Rattle.schema_tree.specs.Limits.{IsWithinLimits}
 use Rattle.schema_tree.specs.Tree.{Tree}
 use Rattle.table_log.specs.declared.loading.Loaded.{Loaded}
 use Rattle.table_model.specs.Appends.{appended}
-use Rattle.table_model.specs.Table.{Batch, Entry, is_closed}
+use Rattle.table_model.specs.Table.{Batch, Entry, is_stream_closed}
 use Rattle.table_model.specs.declared.table.AppendAnswer.TheVariants.{Committed}
 use Rattle.table_store.specs.Holds.{Holds, Stands}
 use Rattle.table_store.specs.Schema.{Schema, IsFileOf}
@@ -145,7 +145,7 @@ module _ (objects : Objects) (schema : Schema) (entries : List Entry) (sound : I
       same_items n ds is = cc
 
   -- The stream of a close's application is open behind the first entries.
-  pub ready_close : job.task ≡ closes → is_closed job.application (reached_front objects schema entries sound holds job before talk known tries (ready readied) known_before borne reaches).front.firsts ≡ false
+  pub ready_close : job.task ≡ closes → is_stream_closed job.application (reached_front objects schema entries sound holds job before talk known tries (ready readied) known_before borne reaches).front.firsts ≡ false
   ready_close task =
       let wants = ready_for job before talk known tries readied (ready readied) refl reaches in
       let front = reached_front objects schema entries sound holds job before talk known tries (ready readied) known_before borne reaches in

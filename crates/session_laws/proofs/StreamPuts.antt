@@ -12,7 +12,7 @@ use Rattle.delta_replay.specs.Support.{writable}
 use Rattle.table_log.specs.declared.loading.Loaded.{Loaded}
 use Rattle.table_model.specs.Appends.{appended}
 use Rattle.table_model.specs.Lawful.{IsLawful}
-use Rattle.table_model.specs.Table.{Batch, Entry, close, group, is_closed}
+use Rattle.table_model.specs.Table.{Batch, Entry, close, group, is_stream_closed}
 use Rattle.table_model.specs.declared.table.AppendAnswer.TheVariants.{Committed}
 use Rattle.table_store.specs.Commits.{IsCommitOf}
 use Rattle.table_store.specs.Conflicts.{ReadsItsOwn}
@@ -90,7 +90,7 @@ module _ (objects : Objects) (schema : Schema) (version : ℕ) (small : version 
       subst (λ (v : ℕ). IsAdmissible objects v bytes) long (batch_admissible objects schema first rest stand lawful (omega (arith, long, small)) b bytes taken commit file)
 
   -- the close of a stream that is open there
-  close_next : (firsts : List Entry) → HoldsFirst objects schema 0 firsts → IsLawful firsts → length firsts ≡ version → AreMadeFor objects schema firsts log → (application bytes : List ℕ) → is_closed application firsts ≡ false
+  close_next : (firsts : List Entry) → HoldsFirst objects schema 0 firsts → IsLawful firsts → length firsts ≡ version → AreMadeFor objects schema firsts log → (application bytes : List ℕ) → is_stream_closed application firsts ≡ false
       → IsCommitOf schema (close application) bytes → IsAdmissible objects version bytes
   close_next [] stand lawful long made application bytes still_open commit = absurd (none_written objects schema log schema made written)
   close_next (first ∷ rest) stand lawful long made application bytes still_open commit =

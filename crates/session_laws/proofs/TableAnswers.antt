@@ -8,7 +8,7 @@ use Rattle.delta_actions.specs.Action.{Action}
 use Rattle.delta_replay.specs.Closes as logs
 use Rattle.delta_replay.specs.Support.{writable}
 use Rattle.table_model.specs.Appends.{TellsAppend, TellsClose, appended, closing, with_batch, with_close}
-use Rattle.table_model.specs.Table.{Batch, Entry, is_closed, last_batch}
+use Rattle.table_model.specs.Table.{Batch, Entry, is_stream_closed, last_batch}
 use Rattle.table_model.specs.declared.table.AppendAnswer.{AppendAnswer}
 use Rattle.table_model.specs.declared.table.AppendAnswer.TheVariants.{Committed, Stale, StreamClosed}
 use Rattle.table_model.specs.declared.table.Closing.TheVariants.{AlreadyClosed}
@@ -65,7 +65,7 @@ module _ (b : Batch) where
 
 module _ (b : Batch) (entries : List Entry) where
   -- a number that is new is taken
-  new_taken : (last : Option Batch) → last_batch b.application entries ≡ last → is_closed b.application entries ≡ false → rule b last false ≡ Ok false → appended b entries ≡ Committed (length entries)
+  new_taken : (last : Option Batch) → last_batch b.application entries ≡ last → is_stream_closed b.application entries ≡ false → rule b last false ≡ Ok false → appended b entries ≡ Committed (length entries)
   new_taken None is goes_on new = rw (is, goes_on) refl
   new_taken (Some before) is goes_on new = by_tests (ltb b.number before.number) (eqb b.number before.number) refl refl new
     where
@@ -91,7 +91,7 @@ module _ (b : Batch) (entries : List Entry) where
       by_tests false equal over same wrong = absurd (by_closed equal (not equal && closed) wrong)
 
   -- a new one behind the close of its stream isn't taken
-  closed_told : (last : Option Batch) → last_batch b.application entries ≡ last → is_closed b.application entries ≡ true → rule b last true ≡ Err stream_closed → appended b entries ≡ StreamClosed
+  closed_told : (last : Option Batch) → last_batch b.application entries ≡ last → is_stream_closed b.application entries ≡ true → rule b last true ≡ Err stream_closed → appended b entries ≡ StreamClosed
   closed_told None is shut told = rw (is, shut) refl
   closed_told (Some before) is shut told = by_tests (ltb b.number before.number) (eqb b.number before.number) refl refl told
     where
@@ -144,14 +144,14 @@ module _ (objects : Objects) (schema : Schema) (entries : List Entry) (next : �
         by_closed : (closed : Bool) → logs.is_closed b.application log ≡ closed → rule b last_one closed ≡ Err stream_closed → TellsAppend StreamClosed b entries
         by_closed false goes_on told = absurd (never_closed b last_one told)
         by_closed true shut told =
-            let closed_so : is_closed b.application front.firsts ≡ true = sym (log_closed objects schema b.application front.firsts log front.made text) ∙ shut in
+            let closed_so : is_stream_closed b.application front.firsts ≡ true = sym (log_closed objects schema b.application front.firsts log front.made text) ∙ shut in
             let answer : appended b front.firsts ≡ StreamClosed = closed_told b front.firsts last_one refl closed_so told in
             batch_lasts_on b StreamClosed (subst (λ (a : AppendAnswer). TellsAppend a b (with_batch a b front.firsts)) answer (append_tells b front.firsts))
 
   -- a stream that is closed
   pub close_answer : (application : List ℕ) → IsUtf8 application → logs.is_closed application log ≡ true → TellsClose AlreadyClosed application entries
   close_answer application text shut =
-      let closed_so : is_closed application front.firsts ≡ true = sym (log_closed objects schema application front.firsts log front.made text) ∙ shut in
+      let closed_so : is_stream_closed application front.firsts ≡ true = sym (log_closed objects schema application front.firsts log front.made text) ∙ shut in
       let tells : TellsClose (closing application front.firsts) application (with_close application front.firsts) = close_tells application front.firsts in
       let told : TellsClose AlreadyClosed application front.firsts = rw closed_so at tells in
       subst (TellsClose AlreadyClosed application) (sym front.split) (close_lasts AlreadyClosed application front.firsts front.later told)

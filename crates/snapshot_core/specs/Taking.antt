@@ -7,7 +7,7 @@ use Rattle.delta_actions.specs.Action.{Action, MetaDataAction, checkpoint_metada
 use Rattle.delta_actions.specs.Printing.{IsPrintedCommit}
 use Rattle.delta_replay.specs.All.{ListsAll}
 use Rattle.delta_replay.specs.Snapshots.{IsSnapshotOf}
-use Rattle.delta_replay.specs.Support.{checkpointable, fault_of, meta_data_of}
+use Rattle.delta_replay.specs.Support.{checkpointable, fault_of, meta_data_of_log}
 use Rattle.delta_replay.specs.declared.kept.Snapshot.{Snapshot}
 use Rattle.delta_checkpoint.specs.Checkpoints.{IsCheckpoint}
 use Rattle.delta_checkpoint.specs.Names.{IsCheckpointName, checkpoint_name}
@@ -26,7 +26,7 @@ most_checkpoint_bytes = 67_108_864
 -- The id of the table of a log: that of its newest metadata.
 pub record IsTableId (log : List (List Action)) (id : List ℕ) : Type 0 where
   pub meta_data : MetaDataAction
-  pub newest : meta_data_of log ≡ Some meta_data
+  pub newest : meta_data_of_log log ≡ Some meta_data
   pub is : id ≡ meta_data.id
 
 -- The bytes are the checkpoint of the newest version of a log, whose commits leave what these do: a line tells the version,

@@ -9,7 +9,7 @@ use Rattle.store_core.specs.Objects.{Objects}
 use Rattle.delta_actions.specs.Action.{Action, AddAction, ProtocolAction, TxnAction, add, txn}
 use Rattle.delta_replay.specs.Keys.{file_of, number_of}
 use Rattle.delta_replay.specs.Lists.{ListsClosed, ListsEach}
-use Rattle.delta_replay.specs.Support.{protocol_of, readable}
+use Rattle.delta_replay.specs.Support.{protocol_of_log, readable}
 use Rattle.table_log.specs.Counts.{commit_count}
 use Rattle.table_log.specs.Restoring.{replayed}
 use Rattle.table_log.specs.SchemaTexts.{IsPrintedSchema}
@@ -70,7 +70,7 @@ pub record TellsSnapshot (use_checkpoints : Bool) (objects : Objects) (text : Li
   pub version : ℕ
   pub newest : suc version ≡ commit_count objects
   pub protocol : ProtocolAction
-  pub of_log : protocol_of commits ≡ Some protocol
+  pub of_log : protocol_of_log commits ≡ Some protocol
   pub schema_text : List ℕ
   pub printed : IsPrintedSchema schema schema_text
   pub lists : TellsLists commits (settings_text version protocol schema_text) text

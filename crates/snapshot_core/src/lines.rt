@@ -107,7 +107,7 @@ pub(crate) fn add_lists(
 ) -> Result<(), AllocError>
     ensures { OnOk result ((log : List (List Action)) → IsSnapshotOf log snapshot.now → TellsLists log text.old.items text.new.items) }
 {
-    add_numbers(text, alloc, snapshot.numbers(alloc)?)?;
+    add_numbers(text, alloc, snapshot.apps(alloc)?)?;
     add_closed(text, alloc, snapshot.closed(alloc)?)?;
     add_files(text, alloc, snapshot.files(alloc)?)
 }

@@ -5,7 +5,7 @@ use Rattle.std.proofs.lemmas.Bool.{cases_Bool}
 use Rattle.std.proofs.lemmas.Bool.Decides.{nat_tests}
 use Rattle.std.proofs.lemmas.List.Elements.{filter-append}
 use Rattle.store_core.specs.Objects.{Objects}
-use Rattle.delta_actions.specs.Kinds.{Path}
+use Rattle.delta_actions.specs.Kinds.{PathAndKey}
 use Rattle.delta_actions.specs.Action as actions
 use Rattle.row_core.specs.Rows.{Row}
 use Rattle.schema_tree.specs.Tree.{Tree}
@@ -21,7 +21,7 @@ use Rattle.source_core.proofs.KeptTailWalk.{Found, file_of, rows_in, AreFound}
 -- ---- the files of a log and the rows of its table
 
 -- paths in order, which read as these lists of rows, whatever their version and number
-abbrev pub AreFilesFound : Objects → (schema : Tree) → List Path → List (List Row) → Type 0
+abbrev pub AreFilesFound : Objects → (schema : Tree) → List PathAndKey → List (List Row) → Type 0
 AreFilesFound objects schema [] [] = Unit {0}
 AreFilesFound objects schema [] (rows ∷ files) = ⊥
 AreFilesFound objects schema (path ∷ paths) [] = ⊥
@@ -102,7 +102,7 @@ module _ (objects : Objects) (schema : Tree) (place : Offset) where
       }
 
   -- the files of a version in front, from one on that stands behind that of the place
-  pub files_behind : (version file : ℕ) (paths : List Path) (files : List (List Row)) (late_files : List LogFile) (late_rows : List (Offset × Row))
+  pub files_behind : (version file : ℕ) (paths : List PathAndKey) (files : List (List Row)) (late_files : List LogFile) (late_rows : List (Offset × Row))
       → IsPast place version file → AreFilesFound objects schema paths files → Behind objects schema place late_files late_rows
       → Behind objects schema place (numbered_files version file paths ++ late_files) (placed_files version file files ++ late_rows)
   files_behind version file [] [] late_files late_rows past found late = late
@@ -155,7 +155,7 @@ file_passed place f earlier = record {
 }
 
 -- the files of an earlier version
-numbered_passed : (place : Offset) (version file : ℕ) (paths : List Path) → version < place.version → filter (is_ahead place) (numbered_files version file paths) ≡ []
+numbered_passed : (place : Offset) (version file : ℕ) (paths : List PathAndKey) → version < place.version → filter (is_ahead place) (numbered_files version file paths) ≡ []
 numbered_passed place version file [] lt = refl
 numbered_passed place version file (path ∷ paths) lt = rw (earlier_file place version file (inl lt)) (numbered_passed place version (suc file) paths lt)
 
@@ -165,7 +165,7 @@ files_passed place version file (rows ∷ files) lt =
     filter-append (stands_before place) (placed_rows version file 0 rows) (placed_files version (suc file) files)
     ∙ rw (earlier_rows place version file 0 rows (inl lt), files_passed place version (suc file) files lt) refl
 
-pub version_passed : (place : Offset) (version : ℕ) (paths : List Path) (files : List (List Row)) → version < place.version → Passed place (numbered_files version 0 paths) (placed_files version 0 files)
+pub version_passed : (place : Offset) (version : ℕ) (paths : List PathAndKey) (files : List (List Row)) → version < place.version → Passed place (numbered_files version 0 paths) (placed_files version 0 files)
 version_passed place version paths files lt = record { none_ahead = numbered_passed place version 0 paths lt; all_before = files_passed place version 0 files lt }
 
 -- ---- the file of a place

@@ -6,7 +6,7 @@ use Rattle.std.proofs.lemmas.Bool.{cases_Bool, leb-true, leb-false, eq-eqb, eqb-
 use Rattle.std.proofs.lemmas.Bool.Decides.{nat_tests}
 use Rattle.std.proofs.lemmas.List.Elements.{filter-append}
 use Rattle.store_core.specs.Objects.{Objects}
-use Rattle.delta_actions.specs.Kinds.{Path}
+use Rattle.delta_actions.specs.Kinds.{PathAndKey}
 use Rattle.delta_actions.specs.Action as actions
 use Rattle.row_core.specs.Rows.{Row}
 use Rattle.schema_tree.specs.Tree.{Tree}
@@ -172,7 +172,7 @@ module _ (objects : Objects) (schema : Tree) (place : Offset) where
   module _ (version count : ℕ) (at : place.version ≡ version) (late_files : List LogFile) (late_rows : List (Offset × Row))
       (late : Behind objects schema place late_files late_rows) where
     -- the tests in a version of so many files, of which these are the files from one on
-    spot_in_files : (file k : ℕ) (paths : List Path) (files : List (List Row)) → AreFilesFound objects schema paths files → place.file ≡ file + k → count ≡ file + length paths
+    spot_in_files : (file k : ℕ) (paths : List PathAndKey) (files : List (List Row)) → AreFilesFound objects schema paths files → place.file ≡ file + k → count ≡ file + length paths
         → SpotIn objects schema place (is_in_files k place.row files) (unless_no_file place count) (numbered_files version file paths ++ late_files) (placed_files version file files ++ late_rows)
     spot_in_files file k [] (rows ∷ files) found here many = absurd found
     spot_in_files file k (path ∷ paths) [] found here many = absurd found

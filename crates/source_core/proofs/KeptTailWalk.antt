@@ -6,12 +6,12 @@ use Rattle.std.proofs.lemmas.Bool.{cases_Bool, le-ltb, lt-ltb, ne_eqb, eqb-true,
 use Rattle.std.proofs.lemmas.Bool.Decides.{nat_tests}
 use Rattle.std.proofs.lemmas.List.{append-nil, map-append, length-take, drop-append-le}
 use Rattle.store_core.specs.Objects.{Objects}
-use Rattle.delta_actions.specs.Kinds.{Path}
+use Rattle.delta_actions.specs.Kinds.{PathAndKey}
 use Rattle.row_core.specs.Rows.{Row}
 use Rattle.schema_tree.specs.Tree.{Tree}
 use Rattle.table_model.specs.Reads.{placed_rows}
 use Rattle.table_model.specs.Reads as reads
-use Rattle.table_model.specs.Table.{last}
+use Rattle.table_model.specs.Table.{last_item}
 use Rattle.table_model.specs.declared.reading.Offset.{Offset}
 use Rattle.table_model.proofs.Callers.{past}
 use Rattle.log_rows.specs.Tailing.{LogFile, ReadRefusal, ReadRows, data_file, file_rows, bad_place, offset_behind_rows, is_done, hand}
@@ -56,7 +56,7 @@ behind_all next [] = next
 behind_all next (p ∷ ps) = behind_all (past p.0) ps
 
 -- only the last row counts
-pub behind_last : (next : Offset) (ps : List (Offset × Row)) → behind_all next ps ≡ reads.offset_behind next (last ps)
+pub behind_last : (next : Offset) (ps : List (Offset × Row)) → behind_all next ps ≡ reads.offset_behind next (last_item ps)
 behind_last next [] = refl
 behind_last next (p ∷ []) = refl
 behind_last next (p ∷ q ∷ ps) = behind_last next (q ∷ ps)
@@ -80,7 +80,7 @@ behind_from version file row (r ∷ rs) =
 pub record Found : Type 0 where
   pub version : ℕ
   pub file : ℕ
-  pub path : Path
+  pub path : PathAndKey
   pub rows : List Row
 
 -- as a file of the log

@@ -2,7 +2,7 @@
 use Rattle.std.proofs.Common.{◌≡◌, ◌<◌, ◌≤◌, ◌+◌, ℕ, zero, suc, List, [], ◌∷◌, ◌++◌, map, Option, Some, None, refl, sym, ap, ◌∙◌, arith}
 use Rattle.std.specs.Prelude.{if◌then◌else◌, slice_get}
 use Rattle.std.proofs.lemmas.Bool.{le-ltb, lt-ltb}
-use Rattle.delta_actions.specs.Kinds.{Path}
+use Rattle.delta_actions.specs.Kinds.{PathAndKey}
 use Rattle.store_core.specs.Objects.{Objects}
 use Rattle.log_reading.specs.FromCheckpoints.{from_version}
 use Rattle.log_reading.specs.InForce.{SchemaText}
@@ -43,12 +43,12 @@ module _ (place : Offset) where
 -- ---- the items from a place on
 
 -- the files of an earlier version are passed over
-files_passed : (place : Offset) (version file : ℕ) (paths : List Path) → version < place.version → items_not_before place (map data_file (numbered_files version file paths)) ≡ []
+files_passed : (place : Offset) (version file : ℕ) (paths : List PathAndKey) → version < place.version → items_not_before place (map data_file (numbered_files version file paths)) ≡ []
 files_passed place version file [] below = refl
 files_passed place version file (path ∷ paths) below = rw (lt-ltb version place.version below) (files_passed place version (suc file) paths below)
 
 -- and so are all its items
-items_passed : (place : Offset) (version : ℕ) (fault : Option ReadRefusal) (paths : List Path) → version < place.version → items_not_before place (items_in version fault paths) ≡ []
+items_passed : (place : Offset) (version : ℕ) (fault : Option ReadRefusal) (paths : List PathAndKey) → version < place.version → items_not_before place (items_in version fault paths) ≡ []
 items_passed place version (Some refusal) paths below = fault_passed place version refusal paths below
 items_passed place version None paths below = files_passed place version 0 paths below
 

@@ -8,7 +8,7 @@ use Rattle.std.proofs.lemmas.List.{append-nil, append_assoc, length-map, map-app
 use Rattle.delta_actions.specs.Action.{Action, MetaDataAction}
 use Rattle.delta_actions.specs.In.{meta_data_in}
 use Rattle.delta_replay.specs.Keys.{Key, at, last}
-use Rattle.delta_replay.specs.Support.{meta_data_of, readable}
+use Rattle.delta_replay.specs.Support.{meta_data_of_log, readable}
 use Rattle.delta_replay.proofs.NewestTold.{meta_data_grows}
 use Rattle.log_reading.specs.FromCheckpoints.{from_version, front_behind}
 use Rattle.log_reading.specs.InForce.{SchemaText, in_force, in_force_from, schema_text_at, schema_text_of}
@@ -110,10 +110,10 @@ last_alike (suc n) (found ∷ more) =
 -- ---- the newest metadata of some commits
 
 -- one commit more: where the newest metadata can be read, its schema is the last that is told
-one_told : (before : List (List Action)) (actions : List Action) → ((told : SchemaText) → schema_text_of (meta_data_of before) ≡ Some told → last_in (map commit before) ≡ Some told)
-    → (told : SchemaText) → schema_text_of (meta_data_of (before ++ actions ∷ [])) ≡ Some told → last_in (map commit (before ++ actions ∷ [])) ≡ Some told
+one_told : (before : List (List Action)) (actions : List Action) → ((told : SchemaText) → schema_text_of (meta_data_of_log before) ≡ Some told → last_in (map commit before) ≡ Some told)
+    → (told : SchemaText) → schema_text_of (meta_data_of_log (before ++ actions ∷ [])) ≡ Some told → last_in (map commit (before ++ actions ∷ [])) ≡ Some told
 one_told before actions so_far told is =
-    by_newest (last (filter_map meta_data_in actions)) refl (ap schema_text_of (sym (meta_data_grows before actions ∙ newest_is meta_data_in (meta_data_of before) actions)) ∙ is)
+    by_newest (last (filter_map meta_data_in actions)) refl (ap schema_text_of (sym (meta_data_grows before actions ∙ newest_is meta_data_in (meta_data_of_log before) actions)) ∙ is)
   where
     both : last_in (map commit (before ++ actions ∷ [])) ≡ option_or (last_in (commit actions ∷ [])) (last_in (map commit before))
     both = ap last_in (map-append commit before (actions ∷ [])) ∙ last_both (map commit before) (commit actions ∷ [])
@@ -121,24 +121,24 @@ one_told before actions so_far told is =
     own : last_in (commit actions ∷ []) ≡ schema_text_of (last (filter_map meta_data_in actions))
     own = last_first (commit actions) []
 
-    by_newest : (newest : Option MetaDataAction) → last (filter_map meta_data_in actions) ≡ newest → schema_text_of (option_or (last (filter_map meta_data_in actions)) (meta_data_of before)) ≡ Some told
+    by_newest : (newest : Option MetaDataAction) → last (filter_map meta_data_in actions) ≡ newest → schema_text_of (option_or (last (filter_map meta_data_in actions)) (meta_data_of_log before)) ≡ Some told
         → last_in (map commit (before ++ actions ∷ [])) ≡ Some told
     by_newest None found reads =
         both ∙ (ap (λ (o : Option SchemaText). option_or o (last_in (map commit before))) (own ∙ ap schema_text_of found)
-        ∙ so_far told (ap (λ (o : Option MetaDataAction). schema_text_of (option_or o (meta_data_of before))) (sym found) ∙ reads))
+        ∙ so_far told (ap (λ (o : Option MetaDataAction). schema_text_of (option_or o (meta_data_of_log before))) (sym found) ∙ reads))
     by_newest (Some m) found reads =
-        both ∙ ap (λ (o : Option SchemaText). option_or o (last_in (map commit before))) (own ∙ (ap schema_text_of found ∙ (ap (λ (o : Option MetaDataAction). schema_text_of (option_or o (meta_data_of before))) (sym found) ∙ reads)))
+        both ∙ ap (λ (o : Option SchemaText). option_or o (last_in (map commit before))) (own ∙ (ap schema_text_of found ∙ (ap (λ (o : Option MetaDataAction). schema_text_of (option_or o (meta_data_of_log before))) (sym found) ∙ reads)))
 
-more_told : (before commits : List (List Action)) → ((told : SchemaText) → schema_text_of (meta_data_of before) ≡ Some told → last_in (map commit before) ≡ Some told)
-    → (told : SchemaText) → schema_text_of (meta_data_of (before ++ commits)) ≡ Some told → last_in (map commit (before ++ commits)) ≡ Some told
+more_told : (before commits : List (List Action)) → ((told : SchemaText) → schema_text_of (meta_data_of_log before) ≡ Some told → last_in (map commit before) ≡ Some told)
+    → (told : SchemaText) → schema_text_of (meta_data_of_log (before ++ commits)) ≡ Some told → last_in (map commit (before ++ commits)) ≡ Some told
 more_told before [] so_far told is =
-    ap (λ (all : List (List Action)). last_in (map commit all)) (append-nil before) ∙ so_far told (ap (λ (all : List (List Action)). schema_text_of (meta_data_of all)) (sym (append-nil before)) ∙ is)
+    ap (λ (all : List (List Action)). last_in (map commit all)) (append-nil before) ∙ so_far told (ap (λ (all : List (List Action)). schema_text_of (meta_data_of_log all)) (sym (append-nil before)) ∙ is)
 more_told before (actions ∷ commits) so_far told is =
     let whole : (before ++ actions ∷ []) ++ commits ≡ before ++ actions ∷ commits = append_assoc before (actions ∷ []) commits in
     ap (λ (all : List (List Action)). last_in (map commit all)) (sym whole)
-    ∙ more_told (before ++ actions ∷ []) commits (one_told before actions so_far) told (ap (λ (all : List (List Action)). schema_text_of (meta_data_of all)) whole ∙ is)
+    ∙ more_told (before ++ actions ∷ []) commits (one_told before actions so_far) told (ap (λ (all : List (List Action)). schema_text_of (meta_data_of_log all)) whole ∙ is)
 
-newest_told : (commits : List (List Action)) (told : SchemaText) → schema_text_of (meta_data_of commits) ≡ Some told → last_in (map commit commits) ≡ Some told
+newest_told : (commits : List (List Action)) (told : SchemaText) → schema_text_of (meta_data_of_log commits) ≡ Some told → last_in (map commit commits) ≡ Some told
 newest_told commits told is = more_told [] commits (λ told is. absurd cc) told is
 
 -- ---- the schema in force
@@ -188,7 +188,7 @@ module _ (r : Restored) (commits : List (List Action)) (behind : List Version) (
   -- what the checkpoint tells is the newest that the commits tell
   own_told : (told : SchemaText) → schema_text_at (commit r.actions) ≡ Some told → last_in (map commit commits) ≡ Some told
   own_told told is =
-      let one : schema_text_of (meta_data_of commits) ≡ schema_text_at (commit r.actions) = ap schema_text_of (sym (same_values (r.actions ∷ []) commits same).metadata ∙ meta_data_in_one r.actions) in
+      let one : schema_text_of (meta_data_of_log commits) ≡ schema_text_at (commit r.actions) = ap schema_text_of (sym (same_values (r.actions ∷ []) commits same).metadata ∙ meta_data_in_one r.actions) in
       newest_told commits told (one ∙ is)
 
   -- behind a checkpoint of the version or an earlier one

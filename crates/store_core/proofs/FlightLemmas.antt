@@ -8,7 +8,7 @@ use Rattle.store_core.specs.declared.fault.StoreFault.TheVariants.{Lost, Memory}
 use Rattle.store_core.specs.declared.store.Put.{Put}
 use Rattle.store_core.specs.declared.store.Put.TheVariants.{Created, Exists}
 use Rattle.store_core.specs.Calls.{Flight, HasLanded, GoesInFlight, IsUntouched, MayHaveLanded, StandsAfter}
-use Rattle.store_core.specs.Memory.{object_of}
+use Rattle.store_core.specs.Memory.{stored_object}
 use Rattle.store_core.specs.Objects.{Objects, object_at}
 use Rattle.store_core.specs.Turns.{SendsLate, HasLandedAs}
 
@@ -79,10 +79,10 @@ module _ {S : Type 0} (objects : S → Objects) (flight : S → Flight) (old new
 
 -- what holds of a copy of what is in flight at a place, holds of what is in flight there
 pub of_copy : (P : List ℕ → List ℕ → Type 0) (put : String Global × Vec ℕ Global) (text name bytes : List ℕ) (copy : Option (String Global × Vec ℕ Global)) (found : Option (List ℕ × List ℕ))
-    → option_map object_of copy ≡ found → found ≡ Some (name, bytes) → copy ≡ Some put → text ≡ string_bytes put.0 → P text put.1.items → P name bytes
+    → option_map stored_object copy ≡ found → found ≡ Some (name, bytes) → copy ≡ Some put → text ≡ string_bytes put.0 → P text put.1.items → P name bytes
 of_copy P put text name bytes copy found same at is lent h =
-    let own : Some (object_of put) ≡ Some (name, bytes) = ap (λ (o : Option (String Global × Vec ℕ Global)). option_map object_of o) (sym is) ∙ (same ∙ at) in
-    let pair : object_of put ≡ (name, bytes) = cc in
+    let own : Some (stored_object put) ≡ Some (name, bytes) = ap (λ (o : Option (String Global × Vec ℕ Global)). option_map stored_object o) (sym is) ∙ (same ∙ at) in
+    let pair : stored_object put ≡ (name, bytes) = cc in
     let name_is : string_bytes put.0 ≡ name = ap (λ (p : List ℕ × List ℕ). p.0) pair in
     let bytes_is : put.1.items ≡ bytes = ap (λ (p : List ℕ × List ℕ). p.1) pair in
     subst (λ (b : List ℕ). P name b) bytes_is (subst (λ (n : List ℕ). P n put.1.items) (lent ∙ name_is) h)

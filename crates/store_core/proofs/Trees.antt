@@ -19,7 +19,7 @@ use Rattle.store_core.specs.declared.fault.StoreFault.{StoreFault}
 use Rattle.store_core.specs.Objects.{Objects, IsInOrder, name_order, object_at, names_of, with_object}
 use Rattle.store_core.specs.ObjectLaws.{sorted_from_in_order, T_from_true, with_object_absent, object_at-with_object_same}
 use Rattle.store_core.specs.Listed.{listed}
-use Rattle.store_core.specs.Memory.{AreNamesOf, Tree, Stored, object_of, objects_of, stored_objects, stored_of}
+use Rattle.store_core.specs.Memory.{AreNamesOf, Tree, Stored, stored_object, objects_of, stored_objects, stored_of}
 use Rattle.store_core.specs.declared.names.Names.{Names}
 use Rattle.store_core.proofs.Placing.{names_inserted}
 use Rattle.std.specs.BTreeSet.{insert_key}
@@ -29,12 +29,12 @@ abbrev Entries : Type 0
 Entries = List (String Global × Vec ℕ Global)
 
 -- names above a name in the tree are above it by their bytes
-below_names : (name : String Global) (es : Entries) → AllByRecursion (λ other. string_cmp name other ≡ Less) (keys_of es) → AllByRecursion (λ other. name_order (string_bytes name) other ≡ Less) (names_of (map object_of es))
+below_names : (name : String Global) (es : Entries) → AllByRecursion (λ other. string_cmp name other ≡ Less) (keys_of es) → AllByRecursion (λ other. name_order (string_bytes name) other ≡ Less) (names_of (map stored_object es))
 below_names name [] h = tt
 below_names name (e ∷ es) h = (h.0, below_names name es h.1)
 
 -- the names of a tree in order rise by their bytes
-names_rise : (es : Entries) → IsStrictlySortedBy string_cmp (keys_of es) → IsInOrder (map object_of es)
+names_rise : (es : Entries) → IsStrictlySortedBy string_cmp (keys_of es) → IsInOrder (map stored_object es)
 unfolding IsStrictlySortedBy
 names_rise [] h = tt
 names_rise (e ∷ es) h = (below_names e.0 es h.0, names_rise es h.1)
@@ -48,11 +48,11 @@ pub stored_objects_seen : (tree : Tree) (store : Stored) → stored_of tree ≡ 
 stored_objects_seen tree store e h = ap stored_objects (sym e) ∙ stored_objects_of_tree tree h
 
 -- what a list of entries has under a name
-found_in : (es : Entries) (name : List ℕ) → object_at (map object_of es) name ≡ option_map (λ bytes. bytes.items) (lookup (is_at (λ k. slice_cmp nat_cmp name (string_bytes k))) es)
+found_in : (es : Entries) (name : List ℕ) → object_at (map stored_object es) name ≡ option_map (λ bytes. bytes.items) (lookup (is_at (λ k. slice_cmp nat_cmp name (string_bytes k))) es)
 found_in [] name = refl
 found_in (e ∷ es) name =
-    ap (λ b. cond b (Some e.1.items) (object_at (map object_of es) name)) (sym (is_eq-slice_cmp name (string_bytes e.0)))
-    ∙ elim (is_eq (slice_cmp nat_cmp name (string_bytes e.0))) as (λ b. cond b (Some e.1.items) (object_at (map object_of es) name)
+    ap (λ b. cond b (Some e.1.items) (object_at (map stored_object es) name)) (sym (is_eq-slice_cmp name (string_bytes e.0)))
+    ∙ elim (is_eq (slice_cmp nat_cmp name (string_bytes e.0))) as (λ b. cond b (Some e.1.items) (object_at (map stored_object es) name)
     ≡ option_map (λ bytes. bytes.items) (cond b (Some e.1) (lookup (is_at (λ k. slice_cmp nat_cmp name (string_bytes k))) es))) [
       | true ↦ refl
       | false ↦ found_in es name
@@ -63,18 +63,18 @@ pub object_at_tree : (tree : Tree) (name : List ℕ) → object_at (objects_of t
 object_at_tree tree name = found_in tree.entries name
 
 -- an entry put into the tree is an object put among the objects
-pub objects_inserted : (es : Entries) (name : String Global) (bytes : Vec ℕ Global) → map object_of (insert_entry string_cmp es name bytes) ≡ insert_entry name_order (map object_of es) (string_bytes name) bytes.items
+pub objects_inserted : (es : Entries) (name : String Global) (bytes : Vec ℕ Global) → map stored_object (insert_entry string_cmp es name bytes) ≡ insert_entry name_order (map stored_object es) (string_bytes name) bytes.items
 objects_inserted [] name bytes = refl
 objects_inserted (e ∷ es) name bytes =
-    elim (string_cmp name e.0) as (λ o. map object_of (match_ordering o ((name, bytes) ∷ e ∷ es) ((e.0, bytes) ∷ es) (e ∷ insert_entry string_cmp es name bytes))
-    ≡ match_ordering o ((string_bytes name, bytes.items) ∷ object_of e ∷ map object_of es) ((string_bytes e.0, bytes.items) ∷ map object_of es) (object_of e ∷ insert_entry name_order (map object_of es) (string_bytes name) bytes.items)) [
+    elim (string_cmp name e.0) as (λ o. map stored_object (match_ordering o ((name, bytes) ∷ e ∷ es) ((e.0, bytes) ∷ es) (e ∷ insert_entry string_cmp es name bytes))
+    ≡ match_ordering o ((string_bytes name, bytes.items) ∷ stored_object e ∷ map stored_object es) ((string_bytes e.0, bytes.items) ∷ map stored_object es) (stored_object e ∷ insert_entry name_order (map stored_object es) (string_bytes name) bytes.items)) [
       | Less ↦ refl
       | Equal ↦ refl
-      | Greater ↦ ap (λ rest. object_of e ∷ rest) (objects_inserted es name bytes)
+      | Greater ↦ ap (λ rest. stored_object e ∷ rest) (objects_inserted es name bytes)
     ]
 
 -- the names of the objects are the bytes of the keys
-pub names_of_tree : (es : Entries) → names_of (map object_of es) ≡ map string_bytes (keys_of es)
+pub names_of_tree : (es : Entries) → names_of (map stored_object es) ≡ map string_bytes (keys_of es)
 names_of_tree [] = refl
 names_of_tree (e ∷ es) = ap (λ rest. string_bytes e.0 ∷ rest) (names_of_tree es)
 
@@ -89,7 +89,7 @@ stands_in_tree tree name = ap is_some (object_at_tree tree name) ∙ same_case (
 -- an absent name put into the tree has landed among the objects
 pub landed_in_tree : (old new : Tree) (key : String Global) (name : List ℕ) (bytes : Vec ℕ Global) → string_bytes key ≡ name → is_some (object_at (objects_of old) name) ≡ false → new.entries ≡ insert_entry string_cmp old.entries key bytes → objects_of new ≡ with_object (objects_of old) name bytes.items
 landed_in_tree old new key name bytes e absent h =
-    ap (map object_of) h ∙ objects_inserted old.entries key bytes
+    ap (map stored_object) h ∙ objects_inserted old.entries key bytes
     ∙ ap (λ k. insert_entry name_order (objects_of old) k bytes.items) e
     ∙ sym (with_object_absent (objects_of old) name bytes.items absent)
 
@@ -118,5 +118,5 @@ pub kept_inserted : (old new : Tree) (key : String Global) (name : List ℕ) (by
 kept_inserted old new key name bytes None e h are = tt
 kept_inserted old new key name bytes (Some later) e h are =
     let put : objects_of new ≡ insert_entry name_order (objects_of old) name bytes.items =
-    ap (map object_of) h ∙ objects_inserted old.entries key bytes ∙ ap (λ k. insert_entry name_order (objects_of old) k bytes.items) e in
+    ap (map stored_object) h ∙ objects_inserted old.entries key bytes ∙ ap (λ k. insert_entry name_order (objects_of old) k bytes.items) e in
     are ∙ sym (ap names_of put ∙ names_inserted (objects_of old) name bytes.items)

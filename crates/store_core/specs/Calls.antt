@@ -60,6 +60,6 @@ CountsOne (Err Lost) old new = RisesByOne old new
 CountsOne (Err Memory) old new = new ≡ old
 
 -- So many calls were made, one behind the other, and nothing else was done: `makes` says what one call may make of a store.
-abbrev pub Made : {S : Type 0} → (makes : S → S → Type 0) → ℕ → S → S → Type 0
-Made {S} makes zero old new = new ≡ old
-Made {S} makes (suc more) old new = (mid : S) × makes old mid × Made makes more mid new
+abbrev pub MadeCalls : {S : Type 0} → (makes : S → S → Type 0) → ℕ → S → S → Type 0
+MadeCalls {S} makes zero old new = new ≡ old
+MadeCalls {S} makes (suc more) old new = (mid : S) × makes old mid × MadeCalls makes more mid new

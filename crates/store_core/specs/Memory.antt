@@ -22,12 +22,12 @@ abbrev pub Tree : Type 0
 Tree = BTreeMap (String Global) (Vec ℕ Global)
 
 -- an entry of the tree: a name's bytes, with the object's
-abbrev pub object_of : String Global × Vec ℕ Global → List ℕ × List ℕ
-object_of entry = (string_bytes entry.0, entry.1.items)
+abbrev pub stored_object : String Global × Vec ℕ Global → List ℕ × List ℕ
+stored_object entry = (string_bytes entry.0, entry.1.items)
 
 -- the objects of the tree
 abbrev pub objects_of : Tree → Objects
-objects_of tree = map object_of tree.entries
+objects_of tree = map stored_object tree.entries
 
 -- names that are kept, if any are, are those of the tree's objects
 abbrev pub AreNamesOf : Tree → Option Names → Type 0

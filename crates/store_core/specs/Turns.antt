@@ -2,7 +2,7 @@
 use Rattle.std.specs.Prelude.{◌≡◌, ◌⊎◌, ◌++◌, ℕ, List, [], ◌∷◌, drop, map, if◌then◌else◌, unwrap_or, Option, None, Some, Result, Ok, Err}
 use Rattle.store_core.specs.Calls.{Flight, HasLanded, IsUntouched, MayHaveLanded, StandsAfter, put_told}
 use Rattle.store_core.specs.Names.{is_commit}
-use Rattle.store_core.specs.Memory.{object_of}
+use Rattle.store_core.specs.Memory.{stored_object}
 use Rattle.store_core.specs.Objects.{Objects, object_at}
 use Rattle.store_core.specs.declared.fault.StoreFault.{StoreFault}
 use Rattle.store_core.specs.declared.fault.StoreFault.TheVariants.{Lost, Memory}
@@ -36,7 +36,7 @@ armed_behind armed name = if is_commit name then None else armed
 
 -- the puts that went in flight, in the order in which they were sent
 abbrev pub puts_sent : {S : Type 0} → Flaky S → Flight
-puts_sent flaky = map object_of flaky.sent.items
+puts_sent flaky = map stored_object flaky.sent.items
 
 -- a list or a get passes at this turn
 abbrev pub PassesLook : Turn → Type 0
@@ -77,6 +77,12 @@ abbrev pub LandsTwice : (lost_below : Type 0) → Result Put StoreFault → Type
 LandsTwice lost_below (Ok put) = put ≡ Exists
 LandsTwice lost_below (Err Lost) = lost_below
 LandsTwice lost_below (Err Memory) = Unit {0}
+
+-- The calls that come meet what they met before: no put is sent, no turn is met, and what is armed stays.
+pub record KeepsTurns {S : Type 0} (old new : Flaky S) : Type 0 where
+  pub sent : puts_sent new ≡ puts_sent old
+  pub turns : turns_left new ≡ turns_left old
+  pub armed : new.armed ≡ old.armed
 
 -- What letting a put in flight take effect tells of the store below, and leaves there.
 abbrev pub HasLandedAs : List ℕ → List ℕ → Result (Option Put) StoreFault → Objects × Flight → Objects × Flight → Type 0

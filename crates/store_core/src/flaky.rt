@@ -1,9 +1,9 @@
 //! A store that loses calls as it is told to: for cases, and as the store of a world of many actors.
 ghost use Rattle.std.specs.Prelude.{◌≡◌, ◌≤◌, ℕ, List, [], Some, None, Ok, length, slice_get, option_map, IfOk, IsErrOf};
 ghost use Rattle.store_core.specs.Calls.{CountsFault, CountsOne, RisesByOne, put_told};
-ghost use Rattle.store_core.specs.Memory.{object_of};
+ghost use Rattle.store_core.specs.Memory.{stored_object};
 ghost use Rattle.store_core.specs.Objects.{object_at};
-ghost use Rattle.store_core.specs.Turns.{armed_behind, first_turn, later_turns, puts_sent, turn_of_put, turns_left, HasLandedAs, SendsLate};
+ghost use Rattle.store_core.specs.Turns.{armed_behind, first_turn, later_turns, puts_sent, turn_of_put, turns_left, HasLandedAs, KeepsTurns, SendsLate};
 
 use crate::naming::is_commit;
 use crate::{Names, Put, Store, StoreFault};
@@ -84,9 +84,7 @@ impl<S: Store> Flaky<S> {
             → S.is_reliable self.old.store
             → IfOk result (λ told. told ≡ Some (put_told (object_at (S.objects self.old.store) name))) }
         ensures never_lost { S.is_reliable self.old.store → IsErrOf result StoreFault.Lost → ⊥ }
-        ensures sent { puts_sent self.new ≡ puts_sent self.old }
-        ensures turns { turns_left self.new ≡ turns_left self.old }
-        ensures armed { self.new.armed ≡ self.old.armed }
+        ensures kept { KeepsTurns self.old self.new }
         ensures faults { CountsOne result self.old.lost self.new.lost }
         ensures passes { (name bytes : List ℕ) → slice_get (puts_sent self.old) number ≡ Some (name, bytes)
             → CountsFault result (S.fault_count self.old.store) (S.fault_count self.new.store) }
@@ -103,7 +101,7 @@ impl<S: Store> Flaky<S> {
     /// A copy of a put in flight.
     fn copy_of(&self, number: usize) -> Result<Option<(String, Vec<u8>)>, AllocError>
         ensures none { length (puts_sent self.now) ≤ number → result ≡ Ok None }
-        ensures same { IfOk result (λ put. option_map object_of put ≡ slice_get (puts_sent self.now) number) }
+        ensures same { IfOk result (λ put. option_map stored_object put ≡ slice_get (puts_sent self.now) number) }
     {
         match self.sent.get(number) {
             Some((name, bytes)) => {

@@ -1,7 +1,9 @@
 mod Acted
 mod Calls
 mod Hands
-mod Places
+mod OverCalls
+pub mod PairedTold
+pub mod Places
 mod Runs
 mod Steps
 mod Worlds

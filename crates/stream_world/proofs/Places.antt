@@ -22,7 +22,7 @@ abbrev pub kept : BTreeMap ℕ (Option code.Actor) → ℕ → Option code.Actor
 kept m name = option_and_then (λ slot. slot) (get nat_cmp m name)
 
 -- a number is at another's place only where it is that one
-apart : (name other : ℕ) → (other ≡ name → ⊥) → is_at (nat_cmp name) other ≡ false
+pub apart : (name other : ℕ) → (other ≡ name → ⊥) → is_at (nat_cmp name) other ≡ false
 apart name other ne = false_from_ne_true (is_at (nat_cmp name) other) (λ is. ne (sym (tells_apart exact_unsigned name other is)))
 
 -- Where a place was written, and a world changed for its number alone, what is kept stands for the actors of that world.

@@ -7,15 +7,15 @@ use Rattle.session_core.specs.Talks as talks
 use Rattle.session_core.specs.Talks.{Asked, Talk, Told, asked_view, heard, told_lost, told_view}
 use Rattle.session_core.specs.declared.asking.Reply.{Reply}
 use Rattle.session_core.specs.declared.asking.Reply.TheVariants as replies
-use Rattle.table_jobs.specs.Jobs.{Asks, Ends, Job, Outcome, is_lost_outcome}
+use Rattle.table_jobs.specs.Jobs.{Asks, Ends, Job, Outcome}
 use Rattle.stream_model.specs.Moves.{Does, asks, ends_lost, tells}
 use Rattle.stream_model.specs.Events.{Event, FitsWorld, HasActor, ComesToTalk, act, answer, begin, begins_now, die, ends, goes_on, land, lose_answer, loses, nothing_happens, takes}
 use Rattle.stream_model.specs.Worlds.{Actor, Hand, How, World, asking, ended, fresh, waiting, with_actor}
 use Rattle.stream_model.specs.Worlds as worlds
 use Rattle.stream_world.specs.Acting.{AsksNext, GoesOnAs, HasNext, TellsNext}
-use Rattle.stream_world.specs.EventViews.{IsMetAs, IsMetIn}
+use Rattle.stream_world.specs.EventViews.{IsMetAs, IsMetIn, ran_out_of}
 use Rattle.table_jobs.specs.Sessions.{SessionFits, job_of, end_view}
-use Rattle.stream_world.specs.Standing.{ActorStands, Becomes, HandStands, HasEnded, SlotStands, call_of, taking}
+use Rattle.stream_world.specs.Standing.{ActorStands, ActsAs, Becomes, HandStands, HasEnded, SlotStands, call_of, taking}
 use Rattle.stream_world.specs.declared.actor.Actor as code
 use Rattle.stream_world.specs.declared.actor.Hand as code_hand
 use Rattle.stream_world.specs.declared.actor.Hand.TheVariants as hands
@@ -55,6 +55,19 @@ nothing_became w event name slot stands unfit = record {
   slot_now = stands;
   others = λ other apart. refl;
 }
+
+-- an event that is met as it is runs out of no memory
+not_out : (how : How) → false ≡ ran_out_of how how
+not_out worlds.once = refl
+not_out worlds.twice = refl
+not_out worlds.late = refl
+not_out worlds.lost = refl
+not_out worlds.short = refl
+
+-- the same of a call that nobody asks for
+pub nothing_acted : (w : World) (name : ℕ) (how : How) (slot : Option code.Actor) → SlotStands slot (w.actors name) → (FitsWorld w (act name how) → ⊥) → ActsAs w name how w.objects w.flight slot false
+unfolding nothing_became
+nothing_acted w name how slot stands unfit = record { became = nothing_became w (act name how) name slot stands unfit; out_so = not_out how; asked = λ is. absurd cc }
 
 -- the same of objects and puts that a world has, and of a slot that is the one
 pub at_store : (w : World) (event : Event) (name : ℕ) (outcome : Option code_end.JobEnd) (objects : Objects) (flight : Flight) (slot now : Option code.Actor) → w.objects ≡ objects → w.flight ≡ flight → now ≡ slot

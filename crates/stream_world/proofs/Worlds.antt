@@ -1,5 +1,5 @@
 -- What an event of the code is in a world.
-use Rattle.std.proofs.Common.{◌≡◌, ◌≤◌, ◌<◌, ◌⊎◌, ℕ, List, [], length, slice_get, get_or, Option, Some, None, Result, Ok, Err, option_and_then, option_map, IfOk, refl, sym, ◌∙◌, ap, subst, inl, inr}
+use Rattle.std.proofs.Common.{◌≡◌, ◌≤◌, ◌<◌, ◌⊎◌, ◌||◌, Bool, true, false, ℕ, List, [], length, slice_get, get_or, Option, Some, None, Result, Ok, Err, option_and_then, option_map, IfOk, refl, sym, ◌∙◌, ap, subst, inl, inr}
 use Rattle.std.proofs.lemmas.Bool.{cases_eq}
 use Rattle.std.proofs.lemmas.Option.{slice_get_cases}
 use Rattle.std.specs.BTreeMap.{BTreeMap, IsUnchanged, UpdatesBy, get, is_at}
@@ -16,7 +16,8 @@ use Rattle.table_jobs.specs.Jobs.{Job, CanBegin}
 use Rattle.stream_model.specs.Events.{Event, FitsWorld, begin, begins, die, dies, land, lands, nothing_happens}
 use Rattle.stream_model.specs.Worlds.{Actor, World, fresh, with_actor}
 use Rattle.table_jobs.specs.Sessions.{SessionFits, job_of}
-use Rattle.stream_world.specs.Standing.{ActorStands, Becomes, HandStands, HasHappened, LandsAs, SlotStands, WorldStands, landing_told, slot_at}
+use Rattle.stream_world.specs.EventViews.{ran_out}
+use Rattle.stream_world.specs.Standing.{ActorStands, Becomes, HandStands, HasHappened, LandsAs, SlotStands, WorldStands, landing_out, landing_told, slot_at, taking, told_wants}
 use Rattle.stream_world.specs.declared.actor.Actor as code
 use Rattle.stream_world.specs.declared.actor.Hand as code_hand
 use Rattle.stream_world.specs.declared.actor.Hand.TheVariants as hands
@@ -31,6 +32,19 @@ kept_there m name slot found = ap (option_and_then (λ s. s)) found
 pub kept_nowhere : (m : BTreeMap ℕ (Option code.Actor)) (name : ℕ) → get nat_cmp m name ≡ None → kept m name ≡ None
 kept_nowhere m name found = ap (option_and_then (λ s. s)) found
 
+-- what goes on runs out of no memory by that
+pub never_out : (name : ℕ) (is_lost : Bool) (met : Event) → ran_out (taking name is_lost) met ≡ false
+never_out name true met = refl
+never_out name false met = refl
+
+pub going_on_fits : (w : World) (name : ℕ) (is_lost : Bool) (met : Event) → ran_out (taking name is_lost) met ≡ true → FitsWorld w (taking name is_lost)
+going_on_fits w name is_lost met is = let wrong : false ≡ true = sym (never_out name is_lost met) ∙ is in absurd cc
+
+-- what is so stays so where something else may be so besides
+pub either_still : (one was now : Bool) → now ≡ (one || was) → was ≡ true → now ≡ true
+either_still true was now is short = is
+either_still false was now is short = is ∙ short
+
 -- what a put is told in a world
 abbrev told_in : World → List ℕ × List ℕ → Put
 told_in w put = put_told (object_at w.objects put.0)
@@ -38,8 +52,11 @@ told_in w put = put_told (object_at w.objects put.0)
 module _ {S : Type 0} (objects : S → Objects) (old new : code_world.World S) (w : World) (stands : WorldStands objects old w) where
   -- What became of a world by an event of one actor is what happened, where its place was written.
   pub wrote : (event : Event) (name : ℕ) (outcome : Option code_end.JobEnd) (slot : Option code.Actor) → UpdatesBy nat_cmp (nat_cmp name) old.actors new.actors (Some slot)
-      → Becomes w event name outcome (objects new.store.store) (puts_sent new.store) slot → HasHappened objects w event outcome new
-  wrote event name outcome slot updates became = record {
+      → (became : Becomes w event name outcome (objects new.store.store) (puts_sent new.store) slot) → new.is_short ≡ (ran_out event became.met || (told_wants outcome || old.is_short))
+      → (ran_out event became.met ≡ true → FitsWorld w event) → HasHappened objects old.is_short w event outcome new
+  wrote event name outcome slot updates became short fits = record {
+    short = short;
+    fits = fits;
     met = became.met;
     is = became.is;
     told = became.told;
@@ -54,9 +71,12 @@ module _ {S : Type 0} (objects : S → Objects) (old new : code_world.World S) (
   }
 
   -- The same where no place was written.
-  pub unwritten : (event : Event) (name : ℕ) (outcome : Option code_end.JobEnd) → get nat_cmp old.actors name ≡ None → new.store ≡ old.store → new.actors ≡ old.actors → Becomes w event name outcome w.objects w.flight None
-      → HasHappened objects w event outcome new
-  unwritten event name outcome nowhere store actors became = record {
+  pub unwritten : (event : Event) (name : ℕ) (outcome : Option code_end.JobEnd) → get nat_cmp old.actors name ≡ None → new.store ≡ old.store → new.actors ≡ old.actors
+      → (became : Becomes w event name outcome w.objects w.flight None) → new.is_short ≡ (ran_out event became.met || (told_wants outcome || old.is_short)) → (ran_out event became.met ≡ true → FitsWorld w event)
+      → HasHappened objects old.is_short w event outcome new
+  unwritten event name outcome nowhere store actors became short fits = record {
+    short = short;
+    fits = fits;
     met = became.met;
     is = became.is;
     told = became.told;
@@ -80,8 +100,8 @@ module _ {S : Type 0} (objects : S → Objects) (old new : code_world.World S) (
 
   -- An actor has begun.
   pub begun : (name : ℕ) (job : Job) (actor : code.Actor) → new.store ≡ old.store → UpdatesBy nat_cmp (nat_cmp name) old.actors new.actors (Some (Some actor)) → CanBegin job → job_of actor.session ≡ job
-      → SessionFits [] actor.session [] None → actor.hand ≡ hands.Fresh → HasHappened objects w (begin name job) None new
-  begun name job actor store updates can same fits hand =
+      → SessionFits [] actor.session [] None → actor.hand ≡ hands.Fresh → new.is_short ≡ old.is_short → HasHappened objects old.is_short w (begin name job) None new
+  begun name job actor store updates can same fits hand short =
       let plain : Actor = record { job = job; talk = []; hand = fresh } in
       let there : ActorStands actor plain = record { job = same; fit = fits; hand = subst (λ (h : code_hand.Hand). HandStands h [] fresh) (sym hand) refl } in
       record {
@@ -91,6 +111,8 @@ module _ {S : Type 0} (objects : S → Objects) (old new : code_world.World S) (
         tells = tt;
         later = with_actor w name (Some plain);
         happens = begins name job can;
+        short = short;
+        fits = λ is. absurd cc;
         stands = record {
           objects = stands.objects ∙ ap (λ s. objects s.store) (sym store);
           flight = stands.flight ∙ ap puts_sent (sym store);
@@ -107,8 +129,10 @@ module _ {S : Type 0} (objects : S → Objects) (old new : code_world.World S) (
   }
 
   -- An actor is gone, which had a place or none.
-  pub gone : (name : ℕ) → new.store ≡ old.store → UpdatesBy nat_cmp (nat_cmp name) old.actors new.actors (Some None) → HasHappened objects w (die name) None new
-  gone name store updates = record {
+  pub gone : (name : ℕ) → new.store ≡ old.store → UpdatesBy nat_cmp (nat_cmp name) old.actors new.actors (Some None) → new.is_short ≡ old.is_short → HasHappened objects old.is_short w (die name) None new
+  gone name store updates short = record {
+    short = short;
+    fits = λ is. absurd cc;
     met = die name;
     is = refl;
     told = None;
@@ -122,34 +146,39 @@ module _ {S : Type 0} (objects : S → Objects) (old new : code_world.World S) (
     };
   }
 
-  pub was_gone : (name : ℕ) → get nat_cmp old.actors name ≡ None → new.store ≡ old.store → new.actors ≡ old.actors → HasHappened objects w (die name) None new
-  was_gone name nowhere store actors = unwritten (die name) name None nowhere store actors (record {
-    met = die name;
-    is = refl;
-    told = None;
-    tells = tt;
-    later = with_actor w name None;
-    happens = dies name;
-    objects_now = refl;
-    flight_now = refl;
-    slot_now = subst (SlotStands None) (sym (actor_there w name None)) tt;
-    others = actor_other w name None;
-  })
+  pub was_gone : (name : ℕ) → get nat_cmp old.actors name ≡ None → new.store ≡ old.store → new.actors ≡ old.actors → new.is_short ≡ old.is_short → HasHappened objects old.is_short w (die name) None new
+  was_gone name nowhere store actors short = unwritten (die name) name None nowhere store actors became short (λ is. absurd cc)
+    where
+      became : Becomes w (die name) name None w.objects w.flight None
+      became = record {
+        met = die name;
+        is = refl;
+        told = None;
+        tells = tt;
+        later = with_actor w name None;
+        happens = dies name;
+        objects_now = refl;
+        flight_now = refl;
+        slot_now = subst (SlotStands None) (sym (actor_there w name None)) tt;
+        others = actor_other w name None;
+      }
 
   -- A put in flight has taken effect, or there is none of that number.
   pub landed_as : (in_flight : S → Flight) (place : ℕ) (result : Result (Option Put) StoreFault) → new.actors ≡ old.actors
       → (length (puts_sent old.store) ≤ place → (result ≡ Ok None) × (new.store ≡ old.store))
       → ((name bytes : List ℕ) → slice_get (puts_sent old.store) place ≡ Some (name, bytes) → HasLandedAs name bytes result (objects old.store.store, in_flight old.store.store) (objects new.store.store, in_flight new.store.store))
       → ((name bytes : List ℕ) → slice_get (puts_sent old.store) place ≡ Some (name, bytes) → IfOk result (λ told. told ≡ Some (put_told (object_at (objects old.store.store) name))))
-      → (result ≡ Err Lost → ⊥) → puts_sent new.store ≡ puts_sent old.store → LandsAs objects w place result new
-  landed_as in_flight place result actors nothing landed told never sent = by_place (slice_get_cases (puts_sent old.store) place).1
+      → (result ≡ Err Lost → ⊥) → puts_sent new.store ≡ puts_sent old.store → new.is_short ≡ (landing_out result || old.is_short) → LandsAs objects old.is_short w place result new
+  landed_as in_flight place result actors nothing landed told never sent short = by_place (slice_get_cases (puts_sent old.store) place).1
     where
       actors_now : (later : World) → later.actors ≡ w.actors → (name : ℕ) → SlotStands (slot_at new name) (later.actors name)
       actors_now later same name =
           subst (λ (m : BTreeMap ℕ (Option code.Actor)). SlotStands (kept m name) (later.actors name)) (sym actors) (subst (λ (f : ℕ → Option Actor). SlotStands (slot_at old name) (f name)) (sym same) (stands.actors name))
 
-      taken : (put : List ℕ × List ℕ) → slice_get (puts_sent old.store) place ≡ Some put → objects new.store.store ≡ with_object (objects old.store.store) put.0 put.1 → HasHappened objects w (land place) None new
-      taken put is lands_so = record {
+      taken : (put : List ℕ × List ℕ) → slice_get (puts_sent old.store) place ≡ Some put → objects new.store.store ≡ with_object (objects old.store.store) put.0 put.1 → new.is_short ≡ old.is_short → HasHappened objects old.is_short w (land place) None new
+      taken put is lands_so unshort = record {
+        short = unshort;
+        fits = λ is. absurd cc;
         met = land place;
         is = refl;
         told = None;
@@ -170,17 +199,18 @@ module _ {S : Type 0} (objects : S → Objects) (old new : code_world.World S) (
           tells ∙ (ap (λ (o : Objects). Some (put_told (object_at o put.0))) (sym stands.objects) ∙ ap (option_map (told_in w)) (sym there))
 
       by_result : (put : List ℕ × List ℕ) → slice_get (puts_sent old.store) place ≡ Some put → (r : Result (Option Put) StoreFault) → result ≡ r
-          → HasLandedAs put.0 put.1 r (objects old.store.store, in_flight old.store.store) (objects new.store.store, in_flight new.store.store) → LandsAs objects w place r new
-      by_result put is (Ok None) same so = absurd so
-      by_result put is (Ok (Some Created)) same so = (told_there put is Created same, taken put is so.0.0)
-      by_result put is (Ok (Some Exists)) same so = (told_there put is Exists same, taken put is so.0.0)
-      by_result put is (Err Lost) same so = never same
-      by_result put is (Err Memory) same so = record { objects = stands.objects ∙ sym so.0; flight = stands.flight ∙ sym sent; actors = actors_now w refl }
+          → HasLandedAs put.0 put.1 r (objects old.store.store, in_flight old.store.store) (objects new.store.store, in_flight new.store.store) → new.is_short ≡ (landing_out r || old.is_short)
+          → LandsAs objects old.is_short w place r new
+      by_result put is (Ok None) same so short_so = absurd so
+      by_result put is (Ok (Some Created)) same so short_so = (told_there put is Created same, taken put is so.0.0 short_so)
+      by_result put is (Ok (Some Exists)) same so short_so = (told_there put is Exists same, taken put is so.0.0 short_so)
+      by_result put is (Err Lost) same so short_so = never same
+      by_result put is (Err Memory) same so short_so = (record { objects = stands.objects ∙ sym so.0; flight = stands.flight ∙ sym sent; actors = actors_now w refl }, short_so)
 
       by_place : ((put : List ℕ × List ℕ) × (place < length (puts_sent old.store)) × (slice_get (puts_sent old.store) place ≡ Some put) × (get_or (puts_sent old.store) place put ≡ put)) ⊎ ((length (puts_sent old.store) ≤ place) × (slice_get (puts_sent old.store) place ≡ None))
-          → LandsAs objects w place result new
-      by_place (inl (put, within, is, same)) = by_result put is result refl (landed put.0 put.1 is)
-      by_place (inr (past, none)) = subst (λ r. LandsAs objects w place r new) (sym (nothing past).0) (
+          → LandsAs objects old.is_short w place result new
+      by_place (inl (put, within, is, same)) = by_result put is result refl (landed put.0 put.1 is) short
+      by_place (inr (past, none)) = subst (λ r. LandsAs objects old.is_short w place r new) (sym (nothing past).0) (
         ap (option_map (told_in w)) (sym (subst (λ (flight : Flight). slice_get flight place ≡ None) (sym stands.flight) none)),
         record {
           met = land place;
@@ -189,6 +219,8 @@ module _ {S : Type 0} (objects : S → Objects) (old new : code_world.World S) (
           tells = tt;
           later = w;
           happens = nothing_happens (land place) unfit;
+          short = subst (λ r. new.is_short ≡ (landing_out r || old.is_short)) (nothing past).0 short;
+          fits = λ is. absurd cc;
           stands = record { objects = stands.objects ∙ ap (λ s. objects s.store) (sym (nothing past).1); flight = stands.flight ∙ sym sent; actors = actors_now w refl };
         },
       )

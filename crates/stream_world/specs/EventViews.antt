@@ -1,5 +1,5 @@
 -- What happens to an actor of the code, as plain data.
-use Rattle.std.specs.Prelude.{◌≡◌, ◌⊎◌}
+use Rattle.std.specs.Prelude.{◌≡◌, ◌⊎◌, Bool, true, false}
 use Rattle.table_jobs.specs.Views.{job_view}
 use Rattle.stream_model.specs.Events.{Event, act, answer, begin, die, land, lose_answer}
 use Rattle.stream_model.specs.Worlds.{How, late, lost, once, short, twice}
@@ -32,3 +32,14 @@ IsMetIn how met = (met ≡ how) ⊎ (met ≡ short)
 abbrev pub IsMetAs : (event met : Event) → Type 0
 IsMetAs (act name how) met = (one : How) × IsMetIn how one × (met ≡ act name one)
 IsMetAs event met = met ≡ event
+
+-- Memory ran out in a call that was to be answered otherwise.
+abbrev pub ran_out_of : (how met : How) → Bool
+ran_out_of short met = false
+ran_out_of how short = true
+ran_out_of how met = false
+
+-- The same of any event: only a call may be met otherwise than it was to be.
+abbrev pub ran_out : (event met : Event) → Bool
+ran_out (act name how) (act other met) = ran_out_of how met
+ran_out event met = false

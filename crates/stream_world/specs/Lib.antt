@@ -3,6 +3,8 @@ pub mod Calling
 pub mod Hands
 pub mod EventViews
 pub mod Left
+pub mod OverAnyStore
+pub mod Paired
 pub mod Standing
 pub mod Running
 pub use Rattle.stream_model.specs.Moves
@@ -10,3 +12,4 @@ pub use Rattle.stream_model.specs.SoundStores
 pub use Rattle.stream_model.specs.Worlds
 pub use Rattle.stream_model.specs.Events
 pub use Rattle.stream_model.specs.Headline
+pub use Rattle.stream_model.specs.Puts

@@ -1,5 +1,5 @@
 -- Which world a world of the code stands for, and what became of it by an event.
-use Rattle.std.specs.Prelude.{◌≡◌, ℕ, List, [], Option, None, Some, Result, Ok, Err, option_and_then, option_map, slice_get, Bool, true, false}
+use Rattle.std.specs.Prelude.{◌≡◌, ◌||◌, ℕ, List, [], Option, None, Some, Result, Ok, Err, option_and_then, option_map, slice_get, Bool, true, false}
 use Rattle.std.specs.declared.alloc.AllocError.{AllocError}
 use Rattle.std.specs.BTreeMap.{get}
 use Rattle.std.specs.Ordering.{nat_cmp}
@@ -11,10 +11,11 @@ use Rattle.store_core.specs.declared.fault.StoreFault.TheVariants.{Lost, Memory}
 use Rattle.store_core.specs.declared.store.Put.{Put}
 use Rattle.session_core.specs.Talks.{Asked, Talk, Told, asked_view, told_view}
 use Rattle.table_jobs.specs.Jobs.{Job, Outcome}
-use Rattle.stream_model.specs.Events.{Event, Happens, answer, begin, land, lose_answer}
+use Rattle.stream_model.specs.Events.{Event, FitsWorld, Happens, act, answer, begin, land, lose_answer}
 use Rattle.stream_model.specs.Worlds.{Actor, Hand, How, World, asking, ended, flight_how, fresh, left_how, told_how, waiting}
-use Rattle.stream_world.specs.EventViews.{IsMetAs, IsMetIn}
+use Rattle.stream_world.specs.EventViews.{IsMetAs, IsMetIn, ran_out}
 use Rattle.table_jobs.specs.Sessions.{SessionFits, job_of, end_view}
+use Rattle.table_jobs.specs.Wants.{outcome_wants}
 use Rattle.stream_world.specs.declared.actor.Actor as code_actor
 use Rattle.stream_world.specs.declared.actor.Hand as code_hand
 use Rattle.stream_world.specs.declared.actor.Hand.TheVariants as hands
@@ -99,8 +100,21 @@ pub record Becomes (w : World) (event : Event) (name : ℕ) (outcome : Option co
   pub slot_now : SlotStands slot (later.actors name)
   pub others : (other : ℕ) → (other ≡ name → ⊥) → later.actors other ≡ w.actors other
 
--- What happened to a world by an event, for which the world of the code stands then.
-pub record HasHappened {S : Type 0} (objects : S → Objects) (w : World) (event : Event) (outcome : Option code_end.JobEnd) (world : code_world.World S) : Type 0 where
+-- What became of it by a call of that actor that is answered in this way, if it asks for one; and whether memory ran out in it, though it was to
+-- be answered otherwise.
+pub record ActsAs (w : World) (name : ℕ) (how : How) (objects : Objects) (flight : Flight) (slot : Option code_actor.Actor) (out : Bool) : Type 0 where
+  pub became : Becomes w (act name how) name None objects flight slot
+  pub out_so : out ≡ ran_out (act name how) became.met
+  pub asked : out ≡ true → FitsWorld w (act name how)
+
+-- what was told, if anything was, tells that a growth was refused, or that an object would have passed 64 MiB
+abbrev pub told_wants : Option code_end.JobEnd → Bool
+told_wants None = false
+told_wants (Some outcome) = outcome_wants (end_view outcome)
+
+-- What happened to a world by an event, for which the world of the code stands then. That is short now just where it was before, where memory
+-- ran out in the call that was asked for, though it was to be answered otherwise, or where what was told tells so.
+pub record HasHappened {S : Type 0} (objects : S → Objects) (was_short : Bool) (w : World) (event : Event) (outcome : Option code_end.JobEnd) (world : code_world.World S) : Type 0 where
   pub met : Event
   pub is : IsMetAs event met
   pub told : Option (Job × Outcome)
@@ -108,6 +122,8 @@ pub record HasHappened {S : Type 0} (objects : S → Objects) (w : World) (event
   pub later : World
   pub happens : Happens w met told later
   pub stands : WorldStands objects world later
+  pub short : world.is_short ≡ (ran_out event met || (told_wants outcome || was_short))
+  pub fits : ran_out event met ≡ true → FitsWorld w event
 
 -- the events that take memory themselves: for an actor's place, or for the copy of a put that lands
 abbrev pub TakesMemory : Event → Type 0
@@ -115,25 +131,30 @@ TakesMemory (begin name job) = Unit {0}
 TakesMemory (land place) = Unit {0}
 TakesMemory event = ⊥
 
--- The same of an event that may find no memory to begin with: then nothing has happened.
-abbrev pub StepsTo : {S : Type 0} → (objects : S → Objects) → World → Event → Result (Option code_end.JobEnd) AllocError → code_world.World S → Type 0
-StepsTo objects w event (Ok outcome) world = HasHappened objects w event outcome world
-StepsTo objects w event (Err fault) world = TakesMemory event × WorldStands objects world w
+-- The same of an event that may find no memory to begin with: then nothing has happened, and the world is short.
+abbrev pub StepsTo : {S : Type 0} → (objects : S → Objects) → (was_short : Bool) → World → Event → Result (Option code_end.JobEnd) AllocError → code_world.World S → Type 0
+StepsTo objects was_short w event (Ok outcome) world = HasHappened objects was_short w event outcome world
+StepsTo objects was_short w event (Err fault) world = TakesMemory event × WorldStands objects world w × (world.is_short ≡ true)
 
 -- the same of a beginning, which tells nothing
-abbrev pub BeginsAs : {S : Type 0} → (objects : S → Objects) → World → Event → Result (Unit {0}) AllocError → code_world.World S → Type 0
-BeginsAs objects w event (Ok done) world = HasHappened objects w event None world
-BeginsAs objects w event (Err fault) world = WorldStands objects world w
+abbrev pub BeginsAs : {S : Type 0} → (objects : S → Objects) → (was_short : Bool) → World → Event → Result (Unit {0}) AllocError → code_world.World S → Type 0
+BeginsAs objects was_short w event (Ok done) world = HasHappened objects was_short w event None world
+BeginsAs objects was_short w event (Err fault) world = WorldStands objects world w × (world.is_short ≡ true)
 
 -- what a put in flight is told that takes effect: whether its name was absent, or stood; nothing, where none of that number is in flight
 abbrev pub landing_told : World → (place : ℕ) → Option Put
 landing_told w place = option_map (λ (put : List ℕ × List ℕ). put_told (object_at w.objects put.0)) (slice_get w.flight place)
 
+-- memory ran out in a landing
+abbrev pub landing_out : Result (Option Put) StoreFault → Bool
+landing_out (Err Memory) = true
+landing_out result = false
+
 -- and of a landing over a store that loses no call
-abbrev pub LandsAs : {S : Type 0} → (objects : S → Objects) → World → (place : ℕ) → Result (Option Put) StoreFault → code_world.World S → Type 0
-LandsAs objects w place (Ok found) world = (found ≡ landing_told w place) × HasHappened objects w (land place) None world
-LandsAs objects w place (Err Memory) world = WorldStands objects world w
-LandsAs objects w place (Err Lost) world = ⊥
+abbrev pub LandsAs : {S : Type 0} → (objects : S → Objects) → (was_short : Bool) → World → (place : ℕ) → Result (Option Put) StoreFault → code_world.World S → Type 0
+LandsAs objects was_short w place (Ok found) world = (found ≡ landing_told w place) × HasHappened objects was_short w (land place) None world
+LandsAs objects was_short w place (Err Memory) world = WorldStands objects world w × (world.is_short ≡ true)
+LandsAs objects was_short w place (Err Lost) world = ⊥
 
 -- the event by which a session takes the answer that waits, or the loss of it
 abbrev pub taking : (name : ℕ) → (is_lost : Bool) → Event

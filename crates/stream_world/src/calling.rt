@@ -3,8 +3,9 @@
 ghost use Rattle.std.specs.Prelude.{◌≡◌};
 ghost use Rattle.store_core.specs.Turns.{puts_sent};
 ghost use Rattle.session_core.specs.Talks.{IsAnswerOf, asked_view, kind_of, told_view};
-ghost use Rattle.stream_world.specs.Calling.{IsSentCall, again, sent_told};
+ghost use Rattle.stream_world.specs.Calling.{IsSentCall, again, is_told_out, sent_told};
 ghost use Rattle.stream_world.specs.EventViews.{how_view};
+ghost use Rattle.stream_world.specs.OverAnyStore.{AsksStore, MayMeet};
 ghost use Rattle.stream_world.specs.Standing.{CallMeets};
 
 use crate::event::How;
@@ -23,6 +24,9 @@ pub(crate) fn answer<S: Store>(
     ensures kind { IsAnswerOf (kind_of (asked_view request)) (told_view result) }
     ensures meets { S.is_reliable store.old.store
         → CallMeets (how_view how) (asked_view request) (told_view result) (S.objects store.old.store) (puts_sent store.old) (S.objects store.new.store) (puts_sent store.new) }
+    // Over any store, one that loses calls too: what it tells is told, where it is asked.
+    ensures any { MayMeet (AsksStore S.makes (λ store. (S.objects store, S.in_flight store)) S.fault_count) (how_view how) (asked_view request) (told_view result)
+        store.old.store store.new.store (puts_sent store.old) (puts_sent store.new) }
     ensures reliable { S.is_reliable store.old.store → S.is_reliable store.new.store }
 {
     match how {
@@ -31,6 +35,16 @@ pub(crate) fn answer<S: Store>(
         How::Late => send(alloc, store, request),
         How::Lost => Reply::Lost,
         How::Short => Reply::Memory,
+    }
+}
+
+/// Whether it is told of a call that memory ran out, though it was to be answered otherwise.
+pub(crate) fn is_told_out(how: How, reply: &Reply) -> bool
+    ensures { result ≡ is_told_out (how_view how) (told_view reply.now) }
+{
+    match how {
+        How::Short => false,
+        How::Once | How::Twice | How::Late | How::Lost => matches!(reply, Reply::Memory),
     }
 }
 

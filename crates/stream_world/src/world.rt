@@ -1,9 +1,10 @@
 //! A world: a store, and the actors that act on it.
 
-ghost use Rattle.std.specs.Prelude.{◌≡◌, ◌<◌, [], Bool, None, true};
+ghost use Rattle.std.specs.Prelude.{◌≡◌, ◌<◌, ◌||◌, [], Bool, None, false, true};
 ghost use Rattle.store_core.specs.Turns.{turns_left};
 ghost use Rattle.stream_model.specs.Events.{act, begin, die, land};
 ghost use Rattle.table_jobs.specs.Jobs.{CanBegin};
+ghost use Rattle.stream_world.specs.Standing.{landing_out, told_wants};
 ghost use Rattle.stream_model.specs.Worlds as worlds;
 
 use crate::acting;
@@ -24,12 +25,39 @@ pub struct World<S> {
     pub store: Flaky<S>,
     /// By number, each actor whose session hasn't ended. A place may be empty.
     pub actors: BTreeMap<u64, Option<Actor>>,
+    /// Whether memory ran out in an event, or a session told want of memory or of a smaller object.
+    pub is_short: bool,
+}
+
+/// Either of the two.
+fn either(one: bool, other: bool) -> bool
+    ensures { result ≡ (one || other) }
+{
+    one || other
+}
+
+/// Whether memory ran out in a landing.
+fn is_out_of_memory(landed: &Result<Option<Put>, StoreFault>) -> bool
+    ensures { result ≡ landing_out landed.now }
+{
+    matches!(landed, Err(StoreFault::Memory))
+}
+
+/// Whether what was told, if anything was, tells that a growth was refused, or that an object would have passed 64 MiB.
+fn tells_short(told: &Option<JobEnd>) -> bool
+    ensures { result ≡ told_wants told.now }
+{
+    match told {
+        Some(end) => end.is_short(),
+        None => false,
+    }
 }
 
 impl<S: Store> World<S> {
     ghost use Rattle.stream_world.specs.EventViews.{event_view, how_view};
     ghost use Rattle.table_jobs.specs.Views.{job_view};
     ghost use Rattle.stream_world.specs.Left.{asks_call, calls_left, takes_step};
+    ghost use Rattle.stream_world.specs.OverAnyStore.{AsksStore, WorldMeets};
     ghost use Rattle.stream_world.specs.Standing.{BeginsAs, HasHappened, LandsAs, StepsTo, WorldStands, quiet_world, slot_at, taking};
 
     /// A world over a store, in which nobody acts yet and no put was sent.
@@ -37,19 +65,30 @@ impl<S: Store> World<S> {
         ensures store { result.store.store ≡ store }
         ensures stands { WorldStands S.objects result (quiet_world (S.objects store)) }
         ensures quiet { (turns_left result.store ≡ []) × (result.store.armed ≡ None) }
+        ensures unshort { result.is_short ≡ false }
     {
         World {
             alloc,
             store: Flaky::new(alloc, store, Vec::new(alloc)),
             actors: BTreeMap::new(alloc),
+            is_short: false,
         }
+    }
+
+    /// Whether want of memory was told, or of a smaller object than a commit, a data file or a checkpoint of more than
+    /// 64 MiB: of a beginning, a call or a landing, or by a session at its end. Where it says no, just those events
+    /// happened that were handed in, over a store that loses no call.
+    pub fn short(&self) -> bool
+        ensures { result ≡ self.now.is_short }
+    {
+        self.is_short
     }
 
     /// Lets an event happen, and returns what a session told that ended by it. An event that doesn't fit changes
     /// nothing. Fails where memory runs out in a beginning or a landing, and then nothing has happened; in a call that
     /// is made, the session is told so. A landing that the store loses tells nothing.
     pub fn step(&mut self, event: Event) -> Result<Option<JobEnd>, AllocError>
-        ensures happens { S.is_reliable self.old.store.store → (w : worlds.World) → WorldStands S.objects self.old w → StepsTo S.objects w (event_view event) result self.new }
+        ensures happens { S.is_reliable self.old.store.store → (w : worlds.World) → WorldStands S.objects self.old w → StepsTo S.objects self.old.is_short w (event_view event) result self.new }
         ensures reliable { S.is_reliable self.old.store.store → S.is_reliable self.new.store.store }
     {
         match event {
@@ -78,7 +117,7 @@ impl<S: Store> World<S> {
     /// An actor begins a session, in place of an older one; nothing is asked for yet. Fails where memory runs out, and
     /// then nothing has happened.
     pub fn begin(&mut self, actor: u64, job: Job<'static>) -> Result<(), AllocError>
-        ensures happens { (w : worlds.World) → WorldStands S.objects self.old w → BeginsAs S.objects w (begin actor (job_view job.entry)) result self.new }
+        ensures happens { (w : worlds.World) → WorldStands S.objects self.old w → BeginsAs S.objects self.old.is_short w (begin actor (job_view job.entry)) result self.new }
         // Every job of the code can begin.
         ensures can { CanBegin (job_view job.entry) }
         ensures store { self.new.store ≡ self.old.store }
@@ -88,13 +127,18 @@ impl<S: Store> World<S> {
             session,
             hand: Hand::Fresh,
         };
-        let _before = self.actors.insert(actor, Some(begun))?;
-        Ok(())
+        match self.actors.insert(actor, Some(begun)) {
+            Ok(_before) => Ok(()),
+            Err(_error) => {
+                self.is_short = true;
+                Err(AllocError)
+            }
+        }
     }
 
     /// An actor's session is dropped.
     pub fn die(&mut self, actor: u64)
-        ensures happens { (w : worlds.World) → WorldStands S.objects self.old w → HasHappened S.objects w (die actor) None self.new }
+        ensures happens { (w : worlds.World) → WorldStands S.objects self.old w → HasHappened S.objects self.old.is_short w (die actor) None self.new }
         ensures store { self.new.store ≡ self.old.store }
     {
         if let Some(slot) = self.actors.get_mut(&actor) {
@@ -104,27 +148,34 @@ impl<S: Store> World<S> {
 
     /// The call that an actor's session asks for is answered in this way, if it asks for one.
     pub fn act(&mut self, actor: u64, how: How)
-        ensures happens { S.is_reliable self.old.store.store → (w : worlds.World) → WorldStands S.objects self.old w → HasHappened S.objects w (act actor (how_view how)) None self.new }
+        ensures happens { S.is_reliable self.old.store.store → (w : worlds.World) → WorldStands S.objects self.old w → HasHappened S.objects self.old.is_short w (act actor (how_view how)) None self.new }
         ensures reliable { S.is_reliable self.old.store.store → S.is_reliable self.new.store.store }
+        // Over any store, one that itself loses calls too, what that tells waits; nobody else is touched.
+        ensures over { WorldMeets (AsksStore S.makes (λ store. (S.objects store, S.in_flight store)) S.fault_count) (how_view how) actor self.old self.new }
         // The session still makes as many calls at most, and where it asked for one, it makes a step when it goes on.
         ensures left { calls_left (slot_at self.new actor) ≡ calls_left (slot_at self.old actor) }
         ensures waits { asks_call (slot_at self.old actor) ≡ true → (is_lost : Bool) → takes_step is_lost (slot_at self.new actor) ≡ true }
     {
         if let Some(slot) = self.actors.get_mut(&actor) {
-            acting::act(self.alloc, &mut self.store, slot, how);
+            let is_out = acting::act(self.alloc, &mut self.store, slot, how);
+            self.is_short = either(is_out, self.is_short);
         }
     }
 
     /// An actor's session makes its first step, or takes the answer that waits, or that the call was lost in place of
     /// it. Returns what it tells where it ends.
     pub fn go_on(&mut self, actor: u64, is_lost: bool) -> Option<JobEnd>
-        ensures happens { (w : worlds.World) → WorldStands S.objects self.old w → HasHappened S.objects w (taking actor is_lost) result self.new }
+        ensures happens { (w : worlds.World) → WorldStands S.objects self.old w → HasHappened S.objects self.old.is_short w (taking actor is_lost) result self.new }
         ensures store { self.new.store ≡ self.old.store }
         // With each step that isn't its last, the session makes one call less at most.
         ensures fewer { takes_step is_lost (slot_at self.old actor) ≡ true → result ≡ None → calls_left (slot_at self.new actor) < calls_left (slot_at self.old actor) }
     {
         match self.actors.get_mut(&actor) {
-            Some(slot) => acting::go_on(slot, is_lost),
+            Some(slot) => {
+                let told = acting::go_on(slot, is_lost);
+                self.is_short = either(tells_short(&told), self.is_short);
+                told
+            }
             None => None,
         }
     }
@@ -133,9 +184,11 @@ impl<S: Store> World<S> {
     /// name was absent, `Exists` where it stood. It stays in flight. `None` where none of that number is. Fails where
     /// memory runs out, and then nothing has happened, or where the store loses the put.
     pub fn land(&mut self, place: usize) -> Result<Option<Put>, StoreFault>
-        ensures happens { S.is_reliable self.old.store.store → (w : worlds.World) → WorldStands S.objects self.old w → LandsAs S.objects w place result self.new }
+        ensures happens { S.is_reliable self.old.store.store → (w : worlds.World) → WorldStands S.objects self.old w → LandsAs S.objects self.old.is_short w place result self.new }
         ensures reliable { S.is_reliable self.old.store.store → S.is_reliable self.new.store.store }
     {
-        self.store.land(place)
+        let landed = self.store.land(place);
+        self.is_short = either(is_out_of_memory(&landed), self.is_short);
+        landed
     }
 }

@@ -8,7 +8,7 @@ use Rattle.std.proofs.lemmas.List.Concat.{flat_map-append}
 use Rattle.std.proofs.lemmas.List.Elements.{Contains-append_left, Contains-append_right}
 use Rattle.std.proofs.lemmas.Slice.Eq.{bytes_eq-Decides}
 use Rattle.table_model.specs.Lawful.{AreDifferent, IsLawful, IsWellGrouped, NoCreation, Rises}
-use Rattle.table_model.specs.Table.{Batch, Entry, creation, group, close, closes_of, is_closed, last, numbers_by}
+use Rattle.table_model.specs.Table.{Batch, Entry, creation, group, close, closes_of, is_stream_closed, last_item, numbers_by}
 use Rattle.table_model.proofs.Batches.{IsAbove, Rises-push, numbers_by-append, numbers_in}
 use Rattle.table_model.proofs.Facts.{cut_at}
 use Rattle.table_model.proofs.Kept.{begins-push, cut, each_push}
@@ -55,7 +55,7 @@ any_seen application (c ∷ closed) zero lt is = or_left (bytes_eq c application
 any_seen application (c ∷ closed) (suc k) lt is = or_right (bytes_eq c application) (list_any (λ d. bytes_eq d application) closed) (any_seen application closed k (omega arith) is)
 
 -- a close that stands is seen
-closed_seen : (application : List ℕ) (before after : List Entry) (entry : Entry) → Contains (closes_of entry) application → is_closed application (before ++ entry ∷ after) ≡ true
+closed_seen : (application : List ℕ) (before after : List Entry) (entry : Entry) → Contains (closes_of entry) application → is_stream_closed application (before ++ entry ∷ after) ≡ true
 closed_seen application before after entry closes =
     let behind : Contains (flat_map closes_of (entry ∷ after)) application = Contains-append_left (closes_of entry) (flat_map closes_of after) application closes in
     let all = Contains-append_right (flat_map closes_of before) (flat_map closes_of (entry ∷ after)) application behind in
@@ -95,16 +95,16 @@ is_above number None is = tt
 is_above number (Some other) is = is
 
 -- numbers that rise end in one above the last of those before it
-above_last : (ns : List ℕ) (n : ℕ) → Rises (ns ++ n ∷ []) → IsAboveLast n (last ns)
+above_last : (ns : List ℕ) (n : ℕ) → Rises (ns ++ n ∷ []) → IsAboveLast n (last_item ns)
 above_last [] n rises = tt
 above_last (m ∷ []) n rises = rises.0
 above_last (m ∷ k ∷ ns) n rises = above_last (k ∷ ns) n rises.1
 
 module _ (entries : List Entry) (bs : List Batch) where
   -- what stands behind a close isn't a batch of its stream
-  still_open : IsLawful (entries ++ group bs ∷ []) → (b : Batch) → Among b bs → numbers_in b.application bs ≡ b.number ∷ [] → is_closed b.application entries ≡ false
+  still_open : IsLawful (entries ++ group bs ∷ []) → (b : Batch) → Among b bs → numbers_in b.application bs ≡ b.number ∷ [] → is_stream_closed b.application entries ≡ false
   still_open lawful b among own =
-      elim (cases_Bool (is_closed b.application entries)) [
+      elim (cases_Bool (is_stream_closed b.application entries)) [
         | inr open_still ↦ open_still
         | inl shut ↦
             let at = cut_at closes_of entries b.application (any_is b.application (flat_map closes_of entries) shut) in
@@ -144,19 +144,19 @@ module _ (rest : List Entry) (bs : List Batch) (lawful : IsLawful (creation ∷ 
       elim (own_or_none application) [
         | inl own ↦ subst (λ (a : List ℕ). Rises (numbers_by a ((creation ∷ rest) ++ group bs ∷ []))) own.2
             (subst Rises (sym (numbers_more own.0.application (creation ∷ rest) bs ∙ ap (λ (ns : List ℕ). numbers_by own.0.application (creation ∷ rest) ++ ns) (one_number own.0 bs grouped.1 own.1)))
-            (Rises-push (numbers_by own.0.application (creation ∷ rest)) own.0.number (lawful.rises own.0.application) (is_above own.0.number (last (numbers_by own.0.application (creation ∷ rest))) (each_among (IsNewToTable (creation ∷ rest)) own.0 bs new own.1).0)))
+            (Rises-push (numbers_by own.0.application (creation ∷ rest)) own.0.number (lawful.rises own.0.application) (is_above own.0.number (last_item (numbers_by own.0.application (creation ∷ rest))) (each_among (IsNewToTable (creation ∷ rest)) own.0 bs new own.1).0)))
         | inr none ↦
             let same : numbers_by application ((creation ∷ rest) ++ group bs ∷ []) ≡ numbers_by application (creation ∷ rest) =
             numbers_more application (creation ∷ rest) bs ∙ (ap (λ (ns : List ℕ). numbers_by application (creation ∷ rest) ++ ns) none ∙ append-nil (numbers_by application (creation ∷ rest))) in
             rw same (lawful.rises application)
       ]
 
-  none_of_closed : (application : List ℕ) → is_closed application (creation ∷ rest) ≡ true → numbers_in application bs ≡ []
+  none_of_closed : (application : List ℕ) → is_stream_closed application (creation ∷ rest) ≡ true → numbers_in application bs ≡ []
   none_of_closed application shut =
       elim (own_or_none application) [
         | inr none ↦ none
         | inl own ↦
-            let still : is_closed application (creation ∷ rest) ≡ false = subst (λ (a : List ℕ). is_closed a (creation ∷ rest) ≡ false) own.2 (each_among (IsNewToTable (creation ∷ rest)) own.0 bs new own.1).1 in
+            let still : is_stream_closed application (creation ∷ rest) ≡ false = subst (λ (a : List ℕ). is_stream_closed a (creation ∷ rest) ≡ false) own.2 (each_among (IsNewToTable (creation ∷ rest)) own.0 bs new own.1).1 in
             absurd (false≢true (sym still ∙ shut))
       ]
 
@@ -166,7 +166,7 @@ module _ (rest : List Entry) (bs : List Batch) (lawful : IsLawful (creation ∷ 
         | inl h ↦ absurd (no_close_of (group bs) entry application h.0 refl closes)
         | inr h ↦
             let none : numbers_by application (entry ∷ h.between) ≡ [] = lawful.closed application before h.between entry h.front closes in
-            let shut : is_closed application (creation ∷ rest) ≡ true = ap (is_closed application) h.front ∙ closed_seen application before h.between entry closes in
+            let shut : is_stream_closed application (creation ∷ rest) ≡ true = ap (is_stream_closed application) h.front ∙ closed_seen application before h.between entry closes in
             ap (λ (es : List Entry). numbers_by application (entry ∷ es)) h.rest ∙ (numbers_more application (entry ∷ h.between) bs ∙ rw (none, none_of_closed application shut) refl)
       ]
 

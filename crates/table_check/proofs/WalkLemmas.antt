@@ -59,7 +59,7 @@ module _ (objects : Objects) where
     new_batch : (b : Batch) → IsNewIn log (named b) → IsNewToTable (creation ∷ walked.later) b
     new_batch b new =
         let entries = creation ∷ walked.later in
-        let last : last_number b.application log ≡ tables.last (tables.numbers_by b.application entries) =
+        let last : last_number b.application log ≡ tables.last_item (tables.numbers_by b.application entries) =
         log_last objects schema b.application entries log made_for ∙ sym (last_of_numbers b.application entries) in
         (subst (IsAboveLast b.number) last new.0, log_open objects schema b.application entries log made_for new.1)
 

@@ -120,7 +120,7 @@ module _ (objects : Objects) (schema : Schema) (version : ℕ) (log : List (List
   new_in (b ∷ bs) texts new =
       let entries = creation ∷ walked.later in
       let made = made_for objects schema version log walked in
-      let last : tables.last (tables.numbers_by b.application entries) ≡ last_number b.application log =
+      let last : tables.last_item (tables.numbers_by b.application entries) ≡ last_number b.application log =
       last_of_numbers b.application entries ∙ sym (log_last objects schema b.application entries log made) in
       ((subst (IsAboveLast b.number) last new.0.0, log_closed objects schema b.application entries log made texts.0 ∙ new.0.1), new_in bs texts.1 new.1)
 

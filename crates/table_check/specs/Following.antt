@@ -6,7 +6,7 @@ use Rattle.delta_replay.specs.Closes.{is_closed}
 use Rattle.delta_replay.specs.Keys.{last_number}
 use Rattle.table_model.specs.Lawful.{AreDifferent}
 use Rattle.table_model.specs.Table as tables
-use Rattle.table_model.specs.Table.{Batch, Entry, creation, group, close, last, numbers_by}
+use Rattle.table_model.specs.Table.{Batch, Entry, creation, group, close, last_item, numbers_by}
 
 -- a number is above the one before it, if there is one
 abbrev pub IsAboveLast : ℕ → Option ℕ → Type 0
@@ -15,7 +15,7 @@ IsAboveLast number (Some before) = before < number
 
 -- A batch's number is above its application's last one in a table, and its stream is open there.
 abbrev pub IsNewToTable : List Entry → Batch → Type 0
-IsNewToTable entries b = IsAboveLast b.number (last (numbers_by b.application entries)) × (tables.is_closed b.application entries ≡ false)
+IsNewToTable entries b = IsAboveLast b.number (last_item (numbers_by b.application entries)) × (tables.is_stream_closed b.application entries ≡ false)
 
 -- An application's number is above the one that it has come to in a log, and its stream is open there.
 abbrev pub IsNewIn : List (List Action) → List ℕ × ℕ → Type 0

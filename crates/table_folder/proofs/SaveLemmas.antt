@@ -1,11 +1,11 @@
 -- Which names are saved, and what the folder holds after a front of them.
 use Rattle.std.proofs.Common.{◌≡◌, ◌<◌, ◌+◌, ◌++◌, ◌∷◌, [], ℕ, true, cond, List, String, length, take, get_or, refl, sym, ◌∙◌, ap, map, inl, inr, Option, None, Some, subst, Result, Ok, Err, IsErrAnd}
-use Rattle.std.specs.Prelude.{not, filter, bytes_eq, string_bytes, is_some, IsSome, IsErrOf}
+use Rattle.std.specs.Prelude.{Contains, not, filter, bytes_eq, string_bytes, is_some, IsSome, IsErrOf, OnOk}
 use Rattle.std.specs.Global.{Global}
 use Rattle.std.specs.List.{list_any}
 use Rattle.std.proofs.lemmas.Bool.{and_parts}
 use Rattle.std.proofs.lemmas.List.{take-map}
-use Rattle.std.proofs.lemmas.List.Elements.{All-push}
+use Rattle.std.proofs.lemmas.List.Elements.{All-nil, All-push}
 use Rattle.std.proofs.lemmas.List.Sums.{fold-append}
 use Rattle.store_core.specs.Calls.{HasRisen, put_told}
 use Rattle.store_core.specs.Objects.{Objects, IsInOrder, object_at, names_of, with_object}
@@ -13,9 +13,10 @@ use Rattle.store_core.specs.ObjectLaws.{with_object_stands}
 use Rattle.store_core.specs.declared.store.Put.{Put}
 use Rattle.store_core.specs.declared.store.Put.TheVariants.{Exists}
 use Rattle.table_folder.specs.Calls.{IsFailed, MayHaveMade}
-use Rattle.table_folder.specs.Copies.{AreAbsent, HasSavedFront, MayHaveSaved, not_loaded, to_save, with_found, with_copy, with_copies}
-use Rattle.table_folder.specs.Faults.{CountsSave, FailsWhereStood, SaveFailsAt}
+use Rattle.table_folder.specs.Copies.{AreAbsent, HasSavedFront, MayHaveSaved, new_names, not_loaded, to_save, with_found, with_copy, with_copies}
+use Rattle.table_folder.specs.Faults.{CountsLost, CountsSave, FailsWhereStood, IsNotSaved, SaveFailsAmong, SaveFailsAt}
 use Rattle.table_folder.specs.Kinds.{is_data, is_commit, is_checkpoint}
+use Rattle.table_folder.specs.Saving.{SavesInto, SavesOver}
 use Rattle.table_folder.specs.declared.fault.FolderFault.{FolderFault}
 use Rattle.table_folder.specs.declared.fault.FolderFault.TheVariants as folders
 use Rattle.table_folder.specs.declared.fault.SaveFault.{SaveFault}
@@ -120,3 +121,51 @@ counts_before steady later now held name (NotSaved n reason) first old new so fr
     inr (stood.0 ∙ from, stood.1, λ s. stood_before now held name (NotSaved n reason) e (same s) (stood.2 (so s)))
 counts_before steady later now held name Lost first old new so from e same counted = counted ∙ from
 counts_before steady later now held name Memory first old new so from e same counted = counted ∙ from
+
+-- ---- where it fails
+
+-- nothing is told of what is done
+nothing_done : (P : Type 0) (result : Result (Unit {0}) SaveFault) (fault : SaveFault) → result ≡ Err fault → OnOk result P
+nothing_done P result fault is = subst (λ (r : Result (Unit {0}) SaveFault). OnOk r P) (sym is) tt
+
+-- what it leaves
+pub unsaved_into : (loaded : List (String Global)) (is_reliable : Type 0) (stored old new : Objects) (result : Result (Unit {0}) SaveFault) (fault : SaveFault) → result ≡ Err fault → HasSavedFront stored (new_names loaded stored) old new
+    → (is_reliable → FailsWhereStood {X = Unit {0}} old (Err fault)) → SavesInto loaded is_reliable stored old new result
+unsaved_into loaded is_reliable stored old new result fault is front stood = record {
+  front = front;
+  saved = nothing_done _ result fault is;
+  fresh = nothing_done _ result fault is;
+  whole = nothing_done _ result fault is;
+  kept = λ name bytes e. kept_by_front stored (new_names loaded stored) old new name bytes front e;
+  same = λ own has. nothing_done _ result fault is;
+  never_fails = λ reliable. subst (λ (r : Result (Unit {0}) SaveFault). FailsWhereStood old r) (sym is) (stood reliable);
+}
+
+-- the front may be empty
+pub empty_front : (stored : Objects) (names : List (List ℕ)) (held : Objects) → HasSavedFront stored names held held
+empty_front stored names held = (0, (All-nil (λ (name : List ℕ). object_at held name ≡ None), refl))
+
+-- it tells one of the names to save
+pub unsaved_named : (names : List (List ℕ)) (name : List ℕ) (result : Result (Unit {0}) SaveFault) (fault : SaveFault) → result ≡ Err fault → Contains names name → SaveFailsAt {X = Unit {0}} name (Err fault) → SaveFailsAmong names result
+unsaved_named names name result fault is one at = subst (λ (r : Result (Unit {0}) SaveFault). SaveFailsAmong names r) (sym is) (by_fault fault at)
+  where
+    by_fault : (f : SaveFault) → SaveFailsAt {X = Unit {0}} name (Err f) → SaveFailsAmong {X = Unit {0}} names (Err f)
+    by_fault (NotSaved told reason) at = subst (Contains names) (sym at) one
+    by_fault Lost at = tt
+    by_fault Memory at = tt
+
+-- where no object was tried, none is told as not saved
+pub untried_stood : (X : Type 0) (held : Objects) (fault : SaveFault) → (IsNotSaved {X = X} (Err fault) → ⊥) → FailsWhereStood {X = Unit {0}} held (Err fault)
+untried_stood X held (NotSaved name reason) none = absurd (none tt)
+untried_stood X held Lost none = tt
+untried_stood X held Memory none = tt
+
+pub untried_over : (X : Type 0) (names : List (List ℕ)) (is_steady : Type 0) (old : Objects) (result : Result (Unit {0}) SaveFault) (fault : SaveFault) (count losses later : ℕ) → result ≡ Err fault → (IsNotSaved {X = X} (Err fault) → ⊥)
+    → CountsLost {X = X} (Err fault) losses later → SavesOver names is_steady old result count count losses later
+untried_over X names is_steady old result fault count losses later is none lost =
+    subst (λ (r : Result (Unit {0}) SaveFault). SavesOver names is_steady old r count count losses later) (sym is) (by_fault fault none lost)
+  where
+    by_fault : (f : SaveFault) → (IsNotSaved {X = X} (Err f) → ⊥) → CountsLost {X = X} (Err f) losses later → SavesOver names is_steady old (Err f) count count losses later
+    by_fault (NotSaved name reason) none lost = absurd (none tt)
+    by_fault Lost none lost = record { named = tt; faults = refl; lost = lost }
+    by_fault Memory none lost = record { named = tt; faults = refl; lost = lost }

@@ -7,7 +7,7 @@ use Rattle.std.proofs.lemmas.Option.{slice_get_read}
 use Rattle.store_core.specs.Memory.{Stored}
 use Rattle.store_core.specs.Objects.{Objects, object_at}
 use Rattle.table_folder.specs.Copies.{with_found}
-use Rattle.table_folder.specs.Traces.{FolderCall, Loads, MakeNone, ReadsAll, ReadsFront, ReadsInto, SavesOne, Saves, Traced, creates, lists, made_all, made_of, reads, told_objects}
+use Rattle.table_folder.specs.Traces.{FolderCall, Loads, MakeNone, ReadsAll, ReadsUpToOneFile, ReadsInto, SavesOne, Saves, Traced, creates, lists, made_all, made_of, reads, told_objects}
 use Rattle.table_folder.specs.declared.fault.LoadFault.{LoadFault}
 use Rattle.table_folder.specs.declared.fault.SaveFault.{SaveFault}
 use Rattle.table_folder.proofs.NameLemmas.{below_map, name_at, names_more}
@@ -124,7 +124,7 @@ pub only_listed : (wanted : List (List ℕ) → List (List ℕ)) (P : LoadFault 
 only_listed wanted P (Ok store) names is = absurd is
 only_listed wanted P (Err fault) names is = inr (names, [], inl refl, refl)
 
-pub front_loaded : (wanted : List (List ℕ) → List (List ℕ)) (P : LoadFault → Type 0) (result : Result Stored LoadFault) (names : List (List ℕ)) (calls : List FolderCall) → IsErrAnd result P → ReadsFront (wanted names) calls
+pub front_loaded : (wanted : List (List ℕ) → List (List ℕ)) (P : LoadFault → Type 0) (result : Result Stored LoadFault) (names : List (List ℕ)) (calls : List FolderCall) → IsErrAnd result P → ReadsUpToOneFile (wanted names) calls
     → Loads wanted result (lists (Some names) ∷ calls)
 front_loaded wanted P (Ok store) names calls is front = absurd is
 front_loaded wanted P (Err fault) names calls is front = inr (names, calls, inr front, refl)

@@ -15,7 +15,7 @@ abbrev pub is_data : List ℕ → Bool
 is_data name = not (is_commit name) && not (is_checkpoint name)
 
 -- the file of this name is of this kind
-abbrev pub is_of : FileKind → List ℕ → Bool
-is_of Data name = is_data name
-is_of Commit name = is_commit name
-is_of Checkpoint name = is_checkpoint name
+abbrev pub is_file_of_kind : FileKind → List ℕ → Bool
+is_file_of_kind Data name = is_data name
+is_file_of_kind Commit name = is_commit name
+is_file_of_kind Checkpoint name = is_checkpoint name

@@ -5,6 +5,7 @@ pub mod Kinds
 pub mod Loads
 pub mod Names
 pub mod Orders
+pub mod Saving
 pub mod Stops
 pub mod Texts
 pub mod Traces

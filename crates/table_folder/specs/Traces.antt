@@ -87,8 +87,8 @@ ReadsAll [] calls = calls ≡ []
 ReadsAll (name ∷ names) calls = (found : Option (List ℕ)) × (more : List FolderCall) × ReadsAll names more × (calls ≡ reads name (Some found) ∷ more)
 
 -- The files in front of one of these names were read so, and then that one as the last, whatever was told of it.
-abbrev pub ReadsFront : (names : List (List ℕ)) → List FolderCall → Type 0
-ReadsFront names calls =
+abbrev pub ReadsUpToOneFile : (names : List (List ℕ)) → List FolderCall → Type 0
+ReadsUpToOneFile names calls =
     (n : ℕ) × (name : List ℕ) × (told : Option (Option (List ℕ))) × (front : List FolderCall) × (slice_get names n ≡ Some name) × ReadsAll (take n names) front
     × (calls ≡ front ++ reads name told ∷ [])
 
@@ -102,7 +102,7 @@ told_objects objects (call ∷ calls) = told_objects objects calls
 -- where that failed.
 abbrev pub ReadsInto : (names : List (List ℕ)) → (old new : Objects) → Result (Unit {0}) LoadFault → List FolderCall → Type 0
 ReadsInto names old new (Ok done) calls = ReadsAll names calls × (new ≡ told_objects old calls)
-ReadsInto names old new (Err fault) calls = ReadsFront names calls
+ReadsInto names old new (Err fault) calls = ReadsUpToOneFile names calls
 
 -- The calls that loaded the files of those names that are wanted, of all that one listing told: the listing, and then a read of each
 -- one. What was loaded is what was told. Where it failed, that was the listing; or a front of the wanted files was read, or none.
@@ -110,4 +110,4 @@ abbrev pub Loads : (wanted : List (List ℕ) → List (List ℕ)) → Result Sto
 Loads wanted (Ok store) calls =
     (names : List (List ℕ)) × (more : List FolderCall) × ReadsAll (wanted names) more × (stored_objects store ≡ told_objects [] more) × (calls ≡ lists (Some names) ∷ more)
 Loads wanted (Err fault) calls = (calls ≡ lists None ∷ [])
-    ⊎ ((names : List (List ℕ)) × (more : List FolderCall) × ((more ≡ []) ⊎ ReadsFront (wanted names) more) × (calls ≡ lists (Some names) ∷ more))
+    ⊎ ((names : List (List ℕ)) × (more : List FolderCall) × ((more ≡ []) ⊎ ReadsUpToOneFile (wanted names) more) × (calls ≡ lists (Some names) ∷ more))

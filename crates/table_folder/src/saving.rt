@@ -1,12 +1,13 @@
 //! Putting a store's new objects into a folder.
-ghost use Rattle.std.specs.Prelude.{◌≡◌, ◌++◌, ℕ, List, None, Some, IsSome, IsErr, IfOk, OnOk, IsErrOf, filter, map, not, bytes_eq, string_bytes};
+ghost use Rattle.std.specs.Prelude.{◌≡◌, ◌++◌, ℕ, List, None, IsSome, IsErr, IfOk, OnOk, IsErrOf, filter, map, not, bytes_eq, string_bytes};
 ghost use Rattle.std.specs.BTreeSet.{contains_text};
 ghost use Rattle.std.specs.List.{list_any};
 ghost use Rattle.store_core.specs.Calls.{IsUntouched};
-ghost use Rattle.store_core.specs.Objects.{names_of, object_at, HasObjectsOf};
-ghost use Rattle.table_folder.specs.Copies.{AreAbsent, HasSavedFront, MayHaveSaved, new_names, saved_at, with_copies, with_copy};
-ghost use Rattle.table_folder.specs.Faults.{CountsLost, CountsSave, FailsWhereStood, IsNotSaved, SaveFailsAmong, SaveFailsAt};
-ghost use Rattle.table_folder.specs.Kinds.{is_checkpoint, is_commit, is_data, is_of};
+ghost use Rattle.store_core.specs.Objects.{object_at};
+ghost use Rattle.table_folder.specs.Copies.{MayHaveSaved, new_names, with_copy};
+ghost use Rattle.table_folder.specs.Faults.{CountsLost, CountsSave, FailsWhereStood, IsNotSaved, SaveFailsAt};
+ghost use Rattle.table_folder.specs.Kinds.{is_checkpoint, is_commit, is_data, is_file_of_kind};
+ghost use Rattle.table_folder.specs.Saving.{SavesInto, SavesOver};
 ghost use Rattle.table_folder.specs.Traces.{FolderCall, Saves, SavesOne, Traced};
 
 use crate::kind::{FileKind, is_of};
@@ -26,32 +27,16 @@ pub fn save<F: Folder, S: Store>(
     store: &mut S,
     loaded: &[String],
 ) -> Result<(), SaveFault>
-    ensures front { F.is_steady folder.old → HasSavedFront (S.objects store.old)
-        (new_names loaded.now (S.objects store.old)) (F.objects folder.old) (F.objects folder.new) }
-    ensures saved { F.is_steady folder.old → OnOk result (F.objects folder.new ≡ with_copies (S.objects store.old)
-        (F.objects folder.old) (new_names loaded.now (S.objects store.old))) }
-    ensures fresh { F.is_steady folder.old → OnOk result
-        (AreAbsent (F.objects folder.old) (new_names loaded.now (S.objects store.old))) }
-    ensures whole { F.is_steady folder.old → OnOk result ((name : List ℕ) → object_at (F.objects folder.new) name
-        ≡ saved_at (S.objects store.old) (new_names loaded.now (S.objects store.old)) (F.objects folder.old) name) }
-    ensures kept { F.is_steady folder.old → (name bytes : List ℕ) → object_at (F.objects folder.old) name ≡ Some bytes
-        → object_at (F.objects folder.new) name ≡ Some bytes }
-    // Where the folder's own names were loaded, and the store has all that the folder has, all of the store is in the
-    // folder then, and nothing else.
-    ensures same { F.is_steady folder.old → map string_bytes loaded.now ≡ names_of (F.objects folder.old)
-        → HasObjectsOf (F.objects folder.old) (S.objects store.old) → OnOk result (F.objects folder.new ≡ S.objects store.old) }
+    // Of a steady folder: what stood stands, with a front of what was to be saved, or, where it is Ok, with all of it.
+    ensures done { F.is_steady folder.old → SavesInto loaded.now (F.is_reliable folder.old) (S.objects store.old)
+        (F.objects folder.old) (F.objects folder.new) result }
     // Just these calls are made of the folder, whoever else writes into it.
     ensures called { (calls : List FolderCall) × Traced F.makes folder.old calls folder.new
         × Saves (S.objects store.old) (new_names loaded.now (S.objects store.old)) result calls }
+    ensures over { SavesOver (new_names loaded.now (S.objects store.old)) (F.is_steady folder.old) (F.objects folder.old)
+        result (F.fault_count folder.old) (F.fault_count folder.new) (S.fault_count store.old) (S.fault_count store.new) }
     ensures store { IsUntouched (S.objects store.old, S.in_flight store.old) (S.objects store.new, S.in_flight store.new) }
-
-    ensures named { SaveFailsAmong (new_names loaded.now (S.objects store.old)) result }
-    ensures faults { CountsSave (F.is_steady folder.old) (F.objects folder.old) result
-        (F.fault_count folder.old) (F.fault_count folder.new) }
-    ensures lost { CountsLost result (S.fault_count store.old) (S.fault_count store.new) }
-    ensures never_fails { F.is_steady folder.old → F.is_reliable folder.old → FailsWhereStood (F.objects folder.old) result }
     ensures never_lost { S.is_reliable store.old → IsErrOf result SaveFault.Lost → ⊥ }
-
     ensures steady { F.is_steady folder.old → F.is_steady folder.new }
     ensures stays_reliable { F.is_reliable folder.old → F.is_reliable folder.new }
     ensures store_stays_reliable { S.is_reliable store.old → S.is_reliable store.new }
@@ -192,7 +177,7 @@ fn add_kind(
     kind: FileKind,
 ) -> Result<(), AllocError>
     ensures { OnOk result (map string_bytes ordered.new.items
-        ≡ map string_bytes ordered.old.items ++ filter (is_of kind) (map string_bytes names.now)) }
+        ≡ map string_bytes ordered.old.items ++ filter (is_file_of_kind kind) (map string_bytes names.now)) }
 {
     for name in names {
         if is_of(kind, name.as_str()) {

@@ -3,3 +3,4 @@ pub mod Jobs
 pub mod Over
 pub mod Sessions
 pub mod Views
+pub mod Wants

@@ -1,10 +1,12 @@
 //! The session of a job of whatever kind, and what it tells.
 
+ghost use Rattle.std.specs.Prelude.{◌≡◌};
+
 use commit_core::{CreateFault, CreateSession};
 use session_core::{Reply, Session, Step};
-use sink_core::{SinkEnd, SinkSession};
-use snapshot_core::{CheckpointEnd, CheckpointSession};
-use source_core::{ReadEnd, SourceSession};
+use sink_core::{SinkEnd, SinkFault, SinkSession};
+use snapshot_core::{CheckpointEnd, CheckpointSession, SnapshotFault};
+use source_core::{ReadEnd, SourceSession, TailFault};
 use table_log::{LoadSession, Loaded, LogFault};
 
 /// The session of a job.
@@ -29,6 +31,33 @@ pub enum JobEnd {
     Checkpointed(CheckpointEnd),
     Streamed(SinkEnd),
     Read(ReadEnd),
+}
+
+impl JobEnd {
+    ghost use Rattle.table_jobs.specs.Sessions.{end_view};
+    ghost use Rattle.table_jobs.specs.Wants.{outcome_wants};
+
+    /// Whether it tells that a growth was refused, or that an object would have passed 64 MiB.
+    pub fn is_short(&self) -> bool
+        ensures { result ≡ outcome_wants (end_view self.now) }
+    {
+        match self {
+            JobEnd::Created(answer) => {
+                matches!(answer, Err(CreateFault::Memory | CreateFault::TooLarge))
+            }
+            JobEnd::Loaded(answer) => matches!(answer, Err(LogFault::Memory)),
+            JobEnd::Checkpointed(end) => {
+                matches!(
+                    end.answer,
+                    Err(SnapshotFault::Memory | SnapshotFault::TooLarge)
+                )
+            }
+            JobEnd::Streamed(end) => {
+                matches!(end.answer, Err(SinkFault::Memory | SinkFault::FileTooLarge))
+            }
+            JobEnd::Read(end) => matches!(end.answer, Err(TailFault::Memory)),
+        }
+    }
 }
 
 // By hand, so that a drop is one call to prove and not all that it holds (docs/GATE.md).

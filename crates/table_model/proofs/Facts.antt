@@ -8,7 +8,7 @@ use Rattle.std.proofs.lemmas.Slice.Eq.{bytes_eq-Decides}
 use Rattle.std.proofs.lemmas.List.{append-nil}
 use Rattle.std.proofs.lemmas.List.Elements.{All-contains, All-contains_itself, All-filter, Contains-append_cases, Contains-append_left, Contains-push, filter_passes}
 use Rattle.row_core.specs.Rows.{Row, same_rows}
-use Rattle.table_model.specs.Table.{Batch, Entry, creation, group, close, closes_of, batches, batches_by, numbers_by, last, last_batch, is_closed}
+use Rattle.table_model.specs.Table.{Batch, Entry, creation, group, close, closes_of, batches, batches_by, numbers_by, last_item, last_batch, is_stream_closed}
 use Rattle.table_model.specs.Appends.{appended, appended_new, appended_behind, with_batch, closing, with_close, TellsAppend, TellsClose}
 use Rattle.table_model.specs.Lawful.{NoCreation, BeginsWithCreation, Rises, IsWellGrouped, IsLawful}
 use Rattle.table_model.specs.declared.table.AppendAnswer.{AppendAnswer}
@@ -77,14 +77,14 @@ any_is application (c ∷ closed) some =
     ]
 
 -- where a stream is closed, its close stands
-close_stands : (application : List ℕ) (entries : List Entry) → is_closed application entries ≡ true → Contains (flat_map closes_of entries) application
+close_stands : (application : List ℕ) (entries : List Entry) → is_stream_closed application entries ≡ true → Contains (flat_map closes_of entries) application
 close_stands application entries shut = any_is application (flat_map closes_of entries) shut
 
 -- ---- what an append tells
 
-new_tells : (b : Batch) (entries : List Entry) → IsAbove b.number (last (numbers_by b.application entries)) → TellsAppend (appended_new b entries) b (with_batch (appended_new b entries) b entries)
+new_tells : (b : Batch) (entries : List Entry) → IsAbove b.number (last_item (numbers_by b.application entries)) → TellsAppend (appended_new b entries) b (with_batch (appended_new b entries) b entries)
 new_tells b entries above =
-    elim (cases_Bool (is_closed b.application entries)) [
+    elim (cases_Bool (is_stream_closed b.application entries)) [
       | inl shut ↦ rw shut (close_stands b.application entries shut, λ lawful. all_below (numbers_by b.application entries) b.number (lawful.rises b.application) above)
       | inr fresh ↦ rw fresh (group (b ∷ []), at_the_end entries (group (b ∷ [])), (0, omega arith, refl))
     ]
@@ -120,7 +120,7 @@ append_tells b entries = behind_tells b entries (last_batch b.application entrie
 
 pub close_tells : (application : List ℕ) (entries : List Entry) → TellsClose (closing application entries) application (with_close application entries)
 close_tells application entries =
-    elim (cases_Bool (is_closed application entries)) [
+    elim (cases_Bool (is_stream_closed application entries)) [
       | inl shut ↦ rw shut (close_stands application entries shut)
       | inr fresh ↦ rw fresh (close application, at_the_end entries (close application), (0, omega arith, refl))
     ]
@@ -132,7 +132,7 @@ committed_is m n e = cc
 
 new_version : (b : Batch) (version : ℕ) (entries : List Entry) → appended_new b entries ≡ Committed version → version ≡ length entries
 new_version b version entries e =
-    elim (cases_Bool (is_closed b.application entries)) [
+    elim (cases_Bool (is_stream_closed b.application entries)) [
       | inl shut ↦ let no : StreamClosed ≡ Committed version = rw shut at e in absurd cc
       | inr fresh ↦ let is : Committed (length entries) ≡ Committed version = rw fresh at e in committed_is (length entries) version is
     ]
@@ -156,7 +156,7 @@ next_batch b version entries e = (behind_version b version entries (last_batch b
 
 pub next_close : (application : List ℕ) (version : ℕ) (entries : List Entry) → closing application entries ≡ Closed version → (version ≡ length entries) × (with_close application entries ≡ entries ++ close application ∷ [])
 next_close application version entries e =
-    elim (cases_Bool (is_closed application entries)) [
+    elim (cases_Bool (is_stream_closed application entries)) [
       | inl shut ↦ let no : AlreadyClosed ≡ Closed version = rw shut at e in absurd cc
       | inr fresh ↦
           let is : Closed (length entries) ≡ Closed version = rw fresh at e in

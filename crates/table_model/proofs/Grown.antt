@@ -8,7 +8,7 @@ use Rattle.std.proofs.lemmas.List.Concat.{flat_map-append}
 use Rattle.std.proofs.lemmas.List.Elements.{filter-append}
 use Rattle.row_core.specs.Rows.{Row}
 use Rattle.table_model.specs.Table.{Entry, files_of, entry_rows, rows}
-use Rattle.table_model.specs.Reads.{handed, placed_files, placed_from, placed, is_before, position, is_in_files, is_offset_from, is_offset, is_beyond, end, part, next_offset, read}
+use Rattle.table_model.specs.Reads.{handed, placed_files, placed_from, placed, is_before, position, is_in_files, is_offset_from, is_offset, is_beyond, end, rows_from_offset, next_offset, read}
 use Rattle.table_model.specs.Resumed.{beginning}
 use Rattle.table_model.specs.declared.reading.Offset.{Offset}
 use Rattle.table_model.proofs.Places.{Reaches, rises_from, rises_lower, none_before}
@@ -99,7 +99,7 @@ is_answered max offset entries more good =
     let table = entries ++ more in
     let there = place_stays offset entries more good in
     let close_by = near offset table (reaches_end offset table there) in
-    (map (λ p. p.1) (part max offset table), next_offset max offset table, rw (close_by, there) refl)
+    (map (λ p. p.1) (rows_from_offset max offset table), next_offset max offset table, rw (close_by, there) refl)
 
 -- ---- the offset before all rows
 

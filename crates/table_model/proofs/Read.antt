@@ -4,8 +4,8 @@ use Rattle.std.proofs.lemmas.Bool.{cases_Bool, eqb-true, eqb-false}
 use Rattle.std.proofs.lemmas.List.{take-append-drop, length-take, length-map, take-map, drop-map, take_all}
 use Rattle.std.proofs.lemmas.List.Filters.{length-filter_both}
 use Rattle.row_core.specs.Rows.{Row}
-use Rattle.table_model.specs.Table.{Entry, rows, last}
-use Rattle.table_model.specs.Reads.{handed, beyond, bad_place, placed, is_before, position, is_offset, is_beyond, end, offset_behind, part, next_offset, read}
+use Rattle.table_model.specs.Table.{Entry, rows, last_item}
+use Rattle.table_model.specs.Reads.{handed, beyond, bad_place, placed, is_before, position, is_offset, is_beyond, end, offset_behind, rows_from_offset, next_offset, read}
 use Rattle.table_model.specs.declared.reading.Offset.{Offset}
 use Rattle.table_model.proofs.Batches.{last_none, last_some}
 use Rattle.table_model.proofs.Places.{past, position_past, position_end, rows-placed, past_is_offset, end_is_offset}
@@ -19,7 +19,7 @@ position-within offset entries =
 
 pub record IsHanded (max : ℕ) (offset next : Offset) (entries : List Entry) (out : List Row) : Type 0 where
   pub stands : is_offset offset entries ≡ true
-  rows : out ≡ map (λ p. p.1) (part max offset entries)
+  rows : out ≡ map (λ p. p.1) (rows_from_offset max offset entries)
   onward : next ≡ next_offset max offset entries
 
 handed_parts : (xs ys : List Row) (p q : Offset) → handed xs p ≡ handed ys q → (xs ≡ ys) × (p ≡ q)
@@ -35,8 +35,8 @@ is_handed max offset next entries out e =
       | inr near ↦ elim (cases_Bool (is_offset offset entries)) [
         | inr bad ↦ let no : bad_place offset.version ≡ handed out next = rw (near, bad) at e in absurd cc
         | inl good ↦
-            let rest : handed (map (λ p. p.1) (part max offset entries)) (next_offset max offset entries) ≡ handed out next = rw (near, good) at e in
-            let parts = handed_parts (map (λ p. p.1) (part max offset entries)) out (next_offset max offset entries) next rest in
+            let rest : handed (map (λ p. p.1) (rows_from_offset max offset entries)) (next_offset max offset entries) ≡ handed out next = rw (near, good) at e in
+            let parts = handed_parts (map (λ p. p.1) (rows_from_offset max offset entries)) out (next_offset max offset entries) next rest in
             record { stands = good; rows = sym parts.0; onward = sym parts.1 }
       ]
     ]
@@ -47,19 +47,19 @@ record Between (max : ℕ) (offset next : Offset) (entries : List Entry) : Type 
   onward : position offset entries ≤ position next entries
   there : is_offset next entries ≡ true
   same : take max (drop (position offset entries) (rows entries)) ≡ take (position next entries - position offset entries) (drop (position offset entries) (rows entries))
-  full : (length (part max offset entries) ≡ max) ⊎ (position next entries ≡ length (rows entries))
+  full : (length (rows_from_offset max offset entries) ≡ max) ⊎ (position next entries ≡ length (rows entries))
 
 pub length-rows : (entries : List Entry) → length (rows entries) ≡ length (placed entries)
 length-rows entries = ap (λ (rs : List Row). length rs) (sym (rows-placed entries)) ∙ length-map (placed entries) (λ (p : Offset × Row). p.1)
 
-part-rows : (max : ℕ) (offset : Offset) (entries : List Entry) → map (λ p. p.1) (part max offset entries) ≡ take max (drop (position offset entries) (rows entries))
+part-rows : (max : ℕ) (offset : Offset) (entries : List Entry) → map (λ p. p.1) (rows_from_offset max offset entries) ≡ take max (drop (position offset entries) (rows entries))
 part-rows max offset entries =
     let from = position offset entries in
     let second : Offset × Row → Row = λ p. p.1 in
     sym (take-map second max (drop from (placed entries))) ∙ ap (λ (rs : List Row). take max rs) (sym (drop-map second from (placed entries)) ∙ ap (λ (rs : List Row). drop from rs) (rows-placed entries))
 
 -- the table's rows, cut at the last one of a part
-cut_at_last : (max : ℕ) (offset : Offset) (entries : List Entry) (front : List (Offset × Row)) (p : Offset × Row) → part max offset entries ≡ front ++ p ∷ []
+cut_at_last : (max : ℕ) (offset : Offset) (entries : List Entry) (front : List (Offset × Row)) (p : Offset × Row) → rows_from_offset max offset entries ≡ front ++ p ∷ []
     → placed entries ≡ (take (position offset entries) (placed entries) ++ front) ++ p ∷ drop max (drop (position offset entries) (placed entries))
 cut_at_last max offset entries front p is =
     let from = position offset entries in
@@ -72,20 +72,20 @@ cut_at_last max offset entries front p is =
 same_behind : (max to : ℕ) (offset : Offset) (entries : List Entry) → to - position offset entries ≡ max → take max (drop (position offset entries) (rows entries)) ≡ take (to - position offset entries) (drop (position offset entries) (rows entries))
 same_behind max to offset entries e = ap (λ (n : ℕ). take n (drop (position offset entries) (rows entries))) (sym e)
 
-full_part : (max : ℕ) (offset : Offset) (entries : List Entry) (o : Option (Offset × Row)) → is_offset offset entries ≡ true → length (part max offset entries) ≡ max → last (part max offset entries) ≡ o → Between max offset (offset_behind offset o) entries
+full_part : (max : ℕ) (offset : Offset) (entries : List Entry) (o : Option (Offset × Row)) → is_offset offset entries ≡ true → length (rows_from_offset max offset entries) ≡ max → last_item (rows_from_offset max offset entries) ≡ o → Between max offset (offset_behind offset o) entries
 full_part max offset entries None good full e =
-    let none : part max offset entries ≡ [] = last_none (part max offset entries) e in
-    let no : length (part max offset entries) ≡ 0 = ap (λ (ps : List (Offset × Row)). length ps) none in
+    let none : rows_from_offset max offset entries ≡ [] = last_none (rows_from_offset max offset entries) e in
+    let no : length (rows_from_offset max offset entries) ≡ 0 = ap (λ (ps : List (Offset × Row)). length ps) none in
     let zero_more : position offset entries - position offset entries ≡ max = omega arith in
     record { onward = omega arith; there = good; same = same_behind max (position offset entries) offset entries zero_more; full = inl full }
 full_part max offset entries (Some p) good full e =
-    let cut = last_some (part max offset entries) p e in
+    let cut = last_some (rows_from_offset max offset entries) p e in
     let front = cut.0 in
     let from = position offset entries in
     let before = take from (placed entries) in
     let is = cut_at_last max offset entries front p cut.1 in
     let at = position_past entries (before ++ front) p (drop max (drop from (placed entries))) is in
-    let count : length (part max offset entries) ≡ length front + 1 = ap (λ (ps : List (Offset × Row)). length ps) cut.1 ∙ length-append front (p ∷ []) in
+    let count : length (rows_from_offset max offset entries) ≡ length front + 1 = ap (λ (ps : List (Offset × Row)). length ps) cut.1 ∙ length-append front (p ∷ []) in
     let reach : position (past p.0) entries ≡ from + max = omega (arith, at, count, length-append before front, length-take from (placed entries), position-within offset entries) in
     let more : position (past p.0) entries - from ≡ max = omega arith in
     record {
@@ -95,14 +95,14 @@ full_part max offset entries (Some p) good full e =
       full = inl full;
     }
 
-short_part : (max : ℕ) (offset : Offset) (entries : List Entry) → (length (part max offset entries) ≡ max → ⊥) → Between max offset (end entries) entries
+short_part : (max : ℕ) (offset : Offset) (entries : List Entry) → (length (rows_from_offset max offset entries) ≡ max → ⊥) → Between max offset (end entries) entries
 short_part max offset entries short =
     let from = position offset entries in
     let left = drop from (rows entries) in
     let to : position (end entries) entries ≡ length (rows entries) = position_end entries ∙ sym (length-rows entries) in
     let within : from ≤ length (placed entries) = position-within offset entries in
     let long : length left ≡ length (rows entries) - from = length-drop from (rows entries) in
-    let many : length (part max offset entries) ≡ min max (length (placed entries) - from) = length-take max (drop from (placed entries)) ∙ ap (λ (n : ℕ). min max n) (length-drop from (placed entries)) in
+    let many : length (rows_from_offset max offset entries) ≡ min max (length (placed entries) - from) = length-take max (drop from (placed entries)) ∙ ap (λ (n : ℕ). min max n) (length-drop from (placed entries)) in
     let all : length (rows entries) ≡ length (placed entries) = length-rows entries in
     let enough : length left ≤ max = omega arith in
     let exact : length left ≤ position (end entries) entries - from = omega arith in
@@ -115,9 +115,9 @@ short_part max offset entries short =
 
 ends : (max : ℕ) (offset : Offset) (entries : List Entry) → is_offset offset entries ≡ true → Between max offset (next_offset max offset entries) entries
 ends max offset entries good =
-    elim (cases_Bool (eqb (length (part max offset entries)) max)) [
-      | inl yes_ ↦ rw yes_ (full_part max offset entries (last (part max offset entries)) good (eqb-true (length (part max offset entries)) max yes_) refl)
-      | inr no_ ↦ rw no_ (short_part max offset entries (eqb-false (length (part max offset entries)) max no_))
+    elim (cases_Bool (eqb (length (rows_from_offset max offset entries)) max)) [
+      | inl yes_ ↦ rw yes_ (full_part max offset entries (last_item (rows_from_offset max offset entries)) good (eqb-true (length (rows_from_offset max offset entries)) max yes_) refl)
+      | inr no_ ↦ rw no_ (short_part max offset entries (eqb-false (length (rows_from_offset max offset entries)) max no_))
     ]
 
 between : (max : ℕ) (offset next : Offset) (entries : List Entry) (out : List Row) → read max offset entries ≡ handed out next → Between max offset next entries
@@ -138,7 +138,7 @@ next_is_offset max offset next entries out e = let b = between max offset next e
 pub as_many : (max : ℕ) (offset next : Offset) (entries : List Entry) (out : List Row) → read max offset entries ≡ handed out next
     → (length out ≡ max) ⊎ (position next entries ≡ length (rows entries))
 as_many max offset next entries out e =
-    let count : length out ≡ length (part max offset entries) = ap (λ (rs : List Row). length rs) (is_handed max offset next entries out e).rows ∙ length-map (part max offset entries) (λ (p : Offset × Row). p.1) in
+    let count : length out ≡ length (rows_from_offset max offset entries) = ap (λ (rs : List Row). length rs) (is_handed max offset next entries out e).rows ∙ length-map (rows_from_offset max offset entries) (λ (p : Offset × Row). p.1) in
     elim (between max offset next entries out e).full [
       | inl full ↦ inl (count ∙ full)
       | inr done ↦ inr done
@@ -148,13 +148,13 @@ pub at_end : (max : ℕ) (offset next : Offset) (entries : List Entry) (out : Li
     → (length out ≡ max) ⊎ (next ≡ end entries)
 at_end max offset next entries out e =
     let h = is_handed max offset next entries out e in
-    let count : length out ≡ length (part max offset entries) = ap (λ (rs : List Row). length rs) h.rows ∙ length-map (part max offset entries) (λ (p : Offset × Row). p.1) in
-    elim (cases_Bool (eqb (length (part max offset entries)) max)) [
-      | inl yes_ ↦ inl (count ∙ eqb-true (length (part max offset entries)) max yes_)
+    let count : length out ≡ length (rows_from_offset max offset entries) = ap (λ (rs : List Row). length rs) h.rows ∙ length-map (rows_from_offset max offset entries) (λ (p : Offset × Row). p.1) in
+    elim (cases_Bool (eqb (length (rows_from_offset max offset entries)) max)) [
+      | inl yes_ ↦ inl (count ∙ eqb-true (length (rows_from_offset max offset entries)) max yes_)
       | inr no_ ↦ inr (h.onward ∙ rw no_ refl)
     ]
 
 pub at_most : (max : ℕ) (offset next : Offset) (entries : List Entry) (out : List Row) → read max offset entries ≡ handed out next → length out ≤ max
 at_most max offset next entries out e =
-    let count : length out ≡ length (part max offset entries) = ap (λ (rs : List Row). length rs) (is_handed max offset next entries out e).rows ∙ length-map (part max offset entries) (λ (p : Offset × Row). p.1) in
+    let count : length out ≡ length (rows_from_offset max offset entries) = ap (λ (rs : List Row). length rs) (is_handed max offset next entries out e).rows ∙ length-map (rows_from_offset max offset entries) (λ (p : Offset × Row). p.1) in
     omega (arith, count, length-take max (drop (position offset entries) (placed entries)))

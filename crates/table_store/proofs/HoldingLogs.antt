@@ -8,7 +8,7 @@ use Rattle.store_core.specs.Objects.{Objects}
 use Rattle.delta_actions.specs.Action as actions
 use Rattle.delta_actions.specs.Action.{commit_info, protocol, meta_data, add, txn, remove, domain_metadata, checkpoint_metadata, sidecar, other, AddAction, TxnAction}
 use Rattle.delta_actions.specs.In.{add_in, txn_in}
-use Rattle.delta_actions.specs.Kinds.{Path}
+use Rattle.delta_actions.specs.Kinds.{PathAndKey}
 use Rattle.delta_actions.specs.Commit.{IsCommit}
 use Rattle.row_core.specs.Rows.{Row}
 use Rattle.store_core.specs.Names.{commit_name}
@@ -70,7 +70,7 @@ AreBatchesOf-entry objects schema entry behind beside ns stand files told =
 -- ---- what actions tell of an entry's rows
 
 -- the paths of files
-abbrev pub paths_of : List AddAction → List Path
+abbrev pub paths_of : List AddAction → List PathAndKey
 paths_of files = map (λ file. file.path) files
 
 -- the files of numbers have new rows
@@ -81,11 +81,11 @@ AreFilesOf-new (n ∷ ns) [] are = absurd are
 AreFilesOf-new (n ∷ ns) (file ∷ files) are = (are.1, AreFilesOf-new ns files are.2)
 
 -- one action in front, which may bring a file with new rows
-new_file-front : (file : Option AddAction) (files : List AddAction) (paths : List Path) → AllByRecursion (λ a. a.data_change ≡ true) (cons_option file files)
+new_file-front : (file : Option AddAction) (files : List AddAction) (paths : List PathAndKey) → AllByRecursion (λ a. a.data_change ≡ true) (cons_option file files)
     → (AllByRecursion (λ a. a.data_change ≡ true) files → paths ≡ paths_of files)
     → cons_option (option_and_then (λ a. if a.data_change then Some a.path else None) file) paths ≡ paths_of (cons_option file files)
 new_file-front None files paths all behind = behind all
-new_file-front (Some a) files paths all behind = rw all.0 (ap (λ (ps : List Path). a.path ∷ ps) (behind all.1))
+new_file-front (Some a) files paths all behind = rw all.0 (ap (λ (ps : List PathAndKey). a.path ∷ ps) (behind all.1))
 
 -- where each file that joins has new rows, the new files are these
 pub new_files-added : (made : List actions.Action) → AllByRecursion (λ a. a.data_change ≡ true) (added made) → new_files made ≡ paths_of (added made)
@@ -93,7 +93,7 @@ new_files-added [] all = refl
 new_files-added (action ∷ made) all = new_file-front (add_in action) (added made) (new_files made) all (new_files-added made)
 
 -- Files of batches in order, which stand, have the rows of these batches in front.
-AreRowsOf-named : (objects : Objects) (schema : Schema) (bs : List Batch) (files : List AddAction) (paths : List Path) (behind : List Row) → AreFilesOf (map named bs) files
+AreRowsOf-named : (objects : Objects) (schema : Schema) (bs : List Batch) (files : List AddAction) (paths : List PathAndKey) (behind : List Row) → AreFilesOf (map named bs) files
     → AllByRecursion (FileStands objects schema) bs → AreRowsOf objects schema paths behind → AreRowsOf objects schema (paths_of files ++ paths) (entry_rows (group bs) ++ behind)
 AreRowsOf-named objects schema [] [] paths behind are stand told = told
 AreRowsOf-named objects schema [] (file ∷ files) paths behind are stand told = absurd are
@@ -103,13 +103,13 @@ AreRowsOf-named objects schema (b ∷ bs) (file ∷ files) paths behind are stan
     (b.rows, entry_rows (group bs) ++ behind, first, AreRowsOf-named objects schema bs files paths behind are.2 stand.1 told, append_assoc b.rows (entry_rows (group bs)) behind)
 
 -- The actions of an entry in front tell of its rows in front.
-AreRowsOf-entry : (objects : Objects) (schema : Schema) (entry : Entry) (behind : List Row) (beside : List actions.Action) (paths : List Path) → StandFor schema entry beside
+AreRowsOf-entry : (objects : Objects) (schema : Schema) (entry : Entry) (behind : List Row) (beside : List actions.Action) (paths : List PathAndKey) → StandFor schema entry beside
     → FilesStand objects schema entry → AreRowsOf objects schema paths behind → AreRowsOf objects schema (new_files beside ++ paths) (entry_rows entry ++ behind)
 AreRowsOf-entry objects schema creation behind beside paths stand files told = rw stand.actions told
 AreRowsOf-entry objects schema (group bs) behind beside paths stand files told =
     let new : new_files beside ≡ paths_of (added beside) = new_files-added beside (AreFilesOf-new (numbers beside) (added beside) stand.files) in
     let are : AreFilesOf (map named bs) (added beside) = subst (λ (ns : List (List ℕ × ℕ)). AreFilesOf ns (added beside)) stand.numbered stand.files in
-    subst (λ (ps : List Path). AreRowsOf objects schema (ps ++ paths) (entry_rows (group bs) ++ behind)) (sym new) (AreRowsOf-named objects schema bs (added beside) paths behind are files told)
+    subst (λ (ps : List PathAndKey). AreRowsOf objects schema (ps ++ paths) (entry_rows (group bs) ++ behind)) (sym new) (AreRowsOf-named objects schema bs (added beside) paths behind are files told)
 AreRowsOf-entry objects schema (close application) behind beside paths stand files told = rw stand.actions told
 
 -- ---- the log of the table
@@ -126,7 +126,7 @@ HoldsFrom-log objects schema version (entry ∷ entries) holds =
       made ∷ later.0,
       ((holds.0.0, holds.0.1, holds.0.2.commit), later.1),
       subst (λ (ns : List (List ℕ × ℕ)). AreBatchesOf objects schema (ns ++ flat_map numbers later.0) (batches (entry ∷ entries))) (numbers-without_commit_info made) told,
-      subst (λ (paths : List Path). AreRowsOf objects schema (paths ++ flat_map new_files later.0) (rows (entry ∷ entries))) (new_files-without_commit_info made) files,
+      subst (λ (paths : List PathAndKey). AreRowsOf objects schema (paths ++ flat_map new_files later.0) (rows (entry ∷ entries))) (new_files-without_commit_info made) files,
     )
 
 -- ---- one log, one list of batches, one list of rows
@@ -160,7 +160,7 @@ AreBatchesOf-one objects schema (n ∷ ns) (b ∷ bs) (c ∷ cs) p q =
     ap₂ (λ (x : Batch) (xs : List Batch). x ∷ xs) first (AreBatchesOf-one objects schema ns bs cs p.3 q.3)
 
 -- files hold one list of rows
-AreRowsOf-one : (objects : Objects) (schema : Schema) (paths : List Path) (rs others : List Row) → AreRowsOf objects schema paths rs → AreRowsOf objects schema paths others → rs ≡ others
+AreRowsOf-one : (objects : Objects) (schema : Schema) (paths : List PathAndKey) (rs others : List Row) → AreRowsOf objects schema paths rs → AreRowsOf objects schema paths others → rs ≡ others
 AreRowsOf-one objects schema [] rs others p q = p ∙ sym q
 AreRowsOf-one objects schema (path ∷ paths) rs others p q =
     let front : p.0 ≡ q.0 = rows_of_name objects schema path.key p.0 q.0 p.2 q.2 in

@@ -9,7 +9,7 @@ use Rattle.table_store.specs.Commits.{without_commit_info, IsClose, StandFor}
 use Rattle.table_store.specs.Groups.{numbers}
 use Rattle.table_store.specs.Holds.{FileStands, FilesStand, HoldsFrom, IsLawfulStore}
 use Rattle.table_store.specs.Logs.{LogFrom, AreBatchesOf}
-use Rattle.table_store.specs.LawfulLogs.{IsGroup, IsLater, BeginsLog, IsLawfulLog, HasLawfulLog}
+use Rattle.table_store.specs.LawfulLogs.{IsGroupCommit, IsLater, BeginsLog, IsLawfulLog, HasLawfulLog}
 use Rattle.table_model.specs.Lawful.{NoCreation, BeginsWithCreation, AreDifferent, IsWellGrouped, Rises}
 use Rattle.table_model.specs.Table.{Batch, Entry, creation, group, close, closes_of, numbers_by}
 use Rattle.table_store.proofs.HoldingLogs.{numbers-without_commit_info}
@@ -56,7 +56,7 @@ module _ (objects : Objects) (schema : Schema) where
     grouped : IsWellGrouped entry
     later : (entries : List Entry) → NoCreation entries → NoCreation (entry ∷ entries)
 
-  group_for : (made : List actions.Action) (bs : List Batch) → IsGroup (without_commit_info made) → AreBatchesOf objects schema (numbers made) bs → LaterEntry made
+  group_for : (made : List actions.Action) (bs : List Batch) → IsGroupCommit (without_commit_info made) → AreBatchesOf objects schema (numbers made) bs → LaterEntry made
   group_for made bs is told =
       let named_so : numbers (without_commit_info made) ≡ map named bs = numbers-without_commit_info made ∙ numbers_told (numbers made) bs told in
       let some : bs ≢ [] = λ none. is.some (named_so ∙ ap (map named) none) in

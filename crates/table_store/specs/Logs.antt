@@ -4,7 +4,7 @@ use Rattle.std.specs.Prelude.{◌≡◌, ℕ, suc, List, [], ◌∷◌, ◌++◌
 use Rattle.std.specs.List.{flat_map}
 use Rattle.store_core.specs.Objects.{Objects}
 use Rattle.delta_actions.specs.Action as actions
-use Rattle.delta_actions.specs.Kinds.{Path}
+use Rattle.delta_actions.specs.Kinds.{PathAndKey}
 use Rattle.delta_actions.specs.Commit.{IsCommit}
 use Rattle.store_core.specs.Names.{commit_name}
 use Rattle.delta_actions.specs.Names.{data_file_name}
@@ -37,7 +37,7 @@ abbrev pub AreBatches : Objects → Schema → List (List actions.Action) → Li
 AreBatches objects schema log bs = AreBatchesOf objects schema (flat_map numbers log) bs
 
 -- the rows of these files, one file behind the other
-abbrev pub AreRowsOf : Objects → Schema → List Path → List Row → Type 0
+abbrev pub AreRowsOf : Objects → Schema → List PathAndKey → List Row → Type 0
 AreRowsOf objects schema [] rows = rows ≡ []
 AreRowsOf objects schema (path ∷ paths) rows =
     (first others : List Row) × Stands objects path.key (λ bytes. IsFileOf schema bytes first) × AreRowsOf objects schema paths others × (rows ≡ first ++ others)

@@ -1,5 +1,5 @@
 -- From what lines came to in a world, one after the other, to what a script with actors comes to.
-use Rattle.std.proofs.Common.{◌≡◌, ℕ, Bool, List, [], ◌∷◌, ◌++◌, Option, Result, OnOk, OnErr, refl, sym, append-nil}
+use Rattle.std.proofs.Common.{◌≡◌, ℕ, Bool, List, [], ◌∷◌, ◌++◌, Option, Result, OnOk, OnErr, sym, append-nil}
 use Rattle.delta_actions.specs.Commit.{lines_of}
 use Rattle.lake_script.specs.Answered as answered
 use Rattle.lake_script.specs.Answered.{Answered, AnsweredInPart, AnsweredText, LeadsTo}

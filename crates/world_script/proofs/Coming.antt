@@ -25,7 +25,7 @@ told_none None tells = refl
 told_none (Some told) tells = absurd tells
 
 -- an actor died
-pub died : {S : Type 0} (stored : S → Objects) (n : ℕ) (w : World) (new : code_world.World S) → HasHappened stored w (die n) None new → CameBy stored (deed_does deeds.Die n w) None new
+pub died : {S : Type 0} {b : Bool} (stored : S → Objects) (n : ℕ) (w : World) (new : code_world.World S) → HasHappened stored b w (die n) None new → CameBy stored (deed_does deeds.Die n w) None new
 died stored n w new was = record {
   events = die n ∷ [];
   told = None;

@@ -23,7 +23,7 @@ use Rattle.world_script.specs.Acting.{IsLedOn, Leads, LeadsThrough, ActorMeets, 
 use Rattle.world_script.specs.Lines as does
 use Rattle.world_script.specs.Lines.{IsDoneToActor, Lands, LineDoes, RunsAlone, Starts, TellsOfObjects, deed_does}
 use Rattle.world_script.specs.Playing as plays
-use Rattle.world_script.specs.Playing.{HasPlayed, HasPlayedText, IsSoOfTable, Plays, PlaysInPart, PlaysShort, PlaysSo, PlaysText, StaysSo}
+use Rattle.world_script.specs.Playing.{HasPlayed, HasPlayedText, IsSoOfTable, Plays, PlaysInPart, PlaysShort, PlaysSo, StaysSo}
 use Rattle.world_script.specs.Scenes.{Scene, first_scene, part_for}
 use Rattle.lake_script.specs.Runs.{TellsWhole}
 use Rattle.lake_script.specs.declared.engine.End.{End}
@@ -91,14 +91,14 @@ named_ran s name deed _ _ _ _ (does.refuses part later there was now) = same_ran
 named_ran s name deed _ _ _ _ (does.does_it part seen told w reply there was alive done replied) = deed_ran deed part.number s.world seen told w done
 
 starts_ran : (s : Scene) (name : List ℕ) (job : Option Job) (seen : List Event) (reply : List ℕ) (later : Scene) → Starts s name job seen reply later → Ran s.world seen [] later.world
-starts_ran s name job _ _ _ (does.starts one w later is happens now) = subst (λ (v : World). Ran s.world (begin (part_for (s.part name) s.next).number one ∷ []) [] v) (sym now.world_now) (one_ran s.world _ None w happens)
+starts_ran s name job _ _ _ (does.starts one w later is can happens now) = subst (λ (v : World). Ran s.world (begin (part_for (s.part name) s.next).number one ∷ []) [] v) (sym now.world_now) (one_ran s.world _ None w happens)
 starts_ran s name job _ _ _ (does.refuses_it w later is happens now) = subst (λ (v : World). Ran s.world (die (part_for (s.part name) s.next).number ∷ []) [] v) (sym now.world_now) (one_ran s.world _ None w happens)
 starts_ran s name job _ _ _ does.has_no_room = events.at_first
 starts_ran s name job _ _ _ (does.has_no_room_for_it later now) = same_ran s.world later.world now.world_now
 
 alone_ran : (s : Scene) (statement : Statement) (job : Option Job) (seen : List Event) (outs : List (Job × Outcome)) (reply : List ℕ) (later : Scene) → RunsAlone s statement job seen outs reply later → Ran s.world seen outs later.world
-alone_ran s statement job _ _ _ _ (does.runs one mid seen told left w reply is begins leads replied) =
-    ran_on s.world (begin 0 one ∷ []) [] mid (one_ran s.world (begin 0 one) None mid begins) seen (told ∷ []) w (through_ran 0 s.fault mid seen told left w leads)
+alone_ran s statement job _ _ _ _ (does.runs one mid seen told left w reply is can began leads replied) =
+    ran_on s.world (begin 0 one ∷ []) [] mid (one_ran s.world (begin 0 one) None mid began) seen (told ∷ []) w (through_ran 0 s.fault mid seen told left w leads)
 alone_ran s statement job _ _ _ _ (does.is_refused none) = events.at_first
 alone_ran s statement job _ _ _ _ (does.finds_no_room reply wants) = events.at_first
 
@@ -177,29 +177,26 @@ text_so uses text _ _ _ _ _ sound headline here (plays.to_bad those line rest wr
     played_so uses those written seen outs short objects sound headline (front_here those (line ∷ rest) (subst ArePutHere are here)) played
 
 -- what a text was told that was played over nothing is so
-pub script_so : (uses : Bool) (text written : List ℕ) (first objects : Objects) → IsSoundLaw → IsHeadlineLaw → ArePutHere (lines_of text) → first ≡ [] → PlaysText (first_scene first uses) text written objects → PlaysSo (first_scene [] uses) text written objects
-script_so uses text written first objects sound headline here nothing played =
-    let over_nothing : PlaysText (first_scene [] uses) text written objects = subst (λ (o : Objects). PlaysText (first_scene o uses) text written objects) nothing played in
-    let played = over_nothing.1 in
-    (played.0, played.1, over_nothing.0, played.2, text_so uses text written played.0 played.1 over_nothing.0 objects sound headline here played.2)
+pub script_so : (uses : Bool) (text written : List ℕ) (short : Bool) (first objects : Objects) → IsSoundLaw → IsHeadlineLaw → ArePutHere (lines_of text) → first ≡ [] → PlaysShort (first_scene first uses) text written short objects → PlaysSo (first_scene [] uses) text written objects
+script_so uses text written short first objects sound headline here nothing played =
+    let over_nothing : PlaysShort (first_scene [] uses) text written short objects = subst (λ (o : Objects). PlaysShort (first_scene o uses) text written short objects) nothing played in
+    (over_nothing.0, over_nothing.1, short, over_nothing.2, text_so uses text written over_nothing.0 over_nothing.1 short objects sound headline here over_nothing.2)
 
 pub part_so : (uses : Bool) (text : List ℕ) (first objects : Objects) → IsSoundLaw → IsHeadlineLaw → ArePutHere (lines_of text) → first ≡ [] → PlaysInPart (first_scene first uses) text objects → StaysSo (first_scene [] uses) text objects
 part_so uses text first objects sound headline here nothing played =
     let part : PlaysInPart (first_scene [] uses) text objects = subst (λ (o : Objects). PlaysInPart (first_scene o uses) text objects) nothing played in
     record { part = part; so = played_so uses part.lines part.written part.events part.outs part.short objects sound headline (front_here part.lines part.rest (subst ArePutHere part.are here)) part.played }
 
--- whether it was short or not
-pub finishes_text : (end : End) (old new : Option (List ℕ)) (first : Scene) (text : List ℕ) (short : Bool) (objects : Objects)
-    → Finishes end (λ _. TellsWhole old new (λ written. PlaysShort first text written short objects)) → Finishes end (λ _. TellsWhole old new (λ written. PlaysText first text written objects))
-finishes_text Done old new first text short objects told = (told.0, told.1, (short, told.2))
-finishes_text (BadLine number) old new first text short objects told = (told.0, told.1, (short, told.2))
-finishes_text NotRead old new first text short objects told = tt
-finishes_text NotWritten old new first text short objects told = tt
+-- what was written is so where it is so by what is known of it
+pub finishes_as : (end : End) (old new : Option (List ℕ)) (Known So : List ℕ → Type 0) → ((written : List ℕ) → Known written → So written) → Finishes end (λ _. TellsWhole old new Known) → Finishes end (λ _. TellsWhole old new So)
+finishes_as Done old new Known So by told = (told.0, told.1, by told.0 told.2)
+finishes_as (BadLine number) old new Known So by told = (told.0, told.1, by told.0 told.2)
+finishes_as NotRead old new Known So by told = tt
+finishes_as NotWritten old new Known So by told = tt
 
--- the same of what was written
-pub finishes_so : (end : End) (old new : Option (List ℕ)) (uses : Bool) (text : List ℕ) (first objects : Objects) → IsSoundLaw → IsHeadlineLaw → ArePutHere (lines_of text) → first ≡ []
-    → Finishes end (λ _. TellsWhole old new (λ written. PlaysText (first_scene first uses) text written objects)) → Finishes end (λ _. TellsWhole old new (λ written. PlaysSo (first_scene [] uses) text written objects))
-finishes_so Done old new uses text first objects sound headline here nothing told = (told.0, told.1, script_so uses text told.0 first objects sound headline here nothing told.2)
-finishes_so (BadLine number) old new uses text first objects sound headline here nothing told = (told.0, told.1, script_so uses text told.0 first objects sound headline here nothing told.2)
-finishes_so NotRead old new uses text first objects sound headline here nothing told = tt
-finishes_so NotWritten old new uses text first objects sound headline here nothing told = tt
+-- what was told is so
+pub finishes_so : (end : End) (old new : Option (List ℕ)) (uses : Bool) (text : List ℕ) (short : Bool) (first objects : Objects) → IsSoundLaw → IsHeadlineLaw → ArePutHere (lines_of text) → first ≡ []
+    → Finishes end (λ _. TellsWhole old new (λ written. PlaysShort (first_scene first uses) text written short objects)) → Finishes end (λ _. TellsWhole old new (λ written. PlaysSo (first_scene [] uses) text written objects))
+finishes_so end old new uses text short first objects sound headline here nothing told =
+    finishes_as end old new (λ written. PlaysShort (first_scene first uses) text written short objects) (λ written. PlaysSo (first_scene [] uses) text written objects)
+    (λ written played. script_so uses text written short first objects sound headline here nothing played) told

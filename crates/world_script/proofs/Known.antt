@@ -33,3 +33,8 @@ finishes_if NotWritten A B has = tt
 pub if_kept : {X : Type 0} (kept : Option X) (P Q : X → Type 0) → ((x : X) → P x → Q x) → IfSome kept P → IfSome kept Q
 if_kept None P Q rule has = tt
 if_kept (Some x) P Q rule has = rule x has
+
+-- and what is so of any text is so of one that is known
+pub of_any : (known : Option (List ℕ)) (P : List ℕ → Type 0) → ((text : List ℕ) → P text) → IfSome known P
+of_any None P rule = tt
+of_any (Some text) P rule = rule text

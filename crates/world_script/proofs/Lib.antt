@@ -6,3 +6,7 @@ mod Slotting
 mod Known
 mod Answering
 mod Coming
+mod Keeping
+mod AsBegun
+mod LinesTold
+mod TextTold

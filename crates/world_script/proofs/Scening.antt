@@ -28,7 +28,7 @@ use Rattle.script_lines.specs.declared.kind.Kind.{Kind}
 use Rattle.lake_script.specs.LineJobs.{job_of_task}
 use Rattle.world_script.specs.Acting.{CameBy, LeadsThrough, hand_at, next_at}
 use Rattle.world_script.specs.Doing.{CameThrough, LineComesTo, ComesToAlone, ComesToNamed, ComesToStart, IsReplyAs, IsShortAs, RanJob, TellsIn}
-use Rattle.world_script.specs.FallingShort.{IsLookShort, IsToldShort, tells_want}
+use Rattle.world_script.specs.FallingShort.{IsToldShort, tells_want}
 use Rattle.lake_script.specs.Endings.{IsReplyOf, IsShortBy}
 use Rattle.world_script.specs.Lines as does
 use Rattle.world_script.specs.Lines.{IsReplyIn, deed_does, if_refused, no_actor, no_offset, no_room, ok}
@@ -203,17 +203,17 @@ module _ {S : Type 0} (stored : S → Objects) (old : code.Scene S) (s : Scene) 
     died_one met told later is none happens =
         subst (λ (p : Part). Happens s.world (die p.number) None later) part_is (subst (λ (o : Option (Job × Outcome)). Happens s.world (die part.number) o later) none (subst (λ (e : Event). Happens s.world e told later) is happens))
 
-    pub started_begun : (job : Task) (one : Job) → job_of_task s.use_checkpoints s.tries job ≡ Some one → refused ≡ false → HasHappened stored s.world (begin part.number one) None new.world → ComesToStart stored s name job ok false new
-    started_begun job one is fine was = record {
+    pub started_begun : {b : Bool} (job : Task) (one : Job) → job_of_task s.use_checkpoints s.tries job ≡ Some one → CanBegin one → refused ≡ false → HasHappened stored b s.world (begin part.number one) None new.world → ComesToStart stored s name job ok false new
+    started_begun job one is can fine was = record {
       events = begin (part_for (s.part name) s.next).number one ∷ [];
       later = scene_then was.later;
-      does = does.starts one was.later (scene_then was.later) is (begun_one one was.met was.told was.later was.is (none_told was.told was.tells) was.happens)
+      does = does.starts one was.later (scene_then was.later) is can (begun_one one was.met was.told was.later was.is (none_told was.told was.tells) was.happens)
           (subst (λ (r : Bool). HasPart s (scene_then was.later) name (record (part_for (s.part name) s.next) { is_refused = r }) (next_behind_part (s.part name) s.next) was.later) fine (has_part was.later));
       falls = refl;
       stands = stands_then was.later was.stands;
     }
 
-    pub started_refused : (job : Task) → job_of_task s.use_checkpoints s.tries job ≡ None → refused ≡ true → HasHappened stored s.world (die part.number) None new.world → ComesToStart stored s name job ok false new
+    pub started_refused : {b : Bool} (job : Task) → job_of_task s.use_checkpoints s.tries job ≡ None → refused ≡ true → HasHappened stored b s.world (die part.number) None new.world → ComesToStart stored s name job ok false new
     started_refused job is so was = record {
       events = die (part_for (s.part name) s.next).number ∷ [];
       later = scene_then was.later;
@@ -293,7 +293,7 @@ module _ {S : Type 0} (stored : S → Objects) (old : code.Scene S) (s : Scene) 
   none_landed None tells = refl
   none_landed (Some told) tells = absurd tells
 
-  pub lands_so : (new : code.Scene S) (place : ℕ) (found : Option Put) (reply : List ℕ) (short : Bool) → LandsAs stored s.world place (Ok found) new.world → reply ≡ does.landing_reply found → short ≡ false
+  pub lands_so : {b : Bool} (new : code.Scene S) (place : ℕ) (found : Option Put) (reply : List ℕ) (short : Bool) → LandsAs stored b s.world place (Ok found) new.world → reply ≡ does.landing_reply found → short ≡ false
       → new.parts ≡ old.parts → new.next ≡ old.next → new.tries ≡ old.tries → new.fault ≡ old.fault → new.use_checkpoints ≡ old.use_checkpoints → LineComesTo stored s (lines.world (lines.land place)) reply short new
   lands_so new place found reply short landed is fine parts next tries fault uses =
       let was = landed.1 in
@@ -319,10 +319,10 @@ module _ {S : Type 0} (stored : S → Objects) (old : code.Scene S) (s : Scene) 
     stands = with_world new s.world there parts next tries fault uses;
   }
 
-  pub lands_err : (new : code.Scene S) (place : ℕ) (fault : StoreFault) → LandsAs stored s.world place (Err fault) new.world → new.parts ≡ old.parts → new.next ≡ old.next → new.tries ≡ old.tries → new.fault ≡ old.fault
+  pub lands_err : (b : Bool) (new : code.Scene S) (place : ℕ) (fault : StoreFault) → LandsAs stored b s.world place (Err fault) new.world → new.parts ≡ old.parts → new.next ≡ old.next → new.tries ≡ old.tries → new.fault ≡ old.fault
       → new.use_checkpoints ≡ old.use_checkpoints → LineComesTo stored s (lines.world (lines.land place)) (reply_text (replies.Unanswered fault)) (is_short_reply (replies.Unanswered fault)) new
-  lands_err new place store_faults.Memory there parts next tries fault uses = no_landing new place there parts next tries fault uses
-  lands_err new place store_faults.Lost there parts next tries fault uses = absurd there
+  lands_err b new place store_faults.Memory there parts next tries fault uses = no_landing new place there.0 parts next tries fault uses
+  lands_err b new place store_faults.Lost there parts next tries fault uses = absurd there
 
 -- a put that landed is told so
 pub land_text : (put : Put) → reply_text (replies.Put put) ≡ does.landing_reply (Some put)
@@ -339,7 +339,7 @@ module _ {S : Type 0} (stored : S → Objects) (old : code.Scene S) (s : Scene) 
   none_begun None tells = refl
   none_begun (Some told) tells = absurd tells
 
-  module _ (begun : HasHappened stored s.world (begin 0 job) None mid) (can : CanBegin job) where
+  module _ {b : Bool} (begun : HasHappened stored b s.world (begin 0 job) None mid) (can : CanBegin job) where
     begins : Happens s.world (begin 0 job) None begun.later
     begins = subst (λ (o : Option (Job × Outcome)). Happens s.world (begin 0 job) o begun.later) (none_begun begun.told begun.tells) (subst (λ (e : Event). Happens s.world e begun.told begun.later) begun.is begun.happens)
 
@@ -352,6 +352,7 @@ module _ {S : Type 0} (stored : S → Objects) (old : code.Scene S) (s : Scene) 
         → new.parts ≡ old.parts → new.next ≡ old.next → new.tries ≡ old.tries → new.use_checkpoints ≡ old.use_checkpoints → RanJob stored s job reply short new
     ran_job new outcome reply short came is falls parts next tries uses = record {
       mid = begun.later;
+      can = can;
       begins = begins;
       events = came.events;
       told = came.told;
@@ -377,7 +378,7 @@ module _ {S : Type 0} (stored : S → Objects) (s : Scene) (statement : Statemen
     events = begin 0 one ∷ ran.events;
     outs = ran.told ∷ [];
     later = record s { world = ran.w; fault = ran.left };
-    does = does.runs one ran.mid ran.events ran.told ran.left ran.w reply refl ran.begins ran.leads ran.tells;
+    does = does.runs one ran.mid ran.events ran.told ran.left ran.w reply refl ran.can ran.begins ran.leads ran.tells;
     falls = ran.falls;
     stands = ran.stands;
   }

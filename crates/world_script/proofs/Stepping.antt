@@ -1,6 +1,5 @@
 -- What a step of an actor leaves.
-use Rattle.std.proofs.Common.{◌≡◌, ◌==◌, ◌⊎◌, ℕ, [], ◌∷◌, Bool, true, false, Option, Some, None, option_map, refl, sym, ◌∙◌, ◌&&◌, not, ap, subst, inl, inr, arith, List}
-use Rattle.std.proofs.lemmas.Bool.Decides.{nat_tests}
+use Rattle.std.proofs.Common.{◌≡◌, ◌⊎◌, ℕ, [], ◌∷◌, Bool, true, false, Option, Some, None, option_map, refl, sym, ◌∙◌, ◌&&◌, not, ap, subst, inl, inr, List}
 use Rattle.script_lines.specs.declared.kind.Kind.{Kind}
 use Rattle.script_lines.specs.declared.kind.Kind.TheVariants as kinds
 use Rattle.store_core.specs.Objects.{Objects}
@@ -12,6 +11,7 @@ use Rattle.stream_world.specs.EventViews.{IsMetAs, IsMetIn}
 use Rattle.stream_world.specs.Standing.{HasHappened, TellsAs, WorldStands, taking}
 use Rattle.table_jobs.specs.declared.job_session.JobEnd as code_end
 use Rattle.stream_world.specs.declared.world.World as code_world
+use Rattle.stream_world.proofs.Places.{actor_there}
 use Rattle.world_script.specs.Acting.{CameBy, ActorSteps, calls, hand_at, how_of, is_commit_put, is_memory, loses_answer, next_at}
 use Rattle.world_script.specs.Acting as stepping
 use Rattle.world_script.specs.declared.acting.Next.TheVariants as nexts
@@ -55,11 +55,8 @@ call_fits w n how c next = call_by w n how c (w.actors n) refl next
 
 -- ---- events
 
-actor_there : (w : World) (name : ℕ) (found : Option Actor) → (with_actor w name found).actors name ≡ found
-actor_there w name found = let same : (name == name) ≡ true = grind (arith, nat_tests) in rw same refl
-
 -- who takes an answer
-taker : (w : World) (event : Event) (name : ℕ) (actor : Actor) (now : Talk) → ComesToTalk w event name actor now → (event ≡ answer name) ⊎ (event ≡ lose_answer name)
+pub taker : (w : World) (event : Event) (name : ℕ) (actor : Actor) (now : Talk) → ComesToTalk w event name actor now → (event ≡ answer name) ⊎ (event ≡ lose_answer name)
 taker w _ _ _ _ (begins_now name actor there is) = inl refl
 taker w _ _ _ _ (takes name actor call told there is) = inl refl
 taker w _ _ _ _ (loses name actor call told there is) = inr refl
@@ -68,7 +65,7 @@ not_taking : (n : ℕ) (how : How) (event : Event) (name : ℕ) → event ≡ ac
 not_taking n how event name is (inl a) = cc
 not_taking n how event name is (inr a) = cc
 
-never_taken : (n : ℕ) (job : Job) (event : Event) (name : ℕ) → event ≡ begin n job → (event ≡ answer name) ⊎ (event ≡ lose_answer name) → ⊥
+pub never_taken : (n : ℕ) (job : Job) (event : Event) (name : ℕ) → event ≡ begin n job → (event ≡ answer name) ⊎ (event ≡ lose_answer name) → ⊥
 never_taken n job event name is (inl a) = cc
 never_taken n job event name is (inr a) = cc
 
@@ -224,7 +221,7 @@ loses_so kinds.Mute lost objects call ran (inr wrong) is = cc
 
 module _ {S : Type 0} (stored : S → Objects) (n : ℕ) (kind : Kind) (w : World) where
   -- a session makes its first step, or takes the answer that waits
-  pub stepped : (outcome : Option code_end.JobEnd) (world : code_world.World S) → next_at (hand_at w n) ≡ nexts.Step → HasHappened stored w (answer n) outcome world → CameBy stored (ActorSteps n kind w) outcome world
+  pub stepped : {b : Bool} (outcome : Option code_end.JobEnd) (world : code_world.World S) → next_at (hand_at w n) ≡ nexts.Step → HasHappened stored b w (answer n) outcome world → CameBy stored (ActorSteps n kind w) outcome world
   stepped outcome world next was = record {
     events = answer n ∷ [];
     told = was.told;
@@ -235,9 +232,9 @@ module _ {S : Type 0} (stored : S → Objects) (n : ℕ) (kind : Kind) (w : Worl
   }
 
   -- its call is answered, and it goes on
-  pub called : (c l ran : Bool) (outcome : Option code_end.JobEnd) (mid world : code_world.World S) → next_at (hand_at w n) ≡ nexts.Call c → HasHappened stored w (act n (how_of kind)) None mid
+  pub called : {b a : Bool} (c l ran : Bool) (outcome : Option code_end.JobEnd) (mid world : code_world.World S) → next_at (hand_at w n) ≡ nexts.Call c → HasHappened stored b w (act n (how_of kind)) None mid
       → ((v : World) → WorldStands stored mid v → (call : Asked) (told : Told) → hand_at v n ≡ Some (waiting call told) → ran ≡ is_memory told) → l ≡ (loses_answer kind && not ran)
-      → ((v : World) → WorldStands stored mid v → HasHappened stored v (taking n l) outcome world) → CameBy stored (ActorSteps n kind w) outcome world
+      → ((v : World) → WorldStands stored mid v → HasHappened stored a v (taking n l) outcome world) → CameBy stored (ActorSteps n kind w) outcome world
   called c l ran outcome mid world next acted shorts says goes =
       let one = acted.is in
       let was = goes acted.later acted.stands in

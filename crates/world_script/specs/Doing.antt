@@ -5,7 +5,7 @@ use Rattle.lake_script.specs.ReplyView.{is_short_reply, reply_text}
 use Rattle.lake_script.specs.declared.reply.LineReply.{LineReply}
 use Rattle.script_lines.specs.Lines.{Statement, Task}
 use Rattle.script_lines.specs.declared.kind.Kind.{Kind}
-use Rattle.table_jobs.specs.Jobs.{Job, Outcome}
+use Rattle.table_jobs.specs.Jobs.{CanBegin, Job, Outcome}
 use Rattle.store_core.specs.Objects.{Objects}
 use Rattle.stream_world.specs.Events.{Event, Happens, begin}
 use Rattle.stream_world.specs.Worlds.{World}
@@ -99,6 +99,7 @@ pub record CameThrough {S : Type 0} (stored : S → Objects) (fault : Option Kin
 -- a job ran to its end and was told this; or there was no memory to begin it, and nothing happened
 pub record RanJob {S : Type 0} (stored : S → Objects) (s : Scene) (job : Job) (reply : List ℕ) (short : Bool) (scene : code.Scene S) : Type 0 where
   pub mid : World
+  pub can : CanBegin job
   pub begins : Happens s.world (begin 0 job) None mid
   pub events : List Event
   pub told : Job × Outcome

@@ -1,4 +1,5 @@
 pub mod Acting
+pub mod ByLines
 pub mod Doing
 pub mod FallingShort
 pub mod KeptLines
@@ -7,3 +8,4 @@ pub mod Playing
 pub mod Scenes
 pub mod Slots
 pub mod Words
+pub mod WorldRuns

@@ -12,7 +12,7 @@ use Rattle.lake_script.specs.declared.faults.Fault.TheVariants.{NoActor, NoSuchN
 use Rattle.script_lines.specs.Lines as lines
 use Rattle.script_lines.specs.Lines.{Statement, WorldLine}
 use Rattle.script_lines.specs.declared.kind.Kind.{Kind}
-use Rattle.table_jobs.specs.Jobs.{Job, Outcome}
+use Rattle.table_jobs.specs.Jobs.{CanBegin, Job, Outcome}
 use Rattle.source_core.specs.TailFaults as tails
 use Rattle.source_core.specs.Tailing.{bad_offset}
 use Rattle.store_core.specs.Objects.{Objects}
@@ -83,10 +83,10 @@ pub data IsDoneToActor (s : Scene) (name : List ℕ) (deed : Deed) : List Event 
 abbrev pub no_room : List ℕ
 no_room = with_newline (refused (stores.fault_text store_faults.Memory))
 
--- An actor begins a job, in place of an older one. Where the offset of a read can't be read, the actor is told so later. Where memory runs out nothing
--- happens, but that the actor may be known by its name.
+-- An actor begins a job that can begin, in place of an older one. Where the offset of a read can't be read, the actor
+-- is told so later. Where memory runs out nothing happens, but that the actor may be known by its name.
 pub data Starts (s : Scene) (name : List ℕ) (job : Option Job) : List Event → (reply : List ℕ) → Scene → Type 0 where
-  starts : (one : Job) (w : World) (later : Scene) → job ≡ Some one → Happens s.world (begin (part_for (s.part name) s.next).number one) None w
+  starts : (one : Job) (w : World) (later : Scene) → job ≡ Some one → CanBegin one → Happens s.world (begin (part_for (s.part name) s.next).number one) None w
       → HasPart s later name (record (part_for (s.part name) s.next) { is_refused = false }) (next_behind_part (s.part name) s.next) w → Starts s name job (begin (part_for (s.part name) s.next).number one ∷ []) ok later
   refuses_it : (w : World) (later : Scene) → job ≡ None → Happens s.world (die (part_for (s.part name) s.next).number) None w
       → HasPart s later name (record (part_for (s.part name) s.next) { is_refused = true }) (next_behind_part (s.part name) s.next) w → Starts s name job (die (part_for (s.part name) s.next).number ∷ []) ok later
@@ -95,10 +95,10 @@ pub data Starts (s : Scene) (name : List ℕ) (job : Option Job) : List Event �
 
 -- ---- other lines
 
--- A line without an actor is a job of the actor of number 0, which is led to its end; its next commit put meets the fault that was set. Where the offset
--- of a read can't be read, it is refused.
+-- A line without an actor is a job that can begin, of the actor of number 0, which is led to its end; its next commit
+-- put meets the fault that was set. Where the offset of a read can't be read, it is refused.
 pub data RunsAlone (s : Scene) (statement : Statement) (job : Option Job) : List Event → List (Job × Outcome) → (reply : List ℕ) → Scene → Type 0 where
-  runs : (one : Job) (mid : World) (events : List Event) (told : Job × Outcome) (left : Option Kind) (w : World) (reply : List ℕ) → job ≡ Some one → Happens s.world (begin 0 one) None mid
+  runs : (one : Job) (mid : World) (events : List Event) (told : Job × Outcome) (left : Option Kind) (w : World) (reply : List ℕ) → job ≡ Some one → CanBegin one → Happens s.world (begin 0 one) None mid
       → LeadsThrough 0 s.fault mid events told left w → IsReplyOf told.1 reply → RunsAlone s statement job (begin 0 one ∷ events) (told ∷ []) reply (record s { world = w; fault = left })
   is_refused : job ≡ None → RunsAlone s statement job [] [] no_offset s
   finds_no_room : (reply : List ℕ) → IsWantOfMemory statement reply → RunsAlone s statement job [] [] reply s

@@ -41,10 +41,6 @@ pub data HasPlayedText (first : Scene) (text : List ℕ) : (written : List ℕ) 
 abbrev pub PlaysShort : Scene → (text written : List ℕ) → (short : Bool) → Objects → Type 0
 PlaysShort first text written short objects = (events : List Event) × (outs : List (Job × Outcome)) × HasPlayedText first text written events outs short objects
 
--- the same, whether it is short or not
-abbrev pub PlaysText : Scene → (text written : List ℕ) → Objects → Type 0
-PlaysText first text written objects = (short : Bool) × PlaysShort first text written short objects
-
 -- some first lines of a text were played, whatever of it was written
 pub record PlaysInPart (first : Scene) (text : List ℕ) (objects : Objects) : Type 0 where
   pub lines : List (List ℕ)

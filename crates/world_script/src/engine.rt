@@ -1,11 +1,12 @@
 //! The engine of a script with actors: it answers the lines of a text in a world, one by one.
-ghost use Rattle.std.specs.Prelude.{◌≡◌, ◌≢◌, ◌≤◌, ◌^◌, ◌⊎◌, [], None, true, length, ⊤};
+ghost use Rattle.std.specs.Prelude.{◌≡◌, ◌≤◌, ◌^◌, [], None, length};
 ghost use Rattle.delta_actions.specs.Commit.{lines_of};
 ghost use Rattle.lake_script.specs.Runs.{TellsWhole};
-ghost use Rattle.lake_script.specs.Streams.{held, waiting, write_failed};
-ghost use Rattle.lake_script.specs.Told.{ArePutHere, Finishes, fell_short, first_bad};
-ghost use Rattle.world_script.specs.Playing.{PlaysInPart, PlaysShort, PlaysSo, PlaysText, StaysSo};
-ghost use Rattle.world_script.specs.Scenes.{first_scene};
+ghost use Rattle.lake_script.specs.Streams.{held};
+ghost use Rattle.lake_script.specs.TextRuns.{EndsText};
+ghost use Rattle.lake_script.specs.Told.{ArePutHere, Finishes};
+ghost use Rattle.world_script.specs.ByLines.{IsTextSo};
+ghost use Rattle.world_script.specs.WorldRuns.{IsWorldRun};
 
 use crate::scene::Scene;
 use lake_script::{End, Outcome, Output, answer_lines};
@@ -39,28 +40,20 @@ pub fn play<S: Store, W: Write>(
     use_checkpoints: bool,
 ) -> Ran<S>
     requires { length text.now ≤ 2 ^ 30 }
-    // Over a store that loses no call each line does what it asks for in a world, and is told that.
-    ensures plays { S.is_reliable store → Finishes result.outcome.end (λ _. TellsWhole (held W.contents output.old) (W.contents output.new.writer)
-        (λ written. PlaysText (first_scene (S.objects store) use_checkpoints) text.now written (S.objects result.store))) }
-    // Then the run is short just where one of its lines is: a session told so, or there was no memory to begin.
-    ensures tells_short { S.is_reliable store → Finishes result.outcome.end (λ _. TellsWhole (held W.contents output.old) (W.contents output.new.writer)
-        (λ written. PlaysShort (first_scene (S.objects store) use_checkpoints) text.now written (fell_short result.outcome) (S.objects result.store))) }
-    // However it ends, some first lines did so.
-    ensures in_part { S.is_reliable store → PlaysInPart (first_scene (S.objects store) use_checkpoints) text.now (S.objects result.store) }
-    // Where nothing stood, and no line puts another tool's commit, the store that is left is sound, and what sessions
-    // told is so of the table that it holds: each batch that was acknowledged stands in the log once, every batch at
-    // most once and as submitted, each application's in rising number and none after its close; and what a reader was
-    // handed that resumes at its last offset is exactly the log's rows up to that offset, once each, in log order.
+    // Over a store that loses no call each line does what it asks for in a world, and is told that; over nothing, and
+    // without another tool's commit, what sessions told is so of the table that the store holds, and the store is sound
+    // however the run ends.
+    ensures played { S.is_reliable store → IsWorldRun use_checkpoints text.now result.outcome (held W.contents output.old) (W.contents output.new.writer) (S.objects store) (S.objects result.store) }
+    // The sentence, where the run finishes and the writer tells its bytes: where nothing stood, and no line puts another
+    // tool's commit, what the text's jobs told, by its lines and the replies alone, is so of the table that the store
+    // holds: each batch that was acknowledged stands in the log once, every batch at most once and as submitted, each
+    // application's in rising number and none after its close; and what a reader was handed that resumes at its last
+    // offset is exactly the log's rows up to that offset, once each, in log order.
     ensures headline { S.is_reliable store → S.objects store ≡ [] → ArePutHere (lines_of text.now) → Finishes result.outcome.end (λ _. TellsWhole (held W.contents output.old) (W.contents output.new.writer)
-        (λ written. PlaysSo (first_scene [] use_checkpoints) text.now written (S.objects result.store))) }
-    // The store is sound however it ends.
-    ensures sound { S.is_reliable store → S.objects store ≡ [] → ArePutHere (lines_of text.now) → StaysSo (first_scene [] use_checkpoints) text.now (S.objects result.store) }
+        (λ written. IsTextSo use_checkpoints text.now written (S.objects result.store))) }
     ensures reliable { S.is_reliable store → S.is_reliable result.store }
-    ensures nothing_waits { Finishes result.outcome.end (λ _. waiting output.new ≡ []) }
-    ensures behind { Finishes result.outcome.end (λ _. TellsWhole (held W.contents output.old) (W.contents output.new.writer) (λ written. ⊤)) }
-    ensures finished { Finishes result.outcome.end (λ bad. (bad ≡ first_bad text.now) × (write_failed output.new ≡ write_failed output.old)) }
-    ensures not_written { result.outcome.end ≡ End.NotWritten → (write_failed output.new ≡ true) ⊎ (fell_short result.outcome ≡ true) }
-    ensures read { result.outcome.end ≢ End.NotRead }
+    // Over any store, one that loses calls too: which bad line it ends at, and how it leaves the output.
+    ensures ends { EndsText W.contents text.now result.outcome output.old output.new }
     ensures unkept { result.bad ≡ None }
 {
     every_world();

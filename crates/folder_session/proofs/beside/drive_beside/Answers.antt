@@ -1,16 +1,20 @@
-use Rattle.std.proofs.Common.{◌≡◌, ℕ, List, Option, [], ◌∷◌, ◌++◌, Some, None, true, false, map, option_map, refl, sym, ap, subst, ◌∙◌, arith, length-append}
+use Rattle.std.proofs.Common.{◌≡◌, ℕ, List, Option, [], ◌∷◌, ◌++◌, Some, None, true, false, map, option_map, String, Vec, refl, sym, ap, subst, ◌∙◌, arith, length-append}
 use Rattle.std.specs.Prelude.{MatchOption, string_bytes}
+use Rattle.std.specs.Global.{Global}
 use Rattle.store_core.specs.Listed.{listed}
 use Rattle.store_core.specs.Memory.{stored_objects}
 use Rattle.store_core.specs.Objects.{Objects, names_of}
 use Rattle.store_core.specs.declared.names.Names.{Names}
 use Rattle.session_core.specs.Stores.{Answers, State, Talked}
 use Rattle.session_core.specs.Talks.{Asked, Talk, Told, asked_view, told_view, has_lost, heard}
+use Rattle.session_core.specs.declared.asking.Reply.{Reply}
 use Rattle.session_core.proofs.Callers.{asked_more, bears_grows, exact_never_lost, talk_alone, talk_borne, talk_grows}
 use Rattle.table_folder.specs.Traces.{lists}
 use Rattle.table_folder.proofs.Callers.{none_made_on, traced_on}
 use Rattle.folder_session.specs.Beside.{AreApart, HearsCall, put_so, with_beside}
-use Rattle.folder_session.proofs.BesideLemmas.{answered_more, for_fault, heard_more, hears_makes_none, looked_once, put_more, traced_once, unlost_more}
+use Rattle.folder_session.proofs.BesideLemmas.{answered_more, heard_more, hears_makes_none, looked_once, put_more, traced_once, unlost_more}
+use Rattle.folder_session.proofs.LookLemmas.{counts_as_load, counts_handed_on, counts_short, fails_as_load, fails_handed_on, fails_short}
+use Rattle.folder_session.proofs.VisibleTalks.{on_fault}
 use Rattle.folder_session.proofs.beside.drive_beside.Goals as goal
 
 pub calls-init : goal.calls-init
@@ -173,20 +177,73 @@ calls-preserved g c =
 
 -- ---- where a call of the folder fails
 
-pub returns-in_err-names-clause-looked : goal.returns-in_err-names-clause-looked
-returns-in_err-names-clause-looked g c =
-    for_fault _ c.from_residual.result (looked_once g.F.Folder.makes c.args.folder.now c.names.new.self (lists None) c.in_err-names.ensures.called tt)
+pub returns-in_err-names-clause-talks : goal.returns-in_err-names-clause-talks
+returns-in_err-names-clause-talks g c =
+    on_fault _ _ _ c.from_residual.result c.from_residual.ensures.1 (looked_once g.F.Folder.makes c.args.folder.now c.names.new.self (lists None) c.in_err-names.ensures.called tt)
 
-pub returns-in_err-names-2-clause-looked : goal.returns-in_err-names-2-clause-looked
-returns-in_err-names-2-clause-looked g c =
-    for_fault _ c.from_residual-in_err-names-2.result (looked_once g.F.Folder.makes c.args.folder.now c.names.new.self (lists (Some (map string_bytes c.in_ok-names.field-0.items))) c.in_ok-names.ensures.called tt)
+pub returns-in_err-names-2-clause-talks : goal.returns-in_err-names-2-clause-talks
+returns-in_err-names-2-clause-talks g c =
+    on_fault _ _ _ c.from_residual-in_err-names-2.result c.from_residual-in_err-names-2.ensures.1
+    (looked_once g.F.Folder.makes c.args.folder.now c.names.new.self (lists (Some (map string_bytes c.in_ok-names.field-0.items))) c.in_ok-names.ensures.called tt)
 
-pub returns-in_default-clause-looked : goal.returns-in_default-clause-looked
-returns-in_default-clause-looked g c = looked_once g.F.Folder.makes c.args.folder.now c.names.new.self (lists (Some (map string_bytes c.in_ok-names.field-0.items))) c.in_ok-names.ensures.called tt
+pub returns-in_default-clause-talks : goal.returns-in_default-clause-talks
+returns-in_default-clause-talks g c = looked_once g.F.Folder.makes c.args.folder.now c.names.new.self (lists (Some (map string_bytes c.in_ok-names.field-0.items))) c.in_ok-names.ensures.called tt
 
-pub returns-in_err-ask_beside-in-Ask-clause-looked : goal.returns-in_err-ask_beside-in-Ask-clause-looked
-returns-in_err-ask_beside-in-Ask-clause-looked g c =
+pub returns-in_err-ask_beside-in-Ask-clause-talks : goal.returns-in_err-ask_beside-in-Ask-clause-talks
+returns-in_err-ask_beside-in-Ask-clause-talks g c =
     let before = c.calls.invariant.looked in
     let behind = c.in_err-ask_beside-in-Ask.ensures.looked in
-    for_fault _ c.from_residual-in_err-ask_beside-in-Ask.result
+    on_fault _ _ _ c.from_residual-in_err-ask_beside-in-Ask.result c.from_residual-in_err-ask_beside-in-Ask.ensures.1
     (before.0 ++ behind.0, traced_on g.F.Folder.makes c.args.folder.now c.calls.folder c.ask_beside.new.folder before.0 behind.0 before.1 behind.1, none_made_on before.0 behind.0 before.2 behind.2)
+
+-- ---- what the folder is then
+
+pub returns-in_err-names-clause-over : goal.returns-in_err-names-clause-over
+returns-in_err-names-clause-over g c = record {
+  untouched = c.in_err-names.ensures.untouched;
+  steady = c.in_err-names.ensures.steady;
+  faults = counts_as_load _ (Vec (String Global) Global) c.in_err-names.field-0.0 c.from_residual.result _ _ c.from_residual.ensures.1 c.in_err-names.ensures.faults;
+  never_fails = λ reliable. fails_as_load _ (Vec (String Global) Global) c.in_err-names.field-0.0 c.from_residual.result c.from_residual.ensures.1 (c.in_err-names.ensures.never_fails reliable);
+  stays_reliable = c.in_err-names.ensures.stays_reliable;
+}
+
+pub returns-in_err-names-2-clause-over : goal.returns-in_err-names-2-clause-over
+returns-in_err-names-2-clause-over g c = record {
+  untouched = c.in_ok-names.ensures.untouched;
+  steady = c.in_ok-names.ensures.steady;
+  faults = counts_short _ c.from_residual-in_err-names-2.result _ _ c.from_residual-in_err-names-2.ensures.1 c.in_ok-names.ensures.faults;
+  never_fails = λ reliable. fails_short _ c.from_residual-in_err-names-2.result c.from_residual-in_err-names-2.ensures.1;
+  stays_reliable = c.in_ok-names.ensures.stays_reliable;
+}
+
+pub returns-in_default-clause-over : goal.returns-in_default-clause-over
+returns-in_default-clause-over g c = record {
+  untouched = c.in_ok-names.ensures.untouched;
+  steady = c.in_ok-names.ensures.steady;
+  faults = c.in_ok-names.ensures.faults;
+  never_fails = λ reliable not. not;
+  stays_reliable = c.in_ok-names.ensures.stays_reliable;
+}
+
+pub returns-in_err-ask_beside-in-Ask-clause-over : goal.returns-in_err-ask_beside-in-Ask-clause-over
+returns-in_err-ask_beside-in-Ask-clause-over g c =
+    let i = c.calls.invariant in
+    let failed = c.in_err-ask_beside-in-Ask.ensures in
+    record {
+      untouched = λ steady. failed.untouched (i.steady steady) ∙ i.untouched steady;
+      steady = λ steady. failed.steady (i.steady steady);
+      faults = counts_handed_on _ Reply c.in_err-ask_beside-in-Ask.field-0.0 c.from_residual-in_err-ask_beside-in-Ask.result _ _ _ c.from_residual-in_err-ask_beside-in-Ask.ensures.1 i.faults failed.faults;
+      never_fails = λ reliable. fails_handed_on _ Reply c.in_err-ask_beside-in-Ask.field-0.0 c.from_residual-in_err-ask_beside-in-Ask.result c.from_residual-in_err-ask_beside-in-Ask.ensures.1 (failed.never_fails (i.reliable reliable));
+      stays_reliable = λ reliable. failed.stays_reliable (i.reliable reliable);
+    }
+
+pub returns-in-Done-clause-over : goal.returns-in-Done-clause-over
+returns-in-Done-clause-over g c =
+    let i = c.calls.invariant in
+    record {
+      untouched = i.untouched;
+      steady = i.steady;
+      faults = i.faults;
+      never_fails = λ reliable not. not;
+      stays_reliable = i.reliable;
+    }

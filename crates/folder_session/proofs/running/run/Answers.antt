@@ -1,13 +1,14 @@
-use Rattle.std.proofs.Common.{◌≡◌, ℕ, List, [], ◌∷◌, Some, Result, Ok, Err, IfOk, refl, subst}
+use Rattle.std.proofs.Common.{◌≡◌, ℕ, List, [], ◌∷◌, None, Some, Result, Ok, Err, IfOk, refl, subst}
+use Rattle.std.specs.Prelude.{MatchResult}
 use Rattle.store_core.specs.Memory.{stored_objects}
 use Rattle.store_core.specs.Objects.{Objects}
 use Rattle.session_core.specs.Talks.{Talk}
 use Rattle.session_core.proofs.Callers.{all_got}
-use Rattle.table_folder.specs.Traces.{FolderCall, Traced, lists}
+use Rattle.table_folder.specs.Traces.{FolderCall, MakeNone, Traced, lists}
 use Rattle.table_folder.specs.declared.fault.LoadFault.{LoadFault}
 use Rattle.table_jobs.specs.Done.{IsJobDone}
 use Rattle.table_jobs.specs.Jobs.{Asks, Ends, Job, is_lost_outcome}
-use Rattle.table_jobs.specs.Sessions.{end_view, session_calls_left}
+use Rattle.table_jobs.specs.Sessions.{SessionFits, end_view, session_calls_left}
 use Rattle.table_jobs.specs.Views.{job_view}
 use Rattle.table_jobs.specs.declared.job.Job as code
 use Rattle.table_jobs.specs.declared.job_session.JobEnd.{JobEnd}
@@ -35,21 +36,27 @@ apart : (own : Job) (most : ℕ) (objects : Objects) (result : Result (Beside Jo
 apart own most objects (Ok ended) driven = driven.apart
 apart own most objects (Err fault) driven = tt
 
-ran : {F : Type 0} (makes : F → FolderCall → F → Type 0) (first now : F) (job : code.Job) (own : Job) (most : ℕ) (result : Result (Beside JobEnd) LoadFault) → own ≡ job_view job
-    → IfOk result (λ ended. TalksBeside Asks (λ job before talk outcome. Ends job before talk (end_view outcome)) (λ calls. Traced makes first calls now) own most [] ended.outcome (stored_objects ended.added))
-    → IfOk result (λ ended. (calls : List FolderCall) × Traced makes first calls now × RanBeside (job_view job) (end_view ended.outcome) (stored_objects ended.added) calls)
-ran makes first now job own most (Ok ended) same talks =
-    let calls = lists (Some talks.names) ∷ talks.calls in (
+driven : {F : Type 0} (makes : F → FolderCall → F → Type 0) (first now : F) (job : code.Job) (own : Job) (most : ℕ) (fits : Talk → Type 0) (result : Result (Beside JobEnd) LoadFault) → own ≡ job_view job → fits []
+    → MatchResult result
+    (λ ended. (before : Talk) → fits before → TalksBeside Asks (λ job before talk outcome. Ends job before talk (end_view outcome)) (λ calls. Traced makes first calls now) own most before ended.outcome (stored_objects ended.added))
+    (λ _. (calls : List FolderCall) × Traced makes first calls now × MakeNone calls)
+    → MatchResult result
+    (λ ended. (calls : List FolderCall) × Traced makes first calls now × RanBeside (job_view job) (end_view ended.outcome) (stored_objects ended.added) calls)
+    (λ _. (calls : List FolderCall) × Traced makes first calls now × MakeNone calls)
+driven makes first now job own most fits (Ok ended) same new talks =
+    let told = talks [] new in
+    let calls = lists (Some told.names) ∷ told.calls in (
       calls,
-      talks.made,
+      told.made,
       subst (λ (j : Job). RanBeside j (end_view ended.outcome) (stored_objects ended.added) calls) same
-          (most, record { talk = talks.talk; asked = talks.asked; unlost = talks.unlost; ended = talks.ended; few = talks.few; put = talks.put; names = talks.names; calls = talks.calls; heard = talks.heard; made = refl }),
+          (most, record { talk = told.talk; asked = told.asked; unlost = told.unlost; ended = told.ended; few = told.few; put = told.put; names = told.names; calls = told.calls; heard = told.heard; made = refl }),
     )
-ran makes first now job own most (Err fault) same talks = tt
+driven makes first now job own most fits (Err fault) same new looked = looked
 
-pub returns-clause-ran : goal.returns-clause-ran
-returns-clause-ran g c =
-    ran g.F.Folder.makes c.args.folder.now c.drive_beside.new.folder c.args.job _ (session_calls_left c.new-session.result) c.drive_beside.result c.new-session.ensures.job (c.drive_beside.ensures.talks [] (c.new-session.ensures.fits []))
+pub returns-clause-driven : goal.returns-clause-driven
+returns-clause-driven g c =
+    driven g.F.Folder.makes c.args.folder.now c.drive_beside.new.folder c.args.job _ (session_calls_left c.new-session.result) (λ before. SessionFits before c.new-session.result [] None) c.drive_beside.result
+    c.new-session.ensures.job (c.new-session.ensures.fits []) c.drive_beside.ensures.talks
 
 pub returns-clause-done : goal.returns-clause-done
 returns-clause-done g c = λ steady.

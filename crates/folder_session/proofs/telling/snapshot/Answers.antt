@@ -35,7 +35,7 @@ returns-clause-told g c = λ steady.
 -- ---- which calls are made
 
 pub returns-in_err-outcome-clause-looked : goal.returns-in_err-outcome-clause-looked
-returns-in_err-outcome-clause-looked g c = on_fault _ _ _ c.from_residual.result c.from_residual.ensures.1 c.in_err-outcome.ensures.looked
+returns-in_err-outcome-clause-looked g c = on_fault _ _ _ c.from_residual.result c.from_residual.ensures.1 c.in_err-outcome.ensures.talks
 
 pub returns-in-Ok-clause-looked : goal.returns-in-Ok-clause-looked
 returns-in-Ok-clause-looked g c =

@@ -5,6 +5,7 @@ use Rattle.json_text.specs.Rows.{text_data}
 use Rattle.script_lines.specs.Lines.{append, close, create, task}
 use Rattle.lake_words.specs.Asked.{work_view}
 use Rattle.lake_command.specs.Folders.{reads_input}
+use Rattle.lake_command.proofs.AnswerLemmas.{texts_count}
 use Rattle.lake_command.proofs.FolderLemmas.{rows_are}
 use Rattle.lake_command.proofs.answering.line_for.Goals as goal
 use Rattle.lake_command.proofs.answering.line_for.Goals.{in-Create+in_ok-moment-in-Create, in-Append+in_ok-at-in-Append+in_ok-texts-in-Append+in_ok-counted-in-Append, in-Close+in_ok-moment-in-Close, in-Tail, in-Checkpoint, in-Snapshot, in-History}
@@ -30,4 +31,17 @@ returns-clause-asked c = λ known is. elim c.match-job.branch [
   | in-Checkpoint w ↦ rw (w.in-Checkpoint.is, w.line-is) refl
   | in-Snapshot w ↦ rw (w.in-Snapshot.is, w.line-is) refl
   | in-History w ↦ rw (w.in-History.is, w.line-is) refl
+]
+
+pub returns-clause-rows : goal.returns-clause-rows
+returns-clause-rows c = λ known is. elim c.match-job.branch [
+  | in-Create+in_ok-moment-in-Create w ↦ rw w.in-Create.is tt
+  | in-Append+in_ok-at-in-Append+in_ok-texts-in-Append+in_ok-counted-in-Append w ↦ rw (w.in-Append.is, w.line-is) (
+      texts_count known c.args.text.now w.in_ok-texts-in-Append.texts.items (is (ap reads_input (ap work_view w.in-Append.is))) w.in_ok-texts-in-Append.ensures.texts
+      )
+  | in-Close+in_ok-moment-in-Close w ↦ rw w.in-Close.is tt
+  | in-Tail w ↦ rw w.in-Tail.is tt
+  | in-Checkpoint w ↦ rw w.in-Checkpoint.is tt
+  | in-Snapshot w ↦ rw w.in-Snapshot.is tt
+  | in-History w ↦ rw w.in-History.is tt
 ]

@@ -95,48 +95,53 @@ loop-rest-preserved g c =
 
 -- ---- a bad line
 
-pub returns-in-Bad-clause-answered : goal.returns-in-Bad-clause-answered
-returns-in-Bad-clause-answered g c = λ reliable s stands.
+pub returns-in-Bad-clause-answers : goal.returns-in-Bad-clause-answers
+returns-in-Bad-clause-answers g c = λ reliable s stands.
     let here = split c.loop-rest.rest c.in-Some.text c.first_line.result.0 c.first_line.result.1 c.in-Some.is c.first_line.ensures.lines in
     let is : reading_of c.first_line.result.0.now ≡ bad = sym (ap reading_view (sym c.in-Bad.is) ∙ c.in_ok-reading_of.ensures) in
     let said : Appends (held g.W.Write.contents c.loop-rest.output) (held g.W.Write.contents c.say.new.self) (bad_line c.loop-rest.number) = search rules in
     let so = with_left g.I.Interpreter.does s c.args.text.now (g.I.Interpreter.stands c.loop-rest.interpreter) _ _ c.loop-rest.number _ _ c.loop-rest.is_short here (c.loop-rest.invariant.so_far reliable s stands) in
     let told = told_bad g.I.Interpreter.does s c.args.text.now (g.I.Interpreter.stands c.loop-rest.interpreter) (g.I.Interpreter.stands c.loop-rest.interpreter) _ _ _ _ _ _ _ is so said in
-    tells_through _ _ _ _ _ told c.in_ok-flush-in-Bad.ensures.held c.in_ok-flush-in-Bad.ensures.through
+    record { answered = tells_through _ _ _ _ _ told c.in_ok-flush-in-Bad.ensures.held c.in_ok-flush-in-Bad.ensures.through; front = search rules }
 
-pub returns-in_err-flush-in-Bad-clause-front : goal.returns-in_err-flush-in-Bad-clause-front
-returns-in_err-flush-in-Bad-clause-front g c = λ reliable s stands.
+pub returns-in_err-flush-in-Bad-clause-answers : goal.returns-in_err-flush-in-Bad-clause-answers
+returns-in_err-flush-in-Bad-clause-answers g c = λ reliable s stands.
     let here = split c.loop-rest.rest c.in-Some.text c.first_line.result.0 c.first_line.result.1 c.in-Some.is c.first_line.ensures.lines in
     let is : reading_of c.first_line.result.0.now ≡ bad = sym (ap reading_view (sym c.in-Bad.is) ∙ c.in_ok-reading_of.ensures) in
     let said : Appends (held g.W.Write.contents c.loop-rest.output) (held g.W.Write.contents c.say.new.self) (bad_line c.loop-rest.number) = search rules in
     let so = with_left g.I.Interpreter.does s c.args.text.now (g.I.Interpreter.stands c.loop-rest.interpreter) _ _ c.loop-rest.number _ _ c.loop-rest.is_short here (c.loop-rest.invariant.so_far reliable s stands) in
     let told = told_bad g.I.Interpreter.does s c.args.text.now (g.I.Interpreter.stands c.loop-rest.interpreter) (g.I.Interpreter.stands c.loop-rest.interpreter) _ _ _ _ _ _ _ is so said in
-    on_err _ _ (front_all g.I.Interpreter.does s c.args.text.now (g.I.Interpreter.stands c.loop-rest.interpreter) _ _ _ _ told c.in_err-flush-in-Bad.ensures.stands)
+    record { answered = search rules; front = on_err _ _ (front_all g.I.Interpreter.does s c.args.text.now (g.I.Interpreter.stands c.loop-rest.interpreter) _ _ _ _ told c.in_err-flush-in-Bad.ensures.stands) }
 
-pub returns-in_err-say-in-Bad-clause-front : goal.returns-in_err-say-in-Bad-clause-front
-returns-in_err-say-in-Bad-clause-front g c = λ reliable s stands.
-    on_err _ _ (front_none g.I.Interpreter.does s c.args.text.now (g.I.Interpreter.stands c.loop-rest.interpreter) _ _ _ _ _ _ (c.loop-rest.invariant.so_far reliable s stands) c.in_err-say-in-Bad.ensures.stands)
+pub returns-in_err-say-in-Bad-clause-answers : goal.returns-in_err-say-in-Bad-clause-answers
+returns-in_err-say-in-Bad-clause-answers g c = λ reliable s stands.
+    record { answered = search rules; front = on_err _ _ (front_none g.I.Interpreter.does s c.args.text.now (g.I.Interpreter.stands c.loop-rest.interpreter) _ _ _ _ _ _ (c.loop-rest.invariant.so_far reliable s stands) c.in_err-say-in-Bad.ensures.stands) }
 
-pub returns-in-Bad-clause-bad : goal.returns-in-Bad-clause-bad
-returns-in-Bad-clause-bad g c =
+pub returns-in-Bad-clause-leaves : goal.returns-in-Bad-clause-leaves
+returns-in-Bad-clause-leaves g c =
     let here = split c.loop-rest.rest c.in-Some.text c.first_line.result.0 c.first_line.result.1 c.in-Some.is c.first_line.ensures.lines in
     let is : reading_of c.first_line.result.0.now ≡ bad = sym (ap reading_view (sym c.in-Bad.is) ∙ c.in_ok-reading_of.ensures) in
-    sym (first_bad_here _ _ _ (ap is_bad is)) ∙ (ap (first_bad_from c.loop-rest.number) (sym here) ∙ c.loop-rest.invariant.found)
-
-pub returns-in-Bad-clause-behind : goal.returns-in-Bad-clause-behind
-returns-in-Bad-clause-behind g c =
     let said : Appends (held g.W.Write.contents c.loop-rest.output) (held g.W.Write.contents c.say.new.self) (bad_line c.loop-rest.number) = search rules in
-    tells_through _ _ _ _ _ (tells_on _ _ _ c.loop-rest.invariant.behind (bad_line c.loop-rest.number, said, tt)) c.in_ok-flush-in-Bad.ensures.held c.in_ok-flush-in-Bad.ensures.through
+    record {
+      bad = sym (first_bad_here _ _ _ (ap is_bad is)) ∙ (ap (first_bad_from c.loop-rest.number) (sym here) ∙ c.loop-rest.invariant.found);
+      through = c.in_ok-flush-in-Bad.ensures.through;
+      behind = tells_through _ _ _ _ _ (tells_on _ _ _ c.loop-rest.invariant.behind (bad_line c.loop-rest.number, said, tt)) c.in_ok-flush-in-Bad.ensures.held c.in_ok-flush-in-Bad.ensures.through;
+      unbroken = search rules;
+      broken = search rules;
+    }
 
 -- ---- where a line isn't read, or a reply not given
 
-pub returns-in_err-reading_of-clause-front : goal.returns-in_err-reading_of-clause-front
-returns-in_err-reading_of-clause-front g c = λ reliable s stands.
-    on_err _ _ (front_none g.I.Interpreter.does s c.args.text.now (g.I.Interpreter.stands c.loop-rest.interpreter) _ _ _ _ _ _ (c.loop-rest.invariant.so_far reliable s stands)
-    (not_yet_written (g.W.Write.contents c.loop-rest.output.writer) (waiting c.loop-rest.output)))
+pub returns-in_err-reading_of-clause-answers : goal.returns-in_err-reading_of-clause-answers
+returns-in_err-reading_of-clause-answers g c = λ reliable s stands.
+    record {
+      answered = search rules;
+      front = on_err _ _ (front_none g.I.Interpreter.does s c.args.text.now (g.I.Interpreter.stands c.loop-rest.interpreter) _ _ _ _ _ _ (c.loop-rest.invariant.so_far reliable s stands)
+          (not_yet_written (g.W.Write.contents c.loop-rest.output.writer) (waiting c.loop-rest.output)));
+    }
 
-pub returns-in_err-give-in-Asks-clause-front : goal.returns-in_err-give-in-Asks-clause-front
-returns-in_err-give-in-Asks-clause-front g c = λ reliable s stands.
+pub returns-in_err-give-in-Asks-clause-answers : goal.returns-in_err-give-in-Asks-clause-answers
+returns-in_err-give-in-Asks-clause-answers g c = λ reliable s stands.
     let here = split c.loop-rest.rest c.in-Some.text c.first_line.result.0 c.first_line.result.1 c.in-Some.is c.first_line.ensures.lines in
     let asked = sym (ap reading_view (sym c.in-Asks.is) ∙ c.in_ok-reading_of.ensures) in
     let reply = c.in-Some-do_line.reply in
@@ -146,22 +151,33 @@ returns-in_err-give-in-Asks-clause-front g c = λ reliable s stands.
     ] in
     let so = with_left g.I.Interpreter.does s c.args.text.now (g.I.Interpreter.stands c.loop-rest.interpreter) _ _ c.loop-rest.number _ _ c.loop-rest.is_short here (c.loop-rest.invariant.so_far reliable s stands) in
     let came = rw c.in-Some-do_line.is at (c.do_line.ensures.does (c.loop-rest.invariant.reliable reliable) so.2.s so.2.stands) in
-    on_err _ _ (front_one g.I.Interpreter.does s c.args.text.now (g.I.Interpreter.stands c.loop-rest.interpreter) (g.I.Interpreter.stands c.do_line.new.self) _ _ _ _ _ _ _ _ _ _ _ asked fell so came c.in_err-give-in-Asks.ensures.stands)
+    record {
+      answered = search rules;
+      front = on_err _ _ (front_one g.I.Interpreter.does s c.args.text.now (g.I.Interpreter.stands c.loop-rest.interpreter) (g.I.Interpreter.stands c.do_line.new.self) _ _ _ _ _ _ _ _ _ _ _ asked fell so came c.in_err-give-in-Asks.ensures.stands);
+    }
 
 -- ---- the end
 
-pub returns-clause-answered : goal.returns-clause-answered
-returns-clause-answered g c = λ reliable s stands.
+pub returns-clause-answers : goal.returns-clause-answers
+returns-clause-answers g c = λ reliable s stands.
     let so = with_left g.I.Interpreter.does s c.args.text.now (g.I.Interpreter.stands c.loop-rest.interpreter) _ _ c.loop-rest.number _ [] c.loop-rest.is_short (lines_left_none c.loop-rest.rest c.in_default.not-Some)
     (c.loop-rest.invariant.so_far reliable s stands) in
-    tells_through _ _ _ _ _ (told_all g.I.Interpreter.does s c.args.text.now (g.I.Interpreter.stands c.loop-rest.interpreter) _ _ _ _ so) c.in_ok-flush.ensures.held c.in_ok-flush.ensures.through
+    record { answered = tells_through _ _ _ _ _ (told_all g.I.Interpreter.does s c.args.text.now (g.I.Interpreter.stands c.loop-rest.interpreter) _ _ _ _ so) c.in_ok-flush.ensures.held c.in_ok-flush.ensures.through; front = search rules }
 
-pub returns-in_err-flush-clause-front : goal.returns-in_err-flush-clause-front
-returns-in_err-flush-clause-front g c = λ reliable s stands.
+pub returns-in_err-flush-clause-answers : goal.returns-in_err-flush-clause-answers
+returns-in_err-flush-clause-answers g c = λ reliable s stands.
     let so = with_left g.I.Interpreter.does s c.args.text.now (g.I.Interpreter.stands c.loop-rest.interpreter) _ _ c.loop-rest.number _ [] c.loop-rest.is_short (lines_left_none c.loop-rest.rest c.in_default.not-Some)
     (c.loop-rest.invariant.so_far reliable s stands) in
-    on_err _ _ (front_all g.I.Interpreter.does s c.args.text.now (g.I.Interpreter.stands c.loop-rest.interpreter) _ _ _ _ (told_all g.I.Interpreter.does s c.args.text.now (g.I.Interpreter.stands c.loop-rest.interpreter) _ _ _ _ so) c.in_err-flush.ensures.stands)
+    record {
+      answered = search rules;
+      front = on_err _ _ (front_all g.I.Interpreter.does s c.args.text.now (g.I.Interpreter.stands c.loop-rest.interpreter) _ _ _ _ (told_all g.I.Interpreter.does s c.args.text.now (g.I.Interpreter.stands c.loop-rest.interpreter) _ _ _ _ so) c.in_err-flush.ensures.stands);
+    }
 
-pub returns-clause-bad : goal.returns-clause-bad
-returns-clause-bad g c =
-    sym (ap (first_bad_from c.loop-rest.number) (lines_left_none c.loop-rest.rest c.in_default.not-Some) ∙ first_bad_from-none c.loop-rest.number) ∙ c.loop-rest.invariant.found
+pub returns-clause-leaves : goal.returns-clause-leaves
+returns-clause-leaves g c = record {
+  bad = sym (ap (first_bad_from c.loop-rest.number) (lines_left_none c.loop-rest.rest c.in_default.not-Some) ∙ first_bad_from-none c.loop-rest.number) ∙ c.loop-rest.invariant.found;
+  through = c.in_ok-flush.ensures.through;
+  behind = tells_through _ _ _ _ _ c.loop-rest.invariant.behind c.in_ok-flush.ensures.held c.in_ok-flush.ensures.through;
+  unbroken = search rules;
+  broken = search rules;
+}

@@ -1,7 +1,7 @@
 use Rattle.std.proofs.Common.{◌≡◌, List, true, Some, Contains, slice_get, subst, sym}
 use Rattle.table_model.specs.Appends.{TellsAppend, TellsClose}
 use Rattle.table_model.specs.Lawful.{IsLawful}
-use Rattle.table_model.specs.Table.{Entry, batches, is_closed}
+use Rattle.table_model.specs.Table.{Entry, batches, is_stream_closed}
 use Rattle.table_model.proofs.Callers.{append_lasts, at_the_front, batch_lasts, close_lasts}
 use Rattle.log_laws.proofs.Growth.{NotBelow, closed_kept, lawful_table, number_kept, table_front, table_has}
 use Rattle.log_laws.proofs.standing.what_a_sound_table_has_stays.Goals as goal
@@ -16,7 +16,7 @@ returns-clause-batch c = λ objects more schema other entries others b sound gro
 
 pub returns-clause-closed : goal.returns-clause-closed
 returns-clause-closed c = λ objects more schema other entries others application sound grown holds held is.
-    table_has objects more schema other entries others (λ (es : List Entry). is_closed application es ≡ true) sound.table grown holds held (λ later. closed_kept application entries later is)
+    table_has objects more schema other entries others (λ (es : List Entry). is_stream_closed application es ≡ true) sound.table grown holds held (λ later. closed_kept application entries later is)
 
 pub returns-clause-append : goal.returns-clause-append
 returns-clause-append c = λ objects more schema other entries others answer b sound grown holds held told.

@@ -3,7 +3,7 @@ use Rattle.std.proofs.lemmas.List.Elements.{Contains-append_right}
 use Rattle.std.specs.Prelude.{List, ℕ, Contains, string_bytes}
 use Rattle.store_core.specs.Objects.{Objects, names_of}
 use Rattle.table_folder.specs.Copies.{with_copies}
-use Rattle.table_folder.specs.Traces.{ReadsAll, ReadsFront, lists, told_objects}
+use Rattle.table_folder.specs.Traces.{ReadsAll, ReadsUpToOneFile, lists, told_objects}
 use Rattle.table_folder.proofs.CopyLemmas.{all_copied}
 use Rattle.table_folder.proofs.LoadLemmas.{among_more}
 use Rattle.table_folder.proofs.TraceLemmas.{front_loaded, not_listed}
@@ -34,7 +34,7 @@ returns-in_err-copy_files-clause-called g c =
     let read = c.in_err-copy_files.ensures.called in (
       lists (Some names) ∷ read.0,
       (c.names.new.self, c.in_ok-names.ensures.called, read.1),
-      front_loaded (λ names. names) _ c.from_residual-in_err-copy_files.result names read.0 c.from_residual-in_err-copy_files.ensures.1 (subst (λ ns. ReadsFront ns read.0) (ap (map string_bytes) c.deref.ensures.value) read.2),
+      front_loaded (λ names. names) _ c.from_residual-in_err-copy_files.result names read.0 c.from_residual-in_err-copy_files.ensures.1 (subst (λ ns. ReadsUpToOneFile ns read.0) (ap (map string_bytes) c.deref.ensures.value) read.2),
     )
 
 pub returns-clause-called : goal.returns-clause-called

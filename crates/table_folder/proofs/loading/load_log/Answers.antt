@@ -4,7 +4,7 @@ use Rattle.std.specs.Prelude.{List, ℕ, Contains, filter, string_bytes}
 use Rattle.store_core.specs.Objects.{Objects, names_of}
 use Rattle.table_folder.specs.Copies.{with_copies}
 use Rattle.table_folder.specs.Loads.{is_of_log}
-use Rattle.table_folder.specs.Traces.{ReadsAll, ReadsFront, lists, told_objects}
+use Rattle.table_folder.specs.Traces.{ReadsAll, ReadsUpToOneFile, lists, told_objects}
 use Rattle.table_folder.proofs.LoadLemmas.{among_more, contains_passing}
 use Rattle.table_folder.proofs.LoadedLemmas.{log_copied}
 use Rattle.table_folder.proofs.TraceLemmas.{front_loaded, not_listed, only_listed}
@@ -44,7 +44,7 @@ returns-in_err-copy_files-clause-called g c =
     let read = c.in_err-copy_files.ensures.called in (
       lists (Some names) ∷ read.0,
       (c.names.new.self, c.in_ok-names.ensures.called, read.1),
-      front_loaded (filter is_of_log) _ c.from_residual-in_err-copy_files.result names read.0 c.from_residual-in_err-copy_files.ensures.1 (subst (λ ns. ReadsFront ns read.0) wanted read.2),
+      front_loaded (filter is_of_log) _ c.from_residual-in_err-copy_files.result names read.0 c.from_residual-in_err-copy_files.ensures.1 (subst (λ ns. ReadsUpToOneFile ns read.0) wanted read.2),
     )
 
 pub returns-clause-called : goal.returns-clause-called

@@ -1,13 +1,15 @@
-use Rattle.std.proofs.Common.{true, ◌≡◌, sym, ap, ◌∙◌, map, rules, subst, take, ℕ, List, Err, Result}
+use Rattle.std.proofs.Common.{true, ◌≡◌, sym, ap, ◌∙◌, map, rules, subst, take, ℕ, List, String, Vec, Err, Result}
 use Rattle.store_core.specs.Objects.{Objects, names_of, object_at}
 use Rattle.std.specs.Prelude.{is_some, string_bytes, refl}
+use Rattle.std.specs.Global.{Global}
 use Rattle.std.proofs.lemmas.List.{take_all}
-use Rattle.table_folder.specs.Faults.{SaveFailsAt, CountsSave, FailsWhereStood}
-use Rattle.table_folder.specs.Copies.{MayHaveSaved, new_names, saved_at, to_save, with_copies, with_copy}
+use Rattle.table_folder.specs.Faults.{CountsLost, CountsSave, SaveFailsAt}
+use Rattle.table_folder.specs.Copies.{AreAbsent, MayHaveSaved, new_names, saved_at, to_save, with_copies, with_copy}
 use Rattle.table_folder.specs.Traces.{made_all}
 use Rattle.table_folder.specs.declared.fault.SaveFault.{SaveFault}
 use Rattle.table_folder.proofs.CopyLemmas.{all_saved, kept_by_copies, whole_saved}
-use Rattle.table_folder.proofs.SaveLemmas.{absent_more, copies_more, counts_before, found_before, front_after, is_err, is_stored, kept_by_front, stood_before}
+use Rattle.table_folder.proofs.SaveLemmas.{absent_more, copies_more, counts_before, empty_front, found_before, front_after, front_saved, is_err, is_stored, stood_before, unsaved_into, unsaved_named, untried_over, untried_stood}
+use Rattle.table_folder.proofs.NameLemmas.{contains_at}
 use Rattle.table_folder.proofs.TraceLemmas.{traced_more, unsaved_behind}
 use Rattle.table_folder.proofs.saving.save.Goals as goal
 
@@ -39,62 +41,79 @@ loop-name-preserved g c =
       sound = search rules;
     }
 
-pub returns-in_err-save_one-clause-front : goal.returns-in_err-save_one-clause-front
-returns-in_err-save_one-clause-front g c = λ steady.
+pub returns-in_err-names-clause-done : goal.returns-in_err-names-clause-done
+returns-in_err-names-clause-done g c = λ steady.
+    unsaved_into c.args.loaded.now (g.F.Folder.is_reliable c.args.folder.now) (g.S.Store.objects c.args.store.now) (g.F.Folder.objects c.args.folder.now) _ _ c.in_err-names.field-0.0
+    (is_err _ c.in_err-names.field-0.0 c.from_residual.ensures.1) (empty_front _ _ _)
+    (λ reliable. untried_stood (Vec (String Global) Global) _ c.in_err-names.field-0.0 c.in_err-names.ensures.saved)
+
+pub returns-in_err-names-clause-over : goal.returns-in_err-names-clause-over
+returns-in_err-names-clause-over g c =
+    untried_over (Vec (String Global) Global) _ _ _ _ c.in_err-names.field-0.0 _ _ _ (is_err _ c.in_err-names.field-0.0 c.from_residual.ensures.1) c.in_err-names.ensures.saved c.in_err-names.ensures.lost
+
+pub returns-in_err-save_one-clause-done : goal.returns-in_err-save_one-clause-done
+returns-in_err-save_one-clause-done g c = λ steady.
     let all = ap (map string_bytes) c.deref-name-items.ensures.value ∙ c.in_ok-names.ensures.names in
+    let found =
+    ap (λ (o : Objects). object_at o (string_bytes c.name-item.result)) (c.loop-name.invariant.copied steady)
+    ∙ found_before _ _ _ c.deref-name-items.result.now c.loop-name.name-index c.name-item.result (g.met.S.Store.in_order c.args.store.now) c.loop-name-test.true c.name-item.is all in
+    let front =
     front_after _ _ (g.F.Folder.objects c.loop-name.folder) _ c.deref-name-items.result.now _ c.loop-name.name-index c.name-item.result c.loop-name-test.true c.name-item.is all
-    (c.loop-name.invariant.absent steady) (c.loop-name.invariant.copied steady)
-    (ap (λ (o : Objects). object_at o (string_bytes c.name-item.result)) (c.loop-name.invariant.copied steady)
-    ∙ found_before _ _ _ c.deref-name-items.result.now c.loop-name.name-index c.name-item.result (g.met.S.Store.in_order c.args.store.now) c.loop-name-test.true c.name-item.is all)
+    (c.loop-name.invariant.absent steady) (c.loop-name.invariant.copied steady) found
     (subst (λ (stored : Objects). MayHaveSaved stored (string_bytes c.name-item.result) (g.F.Folder.objects c.loop-name.folder) (g.F.Folder.objects c.save_one.new.folder)) c.loop-name.invariant.store
     (subst (λ (name : List ℕ). MayHaveSaved (g.S.Store.objects c.loop-name.store) name (g.F.Folder.objects c.loop-name.folder) (g.F.Folder.objects c.save_one.new.folder)) c.as_str.ensures.value
-    (c.in_err-save_one.ensures.refused (c.loop-name.invariant.steady steady) (refl {a = true}))))
-
-pub returns-in_err-save_one-clause-kept : goal.returns-in_err-save_one-clause-kept
-returns-in_err-save_one-clause-kept g c = λ steady name bytes e. kept_by_front _ _ _ _ name bytes (returns-in_err-save_one-clause-front g c steady) e
-
-pub returns-in_err-save_one-clause-faults : goal.returns-in_err-save_one-clause-faults
-returns-in_err-save_one-clause-faults g c =
-    let all = ap (map string_bytes) c.deref-name-items.ensures.value ∙ c.in_ok-names.ensures.names in
-    subst (λ (r : Result (Unit {0}) SaveFault). CountsSave (g.F.Folder.is_steady c.args.folder.now) (g.F.Folder.objects c.args.folder.now) r (g.F.Folder.fault_count c.args.folder.now) (g.F.Folder.fault_count c.save_one.new.folder))
-    (sym (is_err _ c.in_err-save_one.field-0.0 c.from_residual-in_err-save_one.ensures.1))
-    (counts_before _ (g.F.Folder.is_steady c.loop-name.folder) (g.F.Folder.objects c.loop-name.folder) _ (string_bytes c.name-item.result) c.in_err-save_one.field-0.0 _ _ _ c.loop-name.invariant.steady c.loop-name.invariant.counted
+    (c.in_err-save_one.ensures.refused (c.loop-name.invariant.steady steady) (refl {a = true})))) in
+    unsaved_into c.args.loaded.now _ (g.S.Store.objects c.args.store.now) (g.F.Folder.objects c.args.folder.now) (g.F.Folder.objects c.save_one.new.folder) _ c.in_err-save_one.field-0.0
+    (is_err _ c.in_err-save_one.field-0.0 c.from_residual-in_err-save_one.ensures.1) front
+    (λ reliable. stood_before (g.F.Folder.objects c.loop-name.folder) _ (string_bytes c.name-item.result) c.in_err-save_one.field-0.0
     (subst (λ (name : List ℕ). SaveFailsAt {X = Unit {0}} name (Err c.in_err-save_one.field-0.0)) c.as_str.ensures.value c.in_err-save_one.ensures.named)
-    (λ steady. ap (λ (o : Objects). object_at o (string_bytes c.name-item.result)) (c.loop-name.invariant.copied steady)
-    ∙ found_before _ _ _ c.deref-name-items.result.now c.loop-name.name-index c.name-item.result (g.met.S.Store.in_order c.args.store.now) c.loop-name-test.true c.name-item.is all)
-    c.in_err-save_one.ensures.faults)
-
-pub returns-in_err-save_one-clause-never_fails : goal.returns-in_err-save_one-clause-never_fails
-returns-in_err-save_one-clause-never_fails g c = λ steady reliable.
-    let all = ap (map string_bytes) c.deref-name-items.ensures.value ∙ c.in_ok-names.ensures.names in
-    subst (λ (r : Result (Unit {0}) SaveFault). FailsWhereStood (g.F.Folder.objects c.args.folder.now) r)
-    (sym (is_err _ c.in_err-save_one.field-0.0 c.from_residual-in_err-save_one.ensures.1))
-    (stood_before (g.F.Folder.objects c.loop-name.folder) _ (string_bytes c.name-item.result) c.in_err-save_one.field-0.0
-    (subst (λ (name : List ℕ). SaveFailsAt {X = Unit {0}} name (Err c.in_err-save_one.field-0.0)) c.as_str.ensures.value c.in_err-save_one.ensures.named)
-    (ap (λ (o : Objects). object_at o (string_bytes c.name-item.result)) (c.loop-name.invariant.copied steady)
-    ∙ found_before _ _ _ c.deref-name-items.result.now c.loop-name.name-index c.name-item.result (g.met.S.Store.in_order c.args.store.now) c.loop-name-test.true c.name-item.is all)
+    found
     (c.in_err-save_one.ensures.never_fails (c.loop-name.invariant.steady steady) (c.loop-name.invariant.reliable reliable)))
 
-pub returns-clause-whole : goal.returns-clause-whole
-returns-clause-whole g c = λ steady name.
-    let all : map string_bytes (take c.loop-name.name-index c.deref-name-items.result.now) ≡ new_names c.args.loaded.now (g.S.Store.objects c.args.store.now) =
-    ap (map string_bytes) (take_all _ _ c.loop-name-test.false ∙ c.deref-name-items.ensures.value) ∙ c.in_ok-names.ensures.names in
-    ap (λ (o : Objects). object_at o name) (c.loop-name.invariant.copied steady)
-    ∙ whole_saved _ _ _ name (c.loop-name.invariant.absent steady)
-    ∙ ap (λ names. saved_at (g.S.Store.objects c.args.store.now) names (g.F.Folder.objects c.args.folder.now) name) all
+pub returns-in_err-save_one-clause-over : goal.returns-in_err-save_one-clause-over
+returns-in_err-save_one-clause-over g c =
+    let all = ap (map string_bytes) c.deref-name-items.ensures.value ∙ c.in_ok-names.ensures.names in
+    let is = sym (is_err _ c.in_err-save_one.field-0.0 c.from_residual-in_err-save_one.ensures.1) in
+    let named = subst (λ (name : List ℕ). SaveFailsAt {X = Unit {0}} name (Err c.in_err-save_one.field-0.0)) c.as_str.ensures.value c.in_err-save_one.ensures.named in
+    record {
+      named = unsaved_named _ (string_bytes c.name-item.result) _ c.in_err-save_one.field-0.0 (sym is) (contains_at c.deref-name-items.result.now _ c.loop-name.name-index c.name-item.result c.loop-name-test.true c.name-item.is all) named;
+      faults =
+          subst (λ (r : Result (Unit {0}) SaveFault). CountsSave (g.F.Folder.is_steady c.args.folder.now) (g.F.Folder.objects c.args.folder.now) r (g.F.Folder.fault_count c.args.folder.now) (g.F.Folder.fault_count c.save_one.new.folder)) is
+          (counts_before _ (g.F.Folder.is_steady c.loop-name.folder) (g.F.Folder.objects c.loop-name.folder) _ (string_bytes c.name-item.result) c.in_err-save_one.field-0.0 _ _ _ c.loop-name.invariant.steady c.loop-name.invariant.counted named
+          (λ steady. ap (λ (o : Objects). object_at o (string_bytes c.name-item.result)) (c.loop-name.invariant.copied steady)
+          ∙ found_before _ _ _ c.deref-name-items.result.now c.loop-name.name-index c.name-item.result (g.met.S.Store.in_order c.args.store.now) c.loop-name-test.true c.name-item.is all)
+          c.in_err-save_one.ensures.faults);
+      lost =
+          subst (λ (count : ℕ). CountsLost c.from_residual-in_err-save_one.result count (g.S.Store.fault_count c.save_one.new.store)) c.loop-name.invariant.lost
+          (subst (λ (r : Result (Unit {0}) SaveFault). CountsLost r (g.S.Store.fault_count c.loop-name.store) (g.S.Store.fault_count c.save_one.new.store)) is c.in_err-save_one.ensures.lost);
+    }
 
-pub returns-clause-kept : goal.returns-clause-kept
-returns-clause-kept g c = λ steady name bytes e.
-    ap (λ (o : Objects). object_at o name) (c.loop-name.invariant.copied steady)
-    ∙ kept_by_copies (g.S.Store.objects c.args.store.now) (g.F.Folder.objects c.args.folder.now) (map string_bytes (take c.loop-name.name-index c.deref-name-items.result.now)) name bytes e
+pub returns-clause-done : goal.returns-clause-done
+returns-clause-done g c = λ steady.
+    let old : Objects = g.F.Folder.objects c.args.folder.now in
+    let stored : Objects = g.S.Store.objects c.args.store.now in
+    let of : map string_bytes c.deref-name-items.result.now ≡ new_names c.args.loaded.now stored = ap (map string_bytes) c.deref-name-items.ensures.value ∙ c.in_ok-names.ensures.names in
+    let all : map string_bytes (take c.loop-name.name-index c.deref-name-items.result.now) ≡ new_names c.args.loaded.now stored =
+    ap (map string_bytes) (take_all _ _ c.loop-name-test.false) ∙ of in
+    let copied = c.loop-name.invariant.copied steady in
+    let absent = c.loop-name.invariant.absent steady in
+    record {
+      front = front_saved old stored _ c.deref-name-items.result.now _ c.loop-name.name-index of absent copied;
+      saved = copied ∙ ap (with_copies stored old) all;
+      fresh = subst (AreAbsent old) all absent;
+      whole = λ name. ap (λ (o : Objects). object_at o name) copied ∙ whole_saved _ _ _ name absent ∙ ap (λ names. saved_at stored names old name) all;
+      kept = λ name bytes e.
+          ap (λ (o : Objects). object_at o name) copied
+          ∙ kept_by_copies stored old (map string_bytes (take c.loop-name.name-index c.deref-name-items.result.now)) name bytes e;
+      same = λ loaded has.
+          copied
+          ∙ ap (with_copies stored old) (all ∙ ap (λ names. to_save names (names_of stored)) loaded)
+          ∙ all_saved old stored (g.met.F.Folder.in_order c.args.folder.now) (g.met.S.Store.in_order c.args.store.now) has;
+      never_fails = λ reliable. tt;
+    }
 
-pub returns-clause-same : goal.returns-clause-same
-returns-clause-same g c = λ steady loaded has.
-    let all : map string_bytes (take c.loop-name.name-index c.deref-name-items.result.now) ≡ new_names c.args.loaded.now (g.S.Store.objects c.args.store.now) =
-    ap (map string_bytes) (take_all _ _ c.loop-name-test.false ∙ c.deref-name-items.ensures.value) ∙ c.in_ok-names.ensures.names in
-    c.loop-name.invariant.copied steady
-    ∙ ap (with_copies (g.S.Store.objects c.args.store.now) (g.F.Folder.objects c.args.folder.now)) (all ∙ ap (λ names. to_save names (names_of (g.S.Store.objects c.args.store.now))) loaded)
-    ∙ all_saved (g.F.Folder.objects c.args.folder.now) (g.S.Store.objects c.args.store.now) (g.met.F.Folder.in_order c.args.folder.now) (g.met.S.Store.in_order c.args.store.now) has
+pub returns-clause-over : goal.returns-clause-over
+returns-clause-over g c = record { named = tt; faults = c.loop-name.invariant.counted; lost = c.loop-name.invariant.lost }
 
 pub returns-in_err-save_one-clause-called : goal.returns-in_err-save_one-clause-called
 returns-in_err-save_one-clause-called g c =

@@ -12,7 +12,7 @@ pub returns-in-Call-clause-came : goal.returns-in-Call-clause-came
 returns-in-Call-clause-came g c = λ reliable w stands alive.
     let objects = g.S.Store.objects in
     called objects c.args.actor c.args.kind w c.in-Call._is_commit c.is_lost-is_lost.result (short_in (slot_at c.act.new.self c.args.actor)) c.go_on.result c.act.new.self c.go_on.new.self (c.next_of.ensures.next w stands ∙ c.in-Call.is)
-    (subst (λ (h : How). HasHappened objects w (act c.args.actor h) None c.act.new.self) c.how_of.ensures (c.act.ensures.happens reliable w stands))
+    (subst (λ (h : How). HasHappened objects c.args.world.now.is_short w (act c.args.actor h) None c.act.new.self) c.how_of.ensures (c.act.ensures.happens reliable w stands))
     (λ v there call told at. short_stands objects c.act.new.self c.args.actor v there call told at) c.is_lost-is_lost.ensures (λ v there. c.go_on.ensures.happens v there)
 
 pub returns-in-Step-clause-came : goal.returns-in-Step-clause-came

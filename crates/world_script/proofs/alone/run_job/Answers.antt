@@ -7,7 +7,7 @@ use Rattle.world_script.proofs.alone.run_job.Goals as goal
 pub returns-in_err-begin-clause-runs : goal.returns-in_err-begin-clause-runs
 returns-in_err-begin-clause-runs g c = λ reliable s stands.
     let p = err_from_is_err_and c.from_residual.result c.from_residual.ensures.1 in
-    rw p.1 (with_world g.S.Store.objects c.args.scene.now s stands _ s.world (c.in_err-begin.ensures.happens s.world stands.world_stands) refl refl refl refl refl)
+    rw p.1 (with_world g.S.Store.objects c.args.scene.now s stands _ s.world (c.in_err-begin.ensures.happens s.world stands.world_stands).0 refl refl refl refl refl)
 
 pub returns-in-Some-clause-runs : goal.returns-in-Some-clause-runs
 returns-in-Some-clause-runs g c = λ reliable s stands.

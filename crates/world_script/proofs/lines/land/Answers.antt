@@ -12,4 +12,4 @@ returns-in-Ok-None-clause-comes g c = λ reliable s stands.
 
 pub returns-in-Err-clause-comes : goal.returns-in-Err-clause-comes
 returns-in-Err-clause-comes g c = λ reliable s stands.
-    lands_err g.S.Store.objects c.args.scene.now s stands _ c.args.put c.in-Err.fault (c.in-Err.ensures.happens reliable s.world stands.world_stands) refl refl refl refl refl
+    lands_err g.S.Store.objects c.args.scene.now s stands c.args.scene.now.world.is_short _ c.args.put c.in-Err.fault (c.in-Err.ensures.happens reliable s.world stands.world_stands) refl refl refl refl refl

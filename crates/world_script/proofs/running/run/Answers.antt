@@ -1,45 +1,22 @@
-use Rattle.std.proofs.Common.{◌≡◌, true, false, ℕ, List, IfSome, subst, sym}
+use Rattle.std.proofs.Common.{rules, arith, ◌≡◌, ◌∙◌, true, ℕ, List, IfSome, refl, subst, sym}
 use Rattle.lake_script.specs.Streams.{unread}
+use Rattle.lake_script.specs.Told.{first_bad}
 use Rattle.world_script.specs.KeptLines.{IsBadKept}
 use Rattle.world_script.specs.Words.{needs_world}
-use Rattle.world_script.proofs.Known.{finishes_if, finishes_such, if_kept, with_known}
+use Rattle.world_script.proofs.Known.{finishes_if, finishes_known, finishes_such, if_kept, of_any, with_known}
 use Rattle.world_script.proofs.running.run.Goals as goal
 
-pub returns-in-Ok-clause-told : goal.returns-in-Ok-clause-told
-returns-in-Ok-clause-told g c = λ reliable well fine.
-    finishes_such c.run_any-ran.result.outcome.end (unread g.R.Read.remaining c.args.input.now) c.as_slice.result.now (λ text. needs_world text ≡ false) _
+pub returns-in-Ok-clause-plain : goal.returns-in-Ok-clause-plain
+returns-in-Ok-clause-plain g c = λ read.
+    with_known (unread g.R.Read.remaining c.args.input.now) c.as_slice.result.now _
     (subst (λ (text : List ℕ). IfSome (unread g.R.Read.remaining c.args.input.now) (λ known. text ≡ known)) (sym c.as_slice.ensures.value) c.in-Ok.ensures.all)
-    (λ is. c.run_any-ran.ensures.told is reliable well fine)
+    (λ is. c.run_any-ran.ensures.plain is)
 
-pub returns-in-Ok-clause-tells : goal.returns-in-Ok-clause-tells
-returns-in-Ok-clause-tells g c = λ reliable well.
-    finishes_such c.run_any-ran.result.outcome.end (unread g.R.Read.remaining c.args.input.now) c.as_slice.result.now (λ text. needs_world text ≡ false) _
+pub returns-in-Ok-clause-played : goal.returns-in-Ok-clause-played
+returns-in-Ok-clause-played g c = λ read.
+    with_known (unread g.R.Read.remaining c.args.input.now) c.as_slice.result.now _
     (subst (λ (text : List ℕ). IfSome (unread g.R.Read.remaining c.args.input.now) (λ known. text ≡ known)) (sym c.as_slice.ensures.value) c.in-Ok.ensures.all)
-    (λ is. c.run_any-ran.ensures.tells is reliable well)
-
-pub returns-in-Ok-clause-short : goal.returns-in-Ok-clause-short
-returns-in-Ok-clause-short g c = λ reliable well short.
-    finishes_such c.run_any-ran.result.outcome.end (unread g.R.Read.remaining c.args.input.now) c.as_slice.result.now (λ text. needs_world text ≡ false) _
-    (subst (λ (text : List ℕ). IfSome (unread g.R.Read.remaining c.args.input.now) (λ known. text ≡ known)) (sym c.as_slice.ensures.value) c.in-Ok.ensures.all)
-    (λ is. c.run_any-ran.ensures.short is reliable well short)
-
-pub returns-in-Ok-clause-script : goal.returns-in-Ok-clause-script
-returns-in-Ok-clause-script g c = λ state reliable well keeps fine.
-    finishes_such c.run_any-ran.result.outcome.end (unread g.R.Read.remaining c.args.input.now) c.as_slice.result.now (λ text. needs_world text ≡ false) _
-    (subst (λ (text : List ℕ). IfSome (unread g.R.Read.remaining c.args.input.now) (λ known. text ≡ known)) (sym c.as_slice.ensures.value) c.in-Ok.ensures.all)
-    (λ is. c.run_any-ran.ensures.script is state reliable well keeps fine)
-
-pub returns-in-Ok-clause-plays : goal.returns-in-Ok-clause-plays
-returns-in-Ok-clause-plays g c = λ reliable.
-    finishes_such c.run_any-ran.result.outcome.end (unread g.R.Read.remaining c.args.input.now) c.as_slice.result.now (λ text. needs_world text ≡ true) _
-    (subst (λ (text : List ℕ). IfSome (unread g.R.Read.remaining c.args.input.now) (λ known. text ≡ known)) (sym c.as_slice.ensures.value) c.in-Ok.ensures.all)
-    (λ is. c.run_any-ran.ensures.plays is reliable)
-
-pub returns-in-Ok-clause-tells_short : goal.returns-in-Ok-clause-tells_short
-returns-in-Ok-clause-tells_short g c = λ reliable.
-    finishes_such c.run_any-ran.result.outcome.end (unread g.R.Read.remaining c.args.input.now) c.as_slice.result.now (λ text. needs_world text ≡ true) _
-    (subst (λ (text : List ℕ). IfSome (unread g.R.Read.remaining c.args.input.now) (λ known. text ≡ known)) (sym c.as_slice.ensures.value) c.in-Ok.ensures.all)
-    (λ is. c.run_any-ran.ensures.tells_short is reliable)
+    (λ is. c.run_any-ran.ensures.played is)
 
 pub returns-in-Ok-clause-headline : goal.returns-in-Ok-clause-headline
 returns-in-Ok-clause-headline g c = λ reliable nothing.
@@ -47,11 +24,21 @@ returns-in-Ok-clause-headline g c = λ reliable nothing.
     (subst (λ (text : List ℕ). IfSome (unread g.R.Read.remaining c.args.input.now) (λ known. text ≡ known)) (sym c.as_slice.ensures.value) c.in-Ok.ensures.all)
     (λ is. finishes_if c.run_any-ran.result.outcome.end _ _ (λ here. c.run_any-ran.ensures.headline is reliable nothing here))
 
-pub returns-in-Ok-clause-sound : goal.returns-in-Ok-clause-sound
-returns-in-Ok-clause-sound g c = λ reliable nothing read.
-    with_known (unread g.R.Read.remaining c.args.input.now) c.as_slice.result.now _
-    (subst (λ (text : List ℕ). IfSome (unread g.R.Read.remaining c.args.input.now) (λ known. text ≡ known)) (sym c.as_slice.ensures.value) c.in-Ok.ensures.all)
-    (λ is here. c.run_any-ran.ensures.sound is reliable nothing here)
+pub returns-in-Ok-clause-input : goal.returns-in-Ok-clause-input
+returns-in-Ok-clause-input g c = record {
+  nothing = λ none. absurd (c.run_any-ran.ensures.ends.read none);
+  not_read = λ none. absurd (c.run_any-ran.ensures.ends.read none);
+  broken_input = λ broken. absurd (let wrong = sym c.in-Ok.ensures.unbroken ∙ broken in cc);
+  too_long = with_known (unread g.R.Read.remaining c.args.input.now) c.as_slice.result.now _
+      (subst (λ (text : List ℕ). IfSome (unread g.R.Read.remaining c.args.input.now) (λ known. text ≡ known)) (sym c.as_slice.ensures.value) c.in-Ok.ensures.all)
+      (λ long. absurd (omega (arith, long, c.in-Ok.ensures.bounded)));
+  bad = finishes_known c.run_any-ran.result.outcome.end (unread g.R.Read.remaining c.args.input.now) c.as_slice.result.now (λ bad text. bad ≡ first_bad text)
+      (subst (λ (text : List ℕ). IfSome (unread g.R.Read.remaining c.args.input.now) (λ known. text ≡ known)) (sym c.as_slice.ensures.value) c.in-Ok.ensures.all)
+      c.run_any-ran.ensures.ends.finished;
+}
+
+pub returns-in-Ok-clause-ends : goal.returns-in-Ok-clause-ends
+returns-in-Ok-clause-ends g c = c.run_any-ran.ensures.ends.output
 
 pub returns-in-Ok-clause-kept_of : goal.returns-in-Ok-clause-kept_of
 returns-in-Ok-clause-kept_of g c =
@@ -59,3 +46,28 @@ returns-in-Ok-clause-kept_of g c =
     (λ kept bad. with_known (unread g.R.Read.remaining c.args.input.now) c.as_slice-in-Ok.result.now (λ text. IsBadKept c.run_any-ran.result.outcome.end text kept.items)
     (subst (λ (text : List ℕ). IfSome (unread g.R.Read.remaining c.args.input.now) (λ known. text ≡ known)) (sym c.as_slice-in-Ok.ensures.value) c.in-Ok.ensures.all) bad)
     c.bad_line.ensures.bad
+
+-- ---- where the input isn't read to its end
+
+pub returns-in-Err-clause-plain : goal.returns-in-Err-clause-plain
+returns-in-Err-clause-plain g c = λ read. absurd (read c.new.ensures.end)
+
+pub returns-in-Err-clause-played : goal.returns-in-Err-clause-played
+returns-in-Err-clause-played g c = λ read. absurd (read c.new.ensures.end)
+
+pub returns-in-Err-clause-input : goal.returns-in-Err-clause-input
+returns-in-Err-clause-input g c = record {
+  nothing = λ none. (refl, refl);
+  not_read = search rules;
+  broken_input = λ broken. c.new.ensures.end;
+  too_long = of_any (unread g.R.Read.remaining c.args.input.now) _ (λ text long. c.new.ensures.end);
+  bad = rw c.new.ensures.end tt;
+}
+
+pub returns-in-Err-clause-ends : goal.returns-in-Err-clause-ends
+returns-in-Err-clause-ends g c = record {
+  nothing_waits = rw c.new.ensures.end tt;
+  behind = rw c.new.ensures.end tt;
+  broken_output = rw c.new.ensures.end tt;
+  not_written = λ cut. absurd (let wrong = sym c.new.ensures.end ∙ cut in cc);
+}
