@@ -107,15 +107,16 @@ def stored_scripts(lines: list[str]) -> dict[str, list[str]]:
     return stored
 
 
-def check_scripts() -> Tally:
-    """Compares the scripts and command lines of `crates/lake_cases`."""
+def check_stored(
+    kind: str, cases_of: Callable[[list[str]], Iterator[Any]], answer: Callable[[Any], list[str]]
+) -> Tally:
+    """Compares cases of `crates/lake_cases` of one kind, each by its name with what is stored of it."""
     tally = Tally()
-    stored = stored_scripts(lines_of_kind("scripts", "stdout"))
-    for case in script_cases(lines_of_kind("scripts", "stdin")):
-        name = f"scripts: {case.name}"
-        tally.compare(name, partial(script_answer, case), stored.pop(case.name, []))
+    stored = stored_scripts(lines_of_kind(kind, "stdout"))
+    for case in cases_of(lines_of_kind(kind, "stdin")):
+        tally.compare(f"{kind}: {case.name}", partial(answer, case), stored.pop(case.name, []))
     if stored:
-        raise SystemExit("scripts: a stored answer is left over")
+        raise SystemExit(f"{kind}: a stored answer is left over")
     return tally
 
 
@@ -138,30 +139,6 @@ def check_replies() -> Tally:
     tally = Tally()
     for case in reply_cases():
         tally.compare(f"replies: {case.name}", partial(found_in, case.script, case.told), case.found)
-    return tally
-
-
-def check_sessions() -> Tally:
-    """Compares the calls of `crates/lake_cases`."""
-    tally = Tally()
-    stored = stored_scripts(lines_of_kind("calls", "stdout"))
-    for case in session_cases(lines_of_kind("calls", "stdin")):
-        name = f"calls: {case.name}"
-        tally.compare(name, partial(session_answer, case), stored.pop(case.name, []))
-    if stored:
-        raise SystemExit("calls: a stored answer is left over")
-    return tally
-
-
-def check_events() -> Tally:
-    """Compares the lists of events of `crates/lake_cases`."""
-    tally = Tally()
-    stored = stored_scripts(lines_of_kind("events", "stdout"))
-    for case in event_cases(lines_of_kind("events", "stdin")):
-        name = f"events: {case.name}"
-        tally.compare(name, partial(event_answer, case), stored.pop(case.name, []))
-    if stored:
-        raise SystemExit("events: a stored answer is left over")
     return tally
 
 
@@ -461,11 +438,11 @@ def main() -> int:
         print("memory was refused,", refusal)
     total = Tally()
     checks = {
-        "scripts": check_scripts,
+        "scripts": partial(check_stored, "scripts", script_cases, script_answer),
         "random scripts, by themselves": check_random_scripts,
         "replies that break laws": check_replies,
-        "calls": check_sessions,
-        "events": check_events,
+        "calls": partial(check_stored, "calls", session_cases, session_answer),
+        "events": partial(check_stored, "events", event_cases, event_answer),
         "lake_inspect": check_lines,
     }
     for name, check in checks.items():
