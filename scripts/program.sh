@@ -134,6 +134,12 @@ appends() {
     }'
 }
 
+# Appends of one row, each followed by a read of what is new.
+follows() {
+    appends "$1" 0 | awk '{ print }
+        NR > 1 { printf "tail 10 {\"file\":0,\"row\":0,\"version\":%d}\n", NR - 1 }'
+}
+
 # The scripts that are timed.
 write_scripts() {
     local row
@@ -145,6 +151,9 @@ write_scripts() {
     appends 2000 0 > "$work/appends-2000"
     appends 2000 100 > "$work/checked-2000"
     appends 8000 0 > "$work/appends-8000"
+    # The same behind a fault, by which a script is run in a world; and with reads between them.
+    { echo "fault pass"; appends 2000 0; } > "$work/faulted-2000"
+    follows 2000 > "$work/follows-2000"
     append 0 4096 0 > "$work/one"
     { create "$long"; for _ in $(seq 51); do cat "$work/one"; done; } > "$work/repeats-50"
     # Reads of ten rows, each from where the one before ended.
@@ -165,7 +174,7 @@ time_scripts() {
     local script name rows
     printf '%-12s %8s %8s %12s\n' script rows seconds 'rows/second'
     for script in long-65536:65536 text-65536:65536 appends-800:800 appends-2000:2000 checked-2000:2000 \
-        appends-8000:8000 repeats-50:208896 reads-4096:4096; do
+        appends-8000:8000 faulted-2000:2000 follows-2000:2000 repeats-50:208896 reads-4096:4096; do
         name=${script%:*}
         rows=${script#*:}
         for _ in 1 2 3; do seconds "$work/$name"; done | sort -n | head -1 | awk -v name="$name" -v rows="$rows" '

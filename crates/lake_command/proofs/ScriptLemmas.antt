@@ -17,17 +17,19 @@ use Rattle.lake_script.specs.Sound.{IsScriptRun}
 use Rattle.lake_script.specs.Scripts.{IsScript}
 use Rattle.lake_script.specs.Tables.{nothing, entries_of_state}
 use Rattle.lake_script.specs.TextRuns.{IsTextRun}
-use Rattle.lake_script.specs.Told.{IsScriptTold, expected_output, fell_short, first_bad, Finishes}
+use Rattle.lake_script.specs.SoundStores.{IsSoundStore}
+use Rattle.lake_script.specs.Told.{ArePutHere, IsScriptTold, expected_output, fell_short, first_bad, Finishes}
 use Rattle.lake_words.specs.Asked.{Spells, replaying, restoring}
 use Rattle.lake_words.specs.declared.command.Command.{Command}
 use Rattle.lake_words.specs.declared.command.Command.TheVariants.{Script, Table}
 use Rattle.lake_words.specs.declared.command.TableCommand.{TableCommand}
-use Rattle.lake_command.specs.Scripts.{IsPlayedOver, IsPlayedSo, WritesScript}
+use Rattle.lake_command.specs.Scripts.{IsPlayedOver, IsPlayedSo, IsToldOfTable, WritesScript}
 use Rattle.world_script.specs.Words.{needs_world}
 use Rattle.lake_hints.specs.ErrorOutputs.{TellsSome}
 use Rattle.lake_hints.specs.declared.error_output.ErrorOutput.{ErrorOutput}
 use Rattle.lake_command.specs.ErrorTexts.{IsBadLineTold, IsEndTold}
 use Rattle.lake_command.specs.Status.{IsStatusOf, status_at, status_of, status_of_kind}
+use Rattle.world_script.specs.ByLines.{IsTextSo}
 use Rattle.world_script.specs.Playing.{PlaysShort, PlaysSo}
 use Rattle.world_script.specs.Scenes.{first_scene}
 use Rattle.world_script.specs.WorldRuns.{IsWorldRun}
@@ -85,15 +87,17 @@ module _ (uses : Bool) (outcome : Outcome) (old new : Option (List ℕ)) (after 
     by_table_of : (needs_world text ≡ false → IsTextRun uses text outcome old new [] after) → needs_world text ≡ false → fell_short outcome ≡ false → IsScript nothing old new text [] after
     by_table_of plain none whole = has_told outcome.end _ fine ((plain none).script nothing (well_of_empty uses [] refl) refl whole) (few_by outcome.end text fine limit)
 
-    writes : (needs_world text ≡ false → IsTextRun uses text outcome old new [] after) → (needs_world text ≡ true → IsWorldRun uses text outcome old new [] after) → WritesScript uses text (fell_short outcome) old new
-    writes plain played = record {
+    writes : (needs_world text ≡ false → IsTextRun uses text outcome old new [] after) → (needs_world text ≡ true → IsWorldRun uses text outcome old new [] after)
+        → (needs_world text ≡ true → ArePutHere (lines_of text) → TellsWhole old new (λ written. IsTextSo uses text written after)) → WritesScript uses text (fell_short outcome) old new
+    writes plain played headline = record {
       told = λ none whole. tells_of_run old new text after (has_told outcome.end _ fine ((plain none).told (well_of_empty uses [] refl) whole));
       tables = λ none whole. (by_table_of plain none whole).by_table;
       shown = λ none whole. (by_table_of plain none whole).over;
       short = λ none so. has_told outcome.end _ fine ((plain none).short (well_of_empty uses [] refl) so);
       tells = λ none. may_be_told (has_told outcome.end _ fine ((plain none).tells (well_of_empty uses [] refl)));
       plays = λ has. is_played (has_told outcome.end _ fine (played has).tells_short);
-      headline = λ has here. is_played_so (has_told outcome.end _ fine ((played has).worlds refl here));
+      headline = λ has here. is_told_of ((played has).sound refl here).so.sound (headline has here);
+      worlds = λ has here. is_played_so (has_told outcome.end _ fine ((played has).worlds refl here));
     }
       where
         may_be_told : TellsWhole old new (λ written. Runs 1 [] (lines_of text) written after) → TellsWhole old new (MayBeTold [] text)
@@ -105,13 +109,18 @@ module _ (uses : Bool) (outcome : Outcome) (old new : Option (List ℕ)) (after 
         is_played_so : TellsWhole old new (λ written. PlaysSo (first_scene [] uses) text written after) → TellsWhole old new (IsPlayedSo uses text)
         is_played_so told = (told.0, told.1, (after, told.2))
 
+        is_told_of : IsSoundStore after → TellsWhole old new (λ written. IsTextSo uses text written after) → TellsWhole old new (IsToldOfTable uses text)
+        is_told_of sound told = (told.0, told.1, (after, sound, told.2))
+
   -- the same where the text may not be known, over a store that loses no call
   pub written_of : (is_reliable : Type 0) (input : Option (List ℕ)) (before : Objects) → IfSome input (λ text. MOST_BYTES < length text → outcome.end ≡ NotRead)
       → IfSome input (λ text. needs_world text ≡ false → is_reliable → IsTextRun uses text outcome old new before after) → IfSome input (λ text. needs_world text ≡ true → is_reliable → IsWorldRun uses text outcome old new before after)
+      → (is_reliable → before ≡ [] → Finishes outcome.end (λ _. IfSome input (λ text. needs_world text ≡ true → ArePutHere (lines_of text) → TellsWhole old new (λ written. IsTextSo uses text written after))))
       → is_reliable → before ≡ [] → IfSome input (λ text. WritesScript uses text (fell_short outcome) old new)
-  written_of is_reliable None before limit plain played reliable empty = tt
-  written_of is_reliable (Some text) before limit plain played reliable empty =
+  written_of is_reliable None before limit plain played headline reliable empty = tt
+  written_of is_reliable (Some text) before limit plain played headline reliable empty =
       writes text limit (λ none. subst (λ (o : Objects). IsTextRun uses text outcome old new o after) empty (plain none reliable)) (λ has. subst (λ (o : Objects). IsWorldRun uses text outcome old new o after) empty (played has reliable))
+      (has_told outcome.end _ fine (headline reliable empty))
 
 -- why the first bad line of one that isn't refused is bad is told on standard error
 pub bad_line_told : {E : Type 0} (contents : E → Option (List ℕ)) (end : End) (input : Option (List ℕ)) (status : ℕ) (old new : ErrorOutput E) → status_of end ≢ 1 → status ≡ status_of end

@@ -8,6 +8,7 @@ use Rattle.lake_hints.specs.declared.error_output.ErrorOutput.{ErrorOutput}
 use Rattle.lake_words.specs.declared.command.Command.{Command}
 use Rattle.lake_words.specs.declared.command.Command.TheVariants as commands
 use Rattle.lake_script.specs.Runs.{FallsShort, MayBeTold, TellsWhole}
+use Rattle.lake_script.specs.SoundStores.{IsSoundStore}
 use Rattle.lake_script.specs.Scripts.{IsExpectedOver}
 use Rattle.lake_script.specs.Streams.{held, write_failed}
 use Rattle.lake_script.specs.Tables.{nothing, table_expected_output as expected_by_table, AreOfTable}
@@ -17,6 +18,7 @@ use Rattle.lake_script.specs.declared.outputs.Output.{Output}
 use Rattle.lake_command.specs.ErrorTexts.{IsBadLineTold}
 use Rattle.lake_command.specs.Status.{status_at}
 use Rattle.lake_command.specs.declared.exit.Exit.{Exit}
+use Rattle.world_script.specs.ByLines.{IsTextSo}
 use Rattle.world_script.specs.Playing.{PlaysShort, PlaysSo}
 use Rattle.world_script.specs.Scenes.{first_scene}
 use Rattle.world_script.specs.Words.{needs_world}
@@ -33,6 +35,11 @@ IsPlayedOver use_checkpoints text is_short written = (objects : Objects) × Play
 -- and what sessions told by them is so
 abbrev pub IsPlayedSo : (use_checkpoints : Bool) → (text written : List ℕ) → Type 0
 IsPlayedSo use_checkpoints text written = (objects : Objects) × PlaysSo (first_scene [] use_checkpoints) text written objects
+
+-- There is a table, that which some sound store holds, of which what was told is so: which jobs the lines hand in, and what was told of each, are
+-- read off the lines and what is written alone.
+abbrev pub IsToldOfTable : (use_checkpoints : Bool) → (text written : List ℕ) → Type 0
+IsToldOfTable use_checkpoints text written = (objects : Objects) × IsSoundStore objects × IsTextSo use_checkpoints text written objects
 
 -- What the output holds before and after a script that isn't refused, where both are known.
 pub record WritesScript (use_checkpoints : Bool) (text : List ℕ) (is_short : Bool) (before after : Option (List ℕ)) : Type 0 where
@@ -53,7 +60,9 @@ pub record WritesScript (use_checkpoints : Bool) (text : List ℕ) (is_short : B
   -- was acknowledged stands in the log once, every batch at most once and as submitted, each application's in rising number
   -- and none after its close; and what a reader was handed that resumes at its last offset is exactly the log's rows up to
   -- that offset, once each, in log order.
-  pub headline : needs_world text ≡ true → ArePutHere (lines_of text) → TellsWhole before after (IsPlayedSo use_checkpoints text)
+  pub headline : needs_world text ≡ true → ArePutHere (lines_of text) → TellsWhole before after (IsToldOfTable use_checkpoints text)
+  -- The same of the world to which its lines led.
+  pub worlds : needs_world text ≡ true → ArePutHere (lines_of text) → TellsWhole before after (IsPlayedSo use_checkpoints text)
 
 -- How a script ends, over a store in which nothing stood.
 pub record EndsScript {W E : Type 0} (contents : W → Option (List ℕ)) (contents_err : E → Option (List ℕ)) (use_checkpoints : Bool) (text : Option (List ℕ)) (is_broken : Bool) (old new : Output W) (err_old err_new : ErrorOutput E) (exit : Exit) : Type 0 where

@@ -32,7 +32,7 @@ pub fn reply_of(alloc: Global, end: JobEnd) -> LineReply
 
 /// The reply to a line whose job told this, as [`reply_of`] finds it. What the job's session knew of the log by its end
 /// goes into the cache.
-pub(crate) fn reply_learning(alloc: Global, end: JobEnd, cache: &mut LogCache) -> LineReply
+pub fn reply_learning(alloc: Global, end: JobEnd, cache: &mut LogCache) -> LineReply
     ensures told { IsReplyOf (end_view end) (reply_text result) }
     ensures short { IsShortBy (end_view end) (reply_text result) (is_short_reply result) }
     ensures lost { says_lost result ≡ reply_loses (end_view end) }

@@ -16,7 +16,7 @@ mod reply;
 mod running;
 mod showing;
 
-pub use ending::reply_of;
+pub use ending::{reply_learning, reply_of};
 pub use engine::{End, Outcome, run_text};
 pub use faults::{Fault, RefusalText};
 pub use inputs::{Input, InputError, MOST_BYTES, MOST_READS};

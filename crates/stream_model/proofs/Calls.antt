@@ -9,6 +9,7 @@ use Rattle.store_core.specs.ObjectLaws.{listed_iff_stands, object_at-with_object
 use Rattle.store_core.specs.Names.{commit_name}
 use Rattle.session_core.specs.Talks.{Asked, Bears, IsBorne, Talk, Told, get_object, list_names, put_commit, put_file, told_lost, told_memory, told_object}
 use Rattle.delta_actions.specs.Commit.{IsCommit}
+use Rattle.table_log.specs.LoadSessions.{LoadJob}
 use Rattle.table_model.specs.Table.{Entry}
 use Rattle.table_store.specs.Holds.{Holds}
 use Rattle.table_store.specs.Schema.{Schema}
@@ -24,7 +25,8 @@ use Rattle.session_laws.proofs.Callers.{batch_commit, close_commit, reached_fron
 use Rattle.stream_model.specs.Events.{Event, IsOfBytes}
 use Rattle.stream_model.specs.Puts.{HasTable, IsGoodPut, IsCommitMade, Submitted, WasBegun, a_checkpoint, a_commit, a_file}
 use Rattle.stream_model.specs.Puts as made
-use Rattle.stream_model.specs.Worlds.{told_by_call, left_by_call}
+use Rattle.stream_model.specs.Worlds.{IsBegunAs, told_by_call, left_by_call}
+use Rattle.stream_model.proofs.Begun.{batch_begun}
 
 -- ---- what is asked for
 
@@ -36,24 +38,28 @@ IsGoodCall events objects asked = Unit {0}
 
 module _ (events : List Event) (objects : Objects) (schema : Schema) (entries : List Entry) (sound : IsSoundStore objects) (holds : Holds objects schema entries) where
   -- where a stream has come to a point, a table stands
-  some_table : (job : SinkJob) (talk : Talk) (borne : Bears objects talk) → {known : _} {tries : ℕ} {point : Point} → Reaches job [] talk known tries point → HasTable objects schema
-  some_table job talk borne {known = known} {tries = tries} {point = point} reaches =
-      let front = (reached_front objects schema entries sound holds job [] talk known tries point tt borne reaches).front in
-      by_firsts front.firsts front.later front.split (omega (arith, front.long, reaches_some job [] talk known tries point reaches)) holds
+  some_table : (job : SinkJob) (before talk : Talk) (earlier : Bears objects before) (borne : Bears objects talk) → {known : _} {tries : ℕ} {point : Point} → Reaches job before talk known tries point → HasTable objects schema
+  some_table job before talk earlier borne {known = known} {tries = tries} {point = point} reaches =
+      let front = (reached_front objects schema entries sound holds job before talk known tries point earlier borne reaches).front in
+      by_firsts front.firsts front.later front.split (omega (arith, front.long, reaches_some job before talk known tries point reaches)) holds
     where
       by_firsts : (firsts later : List Entry) → entries ≡ firsts ++ later → 0 < length firsts → Holds objects schema entries → HasTable objects schema
       by_firsts [] later split long held = absurd (omega (arith, long))
       by_firsts (first ∷ rest) later split long held = (first, rest ++ later, subst (Holds objects schema) split held)
 
-  module _ (job : SinkJob) (submitted : Submitted events job) (well : IsValidJob (streams job)) (talk : Talk) (borne : Bears objects talk) where
+  module _ (job : SinkJob) (load : LoadJob) (submitted : Submitted events job) (well : IsValidJob (streams job)) (before talk : Talk) (earlier : Bears objects before) (borne : Bears objects talk) where
+    -- the job with what its session knew of the log
+    abbrev job_begun : SinkJob
+    job_begun = record job { load = load }
+
     same_number : (number other : ℕ) (items others : Items) → appends number items ≡ appends other others → number ≡ other
     same_number number other items others is = cc
 
     -- what its commit holds
-    commit_made : HasTable objects schema → (version : ℕ) (bytes : List ℕ) → IsJobCommit objects schema job bytes → IsCommitMade events objects version bytes
+    commit_made : HasTable objects schema → (version : ℕ) (bytes : List ℕ) → IsJobCommit objects schema job_begun bytes → IsCommitMade events objects version bytes
     commit_made table version bytes commit = by_task job.task refl commit
       where
-        by_task : (task : SinkTask) → job.task ≡ task → IsJobCommit objects schema (record job { task = task }) bytes → IsCommitMade events objects version bytes
+        by_task : (task : SinkTask) → job.task ≡ task → IsJobCommit objects schema (record job_begun { task = task }) bytes → IsCommitMade events objects version bytes
         by_task (appends number items) is (b, of_job, file) =
             let task : job.task ≡ appends b.number of_job.items = is ∙ of_job.task in
             let number_is : number ≡ b.number = same_number number b.number items of_job.items of_job.task in
@@ -64,31 +70,40 @@ module _ (events : List Event) (objects : Objects) (schema : Schema) (entries : 
             made.appends schema job b table submitted own (batch_commit schema b job.at (length file.0) bytes reads) (file.0, file.1, file.2.0)
         by_task closes is text = made.closes schema job submitted is (close_commit schema job.application job.at bytes well.0 text.1)
 
-    stream_good : (asked : Asked) → SinkAsks job [] talk asked → MayAsk objects schema (streams job) talk asked → IsOfBytes asked → IsGoodCall events objects asked
+    stream_good : (asked : Asked) → SinkAsks job_begun before talk asked → MayAsk objects schema (streams job_begun) talk asked → IsOfBytes asked → IsGoodCall events objects asked
     stream_good list_names asks_so may of_bytes = tt
     stream_good (get_object name) asks_so may of_bytes = tt
     stream_good (put_file name bytes) asks_so may of_bytes =
-        let b = may.1.0 in
-        (a_file schema (some_table job talk borne asks_so.1.is.reaches) (job, submitted, may.1), of_bytes)
+        let file = may.1 in
+        (a_file schema (some_table job_begun before talk earlier borne asks_so.1.is.reaches) (job, submitted, (file.0, batch_begun schema job load file.0 file.1, file.2, file.3, file.4)), of_bytes)
     stream_good (put_commit version bytes) asks_so may of_bytes =
         let r = asks_so.1 in
-        let table = some_table job r.front (bears_front objects r.front r.race (subst (Bears objects) r.talked borne)) r.reaches in
+        let table = some_table job_begun before r.front earlier (bears_front objects r.front r.race (subst (Bears objects) r.talked borne)) r.reaches in
         (a_commit version refl may.1.0 (commit_made table version bytes may.2), of_bytes)
 
   -- Whatever a session asks for is good.
-  pub call_good : (job : Job) → WasBegun events job → (talk : Talk) → Bears objects talk → (asked : Asked) → Does job [] talk (asks asked) → MayAsk objects schema job talk asked → IsOfBytes asked → IsGoodCall events objects asked
-  call_good job begun talk borne list_names does may of_bytes = tt
-  call_good job begun talk borne (get_object name) does may of_bytes = tt
-  call_good (streams job) begun talk borne (put_file name bytes) does may of_bytes = stream_good job begun begun.0.0 talk borne (put_file name bytes) does.0 may of_bytes
-  call_good (streams job) begun talk borne (put_commit version bytes) does may of_bytes = stream_good job begun begun.0.0 talk borne (put_commit version bytes) does.0 may of_bytes
-  call_good (checkpoints job) begun talk borne (put_file name bytes) does may of_bytes = (a_checkpoint may.0 may.1 may.2, of_bytes)
-  call_good (checkpoints job) begun talk borne (put_commit version bytes) does may of_bytes = absurd may
-  call_good (creates job) begun talk borne (put_file name bytes) does may of_bytes = absurd may
-  call_good (creates job) begun talk borne (put_commit version bytes) does may of_bytes = (a_commit version refl may.0.0 (made.creates job begun does.0.0 may.1), of_bytes)
-  call_good (loads job) begun talk borne (put_file name bytes) does may of_bytes = absurd may
-  call_good (loads job) begun talk borne (put_commit version bytes) does may of_bytes = absurd may
-  call_good (reads job) begun talk borne (put_file name bytes) does may of_bytes = absurd may
-  call_good (reads job) begun talk borne (put_commit version bytes) does may of_bytes = absurd may
+  pub call_good : (job begun : Job) → WasBegun events job → IsBegunAs job begun → (before talk : Talk) → Bears objects before → Bears objects talk → (asked : Asked) → Does begun before talk (asks asked) → MayAsk objects schema begun talk asked → IsOfBytes asked
+      → IsGoodCall events objects asked
+  call_good job begun was same before talk earlier borne list_names does may of_bytes = tt
+  call_good job begun was same before talk earlier borne (get_object name) does may of_bytes = tt
+  call_good (streams job) begun was same before talk earlier borne (put_file name bytes) does may of_bytes =
+      stream_good job same.0 was was.0.0 before talk earlier borne (put_file name bytes) (subst (λ (j : Job). Asks j before talk (put_file name bytes)) same.2 does.0) (subst (λ (j : Job). MayAsk objects schema j talk (put_file name bytes)) same.2 may) of_bytes
+  call_good (streams job) begun was same before talk earlier borne (put_commit version bytes) does may of_bytes =
+      stream_good job same.0 was was.0.0 before talk earlier borne (put_commit version bytes) (subst (λ (j : Job). Asks j before talk (put_commit version bytes)) same.2 does.0)
+      (subst (λ (j : Job). MayAsk objects schema j talk (put_commit version bytes)) same.2 may) of_bytes
+  call_good (checkpoints job) begun was same before talk earlier borne (put_file name bytes) does may of_bytes =
+      let put = subst (λ (j : Job). MayAsk objects schema j talk (put_file name bytes)) same.2 may in
+      (a_checkpoint put.0 put.1 put.2, of_bytes)
+  call_good (checkpoints job) begun was same before talk earlier borne (put_commit version bytes) does may of_bytes = absurd (subst (λ (j : Job). MayAsk objects schema j talk (put_commit version bytes)) same.2 may)
+  call_good (creates job) begun was same before talk earlier borne (put_file name bytes) does may of_bytes = absurd (subst (λ (j : Job). MayAsk objects schema j talk (put_file name bytes)) same may)
+  call_good (creates job) begun was same before talk earlier borne (put_commit version bytes) does may of_bytes =
+      let asks_so = subst (λ (j : Job). Asks j before talk (put_commit version bytes)) same does.0 in
+      let put = subst (λ (j : Job). MayAsk objects schema j talk (put_commit version bytes)) same may in
+      (a_commit version refl put.0.0 (made.creates job was asks_so.0 put.1), of_bytes)
+  call_good (loads job) begun was same before talk earlier borne (put_file name bytes) does may of_bytes = absurd (subst (λ (j : Job). MayAsk objects schema j talk (put_file name bytes)) same.2 may)
+  call_good (loads job) begun was same before talk earlier borne (put_commit version bytes) does may of_bytes = absurd (subst (λ (j : Job). MayAsk objects schema j talk (put_commit version bytes)) same.2 may)
+  call_good (reads job) begun was same before talk earlier borne (put_file name bytes) does may of_bytes = absurd (subst (λ (j : Job). MayAsk objects schema j talk (put_file name bytes)) same.1 may)
+  call_good (reads job) begun was same before talk earlier borne (put_commit version bytes) does may of_bytes = absurd (subst (λ (j : Job). MayAsk objects schema j talk (put_commit version bytes)) same.1 may)
 
 -- ---- what is answered
 
@@ -128,9 +143,9 @@ told_borne objects (put_commit version bytes) = put_borne objects (commit_name v
 
 -- what a session has heard is borne, and was asked for
 pub heard_so : ((objects : Objects) (talk more : Talk) → Bears objects talk → Bears objects more → Bears objects (talk ++ more))
-    → (objects : Objects) (job : Job) (talk : Talk) (asked : Asked) (told : Told) → Bears objects talk → HasAsked job [] talk → IsBorne objects asked told → Asks job [] talk asked
-    → Bears objects (talk ++ (asked, told) ∷ []) × HasAsked job [] (talk ++ (asked, told) ∷ [])
-heard_so bears_both objects job talk asked told borne all one own = (bears_both objects talk ((asked, told) ∷ []) borne (one, tt), asked_more (Asks job []) [] talk asked told all own)
+    → (objects : Objects) (job : Job) (before talk : Talk) (asked : Asked) (told : Told) → Bears objects talk → HasAsked job before talk → IsBorne objects asked told → Asks job before talk asked
+    → Bears objects (talk ++ (asked, told) ∷ []) × HasAsked job before (talk ++ (asked, told) ∷ [])
+heard_so bears_both objects job before talk asked told borne all one own = (bears_both objects talk ((asked, told) ∷ []) borne (one, tt), asked_more (Asks job before) [] talk asked told all own)
 
 -- ---- places
 

@@ -15,7 +15,7 @@ actor_there w name found = let same : (name == name) ≡ true = grind (arith, na
 
 -- by an event of its own a session goes on
 gone_on : (w : World) (event : Event) (name : ℕ) (actor : Actor) (now : Talk) (hand : Hand) → HasStepped hand → ComesToTalk w event name actor now
-    → HasEffect w event (with_actor w name (Some (record { job = actor.job; talk = now; hand = hand })))
+    → HasEffect w event (with_actor w name (Some (record actor { talk = now; hand = hand })))
 gone_on w _ _ _ _ hand stepped (begins_now name actor has is) =
     record { actor = actor; now = []; taken = begins_now name actor has is; hand = hand; stepped = stepped; there = actor_there w name _; objects = refl; flight = refl }
 gone_on w _ _ _ _ hand stepped (takes name actor call told has is) =
@@ -38,7 +38,7 @@ is_answered lost objects call = refl
 is_answered short objects call = refl
 
 pub has_effect : (w later : World) (event : Event) (told : Option (Job × Outcome)) → Happens w event told later → FitsWorld w event → HasEffect w event later
-has_effect w _ _ _ (begins name job can) fits = actor_there w name _
+has_effect w _ _ _ (begins name job begun before can same borne) fits = record { begun = begun; before = before; same = same; borne = borne; there = actor_there w name _ }
 has_effect w _ _ _ (dies name) fits = actor_there w name None
 has_effect w _ _ _ (acts name how actor call has is) fits =
     record { actor = actor; call = call; told = told_how how w.objects call; was = has; asks = is; answered = is_answered how w.objects call; waits = actor_there w name _; acts = refl }
@@ -48,7 +48,7 @@ has_effect w _ _ _ (lands place put is) fits = (put, is, object_at-with_object_s
 has_effect w _ _ _ (nothing_happens event unfit) fits = absurd (unfit fits)
 
 pub has_none : (w later : World) (event : Event) (told : Option (Job × Outcome)) → Happens w event told later → (FitsWorld w event → ⊥) → (later ≡ w) × (told ≡ None)
-has_none w _ _ _ (begins name job can) unfit = absurd (unfit can)
+has_none w _ _ _ (begins name job begun before can same borne) unfit = absurd (unfit can)
 has_none w _ _ _ (dies name) unfit = absurd (unfit tt)
 has_none w _ _ _ (acts name how actor call has is) unfit = absurd (unfit (actor, call, has, is))
 has_none w _ event _ (goes_on _ name actor now call taken does bytes) unfit = absurd (unfit (taken_fits w event name actor now taken))

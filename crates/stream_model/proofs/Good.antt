@@ -37,7 +37,7 @@ use Rattle.session_laws.specs.Moves.{Does, HasAsked, tells}
 use Rattle.stream_model.specs.Events.{Event}
 use Rattle.stream_model.specs.Headline.{IsPartOfTable, IsSoOf}
 use Rattle.stream_model.specs.Puts.{IsGoodPut, Submitted, WasBegun}
-use Rattle.stream_model.specs.Worlds.{Actor, Hand, World, asking, ended, fresh, waiting}
+use Rattle.stream_model.specs.Worlds.{Actor, Hand, IsBegunAs, World, asking, ended, fresh, waiting}
 use Rattle.stream_model.proofs.Calls.{IsGoodCall}
 use Rattle.stream_model.proofs.Growing.{begun_more, put_grows, put_more, submitted_more}
 use Rattle.stream_model.proofs.Landing.{IsGoodStore, none_in}
@@ -46,19 +46,21 @@ use Rattle.stream_model.proofs.Laws.{AreLaws}
 use Rattle.stream_model.proofs.Seen.{SeesWell, seen_lasts, seen_more, store_more}
 
 -- what a session has at hand
-abbrev pub IsGoodHand : List Event → Objects → Job → Talk → Hand → Type 0
-IsGoodHand events objects job talk fresh = Unit {0}
-IsGoodHand events objects job talk (asking call) = Asks job [] talk call × HasVersion call × IsGoodCall events objects call
-IsGoodHand events objects job talk (waiting call told) = Asks job [] talk call × HasVersion call × WasTold talk call told × IsBorne objects call told × SeesWell events objects job (talk ++ (call, told) ∷ [])
-IsGoodHand events objects job talk (ended outcome) = Does job [] talk (tells outcome)
+abbrev pub IsGoodHand : List Event → Objects → Job → (before talk : Talk) → Hand → Type 0
+IsGoodHand events objects job before talk fresh = Unit {0}
+IsGoodHand events objects job before talk (asking call) = Asks job before talk call × HasVersion call × IsGoodCall events objects call
+IsGoodHand events objects job before talk (waiting call told) = Asks job before talk call × HasVersion call × WasTold talk call told × IsBorne objects call told × SeesWell events objects job before (talk ++ (call, told) ∷ [])
+IsGoodHand events objects job before talk (ended outcome) = Does job before talk (tells outcome)
 
 pub record IsGoodActor (events : List Event) (objects : Objects) (actor : Actor) : Type 0 where
   pub begun : WasBegun events actor.job
+  pub same : IsBegunAs actor.job actor.begun
+  pub earlier : Bears objects actor.before
   pub borne : Bears objects actor.talk
-  pub asked : HasAsked actor.job [] actor.talk
+  pub asked : HasAsked actor.begun actor.before actor.talk
   pub told : AllTold [] actor.talk
-  pub seen : SeesWell events objects actor.job actor.talk
-  pub hand : IsGoodHand events objects actor.job actor.talk actor.hand
+  pub seen : SeesWell events objects actor.begun actor.before actor.talk
+  pub hand : IsGoodHand events objects actor.begun actor.before actor.talk actor.hand
 
 abbrev pub AreGoodPuts : List Event → Objects → Flight → Type 0
 AreGoodPuts events objects flight = (put : List ℕ × List ℕ) → Contains flight put → IsGoodPut events objects put.0 put.1 × IsBytes put.1
@@ -95,20 +97,22 @@ module _ (events : List Event) (event : Event) (objects : Objects) where
   call_more (put_file name bytes) good = (put_more events event objects name bytes good.0, good.1)
   call_more (put_commit version bytes) good = (put_more events event objects (commit_name version) bytes good.0, good.1)
 
-  hand_more : (job : Job) (talk : Talk) (hand : Hand) → IsGoodHand events objects job talk hand → IsGoodHand (events ++ event ∷ []) objects job talk hand
-  hand_more job talk fresh good = tt
-  hand_more job talk (asking call) good = (good.0, good.1, call_more call good.2)
-  hand_more job talk (waiting call told) good = (good.0, good.1, good.2, good.3, seen_more events event objects job (talk ++ (call, told) ∷ []) good.4)
-  hand_more job talk (ended outcome) good = good
+  hand_more : (job : Job) (before talk : Talk) (hand : Hand) → IsGoodHand events objects job before talk hand → IsGoodHand (events ++ event ∷ []) objects job before talk hand
+  hand_more job before talk fresh good = tt
+  hand_more job before talk (asking call) good = (good.0, good.1, call_more call good.2)
+  hand_more job before talk (waiting call told) good = (good.0, good.1, good.2, good.3, seen_more events event objects job before (talk ++ (call, told) ∷ []) good.4)
+  hand_more job before talk (ended outcome) good = good
 
   actor_more : (actor : Actor) → IsGoodActor events objects actor → IsGoodActor (events ++ event ∷ []) objects actor
   actor_more actor good = record {
     begun = begun_more events event actor.job good.begun;
+    same = good.same;
+    earlier = good.earlier;
     borne = good.borne;
     asked = good.asked;
     told = good.told;
-    seen = seen_more events event objects actor.job actor.talk good.seen;
-    hand = hand_more actor.job actor.talk actor.hand good.hand;
+    seen = seen_more events event objects actor.begun actor.before actor.talk good.seen;
+    hand = hand_more actor.begun actor.before actor.talk actor.hand good.hand;
   }
 
 pub world_more : (events : List Event) (event : Event) (outs : List (Job × Outcome)) (w : World) → IsGoodWorld events outs w → IsGoodWorld (events ++ event ∷ []) outs w
@@ -141,20 +145,23 @@ module _ (laws : AreLaws) (objects more : Objects) (sound : IsSound objects) (st
   call_lasts events (put_file name bytes) good = (put_lasts events name bytes good.0, good.1)
   call_lasts events (put_commit version bytes) good = (put_lasts events (commit_name version) bytes good.0, good.1)
 
-  hand_lasts : (events : List Event) (job : Job) (talk : Talk) (hand : Hand) → IsGoodHand events objects job talk hand → IsGoodHand events more job talk hand
-  hand_lasts events job talk fresh good = tt
-  hand_lasts events job talk (asking call) good = (good.0, good.1, call_lasts events call good.2)
-  hand_lasts events job talk (waiting call told) good = (good.0, good.1, good.2, borne_grows objects more call told grown good.3, seen_lasts events objects more job (talk ++ (call, told) ∷ []) grown good.4)
-  hand_lasts events job talk (ended outcome) good = good
+  hand_lasts : (events : List Event) (job : Job) (before talk : Talk) (hand : Hand) → IsGoodHand events objects job before talk hand → IsGoodHand events more job before talk hand
+  hand_lasts events job before talk fresh good = tt
+  hand_lasts events job before talk (asking call) good = (good.0, good.1, call_lasts events call good.2)
+  hand_lasts events job before talk (waiting call told) good =
+      (good.0, good.1, good.2, borne_grows objects more call told grown good.3, seen_lasts events objects more job before (talk ++ (call, told) ∷ []) grown good.4)
+  hand_lasts events job before talk (ended outcome) good = good
 
   pub actor_lasts : (events : List Event) (actor : Actor) → IsGoodActor events objects actor → IsGoodActor events more actor
   actor_lasts events actor good = record {
     begun = good.begun;
+    same = good.same;
+    earlier = bears_grows objects more actor.before grown good.earlier;
     borne = bears_grows objects more actor.talk grown good.borne;
     asked = good.asked;
     told = good.told;
-    seen = seen_lasts events objects more actor.job actor.talk grown good.seen;
-    hand = hand_lasts events actor.job actor.talk actor.hand good.hand;
+    seen = seen_lasts events objects more actor.begun actor.before actor.talk grown good.seen;
+    hand = hand_lasts events actor.begun actor.before actor.talk actor.hand good.hand;
   }
 
   pub puts_last : (events : List Event) (flight : Flight) → AreGoodPuts events objects flight → AreGoodPuts events more flight
@@ -178,8 +185,8 @@ module _ (laws : AreLaws) (objects more : Objects) (sound : IsSound objects) (st
   so_lasts : (schema : Schema) (entries : List Entry) → Holds more schema entries → (job : SinkJob) (answer : Result SinkOutcome SinkFault) → IsSoOf sound.schema sound.entries job answer → IsSoOf schema entries job answer
   so_lasts schema entries held job (Ok (Committed version)) so = batch_lasts_on schema entries held job (appended.Committed version) so
   so_lasts schema entries held job (Ok (Already number)) so = batch_lasts_on schema entries held job (appended.Already number) so
-  so_lasts schema entries held job (Ok (Closed version)) so = close_lasts_on schema entries held job.application (closed.Closed version) so
-  so_lasts schema entries held job (Ok AlreadyClosed) so = close_lasts_on schema entries held job.application closed.AlreadyClosed so
+  so_lasts schema entries held job (Ok (Closed version)) so = (so.0, close_lasts_on schema entries held job.application (closed.Closed version) so.1)
+  so_lasts schema entries held job (Ok AlreadyClosed) so = (so.0, close_lasts_on schema entries held job.application closed.AlreadyClosed so.1)
   so_lasts schema entries held job (Err (faults.Stale last)) so = batch_lasts_on schema entries held job (appended.Stale last) so
   so_lasts schema entries held job (Err faults.StreamClosed) so = batch_lasts_on schema entries held job appended.StreamClosed so
   so_lasts schema entries held job (Err (faults.Differs name)) so = tt

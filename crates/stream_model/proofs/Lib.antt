@@ -1,3 +1,6 @@
+mod Bearing
+mod Begun
+pub mod Callers
 mod Calls
 mod Effects
 mod Good

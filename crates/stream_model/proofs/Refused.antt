@@ -20,7 +20,8 @@ use Rattle.session_laws.specs.Moves.{HasAsked, tells}
 use Rattle.session_laws.proofs.Callers.{IsFrontOf, front_of, listed_count}
 use Rattle.stream_model.specs.Events.{Event, HasActor}
 use Rattle.stream_model.specs.Headline.{IsReadSo, ListsCommit, TellsBadLog, TellsSchemaChanged, TellsUnsupported, bad_checkpoint, bad_load, bad_stream, changed, unsupported}
-use Rattle.stream_model.specs.Worlds.{Actor, World, ended}
+use Rattle.stream_model.specs.Worlds.{Actor, IsBegunAs, World, ended}
+use Rattle.stream_model.proofs.Begun.{listed_begun, valid_begun}
 use Rattle.stream_model.proofs.Good.{IsGoodActor, IsGoodHand, IsGoodWorld}
 use Rattle.stream_model.proofs.Lacking.{next_within, none_lacked}
 use Rattle.stream_model.proofs.Laws.{AreLaws}
@@ -32,24 +33,24 @@ module _ (laws : AreLaws) (events : List Event) (outs : List (Job × Outcome)) (
   own = good.actors name actor is
 
   -- what it told it might tell, of each table that the store is said to hold
-  may : (schema : Schema) (entries : List Entry) → Holds w.objects schema entries → MayTell w.objects schema entries actor.job [] actor.talk outcome
-  may schema entries holds = laws.may w.objects schema entries actor.job [] actor.talk (tells outcome) (record {
+  may : (schema : Schema) (entries : List Entry) → Holds w.objects schema entries → MayTell w.objects schema entries actor.begun actor.before actor.talk outcome
+  may schema entries holds = laws.may w.objects schema entries actor.begun actor.before actor.talk (tells outcome) (record {
     sound = good.store.sound;
     bytes = good.store.bytes;
     holds = holds;
-    earlier = tt;
+    earlier = own.earlier;
     borne = own.borne;
     asked = own.asked;
-  }) own.begun.0.0 (subst (IsGoodHand events w.objects actor.job actor.talk) hand own.hand)
+  }) (valid_begun actor.job actor.begun own.begun.0 own.same) (subst (IsGoodHand events w.objects actor.begun actor.before actor.talk) hand own.hand)
 
   -- Where it listed a commit, it didn't tell that one is missing or can't be read.
   pub no_bad_log : ListsCommit actor.talk → TellsBadLog outcome → ⊥
-  no_bad_log listed bad = by_job actor.job outcome (may table.schema table.entries table.holds) bad
+  no_bad_log listed bad = by_job actor.begun outcome (may table.schema table.entries table.holds) bad
     where
       table : IsSound w.objects
       table = good.store.sound.table
 
-      by_job : (job : Job) (outcome : Outcome) → MayTell w.objects table.schema table.entries job [] actor.talk outcome → TellsBadLog outcome → ⊥
+      by_job : (job : Job) (outcome : Outcome) → MayTell w.objects table.schema table.entries job actor.before actor.talk outcome → TellsBadLog outcome → ⊥
       by_job (loads job) outcome told (bad_load version) = none_lacked actor.talk own.told listed version told
       by_job (checkpoints job) outcome told (bad_checkpoint end version is) = none_lacked actor.talk own.told listed version (subst (MayTellOfCheckpoint w.objects actor.talk end.known) is told)
       by_job (streams job) outcome told (bad_stream end version is) = none_lacked actor.talk own.told listed version (subst (MayTellOfStream w.objects table.schema table.entries job actor.talk) is told)
@@ -68,12 +69,12 @@ module _ (laws : AreLaws) (events : List Event) (outs : List (Job × Outcome)) (
 
   -- It didn't tell that a winner changed the schema.
   pub schema_stays : TellsSchemaChanged outcome → ⊥
-  schema_stays change = by_job actor.job outcome (may table.schema table.entries table.holds) change
+  schema_stays change = by_job actor.begun outcome (may table.schema table.entries table.holds) change
     where
       table : IsSound w.objects
       table = good.store.sound.table
 
-      by_job : (job : Job) (outcome : Outcome) → MayTell w.objects table.schema table.entries job [] actor.talk outcome → TellsSchemaChanged outcome → ⊥
+      by_job : (job : Job) (outcome : Outcome) → MayTell w.objects table.schema table.entries job actor.before actor.talk outcome → TellsSchemaChanged outcome → ⊥
       by_job (streams job) outcome told (changed end version is) = subst (MayTellOfStream w.objects table.schema table.entries job actor.talk) is told
       by_job (loads job) outcome told (changed end version is) = told
       by_job (checkpoints job) outcome told (changed end version is) = told
@@ -103,9 +104,9 @@ module _ (laws : AreLaws) (events : List Event) (outs : List (Job × Outcome)) (
 
     -- It told that the table has no checkpoint only where a field has invariants.
     pub schema_invariants : TellsUnsupported outcome → has_key_inside (codes "delta.invariants") schema ≡ true
-    schema_invariants barred = by_job actor.job outcome (may schema entries holds) barred
+    schema_invariants barred = by_job actor.begun outcome (may schema entries holds) barred
       where
-        by_job : (job : Job) (outcome : Outcome) → MayTell w.objects schema entries job [] actor.talk outcome → TellsUnsupported outcome → has_key_inside (codes "delta.invariants") schema ≡ true
+        by_job : (job : Job) (outcome : Outcome) → MayTell w.objects schema entries job actor.before actor.talk outcome → TellsUnsupported outcome → has_key_inside (codes "delta.invariants") schema ≡ true
         by_job (checkpoints job) outcome told (unsupported end fault is) =
             let row = subst (MayTellOfCheckpoint w.objects actor.talk end.known) is told in
             checkpoint_barred row.1 row.2 (fault_of fault) row.3
@@ -120,21 +121,28 @@ pub read_told_so : (laws : AreLaws) (events : List Event) (outs : List (Job × O
     → actor.hand ≡ ended (read end) → (names : List (List ℕ)) → ListsFirst actor.talk names → (schema : Schema) (entries : List Entry) → Holds w.objects schema entries → IsReadSo entries job actor.talk names end.answer
 read_told_so laws events outs w good name actor job end is of_job hand names lists schema entries holds = record {
   stand = take_length (count_in names) entries within;
-  told = subst (λ (n : ℕ). TellsOfListed (take n entries) job end.answer) count (told_of_listed events w.objects entries job actor.talk end.answer names lists seen told);
+  told = listed_begun (take (count_in names) entries) job same.0 end.answer (subst (λ (n : ℕ). TellsOfListed (take n entries) begun end.answer) count (told_of_listed events w.objects entries begun actor.before actor.talk end.answer names lists seen told));
   lost = told.lost;
 }
   where
     own : IsGoodActor events w.objects actor
     own = good.actors name actor is
 
-    seen : SeesWell events w.objects (reads job) actor.talk
-    seen = subst (λ (j : Job). SeesWell events w.objects j actor.talk) of_job own.seen
+    same : IsBegunAs (reads job) actor.begun
+    same = subst (λ (j : Job). IsBegunAs j actor.begun) of_job own.same
 
-    told : MayTellOfRead w.objects entries job [] actor.talk end.answer
-    told = subst (λ (j : Job). MayTell w.objects schema entries j [] actor.talk (read end)) of_job (may laws events outs w good name actor (read end) is hand schema entries holds)
+    -- the job with what its session knew of the log
+    begun : SourceJob
+    begun = record job { known = same.0 }
+
+    seen : SeesWell events w.objects (reads begun) actor.before actor.talk
+    seen = subst (λ (j : Job). SeesWell events w.objects j actor.before actor.talk) same.1 own.seen
+
+    told : MayTellOfRead w.objects entries begun actor.before actor.talk end.answer
+    told = subst (λ (j : Job). MayTell w.objects schema entries j actor.before actor.talk (read end)) same.1 (may laws events outs w good name actor (read end) is hand schema entries holds)
 
     count : next_version actor.talk ≡ count_in names
-    count = listed_count job [] actor.talk lists.0 names (subst (λ (j : Job). HasAsked j [] actor.talk) of_job own.asked) lists.1
+    count = listed_count begun actor.before actor.talk lists.0 names (subst (λ (j : Job). HasAsked j actor.before actor.talk) same.1 own.asked) lists.1
 
     within : count_in names ≤ length entries
     within = let so = next_within w.objects good.store.sound.table schema entries holds actor.talk own.told own.borne in omega (arith, count, so)

@@ -57,12 +57,14 @@ module _ (laws : AreLaws) where
   world_happens events outs w event told later good happens = by_case event told later happens (world_more events event outs w good)
     where
       by_case : (event : Event) (told : Option (Job × Outcome)) (later : World) → Happens w event told later → IsGoodWorld (events ++ event ∷ []) outs w → IsGoodWorld (events ++ event ∷ []) (with_told outs told) later
-      by_case event told later (begins name job can) more = with_good (events ++ begin name job ∷ []) outs w name (record { job = job; talk = []; hand = fresh }) more (record {
+      by_case event told later (begins name job begun before can same borne) more = with_good (events ++ begin name job ∷ []) outs w name (record { job = job; begun = begun; before = before; talk = []; hand = fresh }) more (record {
         begun = begun_now events name job can;
+        same = same;
+        earlier = borne;
         borne = tt;
         asked = tt;
         told = tt;
-        seen = none_seen (events ++ begin name job ∷ []) w.objects job;
+        seen = none_seen (events ++ begin name job ∷ []) w.objects begun before;
         hand = tt;
       })
       by_case event told later (dies name) more = without_actor (events ++ die name ∷ []) outs w name more
@@ -88,15 +90,15 @@ call_grew objects (get_object asked) = λ name bytes stands. stands
 call_grew objects (put_file file bytes) = put_grew objects file bytes
 call_grew objects (put_commit version bytes) = put_grew objects (commit_name version) bytes
 
-how_grew : (how : How) (objects : Objects) (call : Asked) → HasObjectsOf objects (left_how how objects call)
+pub how_grew : (how : How) (objects : Objects) (call : Asked) → HasObjectsOf objects (left_how how objects call)
 how_grew once objects call = call_grew objects call
 how_grew twice objects call = λ name bytes stands. call_grew (left_by_call objects call) call name bytes (call_grew objects call name bytes stands)
 how_grew late objects call = λ name bytes stands. stands
 how_grew lost objects call = λ name bytes stands. stands
 how_grew short objects call = λ name bytes stands. stands
 
-event_grew : (w : World) (event : Event) (told : Option (Job × Outcome)) (later : World) → Happens w event told later → HasObjectsOf w.objects later.objects
-event_grew w event told later (begins name job can) = λ name bytes stands. stands
+pub event_grew : (w : World) (event : Event) (told : Option (Job × Outcome)) (later : World) → Happens w event told later → HasObjectsOf w.objects later.objects
+event_grew w event told later (begins name job begun before can same borne) = λ name bytes stands. stands
 event_grew w event told later (dies name) = λ name bytes stands. stands
 event_grew w event told later (acts name how actor call is hand) = how_grew how w.objects call
 event_grew w event told later (goes_on made name actor now call taken does of_bytes) = λ name bytes stands. stands

@@ -3,7 +3,7 @@ use Rattle.std.proofs.Common.{◌≡◌, ◌≢◌, ◌⊎◌, ◌∙◌, ℕ, L
 use Rattle.std.specs.Prelude.{slice_get}
 use Rattle.store_core.specs.Objects.{HasObjectsOf, Objects, names_of, object_at, with_object}
 use Rattle.session_core.specs.Shown.{Shows}
-use Rattle.session_core.specs.Talks.{Asked, Talk, Told, get_object, list_names, put_commit, put_file, told_lost, told_memory, told_names, told_object}
+use Rattle.session_core.specs.Talks.{Asked, Bears, Talk, Told, get_object, list_names, put_commit, put_file, told_lost, told_memory, told_names, told_object}
 use Rattle.store_core.specs.Names.{commit_name}
 use Rattle.table_log.specs.Counts.{commit_count}
 use Rattle.table_log.specs.Versions.{Version, commit}
@@ -25,17 +25,18 @@ use Rattle.stream_model.specs.Worlds.{left_by_call, told_by_call}
 use Rattle.stream_model.proofs.Growing.{file_more, lawful_held, submitted_more}
 use Rattle.stream_model.proofs.Landing.{IsGoodStore, put_grew}
 
--- Where a read listed names, the store was good as it stood then, has grown since, and the talk shows it.
-pub record WasSeen (events : List Event) (objects : Objects) (talk : Talk) (names : List (List ℕ)) : Type 0 where
+-- Where a read listed names, the store was good as it stood then, bore what was known before, has grown since, and the talk shows it.
+pub record WasSeen (events : List Event) (objects : Objects) (before talk : Talk) (names : List (List ℕ)) : Type 0 where
   pub listed : Objects
   pub good : IsGoodStore events listed
   pub grown : HasObjectsOf listed objects
   pub same : names ≡ names_of listed
+  pub earlier : Bears listed before
   pub shown : Shows talk listed
 
 -- so it is where the job is a read
-abbrev pub SeesWell : List Event → Objects → Job → Talk → Type 0
-SeesWell events objects job talk = (read : SourceJob) → job ≡ reads read → (names : List (List ℕ)) → ListsFirst talk names → WasSeen events objects talk names
+abbrev pub SeesWell : List Event → Objects → Job → (before talk : Talk) → Type 0
+SeesWell events objects job before talk = (read : SourceJob) → job ≡ reads read → (names : List (List ℕ)) → ListsFirst talk names → WasSeen events objects before talk names
 
 -- ---- what stays
 
@@ -48,19 +49,19 @@ store_more events event objects good = record {
 }
 
 -- by more events, and by more objects
-pub seen_more : (events : List Event) (event : Event) (objects : Objects) (job : Job) (talk : Talk) → SeesWell events objects job talk → SeesWell (events ++ event ∷ []) objects job talk
-seen_more events event objects job talk seen = λ read is names lists.
+pub seen_more : (events : List Event) (event : Event) (objects : Objects) (job : Job) (before talk : Talk) → SeesWell events objects job before talk → SeesWell (events ++ event ∷ []) objects job before talk
+seen_more events event objects job before talk seen = λ read is names lists.
     let was = seen read is names lists in
-    record { listed = was.listed; good = store_more events event was.listed was.good; grown = was.grown; same = was.same; shown = was.shown }
+    record { listed = was.listed; good = store_more events event was.listed was.good; grown = was.grown; same = was.same; earlier = was.earlier; shown = was.shown }
 
-pub seen_lasts : (events : List Event) (objects more : Objects) (job : Job) (talk : Talk) → HasObjectsOf objects more → SeesWell events objects job talk → SeesWell events more job talk
-seen_lasts events objects more job talk grown seen = λ read is names lists.
+pub seen_lasts : (events : List Event) (objects more : Objects) (job : Job) (before talk : Talk) → HasObjectsOf objects more → SeesWell events objects job before talk → SeesWell events more job before talk
+seen_lasts events objects more job before talk grown seen = λ read is names lists.
     let was = seen read is names lists in
-    record { listed = was.listed; good = was.good; grown = λ name bytes stands. grown name bytes (was.grown name bytes stands); same = was.same; shown = was.shown }
+    record { listed = was.listed; good = was.good; grown = λ name bytes stands. grown name bytes (was.grown name bytes stands); same = was.same; earlier = was.earlier; shown = was.shown }
 
 -- a session that has asked for nothing has listed nothing
-pub none_seen : (events : List Event) (objects : Objects) (job : Job) → SeesWell events objects job []
-none_seen events objects job = λ read is names lists. let none = lists.1 in absurd cc
+pub none_seen : (events : List Event) (objects : Objects) (job : Job) (before : Talk) → SeesWell events objects job before []
+none_seen events objects job before = λ read is names lists. let none = lists.1 in absurd cc
 
 -- ---- the files of a good store
 
@@ -121,9 +122,9 @@ same_names talk gets names others call is lists =
 listed_told : (talk : Talk) (told : Told) (names : List (List ℕ)) → talk ≡ [] → ListsFirst (talk ++ (list_names, told) ∷ []) names → told ≡ told_names names
 listed_told talk told names is lists = ap told_first (ap (λ (t : Talk). t ++ (list_names, told) ∷ []) (sym is) ∙ lists.1)
 
-module _ (events : List Event) (objects : Objects) (read : SourceJob) (talk : Talk) (seen : SeesWell events objects (reads read) talk) where
+module _ (events : List Event) (objects : Objects) (read : SourceJob) (before talk : Talk) (seen : SeesWell events objects (reads read) before talk) where
   -- an answer that tells nothing
-  lost_one : (call : Asked) (told : Told) → (told ≡ told_lost) ⊎ (told ≡ told_memory) → SourceAsks read [] talk call → (names : List (List ℕ)) → ListsFirst (talk ++ (call, told) ∷ []) names → WasSeen events objects (talk ++ (call, told) ∷ []) names
+  lost_one : (call : Asked) (told : Told) → (told ≡ told_lost) ⊎ (told ≡ told_memory) → SourceAsks read before talk call → (names : List (List ℕ)) → ListsFirst (talk ++ (call, told) ∷ []) names → WasSeen events objects before (talk ++ (call, told) ∷ []) names
   lost_one list_names told (inl is) asks names lists = let wrong = sym is ∙ listed_told talk told names asks lists in absurd cc
   lost_one list_names told (inr is) asks names lists = let wrong = sym is ∙ listed_told talk told names asks lists in absurd cc
   lost_one (put_file name bytes) told none asks names lists = absurd asks
@@ -131,26 +132,26 @@ module _ (events : List Event) (objects : Objects) (read : SourceJob) (talk : Ta
   lost_one (get_object name) told none asks names lists =
       let same = same_names talk asks.listed.gets asks.names names (get_object name, told) asks.listed.talked lists in
       let was = seen read refl names (asks.listed.gets, subst (λ (ns : List (List ℕ)). talk ≡ (list_names, told_names ns) ∷ asks.listed.gets) same asks.listed.talked) in
-      record { listed = was.listed; good = was.good; grown = was.grown; same = was.same; shown = shown_with was.listed talk (get_object name, told) was.shown (nothing was.listed none) }
+      record { listed = was.listed; good = was.good; grown = was.grown; same = was.same; earlier = was.earlier; shown = shown_with was.listed talk (get_object name, told) was.shown (nothing was.listed none) }
     where
       nothing : (listed : Objects) → (told ≡ told_lost) ⊎ (told ≡ told_memory) → Shows ((get_object name, told) ∷ []) listed
       nothing listed (inl is) = rw is (tt, tt)
       nothing listed (inr is) = rw is (tt, tt)
 
   -- and one that tells what stands
-  told_one : (call : Asked) → IsGoodStore events objects → SourceAsks read [] talk call → (names : List (List ℕ)) → ListsFirst (talk ++ (call, told_by_call objects call) ∷ []) names → WasSeen events objects (talk ++ (call, told_by_call objects call) ∷ []) names
-  told_one list_names good asks names lists =
+  told_one : (call : Asked) → IsGoodStore events objects → Bears objects before → SourceAsks read before talk call → (names : List (List ℕ)) → ListsFirst (talk ++ (call, told_by_call objects call) ∷ []) names → WasSeen events objects before (talk ++ (call, told_by_call objects call) ∷ []) names
+  told_one list_names good earlier asks names lists =
       let talked : talk ++ (list_names, told_names (names_of objects)) ∷ [] ≡ (list_names, told_names (names_of objects)) ∷ [] = ap (λ (t : Talk). t ++ (list_names, told_names (names_of objects)) ∷ []) asks in
       let told = listed_told talk (told_names (names_of objects)) names asks lists in
       let same : names_of objects ≡ names = cc in
-      record { listed = objects; good = good; grown = λ name bytes stands. stands; same = sym same; shown = subst (λ (t : Talk). Shows t objects) (sym talked) (refl, tt) }
-  told_one (put_file name bytes) good asks names lists = absurd asks
-  told_one (put_commit version bytes) good asks names lists = absurd asks
-  told_one (get_object name) good asks names lists =
+      record { listed = objects; good = good; grown = λ name bytes stands. stands; same = sym same; earlier = earlier; shown = subst (λ (t : Talk). Shows t objects) (sym talked) (refl, tt) }
+  told_one (put_file name bytes) good earlier asks names lists = absurd asks
+  told_one (put_commit version bytes) good earlier asks names lists = absurd asks
+  told_one (get_object name) good earlier asks names lists =
       let same = same_names talk asks.listed.gets asks.names names (get_object name, told_object (object_at objects name)) asks.listed.talked lists in
       let was = seen read refl names (asks.listed.gets, subst (λ (ns : List (List ℕ)). talk ≡ (list_names, told_names ns) ∷ asks.listed.gets) same asks.listed.talked) in
-      let stood : IsSome (object_at was.listed name) = stood_then was.listed was.good (asks.sought was.listed tt was.shown) in
-      record { listed = was.listed; good = was.good; grown = was.grown; same = was.same; shown = shown_with was.listed talk (get_object name, told_object (object_at objects name)) was.shown (stands_still was.listed was.grown (object_at was.listed name) refl stood, tt) }
+      let stood : IsSome (object_at was.listed name) = stood_then was.listed was.good (asks.sought was.listed was.earlier was.shown) in
+      record { listed = was.listed; good = was.good; grown = was.grown; same = was.same; earlier = was.earlier; shown = shown_with was.listed talk (get_object name, told_object (object_at objects name)) was.shown (stands_still was.listed was.grown (object_at was.listed name) refl stood, tt) }
     where
       stood_then : (listed : Objects) → IsGoodStore events listed → IsSome (object_at listed name) ⊎ IsNewFile read.place.version listed name → IsSome (object_at listed name)
       stood_then listed was (inl some) = some
@@ -161,19 +162,24 @@ module _ (events : List Event) (objects : Objects) (read : SourceJob) (talk : Ta
       stands_still listed grown (Some bytes) is some = grown name bytes is ∙ sym is
 
 -- the same of any job
-pub seen_lost : (events : List Event) (objects : Objects) (job : Job) (talk : Talk) (call : Asked) (told : Told) → (told ≡ told_lost) ⊎ (told ≡ told_memory) → Asks job [] talk call → SeesWell events objects job talk → SeesWell events objects job (talk ++ (call, told) ∷ [])
-seen_lost events objects job talk call told none asks seen = λ read is.
-    lost_one events objects read talk (subst (λ (j : Job). SeesWell events objects j talk) is seen) call told none (subst (λ (j : Job). Asks j [] talk call) is asks)
+pub seen_lost : (events : List Event) (objects : Objects) (job : Job) (before talk : Talk) (call : Asked) (told : Told) → (told ≡ told_lost) ⊎ (told ≡ told_memory) → Asks job before talk call → SeesWell events objects job before talk
+    → SeesWell events objects job before (talk ++ (call, told) ∷ [])
+seen_lost events objects job before talk call told none asks seen = λ read is.
+    lost_one events objects read before talk (subst (λ (j : Job). SeesWell events objects j before talk) is seen) call told none (subst (λ (j : Job). Asks j before talk call) is asks)
 
-pub seen_told : (events : List Event) (objects : Objects) (job : Job) (talk : Talk) (call : Asked) → IsGoodStore events objects → Asks job [] talk call → SeesWell events objects job talk → SeesWell events objects job (talk ++ (call, told_by_call objects call) ∷ [])
-seen_told events objects job talk call good asks seen = λ read is.
-    told_one events objects read talk (subst (λ (j : Job). SeesWell events objects j talk) is seen) call good (subst (λ (j : Job). Asks j [] talk call) is asks)
+pub seen_told : (events : List Event) (objects : Objects) (job : Job) (before talk : Talk) (call : Asked) → IsGoodStore events objects → Bears objects before → Asks job before talk call → SeesWell events objects job before talk
+    → SeesWell events objects job before (talk ++ (call, told_by_call objects call) ∷ [])
+seen_told events objects job before talk call good earlier asks seen = λ read is.
+    told_one events objects read before talk (subst (λ (j : Job). SeesWell events objects j before talk) is seen) call good earlier (subst (λ (j : Job). Asks j before talk call) is asks)
 
 -- over what the call leaves
-pub seen_left : (events : List Event) (objects : Objects) → IsGoodStore events objects → (job : Job) (talk : Talk) (call : Asked) → Asks job [] talk call → SeesWell events objects job talk → SeesWell events (left_by_call objects call) job (talk ++ (call, told_by_call objects call) ∷ [])
-seen_left events objects good job talk list_names asks seen = seen_told events objects job talk list_names good asks seen
-seen_left events objects good job talk (get_object name) asks seen = seen_told events objects job talk (get_object name) good asks seen
-seen_left events objects good job talk (put_file name bytes) asks seen =
-    seen_lasts events objects (with_object objects name bytes) job (talk ++ (put_file name bytes, told_by_call objects (put_file name bytes)) ∷ []) (put_grew objects name bytes) (seen_told events objects job talk (put_file name bytes) good asks seen)
-seen_left events objects good job talk (put_commit version bytes) asks seen =
-    seen_lasts events objects (with_object objects (commit_name version) bytes) job (talk ++ (put_commit version bytes, told_by_call objects (put_commit version bytes)) ∷ []) (put_grew objects (commit_name version) bytes) (seen_told events objects job talk (put_commit version bytes) good asks seen)
+pub seen_left : (events : List Event) (objects : Objects) → IsGoodStore events objects → (job : Job) (before talk : Talk) (call : Asked) → Bears objects before → Asks job before talk call → SeesWell events objects job before talk
+    → SeesWell events (left_by_call objects call) job before (talk ++ (call, told_by_call objects call) ∷ [])
+seen_left events objects good job before talk list_names earlier asks seen = seen_told events objects job before talk list_names good earlier asks seen
+seen_left events objects good job before talk (get_object name) earlier asks seen = seen_told events objects job before talk (get_object name) good earlier asks seen
+seen_left events objects good job before talk (put_file name bytes) earlier asks seen =
+    seen_lasts events objects (with_object objects name bytes) job before (talk ++ (put_file name bytes, told_by_call objects (put_file name bytes)) ∷ []) (put_grew objects name bytes)
+    (seen_told events objects job before talk (put_file name bytes) good earlier asks seen)
+seen_left events objects good job before talk (put_commit version bytes) earlier asks seen =
+    seen_lasts events objects (with_object objects (commit_name version) bytes) job before (talk ++ (put_commit version bytes, told_by_call objects (put_commit version bytes)) ∷ []) (put_grew objects (commit_name version) bytes)
+    (seen_told events objects job before talk (put_commit version bytes) good earlier asks seen)

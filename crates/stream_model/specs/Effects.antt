@@ -1,9 +1,10 @@
 -- What an event does to a world that it fits.
 use Rattle.std.specs.Prelude.{◌≡◌, ℕ, List, [], Some, None, slice_get, unwrap_or}
 use Rattle.store_core.specs.Objects.{Objects, object_at}
-use Rattle.session_core.specs.Talks.{Asked, Talk, Told, told_lost, told_memory}
+use Rattle.session_core.specs.Talks.{Asked, Bears, Talk, Told, told_lost, told_memory}
+use Rattle.session_laws.specs.Jobs.{Job}
 use Rattle.stream_model.specs.Events.{Event, HasActor, ComesToTalk, act, answer, begin, die, land, lose_answer}
-use Rattle.stream_model.specs.Worlds.{Actor, Hand, How, World, acted, asking, ended, fresh, late, left_by_call, lost, once, short, told_by_call, twice, waiting}
+use Rattle.stream_model.specs.Worlds.{Actor, Hand, How, IsBegunAs, World, acted, asking, ended, fresh, late, left_by_call, lost, once, short, told_by_call, twice, waiting}
 
 -- a session that has made a step asks for a call, or has ended
 abbrev pub HasStepped : Hand → Type 0
@@ -19,7 +20,7 @@ pub record HasGoneOn (w : World) (event : Event) (name : ℕ) (later : World) : 
   pub taken : ComesToTalk w event name actor now
   pub hand : Hand
   pub stepped : HasStepped hand
-  pub there : HasActor later name (record { job = actor.job; talk = now; hand = hand })
+  pub there : HasActor later name (record actor { talk = now; hand = hand })
   pub objects : later.objects ≡ w.objects
   pub flight : later.flight ≡ w.flight
 
@@ -47,9 +48,17 @@ pub record HasAnswered (w : World) (name : ℕ) (how : How) (later : World) : Ty
   pub waits : HasActor later name (record actor { hand = waiting call told })
   pub acts : later ≡ acted w name actor call how
 
+-- An actor has begun its job, with what some talk told that stands of it, and has asked for nothing yet.
+pub record HasBegun (w : World) (name : ℕ) (job : Job) (later : World) : Type 0 where
+  pub begun : Job
+  pub before : Talk
+  pub same : IsBegunAs job begun
+  pub borne : Bears w.objects before
+  pub there : HasActor later name (record { job = job; begun = begun; before = before; talk = []; hand = fresh })
+
 -- An actor has begun or is gone; its call was answered so; its session has gone on; or a put in flight has taken effect, and stays in flight.
 abbrev pub HasEffect : (w : World) → Event → (later : World) → Type 0
-HasEffect w (begin name job) later = HasActor later name (record { job = job; talk = []; hand = fresh })
+HasEffect w (begin name job) later = HasBegun w name job later
 HasEffect w (die name) later = later.actors name ≡ None
 HasEffect w (act name how) later = HasAnswered w name how later
 HasEffect w (answer name) later = HasGoneOn w (answer name) name later

@@ -2,10 +2,10 @@
 use Rattle.std.specs.Prelude.{◌≡◌, ◌⊎◌, ℕ, List, [], ◌∷◌, ◌++◌, Option, None, Some, slice_get}
 use Rattle.outcomes.specs.Bytes.{IsBytes}
 use Rattle.store_core.specs.Objects.{with_object}
-use Rattle.session_core.specs.Talks.{Asked, Talk, Told, put_commit, put_file, told_lost}
+use Rattle.session_core.specs.Talks.{Asked, Bears, Talk, Told, put_commit, put_file, told_lost}
 use Rattle.session_laws.specs.Jobs.{CanBegin, Job, Outcome}
 use Rattle.session_laws.specs.Moves.{Does, asks, tells}
-use Rattle.stream_model.specs.Worlds.{Actor, How, World, acted, asking, empty_world, ended, fresh, waiting, with_actor}
+use Rattle.stream_model.specs.Worlds.{Actor, How, IsBegunAs, World, acted, asking, empty_world, ended, fresh, waiting, with_actor}
 
 -- An actor begins a session, dropping an older one, or dies; its call is answered in some way; its session goes on: it makes its first step,
 -- or takes the answer that waits, or is told in place of it that the call was lost; or a put in flight takes effect, and stays in flight.
@@ -42,16 +42,18 @@ IsOfBytes (put_file name bytes) = IsBytes bytes
 IsOfBytes (put_commit version bytes) = IsBytes bytes
 IsOfBytes asked = Unit {0}
 
--- What may become of a world by an event, and which outcome is told. A session does whatever its job does next by its talk; what it puts is
--- of numbers of eight bits, as a program's bytes are. An event that doesn't fit changes nothing.
+-- What may become of a world by an event, and which outcome is told. A session begins with nothing known of the log, or with what some talk told
+-- that the store bears, an earlier session's, say; it does whatever its job does next by its talk; what it puts is of numbers of eight bits, as a
+-- program's bytes are. An event that doesn't fit changes nothing.
 pub data Happens (w : World) : Event → (told : Option (Job × Outcome)) → World → Type 0 where
-  begins : (name : ℕ) (job : Job) → CanBegin job → Happens w (begin name job) None (with_actor w name (Some (record { job = job; talk = []; hand = fresh })))
+  begins : (name : ℕ) (job begun : Job) (before : Talk) → CanBegin job → IsBegunAs job begun → Bears w.objects before
+      → Happens w (begin name job) None (with_actor w name (Some (record { job = job; begun = begun; before = before; talk = []; hand = fresh })))
   dies : (name : ℕ) → Happens w (die name) None (with_actor w name None)
   acts : (name : ℕ) (how : How) (actor : Actor) (call : Asked) → HasActor w name actor → actor.hand ≡ asking call → Happens w (act name how) None (acted w name actor call how)
-  goes_on : (event : Event) (name : ℕ) (actor : Actor) (now : Talk) (call : Asked) → ComesToTalk w event name actor now → Does actor.job [] now (asks call) → IsOfBytes call
-      → Happens w event None (with_actor w name (Some (record { job = actor.job; talk = now; hand = asking call })))
-  ends : (event : Event) (name : ℕ) (actor : Actor) (now : Talk) (outcome : Outcome) → ComesToTalk w event name actor now → Does actor.job [] now (tells outcome)
-      → Happens w event (Some (actor.job, outcome)) (with_actor w name (Some (record { job = actor.job; talk = now; hand = ended outcome })))
+  goes_on : (event : Event) (name : ℕ) (actor : Actor) (now : Talk) (call : Asked) → ComesToTalk w event name actor now → Does actor.begun actor.before now (asks call) → IsOfBytes call
+      → Happens w event None (with_actor w name (Some (record actor { talk = now; hand = asking call })))
+  ends : (event : Event) (name : ℕ) (actor : Actor) (now : Talk) (outcome : Outcome) → ComesToTalk w event name actor now → Does actor.begun actor.before now (tells outcome)
+      → Happens w event (Some (actor.job, outcome)) (with_actor w name (Some (record actor { talk = now; hand = ended outcome })))
   lands : (place : ℕ) (put : List ℕ × List ℕ) → slice_get w.flight place ≡ Some put → Happens w (land place) None (record w { objects = with_object w.objects put.0 put.1 })
   nothing_happens : (event : Event) → (FitsWorld w event → ⊥) → Happens w event None w
 

@@ -19,7 +19,7 @@ use Rattle.table_model.specs.declared.reading.Offset.{Offset}
 use Rattle.table_store.specs.Schema.{Schema}
 use Rattle.batch_core.specs.declared.fault.SinkFault.{SinkFault}
 use Rattle.batch_core.specs.declared.fault.SinkFault.TheVariants as faults
-use Rattle.sink_core.specs.SinkSessions.{SinkJob}
+use Rattle.sink_core.specs.SinkSessions.{SinkJob, closes}
 use Rattle.sink_core.specs.declared.sink_state.SinkEnd.{SinkEnd}
 use Rattle.sink_core.specs.declared.sink_state.SinkOutcome.{SinkOutcome}
 use Rattle.sink_core.specs.declared.sink_state.SinkOutcome.TheVariants.{Already, AlreadyClosed, Closed, Committed}
@@ -67,12 +67,12 @@ pub data TellsUnsupported : Outcome → Type 0 where
 -- ---- what is so of the table
 
 -- What a stream was told of its batch or its close is so of the table: that it was put as a version, stands already, is below a number that
--- stands, or was closed before. Of other refusals nothing is said here.
+-- stands, or was closed before; of a close only where it was one. Of other refusals nothing is said here.
 abbrev pub IsSoOf : Schema → List Entry → SinkJob → Result SinkOutcome SinkFault → Type 0
 IsSoOf schema entries job (Ok (Committed version)) = TellsOfBatch schema entries job (appended.Committed version)
 IsSoOf schema entries job (Ok (Already number)) = TellsOfBatch schema entries job (appended.Already number)
-IsSoOf schema entries job (Ok (Closed version)) = TellsClose (closed.Closed version) job.application entries
-IsSoOf schema entries job (Ok AlreadyClosed) = TellsClose closed.AlreadyClosed job.application entries
+IsSoOf schema entries job (Ok (Closed version)) = (job.task ≡ closes) × TellsClose (closed.Closed version) job.application entries
+IsSoOf schema entries job (Ok AlreadyClosed) = (job.task ≡ closes) × TellsClose closed.AlreadyClosed job.application entries
 IsSoOf schema entries job (Err (faults.Stale last)) = TellsOfBatch schema entries job (appended.Stale last)
 IsSoOf schema entries job (Err faults.StreamClosed) = TellsOfBatch schema entries job appended.StreamClosed
 IsSoOf schema entries job (Err fault) = Unit {0}

@@ -1,10 +1,12 @@
 -- Worlds of actors over one store: what stands, the puts that may take effect later, and what each actor's session has at hand.
-use Rattle.std.specs.Prelude.{ℕ, ◌==◌, [], ◌∷◌, ◌++◌, Option, Some, None, if◌then◌else◌}
+use Rattle.std.specs.Prelude.{◌≡◌, ℕ, ◌==◌, List, [], ◌∷◌, ◌++◌, Option, Some, None, Ok, Err, if◌then◌else◌}
 use Rattle.store_core.specs.Calls.{Flight, put_told}
 use Rattle.store_core.specs.Objects.{Objects, names_of, object_at, with_object}
-use Rattle.session_core.specs.Talks.{Asked, Talk, Told, get_object, list_names, put_commit, put_file, told_lost, told_memory, told_names, told_object, told_put}
+use Rattle.session_core.specs.Talks.{Asked, Bears, IsBorne, Talk, Told, get_object, list_names, put_commit, put_file, told_lost, told_memory, told_names, told_object, told_put}
 use Rattle.store_core.specs.Names.{commit_name}
-use Rattle.session_laws.specs.Jobs.{Job, Outcome}
+use Rattle.table_log.specs.Loads.{IsFront}
+use Rattle.table_log.specs.LoadSessions.{LoadJob}
+use Rattle.session_laws.specs.Jobs.{Job, Outcome, checkpoint, checkpoints, creates, creation, load, loads, read, reads, stream, streams}
 
 -- What a session has at hand: it has asked for nothing yet; it asks for a call; an answer to its call waits; or it has ended.
 pub data Hand : Type 0 where
@@ -13,9 +15,20 @@ pub data Hand : Type 0 where
   waiting : Asked → Told → Hand
   ended : Outcome → Hand
 
--- An actor: what its session is to do, its talk so far, and what it has at hand.
+-- A job that begins with something known of the log, or with nothing: it is the same but for that.
+abbrev pub IsBegunAs : (job begun : Job) → Type 0
+IsBegunAs (creates job) begun = begun ≡ creates job
+IsBegunAs (loads job) begun = (load : LoadJob) × (load.use_checkpoints ≡ job.use_checkpoints) × (begun ≡ loads load)
+IsBegunAs (checkpoints job) begun = (load : LoadJob) × (load.use_checkpoints ≡ job.use_checkpoints) × (begun ≡ checkpoints load)
+IsBegunAs (streams job) begun = (load : LoadJob) × (load.use_checkpoints ≡ job.load.use_checkpoints) × (begun ≡ streams (record job { load = load }))
+IsBegunAs (reads job) begun = (known : List ℕ) × (begun ≡ reads (record job { known = known }))
+
+-- An actor: what it was handed to do; the same with what its session knew of the log when it began, and a talk by which that was known; the
+-- session's own talk so far; and what it has at hand.
 pub record Actor : Type 0 where
   pub job : Job
+  pub begun : Job
+  pub before : Talk
   pub talk : Talk
   pub hand : Hand
 
@@ -28,6 +41,34 @@ pub record World : Type 0 where
 -- the world in which nothing stands, nothing is in flight, and nobody acts
 abbrev pub empty_world : World
 empty_world = record { objects = []; flight = []; actors = λ name. None }
+
+-- what stands bears the answer that waits
+abbrev pub BearsHand : Objects → Hand → Type 0
+BearsHand objects (waiting call told) = IsBorne objects call told
+BearsHand objects hand = Unit {0}
+
+-- What stands bears the talk by which an actor's session knew something of the log, its own, and the answer that waits.
+pub record BearsActor (objects : Objects) (actor : Actor) : Type 0 where
+  pub earlier : Bears objects actor.before
+  pub talk : Bears objects actor.talk
+  pub hand : BearsHand objects actor.hand
+
+-- so it is of each actor of a world
+abbrev pub BearsActors : World → Type 0
+BearsActors w = (name : ℕ) (actor : Actor) → w.actors name ≡ Some actor → BearsActor w.objects actor
+
+-- What a session hands back that it knew of the log by its end is so of what stands: of a load, an append, a close or a checkpoint.
+abbrev pub KnowsFront : Objects → Outcome → Type 0
+KnowsFront objects (creation result) = Unit {0}
+KnowsFront objects (load (Ok loaded)) = IsFront objects loaded
+KnowsFront objects (load (Err fault)) = Unit {0}
+KnowsFront objects (checkpoint end) = IsFront objects end.known
+KnowsFront objects (stream end) = IsFront objects end.known
+KnowsFront objects (read end) = Unit {0}
+
+-- an actor that begins a job with nothing known of the log
+abbrev pub anew : Job → Actor
+anew job = record { job = job; begun = job; before = []; talk = []; hand = fresh }
 
 -- the world with that actor under a number, or with none
 abbrev pub with_actor : World → ℕ → Option Actor → World

@@ -26,10 +26,11 @@ use table_model::{a_part_from_the_beginning_is_a_front, parts_that_follow_are_on
 
 /// Over every list of events, of any length and with any number of actors, from a world in which nothing stands:
 /// - the store is sound, its checkpoints too (`sound`), and each object is of numbers of eight bits (`bytes`);
-/// - it bears what each session was told, each call that a session had an answer to is one that its job asks for there,
-///   and its job can begin; a read that listed names was shown a sound store, as it stood then, whose files can be read
-///   and which has grown since (all of this is `borne`); so what a job does next by its talk it may do, as
-///   `what_a_session_may` has it;
+/// - it bears what each session was told, and the talk by which it knew something of the log when it began; each call
+///   that a session had an answer to is one that its job asks for there; that is the job that was handed in, but for
+///   what is known of the log, and the one handed in can begin; a read that listed names was shown a sound store, as it
+///   stood then, which bore what was known before, whose files can be read and which has grown since (all of this is
+///   `borne`); so what a job does next by its talk it may do, as `what_a_session_may` has it;
 /// - each put in flight may take effect at any time: it is a file of a batch that was handed in, an admissible commit
 ///   of a creation or a close that a job asks for or of such a batch, or a checkpoint of the log's commits up to its
 ///   version (`flight`);
@@ -55,8 +56,8 @@ use table_model::{a_part_from_the_beginning_is_a_front, parts_that_follow_are_on
 /// A put takes effect on a free name alone; when it takes effect, a get gives what stands under its name, and a list
 /// all names that stand; and all objects are put by these sessions, of numbers of eight bits, as a program's bytes are.
 /// Jobs are creations, loads, checkpoints, appends of a batch, closes and reads of rows. A session begins with nothing
-/// known from an earlier one; an append's and a close's application is a text, and they try a version at least: another
-/// job can't begin.
+/// known of the log, or with what some talk told that the store bears, an earlier session's, say. An append's and a
+/// close's application is a text, and they try a version at least: another job can't begin.
 pub fn every_world()
     ensures sound { (events : List Event) (outs : List (Job × Outcome)) (w : World) → IsWorldOf events outs w → IsSoundStore w.objects }
     ensures bytes { (events : List Event) (outs : List (Job × Outcome)) (w : World) → IsWorldOf events outs w → AreBytes w.objects }

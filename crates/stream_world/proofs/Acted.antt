@@ -1,5 +1,5 @@
 -- A call of an actor, as what happens in a world.
-use Rattle.std.proofs.Common.{◌≡◌, ◌⊎◌, ℕ, [], Bool, false, Option, Some, None, inl, inr, refl, sym, ◌∙◌, ap, subst}
+use Rattle.std.proofs.Common.{◌≡◌, ◌⊎◌, ℕ, Bool, false, Option, Some, None, inl, inr, refl, sym, ◌∙◌, ap, subst}
 use Rattle.store_core.specs.Calls.{Flight}
 use Rattle.store_core.specs.Objects.{Objects}
 use Rattle.session_core.specs.Talks.{Asked, Talk, asked_view, get_object, list_names, put_commit, put_file, told_view}
@@ -23,17 +23,17 @@ abbrev Acts : World → ℕ → How → Objects → Flight → Option code.Actor
 Acts w name how objects flight slot met = (became : Becomes w (act name how) name None objects flight slot) × (became.met ≡ act name met) × FitsWorld w (act name how)
 
 -- an actor asks for a call
-asks_so : (w : World) (name : ℕ) (job : Job) (talk : Talk) (p : Hand) (how : How) (actor later : code.Actor) (request : Request) (reply : Reply) (objects : Objects) (flight : Flight)
-    → HasActor w name (record { job = job; talk = talk; hand = p }) → ActorStands actor (record { job = job; talk = talk; hand = p }) → HandStands (hands.Asks request) talk p
+asks_so : (w : World) (name : ℕ) (job begun : Job) (before talk : Talk) (p : Hand) (how : How) (actor later : code.Actor) (request : Request) (reply : Reply) (objects : Objects) (flight : Flight)
+    → HasActor w name (record { job = job; begun = begun; before = before; talk = talk; hand = p }) → ActorStands actor (record { job = job; begun = begun; before = before; talk = talk; hand = p }) → HandStands (hands.Asks request) talk p
     → (meets : CallMeets how (asked_view request) (told_view reply) w.objects w.flight objects flight) → later.session ≡ actor.session → later.hand ≡ hands.Waits reply
     → Acts w name how objects flight (Some later) meets.met
-asks_so w name job talk (asking call) how actor later request reply objects flight has stands same meets session hand =
-    let plain : Actor = record { job = job; talk = talk; hand = asking call } in
+asks_so w name job begun before talk (asking call) how actor later request reply objects flight has stands same meets session hand =
+    let plain : Actor = record { job = job; begun = begun; before = before; talk = talk; hand = asking call } in
     let met : How = meets.met in
-    let next : Actor = record { job = job; talk = talk; hand = waiting call (told_how met w.objects call) } in
+    let next : Actor = record { job = job; begun = begun; before = before; talk = talk; hand = waiting call (told_how met w.objects call) } in
     let there : ActorStands later next = record {
       job = ap job_of session ∙ stands.job;
-      fit = subst (λ s. SessionFits [] s talk (Some call)) (sym session) stands.fit;
+      fit = subst (λ s. SessionFits before s talk (Some call)) (sym session) stands.fit;
       hand = subst (λ (h : code_hand.Hand). HandStands h talk (waiting call (told_how met w.objects call))) (sym hand) (meets.told_so ∙ ap (told_how met w.objects) same);
     } in (
       record {
@@ -51,9 +51,9 @@ asks_so w name job talk (asking call) how actor later request reply objects flig
       refl,
       (plain, call, has, refl),
     )
-asks_so w name job talk fresh how actor later request reply objects flight has stands same meets session hand = absurd same
-asks_so w name job talk (waiting call told) how actor later request reply objects flight has stands same meets session hand = absurd same
-asks_so w name job talk (ended outcome) how actor later request reply objects flight has stands same meets session hand = absurd same
+asks_so w name job begun before talk fresh how actor later request reply objects flight has stands same meets session hand = absurd same
+asks_so w name job begun before talk (waiting call told) how actor later request reply objects flight has stands same meets session hand = absurd same
+asks_so w name job begun before talk (ended outcome) how actor later request reply objects flight has stands same meets session hand = absurd same
 
 -- A call that an actor asks for is answered.
 acted_on : (w : World) (name : ℕ) (how : How) (actor later : code.Actor) (request : Request) (reply : Reply) (objects : Objects) (flight : Flight)
@@ -64,7 +64,7 @@ acted_on w name how actor later request reply objects flight stands asks meets s
     by_actor : (found : Option Actor) → w.actors name ≡ found → SlotStands (Some actor) found → Acts w name how objects flight (Some later) meets.met
     by_actor None has stands_so = absurd stands_so
     by_actor (Some plain) has stands_so =
-        asks_so w name plain.job plain.talk plain.hand how actor later request reply objects flight has stands_so (subst (λ (h : code_hand.Hand). HandStands h plain.talk plain.hand) asks stands_so.hand) meets session hand
+        asks_so w name plain.job plain.begun plain.before plain.talk plain.hand how actor later request reply objects flight has stands_so (subst (λ (h : code_hand.Hand). HandStands h plain.talk plain.hand) asks stands_so.hand) meets session hand
 
 -- ---- whether memory ran out in it
 

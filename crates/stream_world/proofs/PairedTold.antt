@@ -20,7 +20,7 @@ use Rattle.table_jobs.specs.declared.job_session.JobEnd as code_end
 use Rattle.stream_model.specs.Events.{ComesToTalk, Event, FitsWorld, Happens, IsWorldOf, act, acts, answer, begin, begins, begins_now, die, dies, ends, goes_on, land, lands, lose_answer, loses, nothing_happens, takes, with_told}
 use Rattle.stream_model.specs.Headline.{IsHeadline}
 use Rattle.stream_model.specs.Puts.{WasBegun}
-use Rattle.stream_model.specs.Worlds.{Actor, World, asking, ended, fresh, with_actor}
+use Rattle.stream_model.specs.Worlds.{Actor, IsBegunAs, World, asking, ended, fresh, with_actor}
 use Rattle.stream_world.specs.EventViews.{IsMetAs, event_view}
 use Rattle.stream_world.specs.Paired.{AreOwned, IsOfKind, IsOwned, job_begun, job_going_on, out_of, outs_told}
 use Rattle.stream_world.specs.Running.{AreEventsSo, AreRun, HasRun, at_first, then_one}
@@ -78,28 +78,32 @@ begun_alike name (answer other) met before after is same = same ∙ ap (λ (e : 
 begun_alike name (lose_answer other) met before after is same = same ∙ ap (λ (e : Event). job_begun name (e ∷ after)) (sym is)
 begun_alike name (land place) met before after is same = same ∙ ap (λ (e : Event). job_begun name (e ∷ after)) (sym is)
 
--- each actor does the job that it began last
+-- each actor does the job that it began last, whatever its session knew when it began
 abbrev pub AreBegun : World → List Event → Type 0
-AreBegun w before = (name : ℕ) (actor : Actor) → w.actors name ≡ Some actor → job_begun name before ≡ Some actor.job
+AreBegun w before = (name : ℕ) (actor : Actor) → w.actors name ≡ Some actor → (job_begun name before ≡ Some actor.job) × IsBegunAs actor.job actor.begun
+
+same_actor : (one other : Actor) → Some one ≡ Some other → one ≡ other
+same_actor one other is = cc
 
 -- the actor of a number is another one now
 one_begun : (w : World) (other : ℕ) (now : Option Actor) (before after : List Event) → AreBegun w before → ((name : ℕ) → (name ≡ other → ⊥) → job_begun name after ≡ job_begun name before)
-    → ((actor : Actor) → now ≡ Some actor → job_begun other after ≡ Some actor.job) → AreBegun (with_actor w other now) after
+    → ((actor : Actor) → now ≡ Some actor → (job_begun other after ≡ Some actor.job) × IsBegunAs actor.job actor.begun) → AreBegun (with_actor w other now) after
 one_begun w other now before after begun still there name actor is = by_cases (cases_eq name other)
   where
-    by_cases : (name ≡ other) ⊎ (name ≡ other → ⊥) → job_begun name after ≡ Some actor.job
+    by_cases : (name ≡ other) ⊎ (name ≡ other → ⊥) → (job_begun name after ≡ Some actor.job) × IsBegunAs actor.job actor.begun
     by_cases (inl same) =
         let at_other : (with_actor w other now).actors other ≡ Some actor = subst (λ (k : ℕ). (with_actor w other now).actors k ≡ Some actor) same is in
-        subst (λ (k : ℕ). job_begun k after ≡ Some actor.job) (sym same) (there actor (sym (actor_there w other now) ∙ at_other))
-    by_cases (inr apart) = still name apart ∙ begun name actor (sym (actor_other w other now name apart) ∙ is)
+        let here = there actor (sym (actor_there w other now) ∙ at_other) in
+        (subst (λ (k : ℕ). job_begun k after ≡ Some actor.job) (sym same) here.0, here.1)
+    by_cases (inr apart) = let was = begun name actor (sym (actor_other w other now name apart) ∙ is) in (still name apart ∙ was.0, was.1)
 
 -- one that goes on with its job
-same_begun : (w : World) (name : ℕ) (actor next : Actor) (before : List Event) → AreBegun w before → w.actors name ≡ Some actor → next.job ≡ actor.job → AreBegun (with_actor w name (Some next)) before
-same_begun w name actor next before begun has same = one_begun w name (Some next) before before begun (λ other apart. refl) (λ one is.
-    begun name actor has ∙ ap (λ (j : Job). Some j) (sym same ∙ ap (λ (a : Actor). a.job) (same_actor next one is)))
-  where
-    same_actor : (one other : Actor) → Some one ≡ Some other → one ≡ other
-    same_actor one other is = cc
+same_begun : (w : World) (name : ℕ) (actor next : Actor) (before : List Event) → AreBegun w before → w.actors name ≡ Some actor → next.job ≡ actor.job → next.begun ≡ actor.begun → AreBegun (with_actor w name (Some next)) before
+same_begun w name actor next before begun has same same_known =
+    let was = begun name actor has in
+    let so : IsBegunAs next.job next.begun = subst (IsBegunAs next.job) (sym same_known) (subst (λ (j : Job). IsBegunAs j actor.begun) (sym same) was.1) in
+    one_begun w name (Some next) before before begun (λ other apart. refl) (λ one is.
+    (was.0 ∙ ap (λ (j : Job). Some j) (sym same ∙ ap (λ (a : Actor). a.job) (same_actor next one is)), subst (λ (a : Actor). IsBegunAs a.job a.begun) (same_actor next one is) so))
 
 -- an event by which nobody begins
 abbrev pub BeginsNobody : Event → Type 0
@@ -135,7 +139,7 @@ abbrev pub Still : Event → List Event → Type 0
 Still event before = (name : ℕ) → job_begun name (event ∷ before) ≡ job_begun name before
 
 all_still : (w : World) (event : Event) (before : List Event) → Still event before → AreBegun w before → AreBegun w (event ∷ before)
-all_still w event before still begun name actor is = still name ∙ begun name actor is
+all_still w event before still begun name actor is = let was = begun name actor is in (still name ∙ was.0, was.1)
 
 -- the job of an event by which an actor begins can begin
 abbrev pub CanHappen : Event → Type 0
@@ -144,18 +148,19 @@ CanHappen event = Unit {0}
 
 -- Each actor does the job that it began last, behind one more event too.
 begun_more : (w : World) (event : Event) (told : Option (Job × Outcome)) (later : World) (before : List Event) → AreBegun w before → CanHappen event → Happens w event told later → AreBegun later (event ∷ before)
-begun_more w event told later before begun can (begins name job can_begin) =
-    one_begun w name (Some (record { job = job; talk = []; hand = fresh })) before (begin name job ∷ before) begun
+begun_more w event told later before begun can (begins name job began known can_begin same borne) =
+    one_begun w name (Some (record { job = job; begun = began; before = known; talk = []; hand = fresh })) before (begin name job ∷ before) begun
     (λ other apart. let differs : (other == name) ≡ false = grind (arith, nat_tests) in ap (λ (b : Bool). if b then Some job else job_begun other before) differs)
-    (λ actor is. let same : (name == name) ≡ true = grind (arith, nat_tests) in ap (λ (b : Bool). if b then Some job else job_begun name before) same ∙ ap (option_map (λ (a : Actor). a.job)) is)
+    (λ actor is. let itself : (name == name) ≡ true = grind (arith, nat_tests) in
+    (ap (λ (b : Bool). if b then Some job else job_begun name before) itself ∙ ap (option_map (λ (a : Actor). a.job)) is, subst (λ (a : Actor). IsBegunAs a.job a.begun) (same_actor _ actor is) same))
 begun_more w event told later before begun can (dies name) = one_begun w name None before (die name ∷ before) begun (λ other apart. refl) (λ actor is. absurd cc)
-begun_more w event told later before begun can (acts name how actor call has hand) = same_begun w name actor _ before begun has refl
+begun_more w event told later before begun can (acts name how actor call has hand) = same_begun w name actor _ before begun has refl refl
 begun_more w event told later before begun can (goes_on made name actor now call comes does of_bytes) =
     all_still later event before (λ (other : ℕ). not_begun event (comes_nobody w event name actor now comes) other before)
-    (same_begun w name actor (record { job = actor.job; talk = now; hand = asking call }) before begun (comes_actor w event name actor now comes) refl)
+    (same_begun w name actor (record actor { talk = now; hand = asking call }) before begun (comes_actor w event name actor now comes) refl refl)
 begun_more w event told later before begun can (ends made name actor now outcome comes does) =
     all_still later event before (λ (other : ℕ). not_begun event (comes_nobody w event name actor now comes) other before)
-    (same_begun w name actor (record { job = actor.job; talk = now; hand = ended outcome }) before begun (comes_actor w event name actor now comes) refl)
+    (same_begun w name actor (record actor { talk = now; hand = ended outcome }) before begun (comes_actor w event name actor now comes) refl refl)
 begun_more w event told later before begun can (lands place put is) = λ name actor has. begun name actor has
 begun_more w event told later before begun can (nothing_happens made unfit) = all_still w event before (λ (name : ℕ). not_begun event (nobody event can unfit) name before) begun
   where
@@ -175,10 +180,10 @@ none_out (Some one) = refl
 told_more : (w : World) (event : Event) (out : Option (Job × Outcome)) (later : World) (before : List Event) → AreBegun w before → Happens w event out later → (next : Option code_end.JobEnd) → TellsAs next out
     → (outs : List (Job × Outcome)) → with_told outs out ≡ outs ++ out_of (job_going_on before event) (option_map end_view next)
 told_more w event out later before begun (ends made name actor now outcome comes does) (Some end) tells outs =
-    let going : job_going_on before event ≡ Some actor.job = comes_going_on w event name actor now comes before ∙ begun name actor (comes_actor w event name actor now comes) in
+    let going : job_going_on before event ≡ Some actor.job = comes_going_on w event name actor now comes before ∙ (begun name actor (comes_actor w event name actor now comes)).0 in
     ap (λ (o : Outcome). outs ++ (actor.job, o) ∷ []) tells ∙ ap (λ (j : Option Job). outs ++ out_of j (Some (end_view end))) (sym going)
 told_more w event out later before begun (ends made name actor now outcome comes does) None tells outs = absurd tells
-told_more w event out later before begun (begins name job can) (Some end) tells outs = absurd tells
+told_more w event out later before begun (begins name job began known can same borne) (Some end) tells outs = absurd tells
 told_more w event out later before begun (dies name) (Some end) tells outs = absurd tells
 told_more w event out later before begun (acts name how actor call has hand) (Some end) tells outs = absurd tells
 told_more w event out later before begun (goes_on made name actor now call comes does of_bytes) (Some end) tells outs = absurd tells
@@ -191,40 +196,79 @@ told_more w event out later before begun happens None tells outs = by_out out te
     by_out (Some one) is = absurd is
 
 -- what a session tells is of its job's kind
-kind_so : (job : Job) (outcome : Outcome) (talk : Talk) → Ends job [] talk outcome → IsOfKind job outcome
-kind_so (creates job) (creation told) talk is = tt
-kind_so (creates job) (load told) talk is = is
-kind_so (creates job) (checkpoint told) talk is = is
-kind_so (creates job) (stream told) talk is = is
-kind_so (creates job) (read told) talk is = is
-kind_so (loads job) (creation told) talk is = is
-kind_so (loads job) (load told) talk is = tt
-kind_so (loads job) (checkpoint told) talk is = is
-kind_so (loads job) (stream told) talk is = is
-kind_so (loads job) (read told) talk is = is
-kind_so (checkpoints job) (creation told) talk is = is
-kind_so (checkpoints job) (load told) talk is = is
-kind_so (checkpoints job) (checkpoint told) talk is = tt
-kind_so (checkpoints job) (stream told) talk is = is
-kind_so (checkpoints job) (read told) talk is = is
-kind_so (streams job) (creation told) talk is = is
-kind_so (streams job) (load told) talk is = is
-kind_so (streams job) (checkpoint told) talk is = is
-kind_so (streams job) (stream told) talk is = tt
-kind_so (streams job) (read told) talk is = is
-kind_so (reads job) (creation told) talk is = is
-kind_so (reads job) (load told) talk is = is
-kind_so (reads job) (checkpoint told) talk is = is
-kind_so (reads job) (stream told) talk is = is
-kind_so (reads job) (read told) talk is = tt
+kind_so : (job : Job) (outcome : Outcome) (before talk : Talk) → Ends job before talk outcome → IsOfKind job outcome
+kind_so (creates job) (creation told) before talk is = tt
+kind_so (creates job) (load told) before talk is = is
+kind_so (creates job) (checkpoint told) before talk is = is
+kind_so (creates job) (stream told) before talk is = is
+kind_so (creates job) (read told) before talk is = is
+kind_so (loads job) (creation told) before talk is = is
+kind_so (loads job) (load told) before talk is = tt
+kind_so (loads job) (checkpoint told) before talk is = is
+kind_so (loads job) (stream told) before talk is = is
+kind_so (loads job) (read told) before talk is = is
+kind_so (checkpoints job) (creation told) before talk is = is
+kind_so (checkpoints job) (load told) before talk is = is
+kind_so (checkpoints job) (checkpoint told) before talk is = tt
+kind_so (checkpoints job) (stream told) before talk is = is
+kind_so (checkpoints job) (read told) before talk is = is
+kind_so (streams job) (creation told) before talk is = is
+kind_so (streams job) (load told) before talk is = is
+kind_so (streams job) (checkpoint told) before talk is = is
+kind_so (streams job) (stream told) before talk is = tt
+kind_so (streams job) (read told) before talk is = is
+kind_so (reads job) (creation told) before talk is = is
+kind_so (reads job) (load told) before talk is = is
+kind_so (reads job) (checkpoint told) before talk is = is
+kind_so (reads job) (stream told) before talk is = is
+kind_so (reads job) (read told) before talk is = tt
+
+-- and of that of the same job that began with nothing known
+kind_alike : (job begun : Job) (outcome : Outcome) → IsBegunAs job begun → IsOfKind begun outcome → IsOfKind job outcome
+kind_alike (creates job) begun outcome same is = subst (λ (j : Job). IsOfKind j outcome) same is
+kind_alike (loads job) begun outcome (how, used, same) is = loads_alike outcome (subst (λ (j : Job). IsOfKind j outcome) same is)
+  where
+    loads_alike : (o : Outcome) → IsOfKind (loads how) o → IsOfKind (loads job) o
+    loads_alike (creation told) of = of
+    loads_alike (load told) of = of
+    loads_alike (checkpoint told) of = of
+    loads_alike (stream told) of = of
+    loads_alike (read told) of = of
+kind_alike (checkpoints job) begun outcome (how, used, same) is = checkpoints_alike outcome (subst (λ (j : Job). IsOfKind j outcome) same is)
+  where
+    checkpoints_alike : (o : Outcome) → IsOfKind (checkpoints how) o → IsOfKind (checkpoints job) o
+    checkpoints_alike (creation told) of = of
+    checkpoints_alike (load told) of = of
+    checkpoints_alike (checkpoint told) of = of
+    checkpoints_alike (stream told) of = of
+    checkpoints_alike (read told) of = of
+kind_alike (streams job) begun outcome (how, used, same) is = streams_alike outcome (subst (λ (j : Job). IsOfKind j outcome) same is)
+  where
+    streams_alike : (o : Outcome) → IsOfKind (streams (record job { load = how })) o → IsOfKind (streams job) o
+    streams_alike (creation told) of = of
+    streams_alike (load told) of = of
+    streams_alike (checkpoint told) of = of
+    streams_alike (stream told) of = of
+    streams_alike (read told) of = of
+kind_alike (reads job) begun outcome (known, same) is = reads_alike outcome (subst (λ (j : Job). IsOfKind j outcome) same is)
+  where
+    reads_alike : (o : Outcome) → IsOfKind (reads (record job { known = known })) o → IsOfKind (reads job) o
+    reads_alike (creation told) of = of
+    reads_alike (load told) of = of
+    reads_alike (checkpoint told) of = of
+    reads_alike (stream told) of = of
+    reads_alike (read told) of = of
+
+kind_told : (job begun : Job) (outcome : Outcome) (before talk : Talk) → IsBegunAs job begun → Ends begun before talk outcome → IsOfKind job outcome
+kind_told job begun outcome before talk same told = kind_alike job begun outcome same (kind_so begun outcome before talk told)
 
 -- What was told by one more event is of a job, and of its kind.
 owned_more : (w : World) (event : Event) (out : Option (Job × Outcome)) (later : World) (before : List Event) → AreBegun w before → Happens w event out later → (next : Option code_end.JobEnd) → TellsAs next out
     → IsOwned (job_going_on before event) (option_map end_view next)
 owned_more w event out later before begun (ends made name actor now outcome comes does) (Some end) tells =
-    let going : job_going_on before event ≡ Some actor.job = comes_going_on w event name actor now comes before ∙ begun name actor (comes_actor w event name actor now comes) in
-    subst (λ (j : Option Job). IsOwned j (Some (end_view end))) (sym going) (subst (IsOfKind actor.job) tells (kind_so actor.job outcome now does.0))
-owned_more w event out later before begun (begins name job can) (Some end) tells = absurd tells
+    let going : job_going_on before event ≡ Some actor.job = comes_going_on w event name actor now comes before ∙ (begun name actor (comes_actor w event name actor now comes)).0 in
+    subst (λ (j : Option Job). IsOwned j (Some (end_view end))) (sym going) (subst (IsOfKind actor.job) tells (kind_told actor.job actor.begun outcome actor.before now (begun name actor (comes_actor w event name actor now comes)).1 does.0))
+owned_more w event out later before begun (begins name job began known can same borne) (Some end) tells = absurd tells
 owned_more w event out later before begun (dies name) (Some end) tells = absurd tells
 owned_more w event out later before begun (acts name how actor call has hand) (Some end) tells = absurd tells
 owned_more w event out later before begun (goes_on made name actor now call comes does of_bytes) (Some end) tells = absurd tells
@@ -235,7 +279,7 @@ owned_more w event out later before begun happens None tells = tt
 -- ---- events of the code
 
 -- every job of the code can begin
-can_begin : (job : code_job.Job) → CanBegin (job_view job)
+pub can_begin : (job : code_job.Job) → CanBegin (job_view job)
 can_begin (jobs.Create job) = (tt, refl)
 can_begin (jobs.Load use_checkpoints) = (tt, refl)
 can_begin (jobs.Checkpoint use_checkpoints) = (tt, refl)
@@ -270,7 +314,7 @@ record IsPaired (seen : List code_event.Event) (told : List (Option code_end.Job
 paired_so : (first : Objects) (seen : List code_event.Event) (told : List (Option code_end.JobEnd)) (met : List Event) (outs : List (Job × Outcome)) (was_short : Bool) (w : World)
     → AreRun (quiet_world first) seen told met outs was_short w → IsPaired seen told met outs w
 paired_so first _ _ _ _ _ _ at_first = record { counts = refl; begun = λ name actor is. absurd cc; alike = λ name. refl; paired = refl; owned = tt }
-paired_so first _ _ _ _ _ _ (then_one seen told met outs was w event next one out later run is fits tells happens) =
+paired_so first _ _ _ _ _ _ (then_one seen told met outs was w event next one out later run is fits tells happens begins_so) =
     let so = paired_so first seen told met outs was w run in
     let before : List Event = latest_first [] met in
     let views : List Event = map event_view seen in
@@ -316,7 +360,7 @@ begun_event name job (code_events.Land place) met is same = sym is ∙ same
 handed_in : (first : World) (seen : List code_event.Event) (told : List (Option code_end.JobEnd)) (met : List Event) (outs : List (Job × Outcome)) (was_short : Bool) (w : World) → AreRun first seen told met outs was_short w
     → (name : ℕ) (job : Job) → Contains met (begin name job) → Contains (map event_view seen) (begin name job)
 handed_in first _ _ _ _ _ _ at_first name job has = absurd (none_in (begin name job) has)
-handed_in first _ _ _ _ _ _ (then_one seen told met outs was w event next one out later run is fits tells happens) name job has =
+handed_in first _ _ _ _ _ _ (then_one seen told met outs was w event next one out later run is fits tells happens begins_so) name job has =
     subst (λ (es : List Event). Contains es (begin name job)) (sym (map-append event_view seen (event ∷ []))) (by_place (λ there. handed_in first seen told met outs was w run name job there) (Contains-push_cases met one (begin name job) has))
   where
     by_place : (Contains met (begin name job) → Contains (map event_view seen) (begin name job)) → Contains met (begin name job) ⊎ (one ≡ begin name job) → Contains (map event_view seen ++ event_view event ∷ []) (begin name job)

@@ -16,7 +16,7 @@ use Rattle.stream_world.specs.declared.world.World as code_world
 -- what was run happened
 pub ran_so : (first : World) (seen : List code_event.Event) (told : List (Option code_end.JobEnd)) (met : List Event) (outs : List (Job × Outcome)) (was_short : Bool) (w : World) → AreRun first seen told met outs was_short w → Ran first met outs w
 ran_so first _ _ _ _ _ _ at_first = events.at_first
-ran_so first _ _ _ _ _ _ (then_one seen told met outs was w event next one out later run is fits tells happens) = events.then_one met outs w one out later (ran_so first seen told met outs was w run) happens
+ran_so first _ _ _ _ _ _ (then_one seen told met outs was w event next one out later run is fits tells happens begins_so) = events.then_one met outs w one out later (ran_so first seen told met outs was w run) happens
 
 -- ---- where it isn't short
 
@@ -49,7 +49,7 @@ event_exact (land place) met is none = is
 exact_so : (first : World) (seen : List code_event.Event) (told : List (Option code_end.JobEnd)) (met : List Event) (outs : List (Job × Outcome)) (was_short : Bool) (w : World) → AreRun first seen told met outs was_short w → was_short ≡ false
     → met ≡ map event_view seen
 exact_so first _ _ _ _ _ _ at_first none = refl
-exact_so first _ _ _ _ _ _ (then_one seen told met outs was w event next one out later run is fits tells happens) none =
+exact_so first _ _ _ _ _ _ (then_one seen told met outs was w event next one out later run is fits tells happens begins_so) none =
     let both = none_of (ran_out (event_view event) one) (told_wants next) was none in
     let before : met ≡ map event_view seen = exact_so first seen told met outs was w run both.1 in
     ap (λ (es : List Event). es ++ one ∷ []) before ∙ (ap (λ (e : Event). map event_view seen ++ e ∷ []) (event_exact (event_view event) one is both.0) ∙ sym (map-append event_view seen (event ∷ [])))
@@ -70,7 +70,7 @@ run_more objects first seen event told next world later run happens =
     let outs : List (Job × Outcome) = events.with_told run.outs one.told in
     let ran : AreRun (quiet_world first) (seen ++ event ∷ []) (told ++ next ∷ []) met outs later.is_short one.later =
     subst (λ (b : Bool). AreRun (quiet_world first) (seen ++ event ∷ []) (told ++ next ∷ []) met outs b one.later) (sym one.short)
-    (then_one seen told run.met run.outs world.is_short run.w event next one.met one.told one.later run.ran one.is one.fits one.tells one.happens) in
+    (then_one seen told run.met run.outs world.is_short run.w event next one.met one.told one.later run.ran one.is one.fits one.tells one.happens one.begins) in
     record {
       met = met;
       outs = outs;

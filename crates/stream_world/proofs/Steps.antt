@@ -81,7 +81,7 @@ pub stands_alike : (actor later : code.Actor) (found : Option Actor) → later.s
 stands_alike actor later None session hand stands = absurd stands
 stands_alike actor later (Some plain) session hand stands = record {
   job = ap job_of session ∙ stands.job;
-  fit = subst (λ (s : JobSession). SessionFits [] s plain.talk (call_of plain.hand)) (sym session) stands.fit;
+  fit = subst (λ (s : JobSession). SessionFits plain.before s plain.talk (call_of plain.hand)) (sym session) stands.fit;
   hand = subst (λ (h : code_hand.Hand). HandStands h plain.talk plain.hand) (sym hand) stands.hand;
 }
 
@@ -100,30 +100,30 @@ pub record IsTaken (w : World) (event : Event) (name : ℕ) (plain : Actor) (rep
   pub hears : heard plain.talk (call_of plain.hand) (option_map told_view reply) ≡ now
   pub lost : hears_lost (option_map told_view reply) ≡ ends_lost now
 
-pub taken_next : (w : World) (name : ℕ) (job : Job) (talk : Talk) (p : Hand) (hand : code_hand.Hand) (is_lost : Bool) (reply : Option Reply)
-    → HasActor w name (record { job = job; talk = talk; hand = p }) → HandStands hand talk p → HasNext hand is_lost (Ok reply) → IsTaken w (taking name is_lost) name (record { job = job; talk = talk; hand = p }) reply
-taken_next w name job talk fresh hands.Fresh false reply has stands next =
+pub taken_next : (w : World) (name : ℕ) (job begun : Job) (before talk : Talk) (p : Hand) (hand : code_hand.Hand) (is_lost : Bool) (reply : Option Reply)
+    → HasActor w name (record { job = job; begun = begun; before = before; talk = talk; hand = p }) → HandStands hand talk p → HasNext hand is_lost (Ok reply) → IsTaken w (taking name is_lost) name (record { job = job; begun = begun; before = before; talk = talk; hand = p }) reply
+taken_next w name job begun before talk fresh hands.Fresh false reply has stands next =
     let e : reply ≡ None = cc in
-    subst (IsTaken w (answer name) name (record { job = job; talk = talk; hand = fresh })) (sym e) (record { now = []; taken = begins_now name _ has refl; hears = stands; lost = refl })
-taken_next w name job talk fresh hands.Fresh true reply has stands next = absurd cc
-taken_next w name job talk (asking call) (hands.Asks request) is_lost reply has stands next = absurd cc
-taken_next w name job talk (waiting call told) (hands.Waits waits) false reply has stands next =
+    subst (IsTaken w (answer name) name (record { job = job; begun = begun; before = before; talk = talk; hand = fresh })) (sym e) (record { now = []; taken = begins_now name _ has refl; hears = stands; lost = refl })
+taken_next w name job begun before talk fresh hands.Fresh true reply has stands next = absurd cc
+taken_next w name job begun before talk (asking call) (hands.Asks request) is_lost reply has stands next = absurd cc
+taken_next w name job begun before talk (waiting call told) (hands.Waits waits) false reply has stands next =
     let e : reply ≡ Some waits = cc in
-    subst (IsTaken w (answer name) name (record { job = job; talk = talk; hand = waiting call told })) (sym e)
+    subst (IsTaken w (answer name) name (record { job = job; begun = begun; before = before; talk = talk; hand = waiting call told })) (sym e)
     (record { now = talk ++ (call, told) ∷ []; taken = takes name _ call told has refl; hears = ap (λ (t : Told). talk ++ (call, t) ∷ []) stands; lost = ap talks.is_lost stands ∙ sym (ends_last talk call told) })
-taken_next w name job talk (waiting call told) (hands.Waits waits) true reply has stands next =
+taken_next w name job begun before talk (waiting call told) (hands.Waits waits) true reply has stands next =
     let e : reply ≡ Some replies.Lost = cc in
-    subst (IsTaken w (lose_answer name) name (record { job = job; talk = talk; hand = waiting call told })) (sym e)
+    subst (IsTaken w (lose_answer name) name (record { job = job; begun = begun; before = before; talk = talk; hand = waiting call told })) (sym e)
     (record { now = talk ++ (call, told_lost) ∷ []; taken = loses name _ call told has refl; hears = refl; lost = sym (ends_last talk call told_lost) })
-taken_next w name job talk fresh (hands.Asks request) is_lost reply has stands next = absurd stands
-taken_next w name job talk fresh (hands.Waits waits) is_lost reply has stands next = absurd stands
-taken_next w name job talk (asking call) hands.Fresh is_lost reply has stands next = absurd stands
-taken_next w name job talk (asking call) (hands.Waits waits) is_lost reply has stands next = absurd stands
-taken_next w name job talk (waiting call told) hands.Fresh is_lost reply has stands next = absurd stands
-taken_next w name job talk (waiting call told) (hands.Asks request) is_lost reply has stands next = absurd stands
-taken_next w name job talk (ended outcome) hands.Fresh is_lost reply has stands next = absurd stands
-taken_next w name job talk (ended outcome) (hands.Asks request) is_lost reply has stands next = absurd stands
-taken_next w name job talk (ended outcome) (hands.Waits waits) is_lost reply has stands next = absurd stands
+taken_next w name job begun before talk fresh (hands.Asks request) is_lost reply has stands next = absurd stands
+taken_next w name job begun before talk fresh (hands.Waits waits) is_lost reply has stands next = absurd stands
+taken_next w name job begun before talk (asking call) hands.Fresh is_lost reply has stands next = absurd stands
+taken_next w name job begun before talk (asking call) (hands.Waits waits) is_lost reply has stands next = absurd stands
+taken_next w name job begun before talk (waiting call told) hands.Fresh is_lost reply has stands next = absurd stands
+taken_next w name job begun before talk (waiting call told) (hands.Asks request) is_lost reply has stands next = absurd stands
+taken_next w name job begun before talk (ended outcome) hands.Fresh is_lost reply has stands next = absurd stands
+taken_next w name job begun before talk (ended outcome) (hands.Asks request) is_lost reply has stands next = absurd stands
+taken_next w name job begun before talk (ended outcome) (hands.Waits waits) is_lost reply has stands next = absurd stands
 
 -- ---- where it goes
 
@@ -134,11 +134,11 @@ module _ (w : World) (name : ℕ) (is_lost_now : Bool) (actor : code.Actor) (pla
   asks_on later (hands.Waits waits) has same next = absurd next
   asks_on later (hands.Asks request) has same (goes, lost, bytes) =
       let call : Asked = asked_view request in
-      let gone = goes plain.talk (call_of plain.hand) stands.fit in
-      let fits : SessionFits [] later.session is.now (Some call) = subst (λ (t : Talk). SessionFits [] later.session t (Some call)) is.hears gone.0 in
-      let asked : Asks plain.job [] is.now call = subst (λ (j : Job). Asks j [] is.now call) stands.job (subst (λ (t : Talk). Asks (job_of actor.session) [] t call) is.hears gone.1) in
-      let does : Does plain.job [] is.now (asks call) = (asked, sym is.lost ∙ lost) in
-      let next : Actor = record { job = plain.job; talk = is.now; hand = asking call } in
+      let gone = goes plain.before plain.talk (call_of plain.hand) stands.fit in
+      let fits : SessionFits plain.before later.session is.now (Some call) = subst (λ (t : Talk). SessionFits plain.before later.session t (Some call)) is.hears gone.0 in
+      let asked : Asks plain.begun plain.before is.now call = subst (λ (j : Job). Asks j plain.before is.now call) stands.job (subst (λ (t : Talk). Asks (job_of actor.session) plain.before t call) is.hears gone.1) in
+      let does : Does plain.begun plain.before is.now (asks call) = (asked, sym is.lost ∙ lost) in
+      let next : Actor = record plain { talk = is.now; hand = asking call } in
       let there : ActorStands later next = record { job = same ∙ stands.job; fit = fits; hand = subst (λ (h : code_hand.Hand). HandStands h is.now (asking call)) (sym has) refl } in
       record {
         met = taking name is_lost_now;
@@ -157,10 +157,10 @@ module _ (w : World) (name : ℕ) (is_lost_now : Bool) (actor : code.Actor) (pla
   tells_now : (outcome : code_end.JobEnd) → TellsNext actor.session reply outcome → Becomes w (taking name is_lost_now) name (Some outcome) w.objects w.flight None
   tells_now outcome (goes, lost) =
       let told : Outcome = end_view outcome in
-      let ended_so : Ends plain.job [] is.now told = subst (λ (j : Job). Ends j [] is.now told) stands.job
-      (subst (λ (t : Talk). Ends (job_of actor.session) [] t told) is.hears (goes plain.talk (call_of plain.hand) stands.fit)) in
-      let does : Does plain.job [] is.now (tells told) = (ended_so, lost ∙ is.lost) in
-      let next : Actor = record { job = plain.job; talk = is.now; hand = ended told } in
+      let ended_so : Ends plain.begun plain.before is.now told = subst (λ (j : Job). Ends j plain.before is.now told) stands.job
+      (subst (λ (t : Talk). Ends (job_of actor.session) plain.before t told) is.hears (goes plain.before plain.talk (call_of plain.hand) stands.fit)) in
+      let does : Does plain.begun plain.before is.now (tells told) = (ended_so, lost ∙ is.lost) in
+      let next : Actor = record plain { talk = is.now; hand = ended told } in
       record {
         met = taking name is_lost_now;
         is = met_so (taking name is_lost_now);
@@ -188,7 +188,7 @@ went_on w name is_lost_now actor reply outcome slot stands next goes = by_actor 
     by_actor : (found : Option Actor) → w.actors name ≡ found → SlotStands (Some actor) found → Becomes w (taking name is_lost_now) name outcome w.objects w.flight slot
     by_actor None has stands_so = absurd stands_so
     by_actor (Some plain) has stands_so =
-        gone_on w name is_lost_now actor plain stands_so reply (taken_next w name plain.job plain.talk plain.hand actor.hand is_lost_now reply has stands_so.hand next) outcome slot goes
+        gone_on w name is_lost_now actor plain stands_so reply (taken_next w name plain.job plain.begun plain.before plain.talk plain.hand actor.hand is_lost_now reply has stands_so.hand next) outcome slot goes
 
 -- ---- where it stays
 

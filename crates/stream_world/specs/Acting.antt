@@ -1,5 +1,5 @@
 -- What an actor's session is told next, and where it goes.
-use Rattle.std.specs.Prelude.{◌≡◌, [], Bool, true, false, Option, None, Some, Result, Ok, Err, option_map}
+use Rattle.std.specs.Prelude.{◌≡◌, Bool, true, false, Option, None, Some, Result, Ok, Err, option_map}
 use Rattle.session_core.specs.Sessions.{hears_lost}
 use Rattle.session_core.specs.Talks.{Asked, Talk, asked_view, heard, told_view}
 use Rattle.session_core.specs.declared.asking.Reply as code_reply
@@ -20,18 +20,18 @@ HasNext (hands.Waits reply) false next = next ≡ Ok (Some reply)
 HasNext hands.Fresh false next = next ≡ Ok None
 HasNext hand is_lost next = next ≡ Err hand
 
--- Behind each talk that it may have had, and what it is told now, it asks for a call that its job asks for then, where no call was just lost.
+-- Behind each talk that it may have had, behind another by which something was known, and what it is told now, it asks for a call that its job asks for then, where no call was just lost.
 abbrev pub AsksNext : JobSession → Option code_reply.Reply → (later : JobSession) → Hand → Type 0
 AsksNext session reply later (hands.Asks request) =
-    ((talk : Talk) (asked : Option Asked) → SessionFits [] session talk asked
-    → SessionFits [] later (heard talk asked (option_map told_view reply)) (Some (asked_view request)) × Asks (job_of session) [] (heard talk asked (option_map told_view reply)) (asked_view request))
+    ((before talk : Talk) (asked : Option Asked) → SessionFits before session talk asked
+    → SessionFits before later (heard talk asked (option_map told_view reply)) (Some (asked_view request)) × Asks (job_of session) before (heard talk asked (option_map told_view reply)) (asked_view request))
     × (hears_lost (option_map told_view reply) ≡ false) × IsOfBytes (asked_view request)
 AsksNext session reply later hand = ⊥
 
 -- Behind it, it tells what its job tells then; that a call was lost just where one was.
 abbrev pub TellsNext : JobSession → Option code_reply.Reply → code_end.JobEnd → Type 0
 TellsNext session reply outcome =
-    ((talk : Talk) (asked : Option Asked) → SessionFits [] session talk asked → Ends (job_of session) [] (heard talk asked (option_map told_view reply)) (end_view outcome))
+    ((before talk : Talk) (asked : Option Asked) → SessionFits before session talk asked → Ends (job_of session) before (heard talk asked (option_map told_view reply)) (end_view outcome))
     × (is_lost_outcome (end_view outcome) ≡ hears_lost (option_map told_view reply))
 
 -- A session that was told this asks for a call that its job asks for then, or tells what its job tells then.

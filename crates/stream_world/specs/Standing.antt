@@ -11,8 +11,9 @@ use Rattle.store_core.specs.declared.fault.StoreFault.TheVariants.{Lost, Memory}
 use Rattle.store_core.specs.declared.store.Put.{Put}
 use Rattle.session_core.specs.Talks.{Asked, Talk, Told, asked_view, told_view}
 use Rattle.table_jobs.specs.Jobs.{Job, Outcome}
-use Rattle.stream_model.specs.Events.{Event, FitsWorld, Happens, act, answer, begin, land, lose_answer}
-use Rattle.stream_model.specs.Worlds.{Actor, Hand, How, World, asking, ended, flight_how, fresh, left_how, told_how, waiting}
+use Rattle.stream_model.specs.Events.{Event, FitsWorld, HasActor, Happens, act, answer, begin, land, lose_answer}
+use Rattle.table_log.specs.Loads.{IsFront}
+use Rattle.stream_model.specs.Worlds.{Actor, BearsActors, Hand, How, KnowsFront, World, anew, asking, ended, flight_how, fresh, left_how, told_how, waiting}
 use Rattle.stream_world.specs.EventViews.{IsMetAs, IsMetIn, ran_out}
 use Rattle.table_jobs.specs.Sessions.{SessionFits, job_of, end_view}
 use Rattle.table_jobs.specs.Wants.{outcome_wants}
@@ -38,10 +39,11 @@ HandStands (hands.Asks request) talk (asking call) = asked_view request ≡ call
 HandStands (hands.Waits reply) talk (waiting call told) = told_view reply ≡ told
 HandStands hand talk plain = ⊥
 
--- an actor of the code, and one of a world: the session does the same job, may have had that talk, and has the same at hand
+-- An actor of the code, and one of a world: the session does the same job with the same known of the log, may have had that talk behind the one
+-- by which that was known, and has the same at hand.
 pub record ActorStands (actor : code_actor.Actor) (plain : Actor) : Type 0 where
-  pub job : job_of actor.session ≡ plain.job
-  pub fit : SessionFits [] actor.session plain.talk (call_of plain.hand)
+  pub job : job_of actor.session ≡ plain.begun
+  pub fit : SessionFits plain.before actor.session plain.talk (call_of plain.hand)
   pub hand : HandStands actor.hand plain.talk plain.hand
 
 abbrev pub HasEnded : Hand → Type 0
@@ -61,11 +63,14 @@ SlotStands None None = Unit {0}
 abbrev pub slot_at : {S : Type 0} → code_world.World S → ℕ → Option code_actor.Actor
 slot_at world name = option_and_then (λ slot. slot) (get nat_cmp world.actors name)
 
--- a world of the code stands for one: its objects, its puts in flight and its actors are the same
+-- A world of the code stands for one: its objects, its puts in flight and its actors are the same; what stands bears what its sessions were
+-- told, and what is known of the log is so.
 pub record WorldStands {S : Type 0} (stored : S → Objects) (world : code_world.World S) (w : World) : Type 0 where
   pub objects : w.objects ≡ stored world.store.store
   pub flight : w.flight ≡ puts_sent world.store
   pub actors : (name : ℕ) → SlotStands (slot_at world name) (w.actors name)
+  pub borne : BearsActors w
+  pub known : IsFront (stored world.store.store) world.known
 
 -- the world in which nobody acts and nothing is in flight
 abbrev pub quiet_world : Objects → World
@@ -86,6 +91,11 @@ pub record CallMeets (how : How) (call : Asked) (told : Told) (objects : Objects
   pub told_so : told ≡ told_how met objects call
   pub left : objects_new ≡ left_how met objects call
   pub in_flight : flight_new ≡ flight_how met flight call
+
+-- what a session that has ended hands back of the log is so of these objects
+abbrev pub HandsBack : Objects → Option code_end.JobEnd → Type 0
+HandsBack objects None = Unit {0}
+HandsBack objects (Some outcome) = KnowsFront objects (end_view outcome)
 
 -- What became of a world by an event of the actor of a number, for whom this is kept then.
 pub record Becomes (w : World) (event : Event) (name : ℕ) (outcome : Option code_end.JobEnd) (objects : Objects) (flight : Flight) (slot : Option code_actor.Actor) : Type 0 where
@@ -112,8 +122,14 @@ abbrev pub told_wants : Option code_end.JobEnd → Bool
 told_wants None = false
 told_wants (Some outcome) = outcome_wants (end_view outcome)
 
--- What happened to a world by an event, for which the world of the code stands then. That is short now just where it was before, where memory
--- ran out in the call that was asked for, though it was to be answered otherwise, or where what was told tells so.
+-- where the event is a beginning, the actor knows nothing of the log
+abbrev pub BeginsAnew : Event → World → Type 0
+BeginsAnew (begin name job) later = HasActor later name (anew job)
+BeginsAnew event later = Unit {0}
+
+-- What happened to a world by an event, for which the world of the code stands then. A session that began knows nothing of the log. What was told hands back of the log what is so. The world of
+-- the code is short now just where it was before, where memory ran out in the call that was asked for, though it was to be answered otherwise, or
+-- where what was told tells so.
 pub record HasHappened {S : Type 0} (objects : S → Objects) (was_short : Bool) (w : World) (event : Event) (outcome : Option code_end.JobEnd) (world : code_world.World S) : Type 0 where
   pub met : Event
   pub is : IsMetAs event met
@@ -122,6 +138,8 @@ pub record HasHappened {S : Type 0} (objects : S → Objects) (was_short : Bool)
   pub later : World
   pub happens : Happens w met told later
   pub stands : WorldStands objects world later
+  pub begins : BeginsAnew event later
+  pub hands : HandsBack (objects world.store.store) outcome
   pub short : world.is_short ≡ (ran_out event met || (told_wants outcome || was_short))
   pub fits : ran_out event met ≡ true → FitsWorld w event
 
@@ -140,6 +158,28 @@ StepsTo objects was_short w event (Err fault) world = TakesMemory event × World
 abbrev pub BeginsAs : {S : Type 0} → (objects : S → Objects) → (was_short : Bool) → World → Event → Result (Unit {0}) AllocError → code_world.World S → Type 0
 BeginsAs objects was_short w event (Ok done) world = HasHappened objects was_short w event None world
 BeginsAs objects was_short w event (Err fault) world = WorldStands objects world w × (world.is_short ≡ true)
+
+-- An actor has begun a job, maybe with something known of the log: this job, behind this talk.
+pub record HasBegunAs {S : Type 0} (objects : S → Objects) (was_short : Bool) (w : World) (name : ℕ) (job begun : Job) (before : Talk) (world : code_world.World S) : Type 0 where
+  pub later : World
+  pub happens : Happens w (begin name job) None later
+  pub there : HasActor later name (record { job = job; begun = begun; before = before; talk = []; hand = fresh })
+  pub stands : WorldStands objects world later
+  pub short : world.is_short ≡ was_short
+
+-- or memory ran out, and nothing has happened
+abbrev pub PlacesAs : {S : Type 0} → (objects : S → Objects) → (was_short : Bool) → World → (name : ℕ) → (job begun : Job) → (before : Talk) → Result (Unit {0}) AllocError → code_world.World S → Type 0
+PlacesAs objects was_short w name job begun before (Ok done) world = HasBegunAs objects was_short w name job begun before world
+PlacesAs objects was_short w name job begun before (Err fault) world = WorldStands objects world w × (world.is_short ≡ true)
+
+-- the same with whatever was known
+abbrev pub BeginsKnowing : {S : Type 0} → (objects : S → Objects) → (was_short : Bool) → World → (name : ℕ) → Job → Result (Unit {0}) AllocError → code_world.World S → Type 0
+BeginsKnowing objects was_short w name job result world = (begun : Job) × (before : Talk) × PlacesAs objects was_short w name job begun before result world
+
+-- the session of an actor is to do this job
+abbrev pub SlotDoes : Option code_actor.Actor → Job → Type 0
+SlotDoes None job = ⊥
+SlotDoes (Some actor) job = job_of actor.session ≡ job
 
 -- what a put in flight is told that takes effect: whether its name was absent, or stood; nothing, where none of that number is in flight
 abbrev pub landing_told : World → (place : ℕ) → Option Put

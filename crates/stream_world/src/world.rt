@@ -1,19 +1,26 @@
 //! A world: a store, and the actors that act on it.
 
-ghost use Rattle.std.specs.Prelude.{◌≡◌, ◌<◌, ◌||◌, [], Bool, None, false, true};
+ghost use Rattle.std.specs.Prelude.{◌≡◌, ◌<◌, ◌||◌, [], Bool, None, OnOk, false, true};
 ghost use Rattle.store_core.specs.Turns.{turns_left};
 ghost use Rattle.stream_model.specs.Events.{act, begin, die, land};
-ghost use Rattle.table_jobs.specs.Jobs.{CanBegin};
+ghost use Rattle.log_reading.specs.declared.log_cache.LogCache as caches;
+ghost use Rattle.session_core.specs.Talks.{Bears, Talk};
+ghost use Rattle.table_jobs.specs.Jobs.{CanBegin, Job as Handed};
+ghost use Rattle.table_jobs.specs.Sessions.{SessionFits, awaited, is_ended, job_of};
+ghost use Rattle.table_log.specs.Loads.{IsFront};
 ghost use Rattle.stream_world.specs.Standing.{landing_out, told_wants};
 ghost use Rattle.stream_model.specs.Worlds as worlds;
 
 use crate::acting;
 use crate::actor::{Actor, Hand};
 use crate::event::{Event, How};
+use log_reading::LogCache;
 use std::alloc::{AllocError, Global};
 use std::collections::BTreeMap;
+use std::mem;
 use store_core::{Flaky, Put, Store, StoreFault};
 use table_jobs::{Job, JobEnd, JobSession};
+use table_log::Loaded;
 
 /// Actors that act on one store, which keeps the puts in flight. An actor that waits takes no time. An event takes the
 /// time of the step or the call that it is, with what it drops or copies, and the logarithm of how many actors there
@@ -25,6 +32,8 @@ pub struct World<S> {
     pub store: Flaky<S>,
     /// By number, each actor whose session hasn't ended. A place may be empty.
     pub actors: BTreeMap<u64, Option<Actor>>,
+    /// What is known of the log, for sessions that begin with it.
+    pub known: Loaded,
     /// Whether memory ran out in an event, or a session told want of memory or of a smaller object.
     pub is_short: bool,
 }
@@ -55,10 +64,11 @@ fn tells_short(told: &Option<JobEnd>) -> bool
 
 impl<S: Store> World<S> {
     ghost use Rattle.stream_world.specs.EventViews.{event_view, how_view};
-    ghost use Rattle.table_jobs.specs.Views.{job_view};
+    ghost use Rattle.table_jobs.specs.Views.{job_view, with_known};
     ghost use Rattle.stream_world.specs.Left.{asks_call, calls_left, takes_step};
     ghost use Rattle.stream_world.specs.OverAnyStore.{AsksStore, WorldMeets};
-    ghost use Rattle.stream_world.specs.Standing.{BeginsAs, HasHappened, LandsAs, StepsTo, WorldStands, quiet_world, slot_at, taking};
+    ghost use Rattle.stream_model.specs.Worlds.{IsBegunAs};
+    ghost use Rattle.stream_world.specs.Standing.{BeginsAs, BeginsKnowing, HasHappened, LandsAs, PlacesAs, SlotDoes, StepsTo, WorldStands, quiet_world, slot_at, taking};
 
     /// A world over a store, in which nobody acts yet and no put was sent.
     pub fn new(alloc: Global, store: S) -> World<S>
@@ -71,6 +81,7 @@ impl<S: Store> World<S> {
             alloc,
             store: Flaky::new(alloc, store, Vec::new(alloc)),
             actors: BTreeMap::new(alloc),
+            known: Loaded::new(alloc),
             is_short: false,
         }
     }
@@ -114,8 +125,8 @@ impl<S: Store> World<S> {
         }
     }
 
-    /// An actor begins a session, in place of an older one; nothing is asked for yet. Fails where memory runs out, and
-    /// then nothing has happened.
+    /// An actor begins a session that knows nothing of the log, in place of an older one; nothing is asked for yet. Fails
+    /// where memory runs out, and then nothing has happened.
     pub fn begin(&mut self, actor: u64, job: Job<'static>) -> Result<(), AllocError>
         ensures happens { (w : worlds.World) → WorldStands S.objects self.old w → BeginsAs S.objects self.old.is_short w (begin actor (job_view job.entry)) result self.new }
         // Every job of the code can begin.
@@ -123,6 +134,35 @@ impl<S: Store> World<S> {
         ensures store { self.new.store ≡ self.old.store }
     {
         let session = JobSession::new(self.alloc, job);
+        self.place(actor, session)
+    }
+
+    /// The same, but that an append, a close, a checkpoint or a load begins with what is known of the log, and takes it. So
+    /// where memory runs out less may be known.
+    pub fn begin_knowing(&mut self, actor: u64, job: Job<'static>) -> Result<(), AllocError>
+        ensures happens { (w : worlds.World) → WorldStands S.objects self.old w → BeginsKnowing S.objects self.old.is_short w actor (job_view job.entry) result self.new }
+        ensures can { CanBegin (job_view job.entry) }
+        ensures store { self.new.store ≡ self.old.store }
+        // With what was known, and else with nothing.
+        ensures knows { OnOk result ((cache : caches.LogCache) → cache.loaded ≡ self.old.known → cache.log.standing.items ≡ [] → SlotDoes (slot_at self.new actor) (with_known cache (job_view job.entry))) }
+    {
+        let mut cache = LogCache::new(self.alloc);
+        cache.loaded = self.forget();
+        let session = JobSession::behind(self.alloc, job, &mut cache);
+        // What the job doesn't need stays known.
+        self.learn(mem::replace(&mut cache.loaded, Loaded::new(self.alloc)));
+        self.place(actor, session)
+    }
+
+    /// A session that has asked for nothing yet is an actor's from now on.
+    fn place(&mut self, actor: u64, session: JobSession<'static>) -> Result<(), AllocError>
+        requires unended { is_ended session ≡ false }
+        requires new { awaited session ≡ None }
+        ensures places { (w : worlds.World) (job : Handed) (before : Talk) → WorldStands S.objects self.old w → CanBegin job → IsBegunAs job (job_of session.entry) → Bears w.objects before → SessionFits before session.entry [] None
+            → PlacesAs S.objects self.old.is_short w actor job (job_of session.entry) before result self.new }
+        ensures store { self.new.store ≡ self.old.store }
+        ensures slot { OnOk result (SlotDoes (slot_at self.new actor) (job_of session.entry)) }
+    {
         let begun = Actor {
             session,
             hand: Hand::Fresh,
@@ -134,6 +174,25 @@ impl<S: Store> World<S> {
                 Err(AllocError)
             }
         }
+    }
+
+    /// What is known of the log; nothing is known of it from then on.
+    pub fn forget(&mut self) -> Loaded
+        ensures known { result ≡ self.old.known }
+        ensures stands { (w : worlds.World) → WorldStands S.objects self.old w → WorldStands S.objects self.new w }
+        ensures same { (self.new.store ≡ self.old.store) × (self.new.actors ≡ self.old.actors) × (self.new.is_short ≡ self.old.is_short) }
+    {
+        let nothing = Loaded::new(self.alloc);
+        mem::replace(&mut self.known, nothing)
+    }
+
+    /// This is known of the log from now on: what an append, a close or a checkpoint knew when it ended, say.
+    pub fn learn(&mut self, known: Loaded)
+        ensures known { self.new.known ≡ known }
+        ensures stands { (w : worlds.World) → WorldStands S.objects self.old w → IsFront (S.objects self.old.store.store) known → WorldStands S.objects self.new w }
+        ensures same { (self.new.store ≡ self.old.store) × (self.new.actors ≡ self.old.actors) × (self.new.is_short ≡ self.old.is_short) }
+    {
+        self.known = known;
     }
 
     /// An actor's session is dropped.

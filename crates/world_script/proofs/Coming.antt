@@ -32,6 +32,7 @@ died stored n w new was = record {
   later = was.later;
   done = does.dies_now was.later (subst (λ (o : Option (Job × Outcome)). Happens w (die n) o was.later) (told_none was.told was.tells) (subst (λ (e : Event). Happens w e was.told was.later) was.is was.happens));
   tells = tt;
+  hands = tt;
   stands = was.stands;
 }
 

@@ -91,7 +91,7 @@ named_ran s name deed _ _ _ _ (does.refuses part later there was now) = same_ran
 named_ran s name deed _ _ _ _ (does.does_it part seen told w reply there was alive done replied) = deed_ran deed part.number s.world seen told w done
 
 starts_ran : (s : Scene) (name : List ℕ) (job : Option Job) (seen : List Event) (reply : List ℕ) (later : Scene) → Starts s name job seen reply later → Ran s.world seen [] later.world
-starts_ran s name job _ _ _ (does.starts one w later is can happens now) = subst (λ (v : World). Ran s.world (begin (part_for (s.part name) s.next).number one ∷ []) [] v) (sym now.world_now) (one_ran s.world _ None w happens)
+starts_ran s name job _ _ _ (does.starts one w later is can happens anew_there now) = subst (λ (v : World). Ran s.world (begin (part_for (s.part name) s.next).number one ∷ []) [] v) (sym now.world_now) (one_ran s.world _ None w happens)
 starts_ran s name job _ _ _ (does.refuses_it w later is happens now) = subst (λ (v : World). Ran s.world (die (part_for (s.part name) s.next).number ∷ []) [] v) (sym now.world_now) (one_ran s.world _ None w happens)
 starts_ran s name job _ _ _ does.has_no_room = events.at_first
 starts_ran s name job _ _ _ (does.has_no_room_for_it later now) = same_ran s.world later.world now.world_now

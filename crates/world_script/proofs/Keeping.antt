@@ -4,6 +4,7 @@ use Rattle.std.proofs.lemmas.Bool.{cases_eq}
 use Rattle.std.proofs.lemmas.List.Elements.{Contains-append_cases, Contains-push_cases}
 use Rattle.script_lines.specs.declared.kind.Kind.{Kind}
 use Rattle.script_lines.specs.declared.kind.Kind.TheVariants.{Pass}
+use Rattle.session_core.specs.Talks.{Talk}
 use Rattle.table_jobs.specs.Jobs.{CanBegin, Job, Outcome}
 use Rattle.table_store.proofs.ConflictLemmas.{none_contained}
 use Rattle.stream_world.specs.Events.{Event, FitsWorld, HasActor, Happens, act, acts, answer, begin, begins, die, dies, ends, goes_on, land, lands, lose_answer, nothing_happens}
@@ -65,11 +66,11 @@ IsStepOf n (lose_answer name) = name ≡ n
 IsStepOf n (land place) = Unit {0}
 
 event_keeps : (n : ℕ) (w : World) (event : Event) (told : Option (Job × Outcome)) (later : World) → IsStepOf n event → Happens w event told later → OnlyKeeps w later
-event_keeps n w _ _ _ of (begins name job can) = absurd of
+event_keeps n w _ _ _ of (begins name job begun before can same borne) = absurd of
 event_keeps n w _ _ _ of (dies name) = keeps_one w name None (λ job is. let wrong : None ≡ Some job = is in absurd cc)
 event_keeps n w _ _ _ of (acts name how actor call has hand) = keeps_going w name actor _ has refl
-event_keeps n w _ _ _ of (goes_on event name actor now call comes does_so of_bytes) = keeps_going w name actor (record { job = actor.job; talk = now; hand = asking call }) (comes_actor w event name actor now comes) refl
-event_keeps n w _ _ _ of (ends event name actor now outcome comes does_so) = keeps_going w name actor (record { job = actor.job; talk = now; hand = ended outcome }) (comes_actor w event name actor now comes) refl
+event_keeps n w _ _ _ of (goes_on event name actor now call comes does_so of_bytes) = keeps_going w name actor (record actor { talk = now; hand = asking call }) (comes_actor w event name actor now comes) refl
+event_keeps n w _ _ _ of (ends event name actor now outcome comes does_so) = keeps_going w name actor (record actor { talk = now; hand = ended outcome }) (comes_actor w event name actor now comes) refl
 event_keeps n w _ _ _ of (lands place put is) = λ k job there. there
 event_keeps n w _ _ _ of (nothing_happens event unfit) = λ k job there. there
 
@@ -83,19 +84,19 @@ event_tells : (n : ℕ) (w : World) (event : Event) (told : Option (Job × Outco
 event_tells n w _ _ _ of (ends event name actor now outcome comes does_so) one is =
     subst (λ (k : ℕ). job_there w k ≡ Some one.0) (whose n name event (taker w event name actor now comes) of)
     (ap (option_map (λ (a : Actor). a.job)) (comes_actor w event name actor now comes) ∙ ap (option_map (λ (t : Job × Outcome). t.0)) is)
-event_tells n w _ _ _ of (begins name job can) one is = absurd of
+event_tells n w _ _ _ of (begins name job begun before can same borne) one is = absurd of
 event_tells n w _ _ _ of (dies name) one is = let wrong : None ≡ Some one = is in absurd cc
 event_tells n w _ _ _ of (acts name how actor call has hand) one is = let wrong : None ≡ Some one = is in absurd cc
 event_tells n w _ _ _ of (goes_on event name actor now call comes does_so of_bytes) one is = let wrong : None ≡ Some one = is in absurd cc
 event_tells n w _ _ _ of (lands place put there) one is = let wrong : None ≡ Some one = is in absurd cc
 event_tells n w _ _ _ of (nothing_happens event unfit) one is = let wrong : None ≡ Some one = is in absurd cc
 
--- an actor that begins has its job
-begun_now : (w : World) (n : ℕ) (one : Job) → HasBegun n one w (with_actor w n (Some (record { job = one; talk = []; hand = fresh })))
-begun_now w n one k job there = by_cases (cases_eq k n)
+-- an actor that begins has its job, whatever its session begins with
+begun_now : (w : World) (n : ℕ) (one begun : Job) (before : Talk) → HasBegun n one w (with_actor w n (Some (record { job = one; begun = begun; before = before; talk = []; hand = fresh })))
+begun_now w n one begun before k job there = by_cases (cases_eq k n)
   where
     now : Option Actor
-    now = Some (record { job = one; talk = []; hand = fresh })
+    now = Some (record { job = one; begun = begun; before = before; talk = []; hand = fresh })
 
     by_cases : (k ≡ n) ⊎ (k ≡ n → ⊥) → ((k ≡ n) × (one ≡ job)) ⊎ ((k ≡ n → ⊥) × (job_there w k ≡ Some job))
     by_cases (inl same) =
@@ -105,11 +106,11 @@ begun_now w n one k job there = by_cases (cases_eq k n)
     by_cases (inr apart) = inr (apart, sym (job_still w n now k apart) ∙ there)
 
 pub begun_by : (w : World) (n : ℕ) (one : Job) (event : Event) (told : Option (Job × Outcome)) (later : World) → event ≡ begin n one → CanBegin one → Happens w event told later → HasBegun n one w later
-begun_by w n one _ _ _ is can (begins name job may) =
-    let now : World = with_actor w name (Some (record { job = job; talk = []; hand = fresh })) in
+begun_by w n one _ _ _ is can (begins name job begun before may alike borne) =
+    let now : World = with_actor w name (Some (record { job = job; begun = begun; before = before; talk = []; hand = fresh })) in
     let same_name : name ≡ n = cc in
     let same_job : job ≡ one = cc in
-    subst (λ (k : ℕ). HasBegun k one w now) same_name (subst (λ (j : Job). HasBegun name j w now) same_job (begun_now w name job))
+    subst (λ (k : ℕ). HasBegun k one w now) same_name (subst (λ (j : Job). HasBegun name j w now) same_job (begun_now w name job begun before))
 begun_by w n one _ _ _ is can (dies name) = absurd cc
 begun_by w n one _ _ _ is can (acts name how actor call has hand) = absurd cc
 begun_by w n one _ _ _ is can (goes_on event name actor now call comes does_so of_bytes) = absurd (never_taken n one event name is (taker w event name actor now comes))
@@ -126,7 +127,7 @@ pub gone_by : (w : World) (n : ℕ) (event : Event) (told : Option (Job × Outco
 gone_by w n _ _ _ is (dies name) =
     let same : name ≡ n = cc in
     subst (λ (k : ℕ). job_there (with_actor w name None) k ≡ None) same (job_now w name None)
-gone_by w n _ _ _ is (begins name job may) = cc
+gone_by w n _ _ _ is (begins name job begun before may alike borne) = cc
 gone_by w n _ _ _ is (acts name how actor call has hand) = cc
 gone_by w n _ _ _ is (goes_on event name actor now call comes does_so of_bytes) = absurd (never_dies n event name is (taker w event name actor now comes))
 gone_by w n _ _ _ is (ends event name actor now outcome comes does_so) = absurd (never_dies n event name is (taker w event name actor now comes))

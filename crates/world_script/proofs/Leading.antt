@@ -66,6 +66,7 @@ module _ {S : Type 0} (stored : S → Objects) (n : ℕ) (halts_at_commit : Bool
           later = came.later;
           done = ends led.events led.later came.events one.0 came.later led.on go_on (subst (λ (o : Option (Job × Outcome)). ActorSteps n Pass led.later came.events o came.later) one.1 came.done);
           tells = subst (λ (o : Option (Job × Outcome)). TellsAs (Some outcome) o) one.1 came.tells;
+          hands = came.hands;
           stands = came.stands;
         }
 
@@ -73,7 +74,7 @@ module _ {S : Type 0} (stored : S → Objects) (n : ℕ) (halts_at_commit : Bool
   pub led_halt : (world : code_world.World S) (led : LedOn stored n halts_at_commit w world) → goes halts_at_commit (next_at (hand_at led.later n)) ≡ false → CameBy stored (Leads n halts_at_commit w) None world
   led_halt world led stops =
       let there = halts_there halts_at_commit (next_at (hand_at led.later n)) led.alive stops in
-      record { events = led.events; told = None; later = led.later; done = halts led.events led.later there.0 led.on there.1; tells = tt; stands = led.stands }
+      record { events = led.events; told = None; later = led.later; done = halts led.events led.later there.0 led.on there.1; tells = tt; hands = tt; stands = led.stands }
 
 -- ---- a call that meets a kind
 
@@ -89,7 +90,7 @@ module _ {S : Type 0} (stored : S → Objects) (n : ℕ) (kind : Kind) (w : Worl
       → CameBy stored (ActorMeets n kind w) outcome world
   met_now outcome world alive isnt came =
       let call = call_next (next_at (hand_at w n)) alive isnt in
-      record { events = came.events; told = came.told; later = came.later; done = meets_now call.0 came.events came.told came.later call.1 came.done; tells = came.tells; stands = came.stands }
+      record { events = came.events; told = came.told; later = came.later; done = meets_now call.0 came.events came.told came.later call.1 came.done; tells = came.tells; hands = came.hands; stands = came.stands }
 
   -- it ended by its first step
   pub met_never : (outcome : code_end.JobEnd) (world : code_world.World S) → next_at (hand_at w n) ≡ nexts.Step → CameBy stored (ActorSteps n kind w) (Some outcome) world → CameBy stored (ActorMeets n kind w) (Some outcome) world
@@ -101,6 +102,7 @@ module _ {S : Type 0} (stored : S → Objects) (n : ℕ) (kind : Kind) (w : Worl
         later = came.later;
         done = ends_before came.events one.0 came.later is (subst (λ (o : Option (Job × Outcome)). ActorSteps n kind w came.events o came.later) one.1 came.done);
         tells = subst (λ (o : Option (Job × Outcome)). TellsAs (Some outcome) o) one.1 came.tells;
+        hands = came.hands;
         stands = came.stands;
       }
 
@@ -116,6 +118,7 @@ module _ {S : Type 0} (stored : S → Objects) (n : ℕ) (kind : Kind) (w : Worl
       later = came.later;
       done = meets_then first.events first.later came.events came.told came.later is (subst (λ (o : Option (Job × Outcome)). ActorSteps n kind w first.events o first.later) (told_none first.told first.tells) first.done) came.done;
       tells = came.tells;
+      hands = came.hands;
       stands = came.stands;
     }
 
@@ -138,7 +141,7 @@ module _ {S : Type 0} (stored : S → Objects) (w : World) where
     where
       by_told : (told : Option (Job × Outcome)) → Leads 0 false w came.events told came.later → TellsAs outcome told → CameThrough stored None w outcome None world
       by_told None does tells = let wrong = leads_some 0 false w came.events None came.later does refl in cc
-      by_told (Some told) does tells = record { events = came.events; told = told; later = came.later; leads = unhindered w came.events told came.later does; tells = tells; stands = came.stands }
+      by_told (Some told) does tells = record { events = came.events; told = told; later = came.later; leads = unhindered w came.events told came.later does; tells = tells; hands = came.hands; stands = came.stands }
 
   -- it ends in front of the fault
   pub through_front : (kind : Kind) (outcome : code_end.JobEnd) (world : code_world.World S) → CameBy stored (Leads 0 true w) (Some outcome) world → CameThrough stored (Some kind) w (Some outcome) (Some kind) world
@@ -150,6 +153,7 @@ module _ {S : Type 0} (stored : S → Objects) (w : World) where
         later = came.later;
         leads = in_front kind w came.events one.0 came.later (subst (λ (o : Option (Job × Outcome)). Leads 0 true w came.events o came.later) one.1 came.done);
         tells = subst (λ (o : Option (Job × Outcome)). TellsAs (Some outcome) o) one.1 came.tells;
+        hands = came.hands;
         stands = came.stands;
       }
 
@@ -173,6 +177,7 @@ module _ {S : Type 0} (stored : S → Objects) (w : World) where
           later = step.later;
           leads = by_it kind w came.events came.later step.events one.0 step.later halted (subst (λ (o : Option (Job × Outcome)). ActorSteps 0 kind came.later step.events o step.later) one.1 step.done);
           tells = subst (λ (o : Option (Job × Outcome)). TellsAs (Some outcome) o) one.1 step.tells;
+          hands = step.hands;
           stands = step.stands;
         }
 
@@ -194,5 +199,6 @@ module _ {S : Type 0} (stored : S → Objects) (w : World) where
             later = rest.later;
             leads = behind kind w came.events came.later step.events step.later rest.events told rest.later halted stepped does;
             tells = tells;
+            hands = rest.hands;
             stands = rest.stands;
           }

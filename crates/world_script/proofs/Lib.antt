@@ -1,3 +1,4 @@
+mod Growing
 mod Stepping
 mod Leading
 mod Happened
@@ -6,6 +7,7 @@ mod Slotting
 mod Known
 mod Answering
 mod Coming
+mod Learnt
 mod Keeping
 mod AsBegun
 mod LinesTold

@@ -119,7 +119,7 @@ module _ (uses : Bool) (s : Scene) (b : Begun) (so : IsAsBegun uses s b) where
       }
 
   start_tells : (name : List ℕ) (job : Task) (seen : List Event) (reply : List ℕ) (later : Scene) → Starts s name (job_of_task uses b.tries job) seen reply later → LineTells uses (lines.world (lines.start name job)) b seen [] reply later
-  start_tells name job _ _ _ (does.starts one w later is can happens now) = record {
+  start_tells name job _ _ _ (does.starts one w later is can happens anew_there now) = record {
     now = record { tries = b.tries; jobs = (name, job_of_task uses b.tries job) ∷ b.jobs };
     as_begun = with_part uses s b so name later (record (part_for (s.part name) s.next) { is_refused = false }) (next_behind_part (s.part name) s.next) w (its_number uses s b so name (s.part name) refl) now
         ((name, job_of_task uses b.tries job) ∷ b.jobs) (λ other apart. last_still name other (job_of_task uses b.tries job) b.jobs apart) from;

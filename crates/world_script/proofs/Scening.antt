@@ -7,11 +7,15 @@ use Rattle.lake_script.specs.Sound.{IsExecuted}
 use Rattle.lake_script.specs.Tries.{IsLook}
 use Rattle.script_lines.specs.Lines.{Statement, Task}
 use Rattle.store_core.specs.Turns.{puts_sent}
+use Rattle.session_core.specs.Talks.{Talk}
 use Rattle.stream_world.specs.declared.actor.Actor as actor
+use Rattle.table_log.specs.Loads.{IsFront}
 use Rattle.table_log.specs.Restoring.{RestoresWell}
-use Rattle.store_core.specs.Objects.{Objects}
+use Rattle.table_log.specs.declared.loading.Loaded.{Loaded}
+use Rattle.table_log.proofs.Callers.{front_grown}
+use Rattle.store_core.specs.Objects.{HasObjectsOf, Objects}
 use Rattle.table_jobs.specs.Jobs.{Job, Outcome, CanBegin}
-use Rattle.stream_world.specs.Events.{Event, Happens, begin, die, land, with_told}
+use Rattle.stream_world.specs.Events.{Event, HasActor, Happens, begin, die, land, with_told}
 use Rattle.store_core.specs.declared.store.Put.{Put}
 use Rattle.store_core.specs.declared.store.Put.TheVariants as puts
 use Rattle.store_core.specs.declared.fault.StoreFault.{StoreFault}
@@ -19,9 +23,9 @@ use Rattle.store_core.specs.declared.fault.StoreFault.TheVariants as store_fault
 use Rattle.lake_script.specs.ReplyView.{is_short_reply, reply_text}
 use Rattle.lake_script.specs.declared.reply.LineReply.TheVariants as replies
 use Rattle.script_lines.specs.Lines as lines
-use Rattle.stream_world.specs.Worlds.{World}
+use Rattle.stream_world.specs.Worlds.{World, anew}
 use Rattle.table_jobs.specs.Sessions.{end_view}
-use Rattle.stream_world.specs.Standing.{HasHappened, LandsAs, SlotStands, TellsAs, WorldStands, landing_told}
+use Rattle.stream_world.specs.Standing.{HandsBack, HasBegunAs, HasHappened, LandsAs, SlotStands, TellsAs, WorldStands, landing_told}
 use Rattle.table_jobs.specs.declared.job_session.JobEnd as code_end
 use Rattle.stream_world.specs.declared.world.World as code_world
 use Rattle.script_lines.specs.declared.kind.Kind.{Kind}
@@ -37,6 +41,7 @@ use Rattle.world_script.specs.declared.named.Deed.{Deed}
 use Rattle.world_script.specs.declared.named.Deed.TheVariants as deeds
 use Rattle.world_script.specs.declared.acting.Next.{Next}
 use Rattle.world_script.specs.declared.acting.Next.TheVariants as nexts
+use Rattle.world_script.proofs.Growing.{bearing_grows}
 use Rattle.world_script.proofs.Stepping.{begun_steps}
 use Rattle.world_script.specs.declared.part.Part.{Part}
 use Rattle.world_script.specs.declared.scene.Scene as code
@@ -208,6 +213,7 @@ module _ {S : Type 0} (stored : S → Objects) (old : code.Scene S) (s : Scene) 
       events = begin (part_for (s.part name) s.next).number one ∷ [];
       later = scene_then was.later;
       does = does.starts one was.later (scene_then was.later) is can (begun_one one was.met was.told was.later was.is (none_told was.told was.tells) was.happens)
+          (subst (λ (p : Part). HasActor was.later p.number (anew one)) part_is was.begins)
           (subst (λ (r : Bool). HasPart s (scene_then was.later) name (record (part_for (s.part name) s.next) { is_refused = r }) (next_behind_part (s.part name) s.next) was.later) fine (has_part was.later));
       falls = refl;
       stands = stands_then was.later was.stands;
@@ -259,9 +265,10 @@ module _ {S : Type 0} (stored : S → Objects) (old : code.Scene S) (s : Scene) 
   pub tells_so : (new : code.Scene S) (statement : Statement) (reply : List ℕ) (short : Bool) → (RestoresWell old.use_checkpoints (stored old.world.store.store) → Executes (stored old.world.store.store) statement reply (stored new.world.store.store))
       → (RestoresWell old.use_checkpoints (stored old.world.store.store) → short ≡ true → IsShort (stored old.world.store.store) statement reply)
       → (RestoresWell old.use_checkpoints (stored old.world.store.store) → short ≡ false → IsExecuted (stored old.world.store.store) statement reply (stored new.world.store.store))
-      → (IsLook statement → stored new.world.store.store ≡ stored old.world.store.store) → puts_sent new.world.store ≡ puts_sent old.world.store → new.world.actors ≡ old.world.actors
+      → (IsLook statement → stored new.world.store.store ≡ stored old.world.store.store) → HasObjectsOf (stored old.world.store.store) (stored new.world.store.store)
+      → puts_sent new.world.store ≡ puts_sent old.world.store → new.world.actors ≡ old.world.actors → new.world.known ≡ old.world.known
       → new.parts ≡ old.parts → new.next ≡ old.next → new.tries ≡ old.tries → new.fault ≡ old.fault → new.use_checkpoints ≡ old.use_checkpoints → TellsIn stored s statement reply short new
-  tells_so new statement reply short executes wants whole looks flight actors parts next tries fault uses =
+  tells_so new statement reply short executes wants whole looks grown flight actors same_known parts next tries fault uses =
       let w : World = record s.world { objects = stored new.world.store.store } in
       record {
         later = record s { world = w };
@@ -271,9 +278,15 @@ module _ {S : Type 0} (stored : S → Objects) (old : code.Scene S) (s : Scene) 
           objects = refl;
           flight = stands.world_stands.flight ∙ sym flight;
           actors = λ name. subst (λ (m : BTreeMap ℕ (Option actor.Actor)). SlotStands (option_and_then (λ slot. slot) (get nat_cmp m name)) (s.world.actors name)) (sym actors) (stands.world_stands.actors name);
+          borne = bearing_grows s.world (stored new.world.store.store) grown_here stands.world_stands.borne;
+          known = subst (λ (l : Loaded). IsFront (stored new.world.store.store) l) (sym same_known)
+              (front_grown (stored old.world.store.store) (stored new.world.store.store) grown old.world.known stands.world_stands.known);
         }) parts next tries fault uses;
       }
     where
+      grown_here : HasObjectsOf s.world.objects (stored new.world.store.store)
+      grown_here = subst (λ (o : Objects). HasObjectsOf o (stored new.world.store.store)) (sym stands.world_stands.objects) grown
+
       well_there : RestoresWell s.use_checkpoints s.world.objects → RestoresWell old.use_checkpoints (stored old.world.store.store)
       well_there well = subst (λ (u : Bool). RestoresWell u (stored old.world.store.store)) (sym stands.use_so) (subst (RestoresWell s.use_checkpoints) stands.world_stands.objects well)
 
@@ -335,25 +348,18 @@ alive_of : (next : Next) → next ≡ nexts.Step → next ≡ nexts.Nothing → 
 alive_of next is nothing = let wrong : nexts.Step ≡ nexts.Nothing = sym is ∙ nothing in cc
 
 module _ {S : Type 0} (stored : S → Objects) (old : code.Scene S) (s : Scene) (stands : SceneStands stored old s) (job : Job) (mid : code_world.World S) where
-  none_begun : (told : Option (Job × Outcome)) → TellsAs None told → told ≡ None
-  none_begun None tells = refl
-  none_begun (Some told) tells = absurd tells
-
-  module _ {b : Bool} (begun : HasHappened stored b s.world (begin 0 job) None mid) (can : CanBegin job) where
-    begins : Happens s.world (begin 0 job) None begun.later
-    begins = subst (λ (o : Option (Job × Outcome)). Happens s.world (begin 0 job) o begun.later) (none_begun begun.told begun.tells) (subst (λ (e : Event). Happens s.world e begun.told begun.later) begun.is begun.happens)
-
+  module _ {b : Bool} {one : Job} {before : Talk} (begun : HasBegunAs stored b s.world 0 job one before mid) (can : CanBegin job) where
     pub begun_alive : next_at (hand_at begun.later 0) ≡ nexts.Nothing → ⊥
-    begun_alive = alive_of _ (begun_steps s.world 0 job (begin 0 job) None begun.later refl can begins)
+    begun_alive = alive_of _ (begun_steps s.world 0 job (begin 0 job) None begun.later refl can begun.happens)
 
-    -- it ran to its end, by the fault that the scene has
-    pub ran_job : (new : code.Scene S) (outcome : code_end.JobEnd) (reply : List ℕ) (short : Bool) → CameThrough stored old.fault begun.later (Some outcome) new.fault new.world → IsReplyOf (end_view outcome) reply
-        → IsShortBy (end_view outcome) reply short
+    -- It ran to its end, by the fault that the scene has; and its reply, by which the next job knows more of the log, leaves the world as it stands.
+    pub ran_job : (new : code.Scene S) (led : code_world.World S) (outcome : code_end.JobEnd) (reply : List ℕ) (short : Bool) → CameThrough stored old.fault begun.later (Some outcome) new.fault led → IsReplyOf (end_view outcome) reply
+        → IsShortBy (end_view outcome) reply short → ((w : World) → WorldStands stored led w → HandsBack (stored led.store.store) (Some outcome) → WorldStands stored new.world w)
         → new.parts ≡ old.parts → new.next ≡ old.next → new.tries ≡ old.tries → new.use_checkpoints ≡ old.use_checkpoints → RanJob stored s job reply short new
-    ran_job new outcome reply short came is falls parts next tries uses = record {
+    ran_job new led outcome reply short came is falls behind parts next tries uses = record {
       mid = begun.later;
       can = can;
-      begins = begins;
+      begins = begun.happens;
       events = came.events;
       told = came.told;
       left = new.fault;
@@ -362,7 +368,7 @@ module _ {S : Type 0} (stored : S → Objects) (old : code.Scene S) (s : Scene) 
       tells = subst (λ (o : Outcome). IsReplyOf o reply) (sym came.tells) is;
       falls = subst (λ (o : Outcome). IsShortBy o reply short) (sym came.tells) falls;
       stands = record {
-        world_stands = came.stands;
+        world_stands = behind came.later came.stands came.hands;
         part_so = λ name. ap (λ m. get_by_text m name) parts ∙ stands.part_so name;
         next_so = next ∙ stands.next_so;
         tries_so = tries ∙ stands.tries_so;

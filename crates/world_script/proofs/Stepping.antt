@@ -93,7 +93,7 @@ has_met w n how _ _ _ is (acts name how2 actor call there asks) fits =
     let same : name ≡ n = cc in
     let same_how : how2 ≡ how = cc in
     subst (λ (k : ℕ). HasMet w k how (acted w name actor call how2)) same (subst (λ (h : How). HasMet w name h (acted w name actor call how2)) same_how (met_here w name how2 actor call))
-has_met w n how _ _ _ is (begins name job can) fits = cc
+has_met w n how _ _ _ is (begins name job begun before can same borne) fits = cc
 has_met w n how _ _ _ is (dies name) fits = cc
 has_met w n how _ _ _ is (goes_on event name actor now call taken does of_bytes) fits = absurd (not_taking n how event name is (taker w event name actor now taken))
 has_met w n how _ _ _ is (ends event name actor now outcome taken does) fits = absurd (not_taking n how event name is (taker w event name actor now taken))
@@ -127,8 +127,8 @@ same_name n m event (inr a) (inr b) = cc
 asks_then : (w : World) (n : ℕ) (event : Event) (out : Option (Job × Outcome)) (later : World) → is_taking n event → out ≡ None → Happens w event out later → FitsWorld w event → asks_next later n
 asks_then w n _ _ _ is none (goes_on event name actor now call taken does of_bytes) fits = asks_at w n name _ call (same_name n name event is (taker w event name actor now taken)) refl
 asks_then w n _ _ _ is none (ends event name actor now outcome taken does) fits = cc
-asks_then w n _ _ _ (inl is) none (begins name job can) fits = cc
-asks_then w n _ _ _ (inr is) none (begins name job can) fits = cc
+asks_then w n _ _ _ (inl is) none (begins name job begun before can same borne) fits = cc
+asks_then w n _ _ _ (inr is) none (begins name job begun before can same borne) fits = cc
 asks_then w n _ _ _ (inl is) none (dies name) fits = cc
 asks_then w n _ _ _ (inr is) none (dies name) fits = cc
 asks_then w n _ _ _ (inl is) none (acts name how actor call there asks) fits = cc
@@ -153,9 +153,10 @@ still_goes n kind w events told later none steps nothing = let one = still_asks 
 
 -- an actor that has begun makes its first step next
 pub begun_steps : (w : World) (n : ℕ) (job : Job) (event : Event) (out : Option (Job × Outcome)) (later : World) → event ≡ begin n job → CanBegin job → Happens w event out later → next_at (hand_at later n) ≡ nexts.Step
-begun_steps w n job _ _ _ is can (begins name one may) =
+begun_steps w n job _ _ _ is can (begins name one begun before may alike borne) =
     let same : name ≡ n = cc in
-    subst (λ (k : ℕ). next_at (hand_at (with_actor w name (Some (record { job = one; talk = []; hand = fresh }))) k) ≡ nexts.Step) same (ap next_at (hand_there (with_actor w name (Some (record { job = one; talk = []; hand = fresh }))) name (record { job = one; talk = []; hand = fresh }) (actor_there w name (Some (record { job = one; talk = []; hand = fresh })))))
+    let now : Actor = record { job = one; begun = begun; before = before; talk = []; hand = fresh } in
+    subst (λ (k : ℕ). next_at (hand_at (with_actor w name (Some now)) k) ≡ nexts.Step) same (ap next_at (hand_there (with_actor w name (Some now)) name now (actor_there w name (Some now))))
 begun_steps w n job _ _ _ is can (dies name) = cc
 begun_steps w n job _ _ _ is can (acts name how actor call there asks) = cc
 begun_steps w n job _ _ _ is can (goes_on event name actor now call taken does of_bytes) = absurd (never_taken n job event name is (taker w event name actor now taken))
@@ -228,6 +229,7 @@ module _ {S : Type 0} (stored : S → Objects) (n : ℕ) (kind : Kind) (w : Worl
     later = was.later;
     done = stepping.begins was.told was.later next (subst (λ (e : Event). Happens w e was.told was.later) was.is was.happens);
     tells = was.tells;
+    hands = was.hands;
     stands = was.stands;
   }
 
@@ -248,6 +250,7 @@ module _ {S : Type 0} (stored : S → Objects) (n : ℕ) (kind : Kind) (w : Worl
         later = was.later;
         done = calls c one.0 acted.later was.told was.later next one.1 happened (subst (λ (b : Bool). Happens acted.later (taking n b) was.told was.later) so (taken l was.met was.is was.told was.later was.happens));
         tells = was.tells;
+        hands = was.hands;
         stands = was.stands;
       }
     where

@@ -8,7 +8,7 @@ use Rattle.stream_world.specs.Events.{Event, Happens, act, answer}
 use Rattle.stream_world.specs.Worlds as worlds
 use Rattle.stream_world.specs.Worlds.{Hand, How, World, asking, ended, fresh, waiting}
 use Rattle.stream_world.specs.EventViews.{IsMetIn}
-use Rattle.stream_world.specs.Standing.{WorldStands, TellsAs, taking}
+use Rattle.stream_world.specs.Standing.{HandsBack, WorldStands, TellsAs, taking}
 use Rattle.table_jobs.specs.declared.job_session.JobEnd as code_end
 use Rattle.stream_world.specs.declared.world.World as code_world
 use Rattle.store_core.specs.Objects.{Objects}
@@ -96,11 +96,12 @@ pub data LeadsThrough (n : ℕ) : (fault : Option Kind) → World → List Event
 
 -- ---- in the code
 
--- A world of the code came from one by events of this kind, told this, and stands for a later one.
+-- A world of the code came from one by events of this kind, told this, which hands back of the log what is so, and stands for a later one.
 pub record CameBy {S : Type 0} (stored : S → Objects) (does : List Event → Option (Job × Outcome) → World → Type 0) (outcome : Option code_end.JobEnd) (world : code_world.World S) : Type 0 where
   pub events : List Event
   pub told : Option (Job × Outcome)
   pub later : World
   pub done : does events told later
   pub tells : TellsAs outcome told
+  pub hands : HandsBack (stored world.store.store) outcome
   pub stands : WorldStands stored world later

@@ -18,8 +18,8 @@ use Rattle.source_core.specs.Tailing.{bad_offset}
 use Rattle.store_core.specs.Objects.{Objects}
 use Rattle.store_core.specs.declared.store.Put.{Put}
 use Rattle.store_core.specs.declared.store.Put.TheVariants as puts
-use Rattle.stream_world.specs.Events.{Event, Happens, begin, die, land, with_told}
-use Rattle.stream_world.specs.Worlds.{World}
+use Rattle.stream_world.specs.Events.{Event, HasActor, Happens, begin, die, land, with_told}
+use Rattle.stream_world.specs.Worlds.{World, anew}
 use Rattle.stream_world.specs.Standing.{landing_told}
 use Rattle.world_script.specs.Acting.{Leads, LeadsThrough, ActorMeets, hand_at, next_at}
 use Rattle.world_script.specs.declared.acting.Next.TheVariants as nexts
@@ -83,10 +83,10 @@ pub data IsDoneToActor (s : Scene) (name : List ℕ) (deed : Deed) : List Event 
 abbrev pub no_room : List ℕ
 no_room = with_newline (refused (stores.fault_text store_faults.Memory))
 
--- An actor begins a job that can begin, in place of an older one. Where the offset of a read can't be read, the actor
+-- An actor begins a job that can begin, with nothing known of the log, in place of an older one. Where the offset of a read can't be read, the actor
 -- is told so later. Where memory runs out nothing happens, but that the actor may be known by its name.
 pub data Starts (s : Scene) (name : List ℕ) (job : Option Job) : List Event → (reply : List ℕ) → Scene → Type 0 where
-  starts : (one : Job) (w : World) (later : Scene) → job ≡ Some one → CanBegin one → Happens s.world (begin (part_for (s.part name) s.next).number one) None w
+  starts : (one : Job) (w : World) (later : Scene) → job ≡ Some one → CanBegin one → Happens s.world (begin (part_for (s.part name) s.next).number one) None w → HasActor w (part_for (s.part name) s.next).number (anew one)
       → HasPart s later name (record (part_for (s.part name) s.next) { is_refused = false }) (next_behind_part (s.part name) s.next) w → Starts s name job (begin (part_for (s.part name) s.next).number one ∷ []) ok later
   refuses_it : (w : World) (later : Scene) → job ≡ None → Happens s.world (die (part_for (s.part name) s.next).number) None w
       → HasPart s later name (record (part_for (s.part name) s.next) { is_refused = true }) (next_behind_part (s.part name) s.next) w → Starts s name job (die (part_for (s.part name) s.next).number ∷ []) ok later

@@ -14,9 +14,10 @@ ghost use Rattle.world_script.specs.declared.acting.Next.TheVariants.{Nothing};
 
 use crate::acting::{lead, step};
 use crate::asked::{kept_creation, kept_job};
+use crate::replies::reply_to;
 use crate::scene::Scene;
 use commit_core::CreateFault;
-use lake_script::{Fault, LineReply, no_room_for, reply_of};
+use lake_script::{Fault, LineReply, no_room_for};
 use script_lines as lines;
 use script_lines::Kind;
 use source_core::TailFault;
@@ -58,9 +59,9 @@ fn run_job<S: Store>(
     ensures runs { S.is_reliable scene.old.world.store.store → (s : scenes.Scene) → SceneStands S.objects scene.old s → RunsJob S.objects s (job_view job.entry) result scene.new }
     ensures reliable { S.is_reliable scene.old.world.store.store → S.is_reliable scene.new.world.store.store }
 {
-    scene.world.begin(ALONE, job)?;
+    scene.world.begin_knowing(ALONE, job)?;
     match lead_through(&mut scene.world, &mut scene.fault) {
-        Some(outcome) => Ok(reply_of(alloc, outcome)),
+        Some(outcome) => Ok(reply_to(alloc, &mut scene.world, outcome)),
         // A session that is led on ends.
         None => Ok(LineReply::Refused(Fault::NoActor)),
     }

@@ -27,8 +27,9 @@ pub struct Ran<S> {
 }
 
 /// Plays a script with actors that is given as text, of at most 1 GiB, over a store: answers each of its lines, up to
-/// the first bad one, and writes what waits then. It never ends as [`End::NotRead`]. No session knows anything from an
-/// earlier one.
+/// the first bad one, and writes what waits then. It never ends as [`End::NotRead`]. An append, a close or a checkpoint
+/// without an actor begins with what the one before knew of the log; the session of an actor, and each read, with
+/// nothing.
 ///
 /// An actor that waits takes no time. A line takes the time of the calls that it makes, and of the steps of the
 /// sessions that make them.

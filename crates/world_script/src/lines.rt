@@ -1,7 +1,7 @@
 //! What each line of a script does to a scene, and its reply.
 
 ghost use Rattle.lake_script.specs.ReplyView.{is_short_reply, replied, replied_short, reply_text};
-ghost use Rattle.script_lines.specs.Lines.{IsTimely, IsTimelyIn, land, statement_view, world, world_view};
+ghost use Rattle.script_lines.specs.Lines.{IsTimelyIn, foreign, land, look, look_view, world, world_view};
 ghost use Rattle.world_script.specs.Doing.{LineComesTo, TellsIn};
 ghost use Rattle.world_script.specs.Scenes as scenes;
 ghost use Rattle.world_script.specs.Scenes.{SceneStands};
@@ -12,7 +12,7 @@ use crate::scene::Scene;
 use crate::starting::start;
 use lake_script::{Fault, Interpreter, LineReply, execute};
 use log_reading::LogCache;
-use script_lines::{Line, WorldLine};
+use script_lines::{Line, Look, WorldLine};
 use std::alloc::Global;
 use store_core::Store;
 
@@ -28,22 +28,42 @@ fn land<S: Store>(scene: &mut Scene<S>, put: u64) -> LineReply
     }
 }
 
-/// A line that tells of the objects that stand, or puts another tool's commit.
-fn tell<S: Store>(alloc: Global, scene: &mut Scene<S>, line: Line<'_>) -> LineReply
-    requires { IsTimely (statement_view line) }
+/// A line that tells of the objects that stand.
+fn tell<S: Store>(alloc: Global, scene: &mut Scene<S>, asked: Look<'_>) -> LineReply
     ensures tells { S.is_reliable scene.old.world.store.store → (s : scenes.Scene) → SceneStands S.objects scene.old s
-        → TellsIn S.objects s (statement_view line.entry) (reply_text result) (is_short_reply result) scene.new }
+        → TellsIn S.objects s (look (look_view asked.entry)) (reply_text result) (is_short_reply result) scene.new }
     ensures reliable { S.is_reliable scene.old.world.store.store → S.is_reliable scene.new.world.store.store }
 {
     let mut tries = scene.tries;
-    let mut cache = LogCache::new(alloc);
     execute(
         alloc,
-        line,
+        Line::Look(asked),
         &mut scene.world.store.store,
         &mut tries,
         scene.use_checkpoints,
-        &mut cache,
+        &mut LogCache::new(alloc),
+    )
+}
+
+/// A line that puts another tool's commit.
+fn put_foreign<S: Store>(
+    alloc: Global,
+    scene: &mut Scene<S>,
+    version: u64,
+    action: &str,
+) -> LineReply
+    ensures tells { S.is_reliable scene.old.world.store.store → (s : scenes.Scene) → SceneStands S.objects scene.old s
+        → TellsIn S.objects s (foreign version action.now) (reply_text result) (is_short_reply result) scene.new }
+    ensures reliable { S.is_reliable scene.old.world.store.store → S.is_reliable scene.new.world.store.store }
+{
+    let mut tries = scene.tries;
+    execute(
+        alloc,
+        Line::Foreign { version, action },
+        &mut scene.world.store.store,
+        &mut tries,
+        scene.use_checkpoints,
+        &mut LogCache::new(alloc),
     )
 }
 
@@ -102,10 +122,8 @@ impl<S: Store> Interpreter for Scene<S> {
                 self.tries = count.max(1);
                 Some(LineReply::Noted)
             }
-            Line::Look(look) => Some(tell(alloc, self, Line::Look(look))),
-            Line::Foreign { version, action } => {
-                Some(tell(alloc, self, Line::Foreign { version, action }))
-            }
+            Line::Look(asked) => Some(tell(alloc, self, asked)),
+            Line::Foreign { version, action } => Some(put_foreign(alloc, self, version, action)),
             Line::World(line) => change_world(alloc, line, self),
         }
     }

@@ -9,7 +9,7 @@ returns g c = record {
       let ran = c.run-ran.ensures in
       let ends : status_of c.run-ran.result.outcome.end ≢ 1 = λ refused. fine (c.ended.ensures.status ∙ refused) in
       let read = read_by c.run-ran.result.outcome.end ends in
-      rw c.is_short.ensures (written_of c.args.use_checkpoints c.run-ran.result.outcome _ _ _ ends _ _ _ ran.input.too_long (ran.plain read) (ran.played read) (search rules) (search rules));
+      rw c.is_short.ensures (written_of c.args.use_checkpoints c.run-ran.result.outcome _ _ _ ends _ _ _ ran.input.too_long (ran.plain read) (ran.played read) ran.headline (search rules) (search rules));
   status = λ fine.
       bad_line_told g.E.Write.contents c.run-ran.result.outcome.end _ _ c.args.err.now c.ended.new.err (λ refused. fine (c.ended.ensures.status ∙ refused)) c.ended.ensures.status c.run-ran.ensures.input.bad c.ended.ensures.told;
   refused = λ is. refused_because c.run-ran.result.outcome.end _ _ _ _ _ _ c.ended.ensures.status is c.is_short.ensures c.run-ran.ensures.input.not_read c.run-ran.ensures.ends.not_written;

@@ -35,10 +35,12 @@ pub returns-clause-borne : goal.returns-clause-borne
 returns-clause-borne c = λ events outs w ran name actor is.
     let good = (world_ran (laws_of c) events outs w ran).actors name actor is in
     record {
+      earlier = good.earlier;
       borne = good.borne;
       asked = good.asked;
-      begun = good.begun.0;
-      shown = λ job of_job names lists. was_listed events w.objects job actor.talk names lists (subst (λ (j : Job). SeesWell events w.objects j actor.talk) of_job good.seen);
+      can = good.begun.0;
+      begun = good.same;
+      shown = λ job of_job names lists. was_listed events w.objects job actor.before actor.talk names lists (subst (λ (j : Job). SeesWell events w.objects j actor.before actor.talk) of_job good.seen);
     }
 
 pub returns-clause-flight : goal.returns-clause-flight

@@ -1,4 +1,3 @@
-use Rattle.std.proofs.Common.{[]}
 use Rattle.stream_world.proofs.Hands.{ready_asks}
 use Rattle.table_jobs.specs.Sessions.{awaited}
 use Rattle.stream_world.proofs.acting.advance.Goals as goal
@@ -11,8 +10,8 @@ invariant_of-asking c =
 pub returns-in-Ask-clause-goes : goal.returns-in-Ask-clause-goes
 returns-in-Ask-clause-goes c = (
   c.next.ensures.same,
-  ((λ talk asked fit. rw c.in-Ask.is at (c.next.ensures.goes [] talk asked fit)), (rw c.in-Ask.is at c.next.ensures.told), c.are_bytes_put.ensures),
+  ((λ before talk asked fit. rw c.in-Ask.is at (c.next.ensures.goes before talk asked fit)), (rw c.in-Ask.is at c.next.ensures.told), c.are_bytes_put.ensures),
 )
 
 pub returns-in-Done-clause-goes : goal.returns-in-Done-clause-goes
-returns-in-Done-clause-goes c = ((λ talk asked fit. rw c.in-Done.is at (c.next.ensures.goes [] talk asked fit)), (rw c.in-Done.is at c.next.ensures.told))
+returns-in-Done-clause-goes c = ((λ before talk asked fit. rw c.in-Done.is at (c.next.ensures.goes before talk asked fit)), (rw c.in-Done.is at c.next.ensures.told))

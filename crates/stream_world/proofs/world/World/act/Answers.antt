@@ -17,7 +17,7 @@ returns-in-Some-clause-happens g c = λ reliable w stands.
     let found : get nat_cmp c.args.self.now.actors c.args.actor ≡ Some c.in-Some.slot.now = sym c.get_mut.ensures.value ∙ ap option_copied_mut c.in-Some.is in
     let there : IsSome (get nat_cmp c.args.self.now.actors c.args.actor) = subst (λ (o : Option (Option code.Actor)). IsSome o) (sym found) refl in
     let acts = c.act-is_out.ensures.acts reliable w c.args.actor stands.objects stands.flight (subst (λ (o : Option code.Actor). SlotStands o (w.actors c.args.actor)) (kept_there c.args.self.now.actors c.args.actor c.in-Some.slot.now found) (stands.actors c.args.actor)) in
-    wrote s.objects c.args.self.now _ w stands (act c.args.actor (how_view c.args.how)) c.args.actor None c.act-is_out.new.slot ((c.get_mut.follows.holds c.act-is_out.new.slot).3 there) acts.became
+    wrote s.objects c.args.self.now _ w stands (act c.args.actor (how_view c.args.how)) c.args.actor None c.act-is_out.new.slot ((c.get_mut.follows.holds c.act-is_out.new.slot).3 there) refl tt acts.became
     (c.either-self.ensures ∙ ap (λ (b : Bool). b || c.args.self.now.is_short) acts.out_so) (λ is. acts.asked (acts.out_so ∙ is))
 
 pub returns-in_default-clause-happens : goal.returns-in_default-clause-happens
@@ -25,7 +25,7 @@ returns-in_default-clause-happens g c = λ reliable w stands.
     let s = g.S.Store in
     let nowhere : get nat_cmp c.args.self.now.actors c.args.actor ≡ None = sym c.get_mut.ensures.value ∙ ap option_copied_mut c.in_default.is in
     let acts = nobody_acted w c.args.actor (how_view c.args.how) (subst (λ (o : Option code.Actor). SlotStands o (w.actors c.args.actor)) (kept_nowhere c.args.self.now.actors c.args.actor nowhere) (stands.actors c.args.actor)) in
-    unwritten s.objects c.args.self.now _ w stands (act c.args.actor (how_view c.args.how)) c.args.actor None nowhere refl c.get_mut.follows.holds-at-none acts.became
+    unwritten s.objects c.args.self.now _ w stands (act c.args.actor (how_view c.args.how)) c.args.actor None nowhere refl c.get_mut.follows.holds-at-none refl tt acts.became
     (ap (λ (b : Bool). b || c.args.self.now.is_short) acts.out_so) (λ is. acts.asked (acts.out_so ∙ is))
 
 -- ---- over any store

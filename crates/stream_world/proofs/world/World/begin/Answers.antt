@@ -1,12 +1,16 @@
-use Rattle.std.proofs.Common.{[], refl}
+use Rattle.std.proofs.Common.{[], subst, sym}
+use Rattle.table_jobs.specs.Jobs.{Job}
 use Rattle.table_jobs.specs.Views.{job_view}
-use Rattle.stream_world.proofs.Worlds.{begun, unbegun}
+use Rattle.stream_model.specs.Worlds.{IsBegunAs}
+use Rattle.stream_world.specs.Standing.{PlacesAs}
+use Rattle.stream_world.proofs.Worlds.{began_anew, itself}
 use Rattle.stream_world.proofs.world.World.begin.Goals as goal
 
-pub returns-in-Ok-clause-happens : goal.returns-in-Ok-clause-happens
-returns-in-Ok-clause-happens g c = λ w stands.
+pub returns-clause-happens : goal.returns-clause-happens
+returns-clause-happens g c = λ w stands.
+    let s = g.S.Store in
     let session = c.new-session.ensures in
-    begun g.S.Store.objects c.args.self.now _ w stands c.args.actor (job_view c.args.job) _ refl c.in-Ok.ensures.updates session.can session.job (session.fits []) refl refl
-
-pub returns-in-Err-clause-happens : goal.returns-in-Err-clause-happens
-returns-in-Err-clause-happens g c = λ w stands. (unbegun g.S.Store.objects c.args.self.now _ w stands refl c.in-Err.ensures.err, refl)
+    let job = job_view c.args.job in
+    began_anew s.objects _ w c.args.actor job c.place.result _
+    (subst (λ (j : Job). PlacesAs s.objects c.args.self.now.is_short w c.args.actor job j [] c.place.result c.place.new.self) session.job
+    (c.place.ensures.places w job [] stands session.can (subst (λ (j : Job). IsBegunAs job j) (sym session.job) (itself job)) tt (session.fits [])))

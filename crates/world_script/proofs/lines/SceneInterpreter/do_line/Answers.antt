@@ -14,10 +14,10 @@ returns-in-Tries-clause-does g c = λ reliable s stands.
     rw c.in-Tries.is (led g.S.Store.objects s _ _ _ _ (of_tries g.S.Store.objects c.args.self.now s stands _ c.in-Tries.count refl refl refl (λ some. let is = c.max-self.ensures in omega (arith, is)) refl refl))
 
 pub returns-in-Foreign-clause-does : goal.returns-in-Foreign-clause-does
-returns-in-Foreign-clause-does g c = λ reliable s stands. rw c.in-Foreign.is (led g.S.Store.objects s _ _ _ _ (of_foreign g.S.Store.objects s _ _ _ c.in-Foreign.version c.in-Foreign.action.now (c.tell-in-Foreign.ensures.tells reliable s stands)))
+returns-in-Foreign-clause-does g c = λ reliable s stands. rw c.in-Foreign.is (led g.S.Store.objects s _ _ _ _ (of_foreign g.S.Store.objects s _ _ _ c.in-Foreign.version c.in-Foreign.action.now (c.put_foreign.ensures.tells reliable s stands)))
 
 pub returns-in-Look-clause-does : goal.returns-in-Look-clause-does
-returns-in-Look-clause-does g c = λ reliable s stands. rw c.in-Look.is (led g.S.Store.objects s _ _ _ _ (of_look g.S.Store.objects s _ _ _ (look_view c.in-Look.look) (c.tell.ensures.tells reliable s stands)))
+returns-in-Look-clause-does g c = λ reliable s stands. rw c.in-Look.is (led g.S.Store.objects s _ _ _ _ (of_look g.S.Store.objects s _ _ _ (look_view c.in-Look.asked) (c.tell.ensures.tells reliable s stands)))
 
 pub returns-in-World-clause-does : goal.returns-in-World-clause-does
 returns-in-World-clause-does g c = λ reliable s stands. rw c.in-World.is (led g.S.Store.objects s _ _ _ _ (c.change_world.ensures.comes reliable s stands))

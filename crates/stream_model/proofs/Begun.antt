@@ -1,0 +1,40 @@
+-- What is so of the job with which a session began is so of the one that was handed in: they are the same but for what is known of the log.
+use Rattle.std.proofs.Common.{ℕ, List, [], ◌∷◌, sym, subst}
+use Rattle.std.specs.Prelude.{Result, Ok, Err}
+use Rattle.table_log.specs.LoadSessions.{LoadJob}
+use Rattle.table_model.specs.Table.{Batch, Entry}
+use Rattle.table_model.specs.declared.table.AppendAnswer.{AppendAnswer}
+use Rattle.table_store.specs.Schema.{Schema}
+use Rattle.sink_core.specs.SinkSessions.{SinkJob}
+use Rattle.log_rows.specs.declared.read_state.ReadRows.{ReadRows}
+use Rattle.log_rows.specs.declared.tail_fault.TailFault.{TailFault}
+use Rattle.source_core.specs.SourceSessions.{SourceJob}
+use Rattle.session_laws.specs.Jobs.{CanBegin, IsValidJob, Job, checkpoints, creates, loads, reads, streams}
+use Rattle.session_laws.specs.Rows.{IsBatchOf, TellsOfBatch, TellsOfListed}
+use Rattle.stream_model.specs.Headline.{IsPartOfTable}
+use Rattle.stream_model.specs.Worlds.{IsBegunAs}
+
+-- it is valid where that can begin
+pub valid_begun : (job begun : Job) → CanBegin job → IsBegunAs job begun → IsValidJob begun
+valid_begun (creates job) begun can same = subst IsValidJob (sym same) tt
+valid_begun (loads job) begun can same = subst IsValidJob (sym same.2) tt
+valid_begun (checkpoints job) begun can same = subst IsValidJob (sym same.2) tt
+valid_begun (streams job) begun can same = subst IsValidJob (sym same.2) can.0
+valid_begun (reads job) begun can same = subst IsValidJob (sym same.1) tt
+
+-- its batch is that one's
+pub batch_begun : (schema : Schema) (job : SinkJob) (load : LoadJob) (b : Batch) → IsBatchOf schema (record job { load = load }) b → IsBatchOf schema job b
+batch_begun schema job load b of_job = record { items = of_job.items; task = of_job.task; application = of_job.application; spelled = of_job.spelled }
+
+-- so is what is told of it
+pub told_begun : (schema : Schema) (entries : List Entry) (job : SinkJob) (load : LoadJob) (answer : AppendAnswer) → TellsOfBatch schema entries (record job { load = load }) answer → TellsOfBatch schema entries job answer
+told_begun schema entries job load answer told = (told.0, batch_begun schema job load told.0 told.1, told.2)
+
+-- and what a read hands out, and tells of what it listed
+pub part_begun : (entries : List Entry) (job : SourceJob) (known : List ℕ) (answer : Result ReadRows TailFault) → IsPartOfTable entries (record job { known = known }) answer → IsPartOfTable entries job answer
+part_begun entries job known (Ok handed) part = part
+part_begun entries job known (Err fault) part = tt
+
+pub listed_begun : (entries : List Entry) (job : SourceJob) (known : List ℕ) (answer : Result ReadRows TailFault) → TellsOfListed entries (record job { known = known }) answer → TellsOfListed entries job answer
+listed_begun [] job known answer told = told
+listed_begun (first ∷ rest) job known answer told = told
